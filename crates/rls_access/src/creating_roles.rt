@@ -1,0 +1,31 @@
+//! CREATE ROLE.
+
+use crate::checks::require_superuser;
+use crate::context::Ctx;
+use crate::effect::Effect;
+use crate::noted::noted_role;
+use rls_catalog::{Change, RoleDef};
+use rls_source::{Footprint, RowSource};
+use rls_text::CreateRole;
+use rls_value::{NameKind, Refusal};
+use std::alloc::Global;
+
+/// Adds a role; an attribute that isn't written is not given.
+pub fn run_create_role<S: RowSource>(
+    alloc: Global,
+    source: &mut S,
+    notes: &mut Footprint,
+    ctx: &Ctx,
+    create: &CreateRole,
+) -> Result<Effect, Refusal> {
+    if noted_role(alloc, source, notes, &create.name)?.is_some() {
+        return Err(Refusal::Duplicate(NameKind::Role, create.name.copy()?));
+    }
+    require_superuser(alloc, source, notes, &ctx.role, &create.name)?;
+    let role = RoleDef {
+        superuser: create.attributes.superuser.unwrap_or(false),
+        login: create.attributes.login.unwrap_or(false),
+        bypass_rls: create.attributes.bypass_rls.unwrap_or(false),
+    };
+    Ok(Effect::changed(alloc, Change::Role(create.name.copy()?, role))?)
+}

@@ -1,0 +1,46 @@
+//! What a statement does, before its reads are put beside it.
+
+use crate::outcome::{Decision, Reply};
+use rls_catalog::{Change, Delta};
+use rls_value::{Items, Refusal};
+use std::alloc::{AllocError, Global};
+
+/// Reply, decisions and changes of a statement.
+#[derive(Drop)]
+pub struct Effect {
+    pub reply: Reply,
+    pub decisions: Items<Decision>,
+    pub delta: Delta,
+}
+
+impl Effect {
+    /// A refusal before any row was judged.
+    pub fn refused(alloc: Global, refusal: Refusal) -> Effect {
+        Effect::judged(alloc, Reply::Refused(refusal), Items::new(alloc))
+    }
+
+    /// A reply with the decisions that led to it, and no change.
+    pub fn judged(alloc: Global, reply: Reply, decisions: Items<Decision>) -> Effect {
+        Effect {
+            reply,
+            decisions,
+            delta: Delta::new(alloc),
+        }
+    }
+
+    /// A statement that writes one object and no rows.
+    pub fn changed(alloc: Global, change: Change) -> Result<Effect, AllocError> {
+        let mut delta = Delta::new(alloc);
+        delta.push(change)?;
+        Ok(Effect::done(alloc, delta))
+    }
+
+    /// A statement that writes objects and no rows.
+    pub fn done(alloc: Global, delta: Delta) -> Effect {
+        Effect {
+            reply: Reply::Done,
+            decisions: Items::new(alloc),
+            delta,
+        }
+    }
+}

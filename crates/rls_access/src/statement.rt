@@ -1,0 +1,70 @@
+//! One statement.
+
+use crate::context::{Ctx, Mode};
+use crate::creating_policies::run_create_policy;
+use crate::creating_roles::run_create_role;
+use crate::creating_tables::{run_alter_table, run_create_table};
+use crate::effect::Effect;
+use crate::granting::run_grant;
+use crate::inserting::run_insert;
+use crate::outcome::Outcome;
+use crate::selecting::run_select;
+use rls_source::{Footprint, RowSource};
+use rls_text::Statement;
+use rls_value::{Refusal, Tag, TxnState};
+use std::alloc::{AllocError, Global};
+
+/// Runs the statement over the source: its reply, the decisions on rows, what it read, and its changes, which the
+/// source doesn't get. A refused statement has no changes.
+pub fn run_statement<S: RowSource>(
+    alloc: Global,
+    source: &mut S,
+    ctx: &Ctx,
+    statement: &Statement,
+) -> Result<Outcome, AllocError> {
+    let mut notes = Footprint::new(alloc);
+    let effect = match effect_of(alloc, source, &mut notes, ctx, statement) {
+        Ok(effect) => effect,
+        Err(Refusal::NoMemory) => return Err(AllocError),
+        Err(refusal) => Effect::refused(alloc, refusal),
+    };
+    let Effect {
+        reply,
+        decisions,
+        delta,
+    } = effect;
+    Ok(Outcome {
+        reply,
+        decisions,
+        footprint: notes,
+        delta,
+        role: ctx.role.copy()?,
+    })
+}
+
+fn effect_of<S: RowSource>(
+    alloc: Global,
+    source: &mut S,
+    notes: &mut Footprint,
+    ctx: &Ctx,
+    statement: &Statement,
+) -> Result<Effect, Refusal> {
+    require_mode(ctx.mode, statement.tag())?;
+    match statement {
+        Statement::CreateRole(create) => run_create_role(alloc, source, notes, ctx, create),
+        Statement::CreateTable(create) => run_create_table(alloc, source, notes, ctx, create),
+        Statement::AlterTable(alter) => run_alter_table(alloc, source, notes, ctx, alter),
+        Statement::CreatePolicy(create) => run_create_policy(alloc, source, notes, ctx, create),
+        Statement::Grant(grant) => run_grant(alloc, source, notes, ctx, grant),
+        Statement::Insert(insert) => run_insert(alloc, source, notes, ctx, insert),
+        Statement::Select(select) => run_select(alloc, source, notes, ctx, select),
+    }
+}
+
+/// A transaction that only reads takes no command that writes.
+fn require_mode(mode: Mode, tag: Tag) -> Result<(), Refusal> {
+    match (mode, tag) {
+        (Mode::Write, _) | (Mode::Read, Tag::Select | Tag::Set | Tag::Reset) => Ok(()),
+        (Mode::Read, tag) => Err(Refusal::TxnState(TxnState::ReadOnly(tag))),
+    }
+}

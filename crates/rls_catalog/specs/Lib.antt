@@ -1,0 +1,12 @@
+pub mod State
+pub mod StateCode
+pub mod StateOf
+pub mod Changed
+pub mod Membership
+pub mod Walks
+pub mod Privileges
+pub mod Verdict
+pub use Rattle.rls_value.specs.Names
+pub use Rattle.rls_value.specs.Values
+pub use Rattle.rls_expr.specs.Terms
+pub use Rattle.rls_expr.specs.Tables

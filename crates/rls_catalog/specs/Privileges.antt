@@ -1,0 +1,39 @@
+-- Privileges on tables (PostgreSQL manual, 5.8, "Privileges").
+use Rattle.std.specs.Prelude.{ℕ, List, [], ◌∷◌, ◌++◌, Bool, true, false, ◌&&◌, ◌||◌, if◌then◌else◌}
+use Rattle.std.specs.List.{list_any}
+use Rattle.rls_value.specs.Names.{one_of}
+use Rattle.rls_value.specs.declared.verb.Privilege.{Privilege}
+use Rattle.rls_value.specs.declared.verb.Privilege.TheVariants as p
+use Rattle.rls_value.specs.declared.object.Object.{Object}
+use Rattle.rls_value.specs.declared.object.Object.TheVariants as o
+use Rattle.rls_catalog.specs.declared.grant.Grant.{Grant}
+use Rattle.rls_catalog.specs.declared.grant.Grantee.{Grantee}
+use Rattle.rls_catalog.specs.declared.grant.Grantee.TheVariants as g
+use Rattle.rls_catalog.specs.State.{State, grants_of}
+use Rattle.rls_catalog.specs.Membership.{attributes_of, walked_by, reach_reads}
+
+-- what is for PUBLIC is for each role; what is for a role, for those that have its privileges: a superuser, and one
+-- that reaches it
+abbrev pub includes : Bool → List (List ℕ) → Grantee → Bool
+includes superuser reached g.Public = true
+includes superuser reached (g.Role name) = superuser || one_of reached name
+
+-- what is for the grantee is for the role
+abbrev pub concerns : State → List ℕ → Grantee → Bool
+concerns s role = includes (attributes_of s role).superuser (walked_by s role)
+
+abbrev pub is_same_privilege : Privilege → Privilege → Bool
+is_same_privilege p.Select p.Select = true
+is_same_privilege p.Insert p.Insert = true
+is_same_privilege p.Update p.Update = true
+is_same_privilege p.Delete p.Delete = true
+is_same_privilege _ _ = false
+
+-- a role holds a privilege on a table if it is a superuser, or some grant of it concerns the role
+abbrev pub holds : State → List ℕ → Privilege → List ℕ → Bool
+holds s role privilege table =
+    (attributes_of s role).superuser || list_any (λ grant. is_same_privilege grant.privilege privilege && concerns s role grant.grantee) (grants_of s table)
+
+-- what it reads to tell whether a role holds a privilege
+abbrev pub holds_reads : State → List ℕ → List ℕ → List Object
+holds_reads s role table = reach_reads s role ++ (if (attributes_of s role).superuser then [] else (o.Grants table ∷ []))

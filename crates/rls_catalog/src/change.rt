@@ -1,0 +1,141 @@
+//! Changes of a state.
+
+ghost use Rattle.std.specs.Prelude.{◌≡◌, [], ◌∷◌, ◌++◌, IfOk, OnOk, OnErr};
+
+use crate::grant::Grant;
+use crate::policy::Policy;
+use crate::role::{Membership, RoleDef};
+use crate::stored::Keyed;
+use rls_expr::TableDef;
+use rls_value::{Items, Name, RowId};
+use std::alloc::{AllocError, Global};
+use std::marker::Model;
+
+/// A change of one object. That of a catalogue object is the object's whole new content.
+#[derive(Drop)]
+pub enum Change {
+    Role(Name, RoleDef),
+    /// The memberships that the role has from now on.
+    Members(Name, Items<Membership>),
+    Table(Name, TableDef),
+    Grants(Name, Items<Grant>),
+    Policies(Name, Items<Policy>),
+    Row(RowChange),
+}
+
+/// A change of one row; none stands for its absence.
+#[derive(Debug, Drop)]
+pub struct RowChange {
+    pub table: Name,
+    pub id: RowId,
+    pub before: Option<Keyed>,
+    pub after: Option<Keyed>,
+}
+
+/// Changes, each put on what the earlier ones left; seen as their list.
+#[derive(Drop)]
+pub struct Delta {
+    changes: Vec<Change>,
+}
+
+impl Model for Delta {
+    ghost use Rattle.std.specs.Prelude.{List};
+    ghost use Rattle.rls_catalog.specs.declared.change.Change.{Change as Changed};
+
+    ghost Value = { List Changed };
+
+    ghost use Rattle.rls_catalog.specs.contracts.change.Change as change;
+    ghost use Rattle.std.specs.Coded.{coded_list};
+
+    ghost coded = { coded_list change.the_row.coded };
+
+    ghost view = { λ delta. delta.changes.items };
+}
+
+impl Change {
+    pub fn copy(&self, alloc: Global) -> Result<Change, AllocError>
+        ensures { IfOk result (λ change. change ≡ self.now) }
+    {
+        match self {
+            Change::Role(name, def) => Ok(Change::Role(name.copy()?, *def)),
+            Change::Members(name, content) => Ok(Change::Members(
+                name.copy()?,
+                Membership::copy_all(alloc, content.as_slice())?,
+            )),
+            Change::Table(name, def) => Ok(Change::Table(name.copy()?, def.copy(alloc)?)),
+            Change::Grants(name, content) => Ok(Change::Grants(
+                name.copy()?,
+                Grant::copy_all(alloc, content.as_slice())?,
+            )),
+            Change::Policies(name, content) => Ok(Change::Policies(
+                name.copy()?,
+                Policy::copy_all(alloc, content.as_slice())?,
+            )),
+            Change::Row(row) => Ok(Change::Row(row.copy(alloc)?)),
+        }
+    }
+}
+
+impl RowChange {
+    pub fn copy(&self, alloc: Global) -> Result<RowChange, AllocError>
+        ensures { IfOk result (λ change. change ≡ self.now) }
+    {
+        Ok(RowChange {
+            table: self.table.copy()?,
+            id: self.id,
+            before: copy_content(alloc, &self.before)?,
+            after: copy_content(alloc, &self.after)?,
+        })
+    }
+}
+
+fn copy_content(alloc: Global, content: &Option<Keyed>) -> Result<Option<Keyed>, AllocError>
+    ensures { IfOk result (λ copied. copied ≡ content.now) }
+{
+    match content {
+        Some(keyed) => Ok(Some(keyed.copy(alloc)?)),
+        None => Ok(None),
+    }
+}
+
+impl Delta {
+    pub fn new(alloc: Global) -> Delta
+        ensures { result ≡ [] }
+    {
+        Delta {
+            changes: Vec::new(alloc),
+        }
+    }
+
+    pub fn push(&mut self, change: Change) -> Result<(), AllocError>
+        ensures ok { OnOk result (self.new ≡ self.old ++ change ∷ []) }
+        ensures err { OnErr result (self.new ≡ self.old) }
+    {
+        self.changes.push(change)?;
+        Ok(())
+    }
+
+    pub fn as_slice(&self) -> &[Change]
+        ensures { result.now ≡ self.now }
+    {
+        self.changes.as_slice()
+    }
+
+    pub fn copy(&self, alloc: Global) -> Result<Delta, AllocError>
+        ensures { IfOk result (λ delta. delta ≡ self.now) }
+    {
+        Ok(Delta {
+            changes: copy_changes(alloc, &self.changes)?,
+        })
+    }
+}
+
+fn copy_changes(alloc: Global, changes: &[Change]) -> Result<Vec<Change>, AllocError>
+    ensures { IfOk result (λ copies. copies.items ≡ changes.now) }
+{
+    let mut copies = Vec::with_capacity(alloc, changes.len())?;
+    for change in changes {
+        copies.push(change.copy(alloc)?)?;
+    }
+    Ok(copies)
+}

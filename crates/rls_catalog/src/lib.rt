@@ -1,0 +1,18 @@
+//! The catalogue and the rows: roles, memberships, tables, grants, policies; what changes them; whole states.
+#![tactic(auto)]
+
+mod catalog;
+mod change;
+mod grant;
+mod policy;
+mod role;
+mod same;
+mod stored;
+
+pub use catalog::Catalog;
+pub use change::{Change, Delta, RowChange};
+pub use grant::{Grant, Grantee};
+pub use policy::{Policy, Side, Verdict};
+pub use role::{Membership, RoleDef};
+pub use same::is_same_row;
+pub use stored::{Keyed, Stored};

@@ -1,0 +1,6 @@
+use Rattle.std.proofs.Common.{rules, arith}
+use Rattle.rls_expr.specs.TermSizes.{size_at}
+use Rattle.rls_expr.proofs.typing.+typing.Goals as goal
+
+pub are_booleans-typing_of-requires : goal.are_booleans-typing_of-requires
+are_booleans-typing_of-requires t c = (omega (arith, size_at _ _ _ c.loop-part-test.true c.part-item.is), search rules)

@@ -1,0 +1,9 @@
+pub mod Terms
+pub mod TermCode
+pub mod ExprTerms
+pub mod ExprFalls
+pub mod Tables
+pub mod Scopes
+pub mod Resolving
+pub mod Typing
+pub mod TermSizes

@@ -1,0 +1,55 @@
+-- Resolution: each column by its place, or the first unknown column in text order.
+use Rattle.std.specs.Prelude.{◌≡◌, ℕ, List, [], ◌∷◌, Option, Some, None, Result, Ok, Err}
+use Rattle.rls_value.specs.declared.refusal.Refusal.{Refusal}
+use Rattle.rls_value.specs.declared.refusal.Refusal.TheVariants.{NoMemory, Undefined}
+use Rattle.rls_value.specs.declared.refusal.NameKind.{NameKind}
+use Rattle.rls_value.specs.declared.refusal.NameKind.TheVariants as kind
+use Rattle.rls_expr.specs.declared.table.TableDef.{TableDef}
+use Rattle.rls_expr.specs.Scopes.{place_in}
+use Rattle.rls_expr.specs.Terms.{Term, Terms, Literal, Column, Place, CurrentUser, Compare, And, Or, Not, IsNull, IsNotNull, End, More, terms_of}
+
+-- what is found, or the name that is not: the first one stands
+abbrev pub and_then : {A B : Type 0} → Result A (List ℕ) → (A → Result B (List ℕ)) → Result B (List ℕ)
+and_then (Ok a) next = next a
+and_then (Err name) next = Err name
+
+abbrev pub at_place : List ℕ → Option (ℕ × ℕ) → Result Term (List ℕ)
+at_place name (Some place) = Ok (Place place.0 place.1)
+at_place name None = Err name
+
+abbrev mutual
+  -- the term with each column by its place
+  pub resolved : Term → List TableDef → Result Term (List ℕ)
+  resolved (Literal v) tables = Ok (Literal v)
+  resolved (Column name) tables = at_place name (place_in tables name)
+  resolved (Place out column) tables = Ok (Place out column)
+  resolved CurrentUser tables = Ok CurrentUser
+  resolved (Compare how a b) tables = and_then (resolved a tables) (λ x. and_then (resolved b tables) (λ y. Ok (Compare how x y)))
+  resolved (And ts) tables = and_then (resolved_all ts tables) (λ us. Ok (And us))
+  resolved (Or ts) tables = and_then (resolved_all ts tables) (λ us. Ok (Or us))
+  resolved (Not t) tables = and_then (resolved t tables) (λ u. Ok (Not u))
+  resolved (IsNull t) tables = and_then (resolved t tables) (λ u. Ok (IsNull u))
+  resolved (IsNotNull t) tables = and_then (resolved t tables) (λ u. Ok (IsNotNull u))
+
+  pub resolved_all : Terms → List TableDef → Result Terms (List ℕ)
+  resolved_all End tables = Ok End
+  resolved_all (More t ts) tables = and_then (resolved t tables) (λ u. and_then (resolved_all ts tables) (λ us. Ok (More u us)))
+
+-- a refusal says which column is unknown, unless memory ran out
+abbrev pub Misses : {A : Type 0} → Refusal → Result A (List ℕ) → Type 0
+Misses NoMemory found = Unit {0}
+Misses (Undefined kind.Column name) found = found ≡ Err name
+Misses _ found = ⊥
+
+abbrev pub ResolvesTo : Result Term Refusal → Result Term (List ℕ) → Type 0
+ResolvesTo (Ok t) found = found ≡ Ok t
+ResolvesTo (Err refusal) found = Misses refusal found
+
+abbrev pub ResolveTo : Result (List Term) Refusal → Result Terms (List ℕ) → Type 0
+ResolveTo (Ok ts) found = found ≡ Ok (terms_of ts)
+ResolveTo (Err refusal) found = Misses refusal found
+
+-- terms in front of those that follow
+abbrev pub in_front : List Term → Terms → Terms
+in_front [] us = us
+in_front (t ∷ ts) us = More t (in_front ts us)

@@ -1,0 +1,56 @@
+-- The code of terms, by which proofs tell them apart.
+use Rattle.std.specs.Prelude.{◌≡◌, ℕ, zero, suc, List, [], ◌∷◌}
+use Rattle.std.proofs.Common.{ap, arith}
+use base.Stored.{Coded, Gv, gnil, gnum, gcons, num, coded_list, coded_ℕ}
+use Rattle.rls_value.specs.contracts.value.Value as value
+use Rattle.rls_expr.specs.contracts.expr.Comparison as comparison
+use Rattle.rls_expr.specs.Terms.{Term, Terms, Literal, Column, Place, CurrentUser, Compare, And, Or, Not, IsNull, IsNotNull, End, More}
+
+abbrev pub first : Gv → Gv
+first gnil = gnil
+first (gnum n) = gnil
+first (gcons a b) = a
+
+abbrev pub rest : Gv → Gv
+rest gnil = gnil
+rest (gnum n) = gnil
+rest (gcons a b) = b
+
+abbrev mutual
+  pub code_t : Term → Gv
+  code_t (Literal v) = gcons (gnum 0) (value.the_row.coded.code v)
+  code_t (Column name) = gcons (gnum 1) ((coded_list coded_ℕ).code name)
+  code_t (Place out column) = gcons (gnum 2) (gcons (gnum out) (gnum column))
+  code_t CurrentUser = gcons (gnum 3) gnil
+  code_t (Compare how a b) = gcons (gnum 4) (gcons (comparison.the_row.coded.code how) (gcons (code_t a) (code_t b)))
+  code_t (And ts) = gcons (gnum 5) (code_ts ts)
+  code_t (Or ts) = gcons (gnum 6) (code_ts ts)
+  code_t (Not t) = gcons (gnum 7) (code_t t)
+  code_t (IsNull t) = gcons (gnum 8) (code_t t)
+  code_t (IsNotNull t) = gcons (gnum 9) (code_t t)
+
+  pub code_ts : Terms → Gv
+  code_ts End = gcons (gnum 0) gnil
+  code_ts (More t ts) = gcons (gnum 1) (gcons (code_t t) (code_ts ts))
+
+mutual
+  pub inj_t : (x y : Term) → code_t x ≡ code_t y → x ≡ y
+  inj_t (Literal v) (Literal w) p = λ i. Literal (value.the_row.coded.inj v w (ap rest p) i)
+  inj_t (Column a) (Column b) p = λ i. Column ((coded_list coded_ℕ).inj a b (ap rest p) i)
+  inj_t (Place a b) (Place c d) p = λ z. Place (num (first (rest (p z)))) (num (rest (rest (p z))))
+  inj_t CurrentUser CurrentUser p = λ i. CurrentUser
+  inj_t (Compare h a b) (Compare k c d) p = λ i. Compare (comparison.the_row.coded.inj h k (ap (λ g. first (rest g)) p) i) (inj_t a c (ap (λ g. first (rest (rest g))) p) i) (inj_t b d (ap (λ g. rest (rest (rest g))) p) i)
+  inj_t (And ts) (And us) p = λ i. And (inj_ts ts us (ap rest p) i)
+  inj_t (Or ts) (Or us) p = λ i. Or (inj_ts ts us (ap rest p) i)
+  inj_t (Not t) (Not u) p = λ i. Not (inj_t t u (ap rest p) i)
+  inj_t (IsNull t) (IsNull u) p = λ i. IsNull (inj_t t u (ap rest p) i)
+  inj_t (IsNotNull t) (IsNotNull u) p = λ i. IsNotNull (inj_t t u (ap rest p) i)
+  inj_t x y p = absurd (omega (arith, ap (λ g. num (first g)) p))
+
+  pub inj_ts : (x y : Terms) → code_ts x ≡ code_ts y → x ≡ y
+  inj_ts End End p = λ i. End
+  inj_ts (More t ts) (More u us) p = λ i. More (inj_t t u (ap (λ g. first (rest g)) p) i) (inj_ts ts us (ap (λ g. rest (rest g)) p) i)
+  inj_ts x y p = absurd (omega (arith, ap (λ g. num (first g)) p))
+
+abbrev pub term_code : Coded Term
+term_code = record { code = code_t; inj = inj_t }

@@ -1,0 +1,131 @@
+-- The types of expressions: both sides of a comparison are whole numbers, or both text, or both boolean;
+-- AND, OR, NOT and conditions take booleans; null goes with each.
+use Rattle.std.specs.Prelude.{◌≡◌, ℕ, Bool, true, false, ◌&&◌, List, Option, Some, None, Result, Ok, Err, slice_get, map}
+use Rattle.rls_value.specs.declared.value.Value.{Value}
+use Rattle.rls_value.specs.declared.value.Value.TheVariants as v
+use Rattle.rls_value.specs.declared.value.ColType.{ColType}
+use Rattle.rls_value.specs.declared.value.ColType.TheVariants as c
+use Rattle.rls_value.specs.declared.refusal.Refusal.{Refusal}
+use Rattle.rls_value.specs.declared.refusal.Refusal.TheVariants.{NoMemory, Undefined, TypeFault}
+use Rattle.rls_value.specs.declared.refusal.NameKind.TheVariants as kind
+use Rattle.rls_expr.specs.declared.table.TableDef.{TableDef}
+use Rattle.rls_expr.specs.declared.table.Column.{Column}
+use Rattle.rls_expr.specs.declared.typing.Category.{Category}
+use Rattle.rls_expr.specs.declared.typing.Category.TheVariants as t
+use Rattle.rls_expr.specs.declared.typing.Typing.{Typing}
+use Rattle.rls_expr.specs.declared.typing.Typing.TheVariants.{Fault, Null, Of}
+use Rattle.rls_expr.specs.declared.typing.Typed.{Typed}
+use Rattle.rls_expr.specs.Terms.{Term, Terms, Literal, Place, CurrentUser, Compare, And, Or, Not, IsNull, IsNotNull, End, More}
+use Rattle.rls_expr.specs.Terms as term
+use Rattle.rls_expr.specs.Resolving.{resolved}
+
+abbrev pub same_type : Category → Category → Bool
+same_type t.Number t.Number = true
+same_type t.Text t.Text = true
+same_type t.Boolean t.Boolean = true
+same_type _ _ = false
+
+-- whole numbers of 32 and of 64 bits are one type
+abbrev pub category_of : ColType → Category
+category_of c.Integer = t.Number
+category_of c.BigInt = t.Number
+category_of c.Text = t.Text
+category_of c.Boolean = t.Boolean
+
+abbrev pub literal_type : Value → Typing
+literal_type v.Null = Null
+literal_type (v.Int n) = Of t.Number
+literal_type (v.Text x) = Of t.Text
+literal_type (v.Bool b) = Of t.Boolean
+
+abbrev pub column_type : Option Column → Typing
+column_type (Some column) = Of (category_of column.kind)
+column_type None = Fault
+
+abbrev pub column_of : Option TableDef → ℕ → Option Column
+column_of (Some table) column = slice_get table.columns column
+column_of None column = None
+
+-- the type of the column at that place of the table that lies so many tables out
+abbrev pub place_type : List TableDef → ℕ → ℕ → Typing
+place_type tables out column = column_type (column_of (slice_get tables out) column)
+
+abbrev pub boolean_if : Bool → Typing
+boolean_if true = Of t.Boolean
+boolean_if false = Fault
+
+-- what a comparison of the two is
+abbrev pub goes_with : Typing → Typing → Typing
+goes_with Fault right = Fault
+goes_with left Fault = Fault
+goes_with Null right = Of t.Boolean
+goes_with left Null = Of t.Boolean
+goes_with (Of left) (Of right) = boolean_if (same_type left right)
+
+abbrev pub tested : Typing → Typing
+tested Fault = Fault
+tested Null = Of t.Boolean
+tested (Of type) = Of t.Boolean
+
+-- whether it may stand where a boolean is wanted
+abbrev pub takes_boolean : Typing → Bool
+takes_boolean Fault = false
+takes_boolean Null = true
+takes_boolean (Of type) = same_type type t.Boolean
+
+abbrev mutual
+  -- the type of a resolved term, over these tables
+  pub type_of : Term → List TableDef → Typing
+  type_of (Literal v) tables = literal_type v
+  type_of (term.Column name) tables = Fault
+  type_of (Place out column) tables = place_type tables out column
+  type_of CurrentUser tables = Of t.Text
+  type_of (Compare how a b) tables = goes_with (type_of a tables) (type_of b tables)
+  type_of (And ts) tables = boolean_if (all_booleans ts tables)
+  type_of (Or ts) tables = boolean_if (all_booleans ts tables)
+  type_of (Not u) tables = boolean_if (takes_boolean (type_of u tables))
+  type_of (IsNull u) tables = tested (type_of u tables)
+  type_of (IsNotNull u) tables = tested (type_of u tables)
+
+  pub all_booleans : Terms → List TableDef → Bool
+  all_booleans End tables = true
+  all_booleans (More u us) tables = takes_boolean (type_of u tables) && all_booleans us tables
+
+abbrev pub typing_of : Option Category → Typing
+typing_of None = Null
+typing_of (Some type) = Of type
+
+-- whether a column takes values of what was typed, their range aside
+abbrev pub goes_into : Typing → ColType → Bool
+goes_into Fault column = false
+goes_into Null column = true
+goes_into (Of category) column = same_type category (category_of column)
+
+-- names resolve, and types don't fit
+pub record Misfits (expr : Term) (tables : List TableDef) (wanted : Typing → Type 0) : Type 0 where
+  pub term : Term
+  pub resolves : resolved expr tables ≡ Ok term
+  pub misfits : wanted (type_of term tables)
+
+abbrev pub Refuses : Refusal → Term → List TableDef → (Typing → Type 0) → Type 0
+Refuses NoMemory expr tables wanted = Unit {0}
+Refuses (Undefined kind.Column name) expr tables wanted = resolved expr tables ≡ Err name
+Refuses TypeFault expr tables wanted = Misfits expr tables wanted
+Refuses _ expr tables wanted = ⊥
+
+-- a checked expression is the resolved one with its type
+pub record IsTyped (typed : Typed) (expr : Term) (tables : List TableDef) : Type 0 where
+  pub resolves : resolved expr tables ≡ Ok typed.expr
+  pub typing : type_of typed.expr tables ≡ typing_of typed.kind
+
+abbrev pub Checks : Result Typed Refusal → Term → List TableDef → Type 0
+Checks (Ok typed) expr tables = IsTyped typed expr tables
+Checks (Err refusal) expr tables = Refuses refusal expr tables (λ typing. typing ≡ Fault)
+
+pub record IsCondition (term : Term) (expr : Term) (tables : List TableDef) : Type 0 where
+  pub resolves : resolved expr tables ≡ Ok term
+  pub boolean : takes_boolean (type_of term tables) ≡ true
+
+abbrev pub ChecksCondition : Result Term Refusal → Term → List TableDef → Type 0
+ChecksCondition (Ok term) expr tables = IsCondition term expr tables
+ChecksCondition (Err refusal) expr tables = Refuses refusal expr tables (λ typing. takes_boolean typing ≡ false)

@@ -1,0 +1,15 @@
+#![tactic(auto)]
+
+mod expr;
+mod resolving;
+mod scope;
+mod table;
+mod typing;
+
+pub use expr::{Comparison, Expr, Node};
+pub use resolving::resolve;
+pub use scope::{FromTable, Scope};
+pub use table::{Column, TableDef};
+pub use typing::{
+    Category, Typed, Typing, category_of, check, check_condition, goes_into, typing_of,
+};

@@ -1,0 +1,53 @@
+//! Columns by their names become columns by their places.
+
+ghost use Rattle.std.specs.Prelude.{◌≡◌, ◌++◌, take};
+ghost use Rattle.rls_expr.specs.Resolving.{resolved, resolved_all, ResolvesTo, ResolveTo};
+ghost use Rattle.rls_expr.specs.Scopes.{tables_in};
+ghost use Rattle.rls_expr.specs.Terms.{terms_of};
+
+use crate::expr::{Expr, Node};
+use crate::scope::Scope;
+use rls_value::{Items, NameKind, Refusal};
+use std::alloc::Global;
+
+/// The expression with each column by its place; the first unknown one in text order is refused.
+#[cycle(resolving)]
+pub fn resolve(alloc: Global, expr: &Expr, scope: &Scope) -> Result<Expr, Refusal>
+    ensures { ResolvesTo result (resolved expr.now (tables_in scope.now)) }
+{
+    let node = match expr.node() {
+        Node::Literal(value) => Node::Literal(value.copy()?),
+        Node::Column(name) => match scope.place(name) {
+            Some((out, column)) => Node::Place(out, column),
+            None => return Err(Refusal::Undefined(NameKind::Column, name.copy()?)),
+        },
+        Node::Place(out, column) => Node::Place(*out, *column),
+        Node::CurrentUser => Node::CurrentUser,
+        Node::Compare(how, left, right) => {
+            let left = resolve(alloc, left, scope)?;
+            let right = resolve(alloc, right, scope)?;
+            Node::Compare(*how, Box::new(alloc, left)?, Box::new(alloc, right)?)
+        }
+        Node::And(parts) => Node::And(resolve_all(alloc, parts, scope)?.into_vec()),
+        Node::Or(parts) => Node::Or(resolve_all(alloc, parts, scope)?.into_vec()),
+        Node::Not(operand) => Node::Not(Box::new(alloc, resolve(alloc, operand, scope)?)?),
+        Node::IsNull(operand) => Node::IsNull(Box::new(alloc, resolve(alloc, operand, scope)?)?),
+        Node::IsNotNull(operand) => Node::IsNotNull(Box::new(
+            alloc,
+            resolve(alloc, operand, scope)?,
+        )?),
+    };
+    Ok(Expr::new(node))
+}
+
+#[cycle(resolving)]
+fn resolve_all(alloc: Global, parts: &[Expr], scope: &Scope) -> Result<Items<Expr>, Refusal>
+    ensures { ResolveTo result (resolved_all (terms_of parts.now) (tables_in scope.now)) }
+{
+    let mut all = Items::new(alloc);
+    for part in parts {
+        let part = resolve(alloc, part, scope)?;
+        all.push(part)?;
+    }
+    Ok(all)
+}

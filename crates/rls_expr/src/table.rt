@@ -1,0 +1,83 @@
+//! Definitions of tables.
+
+ghost use Rattle.std.specs.Prelude.{◌≡◌, ◌<◌, length, IfOk, IfSome};
+ghost use Rattle.rls_expr.specs.Tables.{column_named};
+
+use rls_value::{ColType, Items, Name};
+use std::alloc::{AllocError, Global};
+
+/// A column of a table.
+#[derive(Debug, Drop)]
+pub struct Column {
+    pub name: Name,
+    pub kind: ColType,
+    pub not_null: bool,
+}
+
+/// What a table is, but for its name.
+#[derive(Debug, Drop)]
+pub struct TableDef {
+    pub owner: Name,
+    /// Whether row security is on (PostgreSQL manual, ALTER TABLE, "ENABLE ROW LEVEL SECURITY").
+    pub enabled: bool,
+    /// Whether it binds the owner too ("FORCE ROW LEVEL SECURITY").
+    pub forced: bool,
+    pub columns: Items<Column>,
+    /// The places of the primary key's columns, in the key's order; empty where there is none.
+    pub key: Items<usize>,
+}
+
+impl Column {
+    pub fn copy(&self) -> Result<Column, AllocError>
+        ensures { IfOk result (λ column. column ≡ self.now) }
+    {
+        Ok(Column {
+            name: self.name.copy()?,
+            kind: self.kind,
+            not_null: self.not_null,
+        })
+    }
+}
+
+impl TableDef {
+    /// The place of the first column of that name.
+    pub fn column(&self, name: &Name) -> Option<usize>
+        ensures place { result ≡ column_named self.now.columns name.now }
+    {
+        place_of(self.columns.as_slice(), name)
+    }
+
+    pub fn copy(&self, alloc: Global) -> Result<TableDef, AllocError>
+        ensures { IfOk result (λ table. table ≡ self.now) }
+    {
+        Ok(TableDef {
+            owner: self.owner.copy()?,
+            enabled: self.enabled,
+            forced: self.forced,
+            columns: Items::from_vec(copy_columns(alloc, self.columns.as_slice())?),
+            key: Items::from_vec(copy_places(alloc, self.key.as_slice())?),
+        })
+    }
+}
+
+fn place_of(columns: &[Column], name: &Name) -> Option<usize>
+    ensures { result ≡ column_named columns.now name.now }
+{
+    columns.iter().position(|column| column.name.is(name))
+}
+
+fn copy_columns(alloc: Global, columns: &[Column]) -> Result<Vec<Column>, AllocError>
+    ensures { IfOk result (λ copies. copies.items ≡ columns.now) }
+{
+    let mut copies = Vec::with_capacity(alloc, columns.len())?;
+    for column in columns {
+        copies.push(column.copy()?)?;
+    }
+    Ok(copies)
+}
+
+fn copy_places(alloc: Global, places: &[usize]) -> Result<Vec<usize>, AllocError>
+    ensures { IfOk result (λ copies. copies.items ≡ places.now) }
+{
+    places.to_vec(alloc)
+}

@@ -1,0 +1,54 @@
+//! Which privileges a role holds.
+
+ghost use Rattle.std.specs.Prelude.{◌≡◌, ◌&&◌, IfOk, OnOk};
+ghost use Rattle.std.specs.List.{list_any};
+ghost use Rattle.rls_catalog.specs.Privileges as spec;
+ghost use Rattle.rls_catalog.specs.Privileges.{holds_reads};
+
+use rls_catalog::Grant;
+use rls_role::{Reach, reach_of};
+use rls_source::RowSource;
+use rls_value::{Name, Privilege};
+use std::alloc::{AllocError, Global};
+
+/// Whether the role holds the privilege on the table: it is a superuser, or there is a grant of it to PUBLIC or to a
+/// role whose privileges it has. It reads the role and, unless that is a superuser, each role that it reaches, and the
+/// grants on the table.
+pub fn holds<S: RowSource>(
+    alloc: Global,
+    source: &mut S,
+    role: &Name,
+    privilege: Privilege,
+    table: &Name,
+) -> Result<bool, AllocError>
+    ensures holds { IfOk result (λ holds. holds ≡ spec.holds (S.state source.old) role.now privilege table.now) }
+    ensures read { OnOk result (source.new ≡ S.after source.old (holds_reads (S.state source.old) role.now table.now)) }
+    ensures state { S.state source.new ≡ S.state source.old }
+{
+    let reach = reach_of(alloc, source, role)?;
+    if reach.superuser {
+        return Ok(true);
+    }
+    let grants = source.grants(alloc, table)?;
+    Ok(is_granted(grants.as_slice(), privilege, &reach))
+}
+
+fn is_granted(grants: &[Grant], privilege: Privilege, reach: &Reach) -> bool
+    ensures { result ≡ list_any (λ grant. spec.is_same_privilege grant.privilege privilege && spec.includes reach.now.superuser reach.now.names grant.grantee) grants.now }
+{
+    grants.iter().any(|grant| {
+        is_same_privilege(grant.privilege, privilege) && reach.includes(&grant.grantee)
+    })
+}
+
+fn is_same_privilege(left: Privilege, right: Privilege) -> bool
+    ensures { result ≡ spec.is_same_privilege left right }
+{
+    match (left, right) {
+        (Privilege::Select, Privilege::Select)
+        | (Privilege::Insert, Privilege::Insert)
+        | (Privilege::Update, Privilege::Update)
+        | (Privilege::Delete, Privilege::Delete) => true,
+        (_, _) => false,
+    }
+}

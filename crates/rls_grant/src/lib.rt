@@ -1,0 +1,6 @@
+//! Privileges on tables.
+#![tactic(auto)]
+
+mod holding;
+
+pub use holding::holds;

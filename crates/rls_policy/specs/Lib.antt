@@ -1,0 +1,1 @@
+pub use Rattle.rls_catalog.specs.Verdict

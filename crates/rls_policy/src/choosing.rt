@@ -1,0 +1,127 @@
+//! Which policies apply.
+
+ghost use Rattle.std.specs.Prelude.{◌≡◌, filter, IfOk, OnOk};
+ghost use Rattle.std.specs.Option.{option_copied};
+ghost use Rattle.std.specs.List.{list_any, list_all};
+ghost use Rattle.rls_catalog.specs.Privileges.{includes};
+ghost use Rattle.rls_catalog.specs.Verdict as spec;
+
+use rls_catalog::{Grantee, Policy, Side};
+use rls_expr::Expr;
+use rls_role::{Reach, reach_of};
+use rls_source::RowSource;
+use rls_value::{Items, Kind, Name, PolicyKind};
+use std::alloc::{AllocError, Global};
+
+/// The expression that the policy is asked for: USING for SELECT, DELETE and the old row of UPDATE; else WITH CHECK or,
+/// where a policy FOR ALL or UPDATE has none, USING (PostgreSQL manual, CREATE POLICY).
+pub fn expression_of(policy: &Policy, kind: Kind, side: Side) -> Option<&Expr>
+    ensures { option_copied result ≡ spec.expression_of policy.now kind side }
+{
+    match (kind, side) {
+        (Kind::Select, _) | (Kind::Delete, _) | (Kind::Update, Side::Old) => policy.using.as_ref(),
+        (Kind::Insert, _) | (Kind::Update, Side::New) => check_or_using(policy),
+    }
+}
+
+fn check_or_using(policy: &Policy) -> Option<&Expr>
+    ensures { option_copied result ≡ spec.check_or_using policy.now.kind policy.now.check policy.now.using }
+{
+    match (&policy.check, policy.kind) {
+        (Some(check), _) => Some(check),
+        (None, PolicyKind::All) | (None, PolicyKind::Only(Kind::Update)) => policy.using.as_ref(),
+        (None, _) => None,
+    }
+}
+
+fn is_for_kind(policy: PolicyKind, kind: Kind) -> bool
+    ensures { result ≡ spec.is_for_kind policy kind }
+{
+    match policy {
+        PolicyKind::All => true,
+        PolicyKind::Only(own) => is_same_kind(own, kind),
+    }
+}
+
+fn is_same_kind(left: Kind, right: Kind) -> bool
+    ensures { result ≡ spec.is_same_kind left right }
+{
+    match (left, right) {
+        (Kind::Select, Kind::Select)
+        | (Kind::Insert, Kind::Insert)
+        | (Kind::Update, Kind::Update)
+        | (Kind::Delete, Kind::Delete) => true,
+        (_, _) => false,
+    }
+}
+
+fn is_asked(policy: &Policy, kind: Kind, side: Side) -> bool
+    ensures { result ≡ spec.is_asked kind side policy.now }
+{
+    is_for_kind(policy.kind, kind) && expression_of(policy, kind, side).is_some()
+}
+
+fn is_to_everyone(policy: &Policy) -> bool
+    ensures { result ≡ spec.is_to_everyone policy.now }
+{
+    policy
+        .to
+        .as_slice()
+        .iter()
+        .any(|grantee| matches!(grantee, Grantee::Public))
+}
+
+fn is_to(policy: &Policy, reach: &Reach) -> bool
+    ensures { result ≡ list_any (includes reach.now.superuser reach.now.names) policy.now.to }
+{
+    policy
+        .to
+        .as_slice()
+        .iter()
+        .any(|grantee| reach.includes(grantee))
+}
+
+/// The policies of the table that apply to a role that isn't exempt, for that type of command and that row: FOR ALL or
+/// that type, TO PUBLIC or a role whose privileges it has, with the expression asked for; in byte order of their names.
+/// It reads the policies and, unless all that it asks are TO PUBLIC, each role that the role reaches.
+pub fn applying<S: RowSource>(
+    alloc: Global,
+    source: &mut S,
+    role: &Name,
+    table: &Name,
+    kind: Kind,
+    side: Side,
+) -> Result<Items<Policy>, AllocError>
+    ensures policies { IfOk result (λ policies. policies ≡ spec.applying_of (S.state source.old) role.now table.now kind side) }
+    ensures read { OnOk result (source.new ≡ S.after source.old (spec.applying_reads (S.state source.old) role.now table.now kind side)) }
+    ensures state { S.state source.new ≡ S.state source.old }
+{
+    let policies = asked(source.policies(alloc, table)?, kind, side);
+    if are_to_everyone(policies.as_slice()) {
+        return Ok(policies);
+    }
+    let reach = reach_of(alloc, source, role)?;
+    Ok(concerned(policies, &reach))
+}
+
+fn asked(policies: Items<Policy>, kind: Kind, side: Side) -> Items<Policy>
+    ensures { result ≡ filter (spec.is_asked kind side) policies }
+{
+    let mut kept = policies.into_vec();
+    kept.retain(|policy| is_asked(policy, kind, side));
+    Items::from_vec(kept)
+}
+
+fn are_to_everyone(policies: &[Policy]) -> bool
+    ensures { result ≡ list_all spec.is_to_everyone policies.now }
+{
+    policies.iter().all(|policy| is_to_everyone(policy))
+}
+
+fn concerned(policies: Items<Policy>, reach: &Reach) -> Items<Policy>
+    ensures { result ≡ filter (λ policy. list_any (includes reach.now.superuser reach.now.names) policy.to) policies }
+{
+    let mut kept = policies.into_vec();
+    kept.retain(|policy| is_to(policy, reach));
+    Items::from_vec(kept)
+}

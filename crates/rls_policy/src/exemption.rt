@@ -1,0 +1,60 @@
+//! Who is exempt from row security.
+
+ghost use Rattle.std.specs.Prelude.{◌≡◌, IfOk, OnOk};
+ghost use Rattle.rls_catalog.specs.Membership.{attributes_in};
+ghost use Rattle.rls_catalog.specs.Verdict as spec;
+ghost use Rattle.rls_catalog.specs.Verdict.{exempts, exempt_reads};
+
+use rls_catalog::RoleDef;
+use rls_expr::TableDef;
+use rls_role::has;
+use rls_source::RowSource;
+use rls_value::Name;
+use std::alloc::{AllocError, Global};
+
+/// Whether row security doesn't apply to the role on the table; `has_owner` tells whether the role has the privileges of
+/// the table's owner (PostgreSQL manual, 5.9).
+pub fn exempt(role: &RoleDef, table: &TableDef, has_owner: bool) -> bool
+    ensures { result ≡ exempts role.now table.now has_owner }
+{
+    !table.enabled || role.superuser || role.bypass_rls || (has_owner && !table.forced)
+}
+
+/// Whether the role is exempt on the table. It reads nothing where row security is off, the role alone where that is
+/// SUPERUSER or BYPASSRLS or the table under FORCE, and else each role that it reaches.
+pub fn is_exempt<S: RowSource>(
+    alloc: Global,
+    source: &mut S,
+    role: &Name,
+    table: &TableDef,
+) -> Result<bool, AllocError>
+    ensures exempt { IfOk result (λ exempt. exempt ≡ spec.is_exempt (S.state source.old) role.now table.now) }
+    ensures read { OnOk result (source.new ≡ S.after source.old (exempt_reads (S.state source.old) role.now table.now)) }
+    ensures state { S.state source.new ≡ S.state source.old }
+{
+    if !table.enabled {
+        return Ok(true);
+    }
+    let def = attributes(source.role(alloc, role)?);
+    if def.superuser || def.bypass_rls {
+        return Ok(true);
+    }
+    if table.forced {
+        return Ok(false);
+    }
+    let has_owner = has(alloc, source, role, &table.owner)?;
+    Ok(has_owner)
+}
+
+fn attributes(def: Option<RoleDef>) -> RoleDef
+    ensures { result ≡ attributes_in def }
+{
+    match def {
+        Some(def) => def,
+        None => RoleDef {
+            superuser: false,
+            login: false,
+            bypass_rls: false,
+        },
+    }
+}

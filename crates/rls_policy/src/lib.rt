@@ -1,0 +1,11 @@
+//! Row security: who is exempt, which policies apply, what they say of a row.
+#![tactic(auto)]
+
+mod choosing;
+mod combining;
+mod exemption;
+
+pub use choosing::{applying, expression_of};
+pub use combining::combine;
+pub use exemption::{exempt, is_exempt};
+pub use rls_catalog::{Policy, Side, Verdict};

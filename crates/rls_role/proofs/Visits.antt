@@ -1,0 +1,32 @@
+-- One more visit of a walk.
+use Rattle.std.specs.Prelude.{◌≡◌, ℕ, suc, ◌+◌, List, [], ◌∷◌, ◌++◌, Some, None, take, slice_get}
+use Rattle.std.proofs.Common.{arith, ap, ◌∙◌, sym}
+use Rattle.rls_value.specs.declared.object.Object.{Object}
+use Rattle.rls_catalog.specs.State.{State}
+use Rattle.rls_catalog.specs.Membership.{fresh, inherited_by, walk, visit_reads, walk_reads, reached_of}
+use Rattle.rls_catalog.specs.Walks.{leads_on, reads_on, reads_all, reached_is}
+
+one_more : (next : ℕ) → next + 1 ≡ suc next
+one_more next = omega arith
+
+pub leads_next : (now s : State) (role : List ℕ) (names grown : List (List ℕ)) (next : ℕ) (name : List ℕ) → s ≡ now → slice_get names next ≡ Some name
+    → grown ≡ names ++ fresh names (inherited_by s name)
+    → ((n : ℕ) → walk n now names next ≡ walk (n + next) now (role ∷ []) 0)
+    → (n : ℕ) → walk n now grown (next + 1) ≡ walk (n + (next + 1)) now (role ∷ []) 0
+leads_next now s role names grown next name same found grows leads n =
+    (λ i. walk n now ((grows ∙ ap (λ t. names ++ fresh names (inherited_by t name)) same) i) (one_more next i))
+    ∙ leads_on now role names next name found leads n
+    ∙ (λ i. walk (n + sym (one_more next) i) now (role ∷ []) 0)
+
+pub reads_next : {A : Type 0} (after : A → List Object → A) → ((s : A) (os more : List Object) → after (after s os) more ≡ after s (os ++ more))
+    → (start source new : A) (names grown more : List (List ℕ)) (next : ℕ) (name : List ℕ) → slice_get names next ≡ Some name → grown ≡ names ++ more
+    → source ≡ after start (walk_reads (take next names)) → new ≡ after source (visit_reads name)
+    → new ≡ after start (walk_reads (take (next + 1) grown))
+reads_next after after_more start source new names grown more next name found grows so_far visit =
+    visit ∙ ap (λ s. after s (visit_reads name)) so_far ∙ after_more start (walk_reads (take next names)) (visit_reads name)
+    ∙ ap (after start) (reads_on names more next name found)
+    ∙ (λ i. after start (walk_reads (take (sym (one_more next) i) (sym grows i))))
+
+pub reads_end : {A : Type 0} (after : A → List Object → A) → (start source : A) (names reached : List (List ℕ)) (next : ℕ) → slice_get names next ≡ None → names ≡ reached
+    → source ≡ after start (walk_reads (take next names)) → source ≡ after start (walk_reads reached)
+reads_end after start source names reached next past same so_far = so_far ∙ ap (λ ns. after start (walk_reads ns)) (reads_all names next past ∙ same)

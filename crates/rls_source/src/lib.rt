@@ -1,0 +1,14 @@
+//! Sources of rows: who stands for a state, what was read of it, and what a change covers.
+#![tactic(auto)]
+
+mod covering;
+mod footprint;
+mod plain;
+mod recording;
+mod source;
+
+pub use covering::covers;
+pub use footprint::Footprint;
+pub use plain::Plain;
+pub use recording::Recording;
+pub use source::RowSource;

@@ -1,0 +1,96 @@
+//! A source with a note of what was read from it.
+
+ghost use Rattle.std.specs.Prelude.{◌≡◌, [], ◌++◌};
+ghost use Rattle.std.proofs.Common.{append-nil, append_assoc};
+
+use crate::footprint::Footprint;
+use crate::source::RowSource;
+use rls_catalog::{Grant, Membership, Policy, RoleDef, Stored};
+use rls_expr::TableDef;
+use rls_value::{Items, Name, Object, Row};
+use std::alloc::{AllocError, Global};
+
+/// A source, and what was read from it.
+#[derive(Drop)]
+pub struct Recording<S> {
+    pub source: S,
+    pub footprint: Footprint,
+}
+
+impl<S: RowSource> Recording<S> {
+    pub fn new(alloc: Global, source: S) -> Recording<S>
+        ensures source { result.source ≡ source }
+        ensures footprint { result.footprint ≡ [] }
+    {
+        Recording {
+            source,
+            footprint: Footprint::new(alloc),
+        }
+    }
+}
+
+impl<S: RowSource> RowSource for Recording<S> {
+    ghost state = { λ s. S.state s.source };
+
+    ghost after = { λ s os. record { source = S.after s.source os; footprint = s.footprint ++ os } };
+
+    fn role(&mut self, alloc: Global, name: &Name) -> Result<Option<RoleDef>, AllocError> {
+        let object = Object::Role(name.copy()?);
+        let found = self.source.role(alloc, name)?;
+        self.footprint.note(object)?;
+        Ok(found)
+    }
+
+    fn members(&mut self, alloc: Global, member: &Name) -> Result<Items<Membership>, AllocError> {
+        let object = Object::Members(member.copy()?);
+        let found = self.source.members(alloc, member)?;
+        self.footprint.note(object)?;
+        Ok(found)
+    }
+
+    fn table(&mut self, alloc: Global, name: &Name) -> Result<Option<TableDef>, AllocError> {
+        let object = Object::Table(name.copy()?);
+        let found = self.source.table(alloc, name)?;
+        self.footprint.note(object)?;
+        Ok(found)
+    }
+
+    fn grants(&mut self, alloc: Global, table: &Name) -> Result<Items<Grant>, AllocError> {
+        let object = Object::Grants(table.copy()?);
+        let found = self.source.grants(alloc, table)?;
+        self.footprint.note(object)?;
+        Ok(found)
+    }
+
+    fn policies(&mut self, alloc: Global, table: &Name) -> Result<Items<Policy>, AllocError> {
+        let object = Object::Policies(table.copy()?);
+        let found = self.source.policies(alloc, table)?;
+        self.footprint.note(object)?;
+        Ok(found)
+    }
+
+    fn scan(&mut self, alloc: Global, table: &Name) -> Result<Items<Stored>, AllocError> {
+        let object = Object::Rows(table.copy()?);
+        let found = self.source.scan(alloc, table)?;
+        self.footprint.note(object)?;
+        Ok(found)
+    }
+
+    fn by_key(
+        &mut self,
+        alloc: Global,
+        table: &Name,
+        key: &Row,
+    ) -> Result<Items<Stored>, AllocError> {
+        let object = Object::Key(table.copy()?, key.copy(alloc)?);
+        let found = self.source.by_key(alloc, table, key)?;
+        self.footprint.note(object)?;
+        Ok(found)
+    }
+
+    ghost stands = { λ s os. S.stands s.source os };
+
+    ghost after_none = { λ s i. record { source = S.after_none s.source i; footprint = append-nil s.footprint i } };
+
+    ghost after_more = { λ s os more i. record { source = S.after_more s.source os more i; footprint = append_assoc s.footprint os more i } };
+}

@@ -1,0 +1,76 @@
+//! Who stands for a state.
+
+ghost use Rattle.std.specs.Prelude.{◌≡◌, List, [], ◌∷◌, ◌++◌, IfOk, OnOk, OnErr};
+ghost use Rattle.rls_catalog.specs.State.{State, role_of, members_of, table_of, grants_of, policies_of, rows_of, rows_with_key};
+ghost use Rattle.rls_value.specs.declared.object.Object.{Object as Read};
+
+use rls_catalog::{Grant, Membership, Policy, RoleDef, Stored};
+use rls_expr::TableDef;
+use rls_value::{Items, Name, Object, Row};
+use std::alloc::{AllocError, Global};
+
+/// Stands for one state, which no read changes. What is found is copied. Each look-up is a read of one object; after
+/// an `Err` the source still stands for its state.
+pub trait RowSource {
+    /// The state that it stands for.
+    ghost state: { Self → State };
+
+    /// What reads of these objects, in order, make of it.
+    ghost after: { Self → List Read → Self };
+
+    /// The role, if there is one.
+    fn role(&mut self, alloc: Global, name: &Name) -> Result<Option<RoleDef>, AllocError>
+        ensures found { IfOk result (λ found. found ≡ role_of (state self.old) name.now) }
+        ensures read { OnOk result (self.new ≡ after self.old (Object.Role name.now ∷ [])) }
+        ensures err { OnErr result (state self.new ≡ state self.old) };
+
+    /// The memberships that the role has.
+    fn members(&mut self, alloc: Global, member: &Name) -> Result<Items<Membership>, AllocError>
+        ensures found { IfOk result (λ found. found ≡ members_of (state self.old) member.now) }
+        ensures read { OnOk result (self.new ≡ after self.old (Object.Members member.now ∷ [])) }
+        ensures err { OnErr result (state self.new ≡ state self.old) };
+
+    /// The table, if there is one.
+    fn table(&mut self, alloc: Global, name: &Name) -> Result<Option<TableDef>, AllocError>
+        ensures found { IfOk result (λ found. found ≡ table_of (state self.old) name.now) }
+        ensures read { OnOk result (self.new ≡ after self.old (Object.Table name.now ∷ [])) }
+        ensures err { OnErr result (state self.new ≡ state self.old) };
+
+    /// The grants on the table.
+    fn grants(&mut self, alloc: Global, table: &Name) -> Result<Items<Grant>, AllocError>
+        ensures found { IfOk result (λ found. found ≡ grants_of (state self.old) table.now) }
+        ensures read { OnOk result (self.new ≡ after self.old (Object.Grants table.now ∷ [])) }
+        ensures err { OnErr result (state self.new ≡ state self.old) };
+
+    /// The policies of the table, in byte order of their names.
+    fn policies(&mut self, alloc: Global, table: &Name) -> Result<Items<Policy>, AllocError>
+        ensures found { IfOk result (λ found. found ≡ policies_of (state self.old) table.now) }
+        ensures read { OnOk result (self.new ≡ after self.old (Object.Policies table.now ∷ [])) }
+        ensures err { OnErr result (state self.new ≡ state self.old) };
+
+    /// The rows of the table, in order of their numbers.
+    fn scan(&mut self, alloc: Global, table: &Name) -> Result<Items<Stored>, AllocError>
+        ensures found { IfOk result (λ found. found ≡ rows_of (state self.old) table.now) }
+        ensures read { OnOk result (self.new ≡ after self.old (Object.Rows table.now ∷ [])) }
+        ensures err { OnErr result (state self.new ≡ state self.old) };
+
+    /// The rows of the table that have the key, in order of their numbers.
+    fn by_key(
+        &mut self,
+        alloc: Global,
+        table: &Name,
+        key: &Row,
+    ) -> Result<Items<Stored>, AllocError>
+        ensures found { IfOk result (λ found. found ≡ rows_with_key (state self.old) table.now key.now) }
+        ensures read { OnOk result (self.new ≡ after self.old (Object.Key table.now key.now ∷ [])) }
+        ensures err { OnErr result (state self.new ≡ state self.old) };
+
+    /// No read changes the state.
+    ghost stands: { (s : Self) (os : List Read) → state (after s os) ≡ state s };
+
+    /// No reads change nothing.
+    ghost after_none: { (s : Self) → after s [] ≡ s };
+
+    /// Reads after reads are the reads of both, in order.
+    ghost after_more: { (s : Self) (os more : List Read) → after (after s os) more ≡ after s (os ++ more) };
+}

@@ -1,0 +1,81 @@
+-- What a function of the parser ensures: it gives what the reader gives, unless memory runs out.
+use Rattle.std.specs.Prelude.{◌≡◌, ℕ, ◌+◌, ◌++◌, length, List, [], ◌∷◌, Option, Some, None, Result, Ok, Err}
+use Rattle.std.specs.Borrow.{Bor}
+use Rattle.rls_text.specs.declared.token.Token.{Token}
+use Rattle.rls_text.specs.declared.fault.Fault.{Fault}
+use Rattle.rls_text.specs.declared.fault.Fault.TheVariants.{NoMemory, Syntax}
+use Rattle.rls_value.specs.declared.refusal.Limit.{Limit}
+use Rattle.rls_value.specs.declared.refusal.Refusal.{Refusal}
+use Rattle.rls_value.specs.declared.refusal.Refusal.TheVariants as refusal
+use Rattle.rls_text.specs.declared.statement.Statement.{Statement}
+use Rattle.rls_text.specs.Answers.{first_limit, limited}
+use Rattle.rls_text.specs.Lang.{put_in}
+use Rattle.rls_text.specs.Parses.{Outcome, and_then}
+use Rattle.rls_text.specs.Grammar.{Draft, or_empty}
+use Rattle.rls_text.specs.Readers as r
+
+-- nothing is said where memory ran out; what isn't read is no phrase
+abbrev pub Fails : {A : Type 0} → Fault → Outcome A → Type 0
+Fails NoMemory read = Unit {0}
+Fails Syntax read = read ≡ None
+
+abbrev pub Gives : {A : Type 0} → Result (A × Bor (List Token)) Fault → Outcome A → Type 0
+Gives (Ok x) read = read ≡ Some (x.0, x.1.now)
+Gives (Err fault) read = Fails fault read
+
+abbrev pub Finds : Option (Bor (List Token)) → Outcome (Unit {0}) → Type 0
+Finds (Some rest) read = read ≡ Some (tt, rest.now)
+Finds None read = read ≡ None
+
+abbrev pub Passes : Result (Bor (List Token)) Fault → Outcome (Unit {0}) → Type 0
+Passes (Ok rest) read = read ≡ Some (tt, rest.now)
+Passes (Err fault) read = Fails fault read
+
+-- how many there were
+unfoldable pub counted : Outcome (List (Unit {0})) → Outcome ℕ
+counted read = and_then read (λ xs rest. Some (length xs, rest))
+
+unfoldable pub added : ℕ → Outcome ℕ → Outcome ℕ
+added n read = and_then read (λ m rest. Some (n + m, rest))
+
+-- what was read so far stands before what is read next
+unfoldable pub with_front : {A : Type 0} → List A → Outcome (List A) → Outcome (List A)
+with_front front read = and_then read (λ xs rest. Some (front ++ xs, rest))
+
+-- the values that are read, put one by one into one
+unfoldable pub folded : {A B : Type 0} → (B → A → B) → B → Outcome (List A) → Outcome B
+folded step into read = and_then read (λ xs rest. Some (put_in step into xs, rest))
+
+unfoldable pub or_no_items : {A : Type 0} → Outcome (Option (List A)) → Outcome (List A)
+or_no_items read = and_then read (λ xs rest. Some (or_empty xs, rest))
+
+-- all of the tokens, with parentheses as deep as there are tokens
+abbrev pub finished : Outcome Draft → Option Draft
+finished None = None
+finished (Some (x, [])) = Some x
+finished (Some (x, _ ∷ _)) = None
+
+unfoldable pub whole_of : List Token → Option Draft
+whole_of ts = finished ((r.statement (length ts + 1)).read ts)
+
+abbrev pub GivesWhole : Result Draft Fault → Option Draft → Type 0
+GivesWhole (Ok x) read = read ≡ Some x
+GivesWhole (Err NoMemory) read = Unit {0}
+GivesWhole (Err Syntax) read = read ≡ None
+
+abbrev pub GivesName : Result (List ℕ) Fault → Option (List ℕ) → Type 0
+GivesName (Ok name) given = given ≡ Some name
+GivesName (Err NoMemory) given = Unit {0}
+GivesName (Err Syntax) given = given ≡ None
+
+-- what the whole is answered with
+abbrev pub answered : Option Draft → Result Statement Refusal
+answered None = Err refusal.Syntax
+answered (Some draft) = limited draft
+
+abbrev pub unless_over : Option Limit → Result Statement Refusal → Result Statement Refusal
+unless_over (Some limit) answer = Err (refusal.Limit limit)
+unless_over None answer = answer
+
+abbrev pub answer_of : List Token → Result Statement Refusal
+answer_of tokens = unless_over (first_limit tokens) (answered (whole_of tokens))

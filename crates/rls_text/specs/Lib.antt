@@ -1,0 +1,10 @@
+pub mod Tags
+pub mod Heads
+pub mod Lang
+pub mod Parses
+pub mod Trees
+pub mod Grammar
+pub mod Words
+pub mod Answers
+pub mod Readers
+pub mod Gives

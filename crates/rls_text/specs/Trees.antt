@@ -1,0 +1,77 @@
+-- Trees of limited depth: an expression with its depth, where a leaf counts one. For one that is deeper than 64
+-- a null stands, with a depth above the limit.
+use Rattle.std.specs.Prelude.{ℕ, ◌+◌, max, nat_lt, if◌then◌else◌, List, [], ◌∷◌, ◌++◌, Option, Some, None}
+use Rattle.rls_value.specs.declared.value.Value.TheVariants.{Null}
+use Rattle.rls_expr.specs.declared.expr.Comparison.{Comparison}
+use Rattle.rls_expr.specs.Terms.{Term, terms_of}
+use Rattle.rls_expr.specs.Terms as t
+use Rattle.rls_text.specs.declared.tree.Operands.{Operands}
+use Rattle.rls_text.specs.declared.tree.Operands.TheVariants.{One, Several}
+use Rattle.rls_text.specs.Lang.{put_in}
+
+abbrev pub Tree : Type 0
+Tree = Term × ℕ
+
+abbrev pub leaf : Term → Tree
+leaf term = (term, 1)
+
+-- what stands for a tree that is too deep
+abbrev pub cut : Tree
+cut = (t.Literal Null, 65)
+
+-- a node, above operands of which the deepest has this depth
+abbrev pub above : ℕ → Term → Tree
+above depth node = if◌then◌else◌ {A = Tree} (nat_lt depth 64) (node, depth + 1) cut
+
+abbrev pub not_of : Tree → Tree
+not_of tree = above tree.1 (t.Not tree.0)
+
+-- IS NULL, or IS NOT NULL
+unfoldable pub null_test_of : Tree → Option (Unit {0}) → Tree
+null_test_of tree None = above tree.1 (t.IsNull tree.0)
+null_test_of tree (Some _) = above tree.1 (t.IsNotNull tree.0)
+
+abbrev pub compare_of : Comparison → Tree → Tree → Tree
+compare_of how left right = above (max left.1 right.1) (t.Compare how left.0 right.0)
+
+unfoldable pub with_operand : Operands → Tree → Operands
+with_operand (One first depth) tree = Several (first ∷ tree.0 ∷ []) (max depth tree.1)
+with_operand (Several all depth) tree = Several (all ++ tree.0 ∷ []) (max depth tree.1)
+
+-- the operands of AND or OR
+abbrev pub operands : Tree → List Tree → Operands
+operands first more = put_in with_operand (One first.0 first.1) more
+
+-- one operand alone makes no node
+abbrev pub and_of : Operands → Tree
+and_of (One only depth) = (only, depth)
+and_of (Several all depth) = above depth (t.And (terms_of all))
+
+abbrev pub or_of : Operands → Tree
+or_of (One only depth) = (only, depth)
+or_of (Several all depth) = above depth (t.Or (terms_of all))
+
+-- a tuple of INSERT, with the depth of the deepest
+abbrev pub Tuple : Type 0
+Tuple = List Term × ℕ
+
+unfoldable pub with_part : Tuple → Tree → Tuple
+with_part tuple tree = (tuple.0 ++ tree.0 ∷ [], max tuple.1 tree.1)
+
+abbrev pub tuple_of : Tree → List Tree → Tuple
+tuple_of first more = put_in with_part (first.0 ∷ [], first.1) more
+
+-- the tuples of INSERT, with the depth of the deepest
+abbrev pub Tuples : Type 0
+Tuples = List (List Term) × ℕ
+
+unfoldable pub with_tuple : Tuples → Tuple → Tuples
+with_tuple tuples tuple = (tuples.0 ++ tuple.0 ∷ [], max tuples.1 tuple.1)
+
+abbrev pub tuples_of : Tuple → List Tuple → Tuples
+tuples_of first more = put_in with_tuple (first.0 ∷ [], first.1) more
+
+-- a condition that may be left out, and its depth
+abbrev pub parted : Option Tree → Option Term × ℕ
+parted None = (None, 0)
+parted (Some tree) = (Some tree.0, tree.1)

@@ -1,0 +1,267 @@
+//! CREATE and ALTER from tokens.
+
+ghost use Rattle.std.specs.Prelude.{◌≡◌, [], ◌∷◌, length, IfOk};
+ghost use Rattle.rls_text.specs.Gives.{Gives, with_front};
+ghost use Rattle.rls_text.specs.Parses.{read_many};
+ghost use Rattle.rls_text.specs.Readers as r;
+ghost use Rattle.rls_text.specs.Grammar as g;
+
+use crate::attributes::attributes_of_role;
+use crate::expression::expr;
+use crate::fault::Fault;
+use crate::granting::to_grantees;
+use crate::reading::{name, past_symbol, past_word, sees_symbol, sees_word, word};
+use crate::statement::{AlterTable, CreatePolicy, CreateRole, CreateTable, RowSecurity, Statement};
+use crate::token::{Symbol, Token};
+use crate::tree::{Draft, Tree, parted};
+use rls_catalog::{Grantee, Policy};
+use rls_expr::Column;
+use rls_value::{ColType, Items, Name, PolicyKind};
+use std::alloc::{AllocError, Global};
+
+#[tactic(auto, unfolding(crate::specs::Readers::create))]
+pub fn create(alloc: Global, depth: usize, tokens: &[Token]) -> Result<(Draft, &[Token]), Fault>
+    ensures { Gives result ((r.create (g.expr depth) (r.expr depth)).read tokens.now) }
+{
+    let rest = past_word(tokens, b"create")?;
+    if let Some(rest) = word(rest, b"role") {
+        let (role, rest) = role(alloc, false, rest)?;
+        Ok(((role, 0), rest))
+    } else if let Some(rest) = word(rest, b"user") {
+        let (role, rest) = role(alloc, true, rest)?;
+        Ok(((role, 0), rest))
+    } else if let Some(rest) = word(rest, b"table") {
+        let (table, rest) = table(alloc, rest)?;
+        Ok(((table, 0), rest))
+    } else {
+        let rest = past_word(rest, b"policy")?;
+        policy(alloc, depth, rest)
+    }
+}
+
+#[tactic(auto, unfolding(crate::specs::Readers::role))]
+fn role(alloc: Global, is_user: bool, tokens: &[Token]) -> Result<(Statement, &[Token]), Fault>
+    ensures { Gives result ((r.role is_user).read tokens.now) }
+{
+    let (name, rest) = name(alloc, tokens)?;
+    let (attributes, rest) = attributes_of_role(alloc, is_user, rest)?;
+    Ok((Statement::CreateRole(CreateRole { name, attributes }), rest))
+}
+
+#[tactic(auto, unfolding(crate::specs::Readers::table))]
+fn table(alloc: Global, tokens: &[Token]) -> Result<(Statement, &[Token]), Fault>
+    ensures { Gives result (r.table.read tokens.now) }
+{
+    let (name, rest) = name(alloc, tokens)?;
+    let rest = past_symbol(rest, Symbol::LParen)?;
+    let (columns, rest) = distinct_columns(alloc, rest)?;
+    let rest = past_symbol(rest, Symbol::RParen)?;
+    Ok((Statement::CreateTable(CreateTable { name, columns }), rest))
+}
+
+#[tactic(auto, unfolding(crate::specs::Readers::distinct_columns))]
+fn distinct_columns(alloc: Global, tokens: &[Token]) -> Result<(Items<Column>, &[Token]), Fault>
+    ensures { Gives result (r.distinct_columns.read tokens.now) }
+{
+    let (columns, rest) = columns(alloc, tokens)?;
+    if are_distinct(columns.as_slice()) {
+        Ok((columns, rest))
+    } else {
+        Err(Fault::Syntax)
+    }
+}
+
+fn are_distinct(mut columns: &[Column]) -> bool
+    ensures { result ≡ g.are_distinct columns.entry.now }
+{
+    while let [first, rest @ ..] = columns {
+        if has_column(&first.name, rest) {
+            return false;
+        }
+        columns = rest;
+    }
+    true
+}
+
+fn has_column(name: &Name, columns: &[Column]) -> bool
+    ensures { result ≡ g.has_column name.now columns.now }
+{
+    columns.iter().any(|column| column.name.is(name))
+}
+
+#[tactic(auto, unfolding(crate::specs::Readers::definitions, crate::specs::Gives::with_front))]
+fn columns(alloc: Global, tokens: &[Token]) -> Result<(Items<Column>, &[Token]), Fault>
+    ensures { Gives result (r.definitions.read tokens.now) }
+{
+    let (first, rest) = column(alloc, tokens)?;
+    let mut all = Items::new(alloc);
+    all.push(first)?;
+    more_columns(alloc, all, rest)
+}
+
+#[tactic(auto, using(crate::proofs::Loops::front_begins, crate::proofs::Loops::loop_stops, crate::proofs::Loops::loop_ends, crate::proofs::Loops::loop_fails, crate::proofs::Loops::loop_goes_on))]
+fn more_columns(
+    alloc: Global,
+    first: Items<Column>,
+    tokens: &[Token],
+) -> Result<(Items<Column>, &[Token]), Fault>
+    ensures { Gives result (with_front first (read_many (r.S Symbol.Comma ∷ []) r.next_definition.read (length tokens.now) tokens.now)) }
+{
+    let mut all = first;
+    let mut rest = tokens;
+    for _turn in 0..tokens.len() {
+        if !sees_symbol(rest, Symbol::Comma) {
+            return Ok((all, rest));
+        }
+        let (next, behind) = next_column(alloc, rest)?;
+        all.push(next)?;
+        rest = behind;
+    }
+    Ok((all, rest))
+}
+
+#[tactic(auto, unfolding(crate::specs::Readers::next_definition))]
+fn next_column(alloc: Global, tokens: &[Token]) -> Result<(Column, &[Token]), Fault>
+    ensures { Gives result (r.next_definition.read tokens.now) }
+{
+    let rest = past_symbol(tokens, Symbol::Comma)?;
+    column(alloc, rest)
+}
+
+#[tactic(auto, unfolding(crate::specs::Readers::column_definition))]
+fn column(alloc: Global, tokens: &[Token]) -> Result<(Column, &[Token]), Fault>
+    ensures { Gives result (r.column_definition.read tokens.now) }
+{
+    let (name, rest) = name(alloc, tokens)?;
+    let (kind, rest) = column_type(rest)?;
+    let column = Column {
+        name,
+        kind,
+        not_null: false,
+    };
+    Ok((column, rest))
+}
+
+#[tactic(auto, unfolding(crate::specs::Readers::column_type))]
+fn column_type(tokens: &[Token]) -> Result<(ColType, &[Token]), Fault>
+    ensures { Gives result (r.column_type.read tokens.now) }
+{
+    if let Some(rest) = word(tokens, b"integer") {
+        Ok((ColType::Integer, rest))
+    } else if let Some(rest) = word(tokens, b"int") {
+        Ok((ColType::Integer, rest))
+    } else if let Some(rest) = word(tokens, b"bigint") {
+        Ok((ColType::BigInt, rest))
+    } else if let Some(rest) = word(tokens, b"text") {
+        Ok((ColType::Text, rest))
+    } else if let Some(rest) = word(tokens, b"boolean") {
+        Ok((ColType::Boolean, rest))
+    } else if let Some(rest) = word(tokens, b"bool") {
+        Ok((ColType::Boolean, rest))
+    } else {
+        Err(Fault::Syntax)
+    }
+}
+
+#[tactic(auto, unfolding(crate::specs::Readers::alter))]
+pub fn alter(alloc: Global, tokens: &[Token]) -> Result<(Statement, &[Token]), Fault>
+    ensures { Gives result (r.alter.read tokens.now) }
+{
+    let rest = past_word(tokens, b"alter")?;
+    let rest = past_word(rest, b"table")?;
+    let (table, rest) = name(alloc, rest)?;
+    let rest = past_word(rest, b"enable")?;
+    let rest = past_word(rest, b"row")?;
+    let rest = past_word(rest, b"level")?;
+    let rest = past_word(rest, b"security")?;
+    let change = AlterTable {
+        table,
+        change: RowSecurity::Enable,
+    };
+    Ok((Statement::AlterTable(change), rest))
+}
+
+#[tactic(auto, unfolding(crate::specs::Readers::policy))]
+fn policy(alloc: Global, depth: usize, tokens: &[Token]) -> Result<(Draft, &[Token]), Fault>
+    ensures { Gives result ((r.policy (g.expr depth) (r.expr depth)).read tokens.now) }
+{
+    let (name, rest) = name(alloc, tokens)?;
+    let rest = past_word(rest, b"on")?;
+    let (table, rest) = crate::reading::name(alloc, rest)?;
+    let (to, rest) = for_grantees(alloc, rest)?;
+    let (using, rest) = using(alloc, depth, rest)?;
+    let (check, rest) = check(alloc, depth, rest)?;
+    let (using, using_depth) = parted(using);
+    let (check, check_depth) = parted(check);
+    let policy = Policy {
+        name,
+        permissive: true,
+        kind: PolicyKind::All,
+        to,
+        using,
+        check,
+    };
+    let policy = CreatePolicy { table, policy };
+    Ok((
+        (
+            Statement::CreatePolicy(policy),
+            using_depth.max(check_depth),
+        ),
+        rest,
+    ))
+}
+
+/// The grantees behind TO; without it, PUBLIC.
+#[tactic(auto, unfolding(crate::specs::Readers::for_grantees))]
+fn for_grantees(alloc: Global, tokens: &[Token]) -> Result<(Items<Grantee>, &[Token]), Fault>
+    ensures { Gives result (r.for_grantees.read tokens.now) }
+{
+    if sees_word(tokens, b"to") {
+        to_grantees(alloc, tokens)
+    } else {
+        Ok((public_alone(alloc)?, tokens))
+    }
+}
+
+fn public_alone(alloc: Global) -> Result<Items<Grantee>, AllocError>
+    ensures { IfOk result (λ all. all ≡ g.or_public None) }
+{
+    let mut all = Items::new(alloc);
+    all.push(Grantee::Public)?;
+    Ok(all)
+}
+
+#[tactic(auto, unfolding(crate::specs::Readers::using))]
+fn using(alloc: Global, depth: usize, tokens: &[Token]) -> Result<(Option<Tree>, &[Token]), Fault>
+    ensures { Gives result ((r.using (g.expr depth) (r.expr depth)).read tokens.now) }
+{
+    if let Some(rest) = word(tokens, b"using") {
+        let (condition, rest) = parenthesized(alloc, depth, rest)?;
+        Ok((Some(condition), rest))
+    } else {
+        Ok((None, tokens))
+    }
+}
+
+#[tactic(auto, unfolding(crate::specs::Readers::check))]
+fn check(alloc: Global, depth: usize, tokens: &[Token]) -> Result<(Option<Tree>, &[Token]), Fault>
+    ensures { Gives result ((r.check (g.expr depth) (r.expr depth)).read tokens.now) }
+{
+    if let Some(rest) = word(tokens, b"with") {
+        let rest = past_word(rest, b"check")?;
+        let (condition, rest) = parenthesized(alloc, depth, rest)?;
+        Ok((Some(condition), rest))
+    } else {
+        Ok((None, tokens))
+    }
+}
+
+#[tactic(auto, unfolding(crate::specs::Readers::parenthesized))]
+fn parenthesized(alloc: Global, depth: usize, tokens: &[Token]) -> Result<(Tree, &[Token]), Fault>
+    ensures { Gives result ((r.parenthesized (g.expr depth) (r.expr depth)).read tokens.now) }
+{
+    let rest = past_symbol(tokens, Symbol::LParen)?;
+    let (inner, rest) = expr(alloc, depth, rest)?;
+    let rest = past_symbol(rest, Symbol::RParen)?;
+    Ok((inner, rest))
+}

@@ -1,0 +1,378 @@
+//! Expressions from tokens.
+
+ghost use Rattle.std.specs.Prelude.{◌≡◌, [], ◌∷◌, codes, length, IfOk};
+ghost use Rattle.rls_text.specs.Gives.{Gives, folded};
+ghost use Rattle.rls_text.specs.Heads.{sees};
+ghost use Rattle.rls_text.specs.Parses.{read_many};
+ghost use Rattle.rls_text.specs.Readers as r;
+ghost use Rattle.rls_text.specs.Grammar as g;
+ghost use Rattle.rls_text.specs.Trees as spec;
+
+use crate::fault::Fault;
+use crate::reading::{name, past_symbol, past_word, sees_word, starts_name, symbol, word};
+use crate::token::{Symbol, Token};
+use crate::tree::{
+    Operands, Tree, and_of, compare_of, leaf, not_of, null_test_of, or_of, with_operand,
+};
+use rls_expr::{Comparison, Expr, Node};
+use rls_value::Value;
+use std::alloc::{AllocError, Global};
+
+/// An expression with parentheses to this depth.
+#[cycle(expression)]
+#[tactic(auto, using(crate::proofs::Loops::deeper), unfolding(crate::specs::Readers::expr))]
+pub fn expr(alloc: Global, depth: usize, tokens: &[Token]) -> Result<(Tree, &[Token]), Fault>
+    ensures { Gives result ((r.expr depth).read tokens.now) }
+{
+    if depth == 0 {
+        Err(Fault::Syntax)
+    } else {
+        or(alloc, depth - 1, tokens)
+    }
+}
+
+#[cycle(expression)]
+#[tactic(auto, unfolding(crate::specs::Readers::or, crate::specs::Gives::folded))]
+fn or(alloc: Global, depth: usize, tokens: &[Token]) -> Result<(Tree, &[Token]), Fault>
+    ensures { Gives result ((r.or (g.expr depth) (r.expr depth)).read tokens.now) }
+{
+    let ((first, height), rest) = and(alloc, depth, tokens)?;
+    let (operands, rest) = or_more(alloc, depth, Operands::One(first, height), rest)?;
+    Ok((or_of(operands), rest))
+}
+
+#[cycle(expression)]
+#[tactic(auto, using(crate::proofs::Loops::fold_begins, crate::proofs::Loops::fold_stops, crate::proofs::Loops::fold_ends, crate::proofs::Loops::fold_fails, crate::proofs::Loops::fold_goes_on))]
+fn or_more(
+    alloc: Global,
+    depth: usize,
+    first: Operands,
+    tokens: &[Token],
+) -> Result<(Operands, &[Token]), Fault>
+    ensures { Gives result (folded spec.with_operand first (read_many (r.W (codes "or") ∷ []) (r.or_next (g.expr depth) (r.expr depth)).read (length tokens.now) tokens.now)) }
+{
+    let mut operands = first;
+    let mut rest = tokens;
+    for _turn in 0..tokens.len() {
+        if !sees_word(rest, b"or") {
+            return Ok((operands, rest));
+        }
+        let (next, behind) = or_next(alloc, depth, rest)?;
+        operands = with_operand(alloc, operands, next)?;
+        rest = behind;
+    }
+    Ok((operands, rest))
+}
+
+#[cycle(expression)]
+#[tactic(auto, unfolding(crate::specs::Readers::or_next))]
+fn or_next(alloc: Global, depth: usize, tokens: &[Token]) -> Result<(Tree, &[Token]), Fault>
+    ensures { Gives result ((r.or_next (g.expr depth) (r.expr depth)).read tokens.now) }
+{
+    match word(tokens, b"or") {
+        Some(rest) => and(alloc, depth, rest),
+        None => Err(Fault::Syntax),
+    }
+}
+
+#[cycle(expression)]
+#[tactic(auto, unfolding(crate::specs::Readers::and, crate::specs::Gives::folded))]
+fn and(alloc: Global, depth: usize, tokens: &[Token]) -> Result<(Tree, &[Token]), Fault>
+    ensures { Gives result ((r.and (g.expr depth) (r.expr depth)).read tokens.now) }
+{
+    let ((first, height), rest) = not(alloc, depth, tokens)?;
+    let (operands, rest) = and_more(alloc, depth, Operands::One(first, height), rest)?;
+    Ok((and_of(operands), rest))
+}
+
+#[cycle(expression)]
+#[tactic(auto, using(crate::proofs::Loops::fold_begins, crate::proofs::Loops::fold_stops, crate::proofs::Loops::fold_ends, crate::proofs::Loops::fold_fails, crate::proofs::Loops::fold_goes_on))]
+fn and_more(
+    alloc: Global,
+    depth: usize,
+    first: Operands,
+    tokens: &[Token],
+) -> Result<(Operands, &[Token]), Fault>
+    ensures { Gives result (folded spec.with_operand first (read_many (r.W (codes "and") ∷ []) (r.and_next (g.expr depth) (r.expr depth)).read (length tokens.now) tokens.now)) }
+{
+    let mut operands = first;
+    let mut rest = tokens;
+    for _turn in 0..tokens.len() {
+        if !sees_word(rest, b"and") {
+            return Ok((operands, rest));
+        }
+        let (next, behind) = and_next(alloc, depth, rest)?;
+        operands = with_operand(alloc, operands, next)?;
+        rest = behind;
+    }
+    Ok((operands, rest))
+}
+
+#[cycle(expression)]
+#[tactic(auto, unfolding(crate::specs::Readers::and_next))]
+fn and_next(alloc: Global, depth: usize, tokens: &[Token]) -> Result<(Tree, &[Token]), Fault>
+    ensures { Gives result ((r.and_next (g.expr depth) (r.expr depth)).read tokens.now) }
+{
+    match word(tokens, b"and") {
+        Some(rest) => not(alloc, depth, rest),
+        None => Err(Fault::Syntax),
+    }
+}
+
+#[cycle(expression)]
+#[tactic(auto, unfolding(crate::specs::Readers::not_))]
+fn not(alloc: Global, depth: usize, tokens: &[Token]) -> Result<(Tree, &[Token]), Fault>
+    ensures { Gives result ((r.not_ (g.expr depth) (r.expr depth)).read tokens.now) }
+{
+    let (count, rest) = nots(tokens);
+    let (operand, rest) = is(alloc, depth, rest)?;
+    Ok((negated(alloc, count, operand)?, rest))
+}
+
+#[cycle(expression)]
+#[tactic(auto, unfolding(crate::specs::Readers::is, crate::specs::Gives::folded))]
+fn is(alloc: Global, depth: usize, tokens: &[Token]) -> Result<(Tree, &[Token]), Fault>
+    ensures { Gives result ((r.is (g.expr depth) (r.expr depth)).read tokens.now) }
+{
+    let (tested, rest) = cmp(alloc, depth, tokens)?;
+    null_tests(alloc, tested, rest)
+}
+
+#[cycle(expression)]
+#[tactic(auto, unfolding(crate::specs::Readers::cmp))]
+fn cmp(alloc: Global, depth: usize, tokens: &[Token]) -> Result<(Tree, &[Token]), Fault>
+    ensures { Gives result ((r.cmp (g.expr depth) (r.expr depth)).read tokens.now) }
+{
+    let (left, rest) = prim(alloc, depth, tokens)?;
+    if !starts_comparison(rest) {
+        return Ok((left, rest));
+    }
+    let (how, rest) = comparison(rest)?;
+    let (right, rest) = prim(alloc, depth, rest)?;
+    Ok((compare_of(alloc, how, left, right)?, rest))
+}
+
+#[cycle(expression)]
+#[tactic(auto, unfolding(crate::specs::Readers::prim))]
+fn prim(alloc: Global, depth: usize, tokens: &[Token]) -> Result<(Tree, &[Token]), Fault>
+    ensures { Gives result ((r.prim (g.expr depth) (r.expr depth)).read tokens.now) }
+{
+    if starts_literal(tokens) {
+        let (literal, rest) = literal(tokens)?;
+        Ok((leaf(Node::Literal(literal)), rest))
+    } else if starts_name(tokens) {
+        let (name, rest) = name(alloc, tokens)?;
+        Ok((leaf(Node::Column(name)), rest))
+    } else if let Some(rest) = word(tokens, b"current_user") {
+        Ok((leaf(Node::CurrentUser), rest))
+    } else {
+        let rest = past_symbol(tokens, Symbol::LParen)?;
+        let (inner, rest) = expr(alloc, depth, rest)?;
+        let rest = past_symbol(rest, Symbol::RParen)?;
+        Ok((inner, rest))
+    }
+}
+
+/// How many times NOT stands there.
+#[tactic(auto, using(crate::proofs::Loops::nots_begin, crate::proofs::Loops::count_stops, crate::proofs::Loops::count_ends, crate::proofs::Loops::count_goes_on))]
+fn nots(tokens: &[Token]) -> (usize, &[Token])
+    ensures { r.nots.read tokens.now ≡ Some (result.0, result.1.now) }
+{
+    let mut count = 0;
+    let mut rest = tokens;
+    for _turn in 0..tokens.len() {
+        let Some(behind) = word(rest, b"not") else {
+            return (count, rest);
+        };
+        count += 1;
+        rest = behind;
+    }
+    (count, rest)
+}
+
+#[tactic(auto, using(crate::proofs::Loops::negated_on, crate::proofs::Loops::negated_done))]
+fn negated(alloc: Global, count: usize, operand: Tree) -> Result<Tree, AllocError>
+    ensures { IfOk result (λ tree. tree ≡ g.negated count operand) }
+{
+    let mut operand = operand;
+    for _turn in 0..count {
+        operand = not_of(alloc, operand)?;
+    }
+    Ok(operand)
+}
+
+#[tactic(auto, using(crate::proofs::Loops::fold_begins, crate::proofs::Loops::fold_stops, crate::proofs::Loops::fold_ends, crate::proofs::Loops::fold_fails, crate::proofs::Loops::fold_goes_on))]
+fn null_tests(alloc: Global, tested: Tree, tokens: &[Token]) -> Result<(Tree, &[Token]), Fault>
+    ensures { Gives result (folded spec.null_test_of tested (read_many (r.W (codes "is") ∷ []) r.null_test.read (length tokens.now) tokens.now)) }
+{
+    let mut tested = tested;
+    let mut rest = tokens;
+    for _turn in 0..tokens.len() {
+        if !sees_word(rest, b"is") {
+            return Ok((tested, rest));
+        }
+        let (negated, behind) = null_test(rest)?;
+        tested = null_test_of(alloc, tested, negated)?;
+        rest = behind;
+    }
+    Ok((tested, rest))
+}
+
+#[tactic(auto, unfolding(crate::specs::Readers::null_test))]
+fn null_test(tokens: &[Token]) -> Result<(Option<()>, &[Token]), Fault>
+    ensures { Gives result (r.null_test.read tokens.now) }
+{
+    let rest = past_word(tokens, b"is")?;
+    if let Some(rest) = word(rest, b"not") {
+        Ok((Some(()), past_word(rest, b"null")?))
+    } else {
+        Ok((None, past_word(rest, b"null")?))
+    }
+}
+
+fn starts_comparison(tokens: &[Token]) -> bool
+    ensures { result ≡ sees r.comparison_heads tokens.now }
+{
+    match tokens {
+        [Token::Symbol(symbol), ..] => match symbol {
+            Symbol::Equal
+            | Symbol::NotEqual
+            | Symbol::Less
+            | Symbol::LessOrEqual
+            | Symbol::Greater
+            | Symbol::GreaterOrEqual => true,
+            _ => false,
+        },
+        _ => false,
+    }
+}
+
+#[tactic(auto, unfolding(crate::specs::Readers::comparison))]
+fn comparison(tokens: &[Token]) -> Result<(Comparison, &[Token]), Fault>
+    ensures { Gives result (r.comparison.read tokens.now) }
+{
+    match tokens {
+        [Token::Symbol(Symbol::Equal), rest @ ..] => Ok((Comparison::Equal, rest)),
+        [Token::Symbol(Symbol::NotEqual), rest @ ..] => Ok((Comparison::NotEqual, rest)),
+        [Token::Symbol(Symbol::Less), rest @ ..] => Ok((Comparison::Less, rest)),
+        [Token::Symbol(Symbol::LessOrEqual), rest @ ..] => Ok((Comparison::LessOrEqual, rest)),
+        [Token::Symbol(Symbol::Greater), rest @ ..] => Ok((Comparison::Greater, rest)),
+        [Token::Symbol(Symbol::GreaterOrEqual), rest @ ..] => Ok((
+            Comparison::GreaterOrEqual,
+            rest,
+        )),
+        _ => Err(Fault::Syntax),
+    }
+}
+
+fn starts_literal(tokens: &[Token]) -> bool
+    ensures { result ≡ sees r.literal_heads tokens.now }
+{
+    if let [
+        Token::Text(_) | Token::Number(_) | Token::Symbol(Symbol::Minus),
+        ..
+    ] = tokens
+    {
+        true
+    } else {
+        starts_constant(tokens)
+    }
+}
+
+fn starts_constant(tokens: &[Token]) -> bool
+    ensures { result ≡ sees r.constant_heads tokens.now }
+{
+    match tokens {
+        [Token::Word(letters), ..] => {
+            let letters = letters.as_str().as_bytes();
+            if letters == b"true".as_slice() {
+                true
+            } else if letters == b"false".as_slice() {
+                true
+            } else if letters == b"null".as_slice() {
+                true
+            } else {
+                false
+            }
+        }
+        _ => false,
+    }
+}
+
+#[tactic(auto, unfolding(crate::specs::Readers::literal))]
+fn literal(tokens: &[Token]) -> Result<(Value, &[Token]), Fault>
+    ensures { Gives result (r.literal.read tokens.now) }
+{
+    if starts_constant(tokens) {
+        constant(tokens)
+    } else if let [Token::Text(_), ..] = tokens {
+        text(tokens)
+    } else {
+        number(tokens)
+    }
+}
+
+#[tactic(auto, unfolding(crate::specs::Readers::constant))]
+fn constant(tokens: &[Token]) -> Result<(Value, &[Token]), Fault>
+    ensures { Gives result (r.constant.read tokens.now) }
+{
+    if let Some(rest) = word(tokens, b"true") {
+        Ok((Value::Bool(true), rest))
+    } else if let Some(rest) = word(tokens, b"false") {
+        Ok((Value::Bool(false), rest))
+    } else if let Some(rest) = word(tokens, b"null") {
+        Ok((Value::Null, rest))
+    } else {
+        Err(Fault::Syntax)
+    }
+}
+
+#[tactic(auto, unfolding(crate::specs::Readers::text))]
+fn text(tokens: &[Token]) -> Result<(Value, &[Token]), Fault>
+    ensures { Gives result (r.text.read tokens.now) }
+{
+    match tokens {
+        [Token::Text(content), rest @ ..] => Ok((Value::Text(content.copy()?), rest)),
+        _ => Err(Fault::Syntax),
+    }
+}
+
+#[tactic(auto, unfolding(crate::specs::Readers::number))]
+fn number(tokens: &[Token]) -> Result<(Value, &[Token]), Fault>
+    ensures { Gives result (r.number.read tokens.now) }
+{
+    if let Some(rest) = symbol(tokens, Symbol::Minus) {
+        let (digits, rest) = digits(rest)?;
+        if digits <= 1 << 63 {
+            Ok((Value::Int((0 - i128::from(digits)) as i64), rest))
+        } else {
+            Err(Fault::Syntax)
+        }
+    } else {
+        let (digits, rest) = digits(tokens)?;
+        if digits < 1 << 63 {
+            Ok((Value::Int(digits as i64), rest))
+        } else {
+            Err(Fault::Syntax)
+        }
+    }
+}
+
+#[tactic(auto, unfolding(crate::specs::Readers::digits))]
+fn digits(tokens: &[Token]) -> Result<(u64, &[Token]), Fault>
+    ensures { Gives result (r.digits.read tokens.now) }
+{
+    match tokens {
+        [Token::Number(number), rest @ ..] => Ok((*number, rest)),
+        _ => Err(Fault::Syntax),
+    }
+}
+
+/// A column alone, as a select item.
+#[tactic(auto, unfolding(crate::specs::Readers::column))]
+pub fn column(alloc: Global, tokens: &[Token]) -> Result<(Expr, &[Token]), Fault>
+    ensures { Gives result (r.column.read tokens.now) }
+{
+    let (name, rest) = name(alloc, tokens)?;
+    Ok((Expr::new(Node::Column(name)), rest))
+}

@@ -1,0 +1,203 @@
+//! GRANT of privileges from tokens, and lists of grantees.
+
+ghost use Rattle.std.specs.Prelude.{◌≡◌, [], ◌∷◌, length};
+ghost use Rattle.rls_text.specs.Gives.{Gives, with_front, folded};
+ghost use Rattle.rls_text.specs.Parses.{read_many};
+ghost use Rattle.rls_text.specs.Readers as r;
+ghost use Rattle.rls_text.specs.Grammar as g;
+
+use crate::fault::Fault;
+use crate::reading::{name, past_symbol, past_word, sees_symbol, word};
+use crate::statement::{GrantPrivileges, Privileges, Statement};
+use crate::token::{Symbol, Token};
+use rls_catalog::Grantee;
+use rls_value::{Items, Name, Privilege};
+use std::alloc::Global;
+
+#[tactic(auto, unfolding(crate::specs::Readers::grant))]
+pub fn grant(alloc: Global, tokens: &[Token]) -> Result<(Statement, &[Token]), Fault>
+    ensures { Gives result (r.grant.read tokens.now) }
+{
+    let rest = past_word(tokens, b"grant")?;
+    let (privileges, rest) = privileges(rest)?;
+    let rest = past_word(rest, b"on")?;
+    let (table, rest) = table_name(alloc, rest)?;
+    let (to, rest) = to_grantees(alloc, rest)?;
+    let grant = GrantPrivileges {
+        privileges,
+        table,
+        to,
+    };
+    Ok((Statement::Grant(grant), rest))
+}
+
+/// The name of a table, with the word TABLE or without.
+#[tactic(auto, unfolding(crate::specs::Readers::table_name))]
+fn table_name(alloc: Global, tokens: &[Token]) -> Result<(Name, &[Token]), Fault>
+    ensures { Gives result (r.table_name.read tokens.now) }
+{
+    match word(tokens, b"table") {
+        Some(rest) => name(alloc, rest),
+        None => name(alloc, tokens),
+    }
+}
+
+#[tactic(auto, unfolding(crate::specs::Readers::privileges))]
+fn privileges(tokens: &[Token]) -> Result<(Privileges, &[Token]), Fault>
+    ensures { Gives result (r.privileges.read tokens.now) }
+{
+    if let Some(rest) = word(tokens, b"all") {
+        match word(rest, b"privileges") {
+            Some(rest) => Ok((all_privileges(), rest)),
+            None => Ok((all_privileges(), rest)),
+        }
+    } else {
+        named_privileges(tokens)
+    }
+}
+
+#[tactic(auto, unfolding(crate::specs::Readers::named_privileges, crate::specs::Gives::folded))]
+fn named_privileges(tokens: &[Token]) -> Result<(Privileges, &[Token]), Fault>
+    ensures { Gives result (r.named_privileges.read tokens.now) }
+{
+    let (first, rest) = privilege(tokens)?;
+    more_privileges(with_privilege(no_privileges(), first), rest)
+}
+
+#[tactic(auto, using(crate::proofs::Loops::fold_begins, crate::proofs::Loops::fold_stops, crate::proofs::Loops::fold_ends, crate::proofs::Loops::fold_fails, crate::proofs::Loops::fold_goes_on))]
+fn more_privileges(first: Privileges, tokens: &[Token]) -> Result<(Privileges, &[Token]), Fault>
+    ensures { Gives result (folded g.with_privilege first (read_many (r.S Symbol.Comma ∷ []) r.next_privilege.read (length tokens.now) tokens.now)) }
+{
+    let mut all = first;
+    let mut rest = tokens;
+    for _turn in 0..tokens.len() {
+        if !sees_symbol(rest, Symbol::Comma) {
+            return Ok((all, rest));
+        }
+        let (next, behind) = next_privilege(rest)?;
+        all = with_privilege(all, next);
+        rest = behind;
+    }
+    Ok((all, rest))
+}
+
+#[tactic(auto, unfolding(crate::specs::Readers::next_privilege))]
+fn next_privilege(tokens: &[Token]) -> Result<(Privilege, &[Token]), Fault>
+    ensures { Gives result (r.next_privilege.read tokens.now) }
+{
+    let rest = past_symbol(tokens, Symbol::Comma)?;
+    privilege(rest)
+}
+
+#[tactic(auto, unfolding(crate::specs::Readers::privilege))]
+fn privilege(tokens: &[Token]) -> Result<(Privilege, &[Token]), Fault>
+    ensures { Gives result (r.privilege.read tokens.now) }
+{
+    if let Some(rest) = word(tokens, b"select") {
+        Ok((Privilege::Select, rest))
+    } else if let Some(rest) = word(tokens, b"insert") {
+        Ok((Privilege::Insert, rest))
+    } else if let Some(rest) = word(tokens, b"update") {
+        Ok((Privilege::Update, rest))
+    } else if let Some(rest) = word(tokens, b"delete") {
+        Ok((Privilege::Delete, rest))
+    } else {
+        Err(Fault::Syntax)
+    }
+}
+
+fn no_privileges() -> Privileges
+    ensures { result ≡ g.no_privileges }
+{
+    Privileges {
+        select: false,
+        insert: false,
+        update: false,
+        delete: false,
+    }
+}
+
+fn all_privileges() -> Privileges
+    ensures { result ≡ g.all_privileges }
+{
+    Privileges {
+        select: true,
+        insert: true,
+        update: true,
+        delete: true,
+    }
+}
+
+#[tactic(auto, unfolding(crate::specs::Grammar::with_privilege))]
+fn with_privilege(privileges: Privileges, privilege: Privilege) -> Privileges
+    ensures { result ≡ g.with_privilege privileges privilege }
+{
+    let mut privileges = privileges;
+    match privilege {
+        Privilege::Select => privileges.select = true,
+        Privilege::Insert => privileges.insert = true,
+        Privilege::Update => privileges.update = true,
+        Privilege::Delete => privileges.delete = true,
+    }
+    privileges
+}
+
+/// TO and its list.
+#[tactic(auto, unfolding(crate::specs::Readers::to_grantees))]
+pub fn to_grantees(alloc: Global, tokens: &[Token]) -> Result<(Items<Grantee>, &[Token]), Fault>
+    ensures { Gives result (r.to_grantees.read tokens.now) }
+{
+    let rest = past_word(tokens, b"to")?;
+    grantees(alloc, rest)
+}
+
+#[tactic(auto, unfolding(crate::specs::Readers::grantees, crate::specs::Gives::with_front))]
+fn grantees(alloc: Global, tokens: &[Token]) -> Result<(Items<Grantee>, &[Token]), Fault>
+    ensures { Gives result (r.grantees.read tokens.now) }
+{
+    let (first, rest) = grantee(alloc, tokens)?;
+    let mut all = Items::new(alloc);
+    all.push(first)?;
+    more_grantees(alloc, all, rest)
+}
+
+#[tactic(auto, using(crate::proofs::Loops::front_begins, crate::proofs::Loops::loop_stops, crate::proofs::Loops::loop_ends, crate::proofs::Loops::loop_fails, crate::proofs::Loops::loop_goes_on))]
+fn more_grantees(
+    alloc: Global,
+    first: Items<Grantee>,
+    tokens: &[Token],
+) -> Result<(Items<Grantee>, &[Token]), Fault>
+    ensures { Gives result (with_front first (read_many (r.S Symbol.Comma ∷ []) r.next_grantee.read (length tokens.now) tokens.now)) }
+{
+    let mut all = first;
+    let mut rest = tokens;
+    for _turn in 0..tokens.len() {
+        if !sees_symbol(rest, Symbol::Comma) {
+            return Ok((all, rest));
+        }
+        let (next, behind) = next_grantee(alloc, rest)?;
+        all.push(next)?;
+        rest = behind;
+    }
+    Ok((all, rest))
+}
+
+#[tactic(auto, unfolding(crate::specs::Readers::next_grantee))]
+fn next_grantee(alloc: Global, tokens: &[Token]) -> Result<(Grantee, &[Token]), Fault>
+    ensures { Gives result (r.next_grantee.read tokens.now) }
+{
+    let rest = past_symbol(tokens, Symbol::Comma)?;
+    grantee(alloc, rest)
+}
+
+#[tactic(auto, unfolding(crate::specs::Readers::grantee))]
+fn grantee(alloc: Global, tokens: &[Token]) -> Result<(Grantee, &[Token]), Fault>
+    ensures { Gives result (r.grantee.read tokens.now) }
+{
+    if let Some(rest) = word(tokens, b"public") {
+        Ok((Grantee::Public, rest))
+    } else {
+        let (role, rest) = name(alloc, tokens)?;
+        Ok((Grantee::Role(role), rest))
+    }
+}

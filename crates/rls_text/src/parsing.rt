@@ -1,0 +1,117 @@
+//! A statement from a text.
+
+ghost use Rattle.std.specs.Prelude.{◌≡◌, IfOk};
+ghost use Rattle.rls_text.specs.Gives.{Gives, GivesWhole, whole_of, answer_of};
+ghost use Rattle.rls_text.specs.Readers as r;
+ghost use Rattle.rls_text.specs.Grammar as g;
+ghost use Rattle.rls_text.specs.Words.{words_of};
+ghost use Rattle.rls_text.specs.Answers as spec;
+ghost use Rattle.rls_text.specs.Answers.{Answers, IsSpelled};
+
+use crate::creating::{alter, create};
+use crate::fault::Fault;
+use crate::granting::grant;
+use crate::limits::first_limit;
+use crate::reading::{sees_word, symbol};
+use crate::selecting::{insert, select};
+use crate::statement::Statement;
+use crate::token::{Symbol, Token};
+use crate::tree::{Draft, MAX_DEPTH};
+use crate::words::words;
+use rls_value::{Limit, Refusal};
+use std::alloc::Global;
+
+/// The most columns of a table.
+pub const MAX_COLUMNS: usize = 64;
+
+/// The statement that the text spells. Where several refusals fit: first the limits on words from the left (a name
+/// of over 63 bytes, a 257th open parenthesis), then `Syntax`, then `Limit` of columns, then of nesting.
+pub fn parse(alloc: Global, text: &str) -> Result<Statement, Refusal>
+    ensures ok { IfOk result (λ statement. IsSpelled (words_of text.now) statement) }
+
+    // It is what the grammar and the limits say, unless memory runs out.
+    ensures answer { ¬ (result ≡ Err Refusal.NoMemory) → Answers (words_of text.now) result }
+{
+    let tokens = words(alloc, text)?;
+    answer(alloc, tokens.as_slice())
+}
+
+fn answer(alloc: Global, tokens: &[Token]) -> Result<Statement, Refusal>
+    ensures { ¬ (result ≡ Err Refusal.NoMemory) → result ≡ answer_of tokens.now }
+{
+    if let Some(limit) = first_limit(tokens) {
+        return Err(Refusal::Limit(limit));
+    }
+    match whole(alloc, tokens) {
+        Ok(draft) => limited(draft),
+        Err(Fault::Syntax) => Err(Refusal::Syntax),
+        Err(Fault::NoMemory) => Err(Refusal::NoMemory),
+    }
+}
+
+/// The statement, unless it is over a limit.
+fn limited(draft: Draft) -> Result<Statement, Refusal>
+    ensures { result ≡ spec.limited draft }
+{
+    let (statement, depth) = draft;
+    if column_count(&statement) > MAX_COLUMNS {
+        Err(Refusal::Limit(Limit::Columns))
+    } else if depth > MAX_DEPTH {
+        Err(Refusal::Limit(Limit::Nesting))
+    } else {
+        Ok(statement)
+    }
+}
+
+/// How many columns it defines.
+fn column_count(statement: &Statement) -> usize
+    ensures { result ≡ spec.columns_of statement.now }
+{
+    match statement {
+        Statement::CreateTable(table) => table.columns.len(),
+        _ => 0,
+    }
+}
+
+/// The statement that takes up all of the tokens.
+#[tactic(auto, unfolding(crate::specs::Gives::whole_of))]
+fn whole(alloc: Global, tokens: &[Token]) -> Result<Draft, Fault>
+    ensures { GivesWhole result (whole_of tokens.now) }
+{
+    let (statement, rest) = statement(alloc, tokens.len() + 1, tokens)?;
+    match rest {
+        [] => Ok(statement),
+        [_, ..] => Err(Fault::Syntax),
+    }
+}
+
+/// A statement, with a semicolon or without.
+#[tactic(auto, unfolding(crate::specs::Readers::statement))]
+fn statement(alloc: Global, depth: usize, tokens: &[Token]) -> Result<(Draft, &[Token]), Fault>
+    ensures { Gives result ((r.statement depth).read tokens.now) }
+{
+    let (statement, rest) = body(alloc, depth, tokens)?;
+    match symbol(rest, Symbol::Semicolon) {
+        Some(rest) => Ok((statement, rest)),
+        None => Ok((statement, rest)),
+    }
+}
+
+#[tactic(auto, unfolding(crate::specs::Readers::body))]
+fn body(alloc: Global, depth: usize, tokens: &[Token]) -> Result<(Draft, &[Token]), Fault>
+    ensures { Gives result ((r.body (g.expr depth) (r.expr depth)).read tokens.now) }
+{
+    if sees_word(tokens, b"select") {
+        select(alloc, depth, tokens)
+    } else if sees_word(tokens, b"insert") {
+        insert(alloc, depth, tokens)
+    } else if sees_word(tokens, b"create") {
+        create(alloc, depth, tokens)
+    } else if sees_word(tokens, b"alter") {
+        let (change, rest) = alter(alloc, tokens)?;
+        Ok(((change, 0), rest))
+    } else {
+        let (grant, rest) = grant(alloc, tokens)?;
+        Ok(((grant, 0), rest))
+    }
+}

@@ -1,0 +1,119 @@
+//! Single words at the front of a list of tokens.
+
+ghost use Rattle.std.specs.Prelude.{◌≡◌, [], ◌∷◌, map, is_some};
+ghost use Rattle.rls_text.specs.Gives.{Gives, GivesName, Finds, Passes};
+ghost use Rattle.rls_text.specs.Heads.{Exact, Names, sees};
+ghost use Rattle.rls_text.specs.Parses.{read_token};
+ghost use Rattle.rls_text.specs.Readers as r;
+ghost use Rattle.rls_text.specs.Grammar as g;
+
+use crate::fault::Fault;
+use crate::token::{Symbol, Token};
+use rls_value::{Limit, Name, Refusal, is_reserved};
+use std::alloc::Global;
+
+/// The tokens behind this word, if it comes next.
+pub fn word<'a>(tokens: &'a [Token], word: &[u8]) -> Option<&'a [Token]>
+    ensures read { Finds result (read_token (Token.Word word.now) tokens.now) }
+    ensures seen { is_some result ≡ sees (Exact (Token.Word word.now) ∷ []) tokens.now }
+{
+    match tokens {
+        [Token::Word(letters), rest @ ..] if word == letters.as_str().as_bytes() => Some(rest),
+        _ => None,
+    }
+}
+
+/// The tokens behind this word, which must come next.
+pub fn past_word<'a>(tokens: &'a [Token], expected: &[u8]) -> Result<&'a [Token], Fault>
+    ensures { Passes result (read_token (Token.Word expected.now) tokens.now) }
+{
+    match word(tokens, expected) {
+        Some(rest) => Ok(rest),
+        None => Err(Fault::Syntax),
+    }
+}
+
+pub fn sees_word(tokens: &[Token], word: &[u8]) -> bool
+    ensures { result ≡ sees (Exact (Token.Word word.now) ∷ []) tokens.now }
+{
+    match tokens {
+        [Token::Word(letters), ..] if word == letters.as_str().as_bytes() => true,
+        _ => false,
+    }
+}
+
+/// Whether one of these words comes next.
+#[tactic(auto, using(crate::proofs::Loops::sees_more, crate::proofs::Loops::sees_first, crate::proofs::Loops::sees_none))]
+pub fn sees_one_of(tokens: &[Token], mut words: &[&[u8]]) -> bool
+    ensures { result ≡ sees (map (λ w. Exact (Token.Word w.now)) words.entry.now) tokens.now }
+{
+    while let [first, rest @ ..] = words {
+        if sees_word(tokens, *first) {
+            return true;
+        }
+        words = rest;
+    }
+    false
+}
+
+/// The tokens behind this symbol, if it comes next.
+pub fn symbol(tokens: &[Token], symbol: Symbol) -> Option<&[Token]>
+    ensures read { Finds result (read_token (Token.Symbol symbol) tokens.now) }
+    ensures seen { is_some result ≡ sees (Exact (Token.Symbol symbol) ∷ []) tokens.now }
+{
+    match tokens {
+        [Token::Symbol(other), rest @ ..] if symbol == *other => Some(rest),
+        _ => None,
+    }
+}
+
+/// The tokens behind this symbol, which must come next.
+pub fn past_symbol(tokens: &[Token], expected: Symbol) -> Result<&[Token], Fault>
+    ensures { Passes result (read_token (Token.Symbol expected) tokens.now) }
+{
+    match symbol(tokens, expected) {
+        Some(rest) => Ok(rest),
+        None => Err(Fault::Syntax),
+    }
+}
+
+pub fn sees_symbol(tokens: &[Token], symbol: Symbol) -> bool
+    ensures { result ≡ sees (Exact (Token.Symbol symbol) ∷ []) tokens.now }
+{
+    match tokens {
+        [Token::Symbol(other), ..] if symbol == *other => true,
+        _ => false,
+    }
+}
+
+/// Whether a word comes next that isn't reserved.
+pub fn starts_name(tokens: &[Token]) -> bool
+    ensures { result ≡ sees (Names ∷ []) tokens.now }
+{
+    match tokens {
+        [Token::Word(letters), ..] => !is_reserved(letters.as_str().as_bytes()),
+        _ => false,
+    }
+}
+
+#[tactic(auto, unfolding(crate::specs::Readers::name))]
+pub fn name(alloc: Global, tokens: &[Token]) -> Result<(Name, &[Token]), Fault>
+    ensures { Gives result (r.name.read tokens.now) }
+{
+    match tokens {
+        [Token::Word(letters), rest @ ..] if !is_reserved(letters.as_str().as_bytes()) => {
+            Ok((named(alloc, letters.as_str())?, rest))
+        }
+        _ => Err(Fault::Syntax),
+    }
+}
+
+fn named(alloc: Global, letters: &str) -> Result<Name, Fault>
+    ensures { GivesName result (g.named letters.now) }
+{
+    match Name::new(alloc, letters) {
+        Ok(name) => Ok(name),
+        Err(Refusal::Syntax | Refusal::Limit(Limit::Name)) => Err(Fault::Syntax),
+        Err(_) => Err(Fault::NoMemory),
+    }
+}

@@ -1,0 +1,239 @@
+//! SELECT and INSERT from tokens.
+
+ghost use Rattle.std.specs.Prelude.{◌≡◌, [], ◌∷◌, length};
+ghost use Rattle.rls_text.specs.Gives.{Gives, with_front, folded};
+ghost use Rattle.rls_text.specs.Parses.{read_many};
+ghost use Rattle.rls_text.specs.Readers as r;
+ghost use Rattle.rls_text.specs.Grammar as g;
+ghost use Rattle.rls_text.specs.Trees as spec;
+
+use crate::expression::{column, expr};
+use crate::fault::Fault;
+use crate::reading::{name, past_symbol, past_word, sees_symbol, symbol, word};
+use crate::statement::{Insert, Select, Selected, Statement};
+use crate::token::{Symbol, Token};
+use crate::tree::{Draft, Tree, Tuple, Tuples, parted, with_part, with_tuple};
+use rls_expr::Expr;
+use rls_value::Items;
+use std::alloc::Global;
+
+#[tactic(auto, unfolding(crate::specs::Readers::select))]
+pub fn select(alloc: Global, depth: usize, tokens: &[Token]) -> Result<(Draft, &[Token]), Fault>
+    ensures { Gives result ((r.select (g.expr depth) (r.expr depth)).read tokens.now) }
+{
+    let rest = past_word(tokens, b"select")?;
+    let (items, rest) = items(alloc, rest)?;
+    let rest = past_word(rest, b"from")?;
+    let (table, rest) = name(alloc, rest)?;
+    let (condition, rest) = condition(alloc, depth, rest)?;
+    let (condition, depth) = parted(condition);
+    let select = Select {
+        items,
+        table,
+        condition,
+    };
+    Ok(((Statement::Select(select), depth), rest))
+}
+
+#[tactic(auto, unfolding(crate::specs::Readers::condition))]
+fn condition(
+    alloc: Global,
+    depth: usize,
+    tokens: &[Token],
+) -> Result<(Option<Tree>, &[Token]), Fault>
+    ensures { Gives result ((r.condition (g.expr depth) (r.expr depth)).read tokens.now) }
+{
+    if let Some(rest) = word(tokens, b"where") {
+        let (condition, rest) = expr(alloc, depth, rest)?;
+        Ok((Some(condition), rest))
+    } else {
+        Ok((None, tokens))
+    }
+}
+
+#[tactic(auto, unfolding(crate::specs::Readers::items))]
+fn items(alloc: Global, tokens: &[Token]) -> Result<(Selected, &[Token]), Fault>
+    ensures { Gives result (r.items.read tokens.now) }
+{
+    if let Some(rest) = symbol(tokens, Symbol::Star) {
+        Ok((Selected::All, rest))
+    } else {
+        let (all, rest) = columns(alloc, tokens)?;
+        Ok((Selected::Items(all), rest))
+    }
+}
+
+#[tactic(auto, unfolding(crate::specs::Readers::columns, crate::specs::Gives::with_front))]
+fn columns(alloc: Global, tokens: &[Token]) -> Result<(Items<Expr>, &[Token]), Fault>
+    ensures { Gives result (r.columns.read tokens.now) }
+{
+    let (first, rest) = column(alloc, tokens)?;
+    let mut all = Items::new(alloc);
+    all.push(first)?;
+    more_columns(alloc, all, rest)
+}
+
+#[tactic(auto, using(crate::proofs::Loops::front_begins, crate::proofs::Loops::loop_stops, crate::proofs::Loops::loop_ends, crate::proofs::Loops::loop_fails, crate::proofs::Loops::loop_goes_on))]
+fn more_columns(
+    alloc: Global,
+    first: Items<Expr>,
+    tokens: &[Token],
+) -> Result<(Items<Expr>, &[Token]), Fault>
+    ensures { Gives result (with_front first (read_many (r.S Symbol.Comma ∷ []) r.next_column.read (length tokens.now) tokens.now)) }
+{
+    let mut all = first;
+    let mut rest = tokens;
+    for _turn in 0..tokens.len() {
+        if !sees_symbol(rest, Symbol::Comma) {
+            return Ok((all, rest));
+        }
+        let (next, behind) = next_column(alloc, rest)?;
+        all.push(next)?;
+        rest = behind;
+    }
+    Ok((all, rest))
+}
+
+#[tactic(auto, unfolding(crate::specs::Readers::next_column))]
+fn next_column(alloc: Global, tokens: &[Token]) -> Result<(Expr, &[Token]), Fault>
+    ensures { Gives result (r.next_column.read tokens.now) }
+{
+    let rest = past_symbol(tokens, Symbol::Comma)?;
+    column(alloc, rest)
+}
+
+#[tactic(auto, unfolding(crate::specs::Readers::insert))]
+pub fn insert(alloc: Global, depth: usize, tokens: &[Token]) -> Result<(Draft, &[Token]), Fault>
+    ensures { Gives result ((r.insert (g.expr depth) (r.expr depth)).read tokens.now) }
+{
+    let rest = past_word(tokens, b"insert")?;
+    let rest = past_word(rest, b"into")?;
+    let (table, rest) = name(alloc, rest)?;
+    let rest = past_word(rest, b"values")?;
+    let ((tuples, depth), rest) = even_tuples(alloc, depth, rest)?;
+    Ok(((Statement::Insert(Insert { table, tuples }), depth), rest))
+}
+
+/// Tuples of one length.
+#[tactic(auto, unfolding(crate::specs::Readers::even_tuples))]
+fn even_tuples(alloc: Global, depth: usize, tokens: &[Token]) -> Result<(Tuples, &[Token]), Fault>
+    ensures { Gives result ((r.even_tuples (g.expr depth) (r.expr depth)).read tokens.now) }
+{
+    let (tuples, rest) = tuples(alloc, depth, tokens)?;
+    if are_even(tuples.0.as_slice()) {
+        Ok((tuples, rest))
+    } else {
+        Err(Fault::Syntax)
+    }
+}
+
+fn are_even(tuples: &[Items<Expr>]) -> bool
+    ensures { result ≡ g.are_even tuples.now }
+{
+    match tuples {
+        [first, rest @ ..] => have_length(first.len(), rest),
+        [] => true,
+    }
+}
+
+fn have_length(length: usize, mut tuples: &[Items<Expr>]) -> bool
+    ensures { result ≡ g.have_length length tuples.entry.now }
+{
+    while let [first, rest @ ..] = tuples {
+        if first.len() != length {
+            return false;
+        }
+        tuples = rest;
+    }
+    true
+}
+
+#[tactic(auto, unfolding(crate::specs::Readers::tuples, crate::specs::Gives::folded))]
+fn tuples(alloc: Global, depth: usize, tokens: &[Token]) -> Result<(Tuples, &[Token]), Fault>
+    ensures { Gives result ((r.tuples (g.expr depth) (r.expr depth)).read tokens.now) }
+{
+    let ((first, height), rest) = tuple(alloc, depth, tokens)?;
+    let mut all = Items::new(alloc);
+    all.push(first)?;
+    more_tuples(alloc, depth, (all, height), rest)
+}
+
+#[tactic(auto, using(crate::proofs::Loops::fold_begins, crate::proofs::Loops::fold_stops, crate::proofs::Loops::fold_ends, crate::proofs::Loops::fold_fails, crate::proofs::Loops::fold_goes_on))]
+fn more_tuples(
+    alloc: Global,
+    depth: usize,
+    first: Tuples,
+    tokens: &[Token],
+) -> Result<(Tuples, &[Token]), Fault>
+    ensures { Gives result (folded spec.with_tuple first (read_many (r.S Symbol.Comma ∷ []) (r.next_tuple (g.expr depth) (r.expr depth)).read (length tokens.now) tokens.now)) }
+{
+    let mut all = first;
+    let mut rest = tokens;
+    for _turn in 0..tokens.len() {
+        if !sees_symbol(rest, Symbol::Comma) {
+            return Ok((all, rest));
+        }
+        let (next, behind) = next_tuple(alloc, depth, rest)?;
+        all = with_tuple(all, next)?;
+        rest = behind;
+    }
+    Ok((all, rest))
+}
+
+#[tactic(auto, unfolding(crate::specs::Readers::next_tuple))]
+fn next_tuple(alloc: Global, depth: usize, tokens: &[Token]) -> Result<(Tuple, &[Token]), Fault>
+    ensures { Gives result ((r.next_tuple (g.expr depth) (r.expr depth)).read tokens.now) }
+{
+    let rest = past_symbol(tokens, Symbol::Comma)?;
+    tuple(alloc, depth, rest)
+}
+
+#[tactic(auto, unfolding(crate::specs::Readers::tuple))]
+fn tuple(alloc: Global, depth: usize, tokens: &[Token]) -> Result<(Tuple, &[Token]), Fault>
+    ensures { Gives result ((r.tuple (g.expr depth) (r.expr depth)).read tokens.now) }
+{
+    let rest = past_symbol(tokens, Symbol::LParen)?;
+    let (parts, rest) = parts(alloc, depth, rest)?;
+    let rest = past_symbol(rest, Symbol::RParen)?;
+    Ok((parts, rest))
+}
+
+#[tactic(auto, unfolding(crate::specs::Readers::parts, crate::specs::Gives::folded))]
+fn parts(alloc: Global, depth: usize, tokens: &[Token]) -> Result<(Tuple, &[Token]), Fault>
+    ensures { Gives result ((r.parts (g.expr depth) (r.expr depth)).read tokens.now) }
+{
+    let ((first, height), rest) = expr(alloc, depth, tokens)?;
+    let mut all = Items::new(alloc);
+    all.push(first)?;
+    more_parts(alloc, depth, (all, height), rest)
+}
+
+#[tactic(auto, using(crate::proofs::Loops::fold_begins, crate::proofs::Loops::fold_stops, crate::proofs::Loops::fold_ends, crate::proofs::Loops::fold_fails, crate::proofs::Loops::fold_goes_on))]
+fn more_parts(
+    alloc: Global,
+    depth: usize,
+    first: Tuple,
+    tokens: &[Token],
+) -> Result<(Tuple, &[Token]), Fault>
+    ensures { Gives result (folded spec.with_part first (read_many (r.S Symbol.Comma ∷ []) (r.next_part (g.expr depth) (r.expr depth)).read (length tokens.now) tokens.now)) }
+{
+    let mut all = first;
+    let mut rest = tokens;
+    for _turn in 0..tokens.len() {
+        if !sees_symbol(rest, Symbol::Comma) {
+            return Ok((all, rest));
+        }
+        let (next, behind) = next_part(alloc, depth, rest)?;
+        all = with_part(all, next)?;
+        rest = behind;
+    }
+    Ok((all, rest))
+}
+
+#[tactic(auto, unfolding(crate::specs::Readers::next_part))]
+fn next_part(alloc: Global, depth: usize, tokens: &[Token]) -> Result<(Tree, &[Token]), Fault>
+    ensures { Gives result ((r.next_part (g.expr depth) (r.expr depth)).read tokens.now) }
+{
+    let rest = past_symbol(tokens, Symbol::Comma)?;
+    expr(alloc, depth, rest)
+}

@@ -1,0 +1,177 @@
+//! Trees of limited depth: of a deeper one nothing is kept but that it was too deep.
+
+ghost use Rattle.std.specs.Prelude.{◌≡◌, IfOk};
+ghost use Rattle.rls_expr.specs.ExprTerms.{term_of};
+ghost use Rattle.rls_text.specs.Trees as spec;
+
+use crate::statement::Statement;
+use rls_expr::{Comparison, Expr, Node};
+use rls_value::{Items, Value};
+use std::alloc::{AllocError, Global};
+
+/// The greatest depth of an expression; a leaf counts one.
+pub const MAX_DEPTH: u32 = 64;
+
+/// An expression with its depth. One that is over the limit is cut: a null stands for it, with a depth above the limit.
+pub type Tree = (Expr, u32);
+
+/// The operands of one node, as they come, with the depth of the deepest.
+#[derive(Drop)]
+pub enum Operands {
+    One(Expr, u32),
+    Several(Items<Expr>, u32),
+}
+
+pub fn leaf(node: Node) -> Tree
+    ensures { result ≡ spec.leaf (term_of node) }
+{
+    (Expr::new(node), 1)
+}
+
+pub fn cut() -> Tree
+    ensures { result ≡ spec.cut }
+{
+    (Expr::new(Node::Literal(Value::Null)), MAX_DEPTH + 1)
+}
+
+pub fn not_of(alloc: Global, operand: Tree) -> Result<Tree, AllocError>
+    ensures { IfOk result (λ tree. tree ≡ spec.not_of operand) }
+{
+    let (operand, depth) = operand;
+    if depth < MAX_DEPTH {
+        Ok((Expr::new(Node::Not(Box::new(alloc, operand)?)), depth + 1))
+    } else {
+        Ok(cut())
+    }
+}
+
+/// `IS NULL`, or `IS NOT NULL` where it is negated.
+#[tactic(auto, unfolding(crate::specs::Trees::null_test_of))]
+pub fn null_test_of(alloc: Global, tested: Tree, negated: Option<()>) -> Result<Tree, AllocError>
+    ensures { IfOk result (λ tree. tree ≡ spec.null_test_of tested negated) }
+{
+    let (tested, depth) = tested;
+    if depth < MAX_DEPTH {
+        let tested = Box::new(alloc, tested)?;
+        match negated {
+            None => Ok((Expr::new(Node::IsNull(tested)), depth + 1)),
+            Some(()) => Ok((Expr::new(Node::IsNotNull(tested)), depth + 1)),
+        }
+    } else {
+        Ok(cut())
+    }
+}
+
+pub fn compare_of(
+    alloc: Global,
+    how: Comparison,
+    left: Tree,
+    right: Tree,
+) -> Result<Tree, AllocError>
+    ensures { IfOk result (λ tree. tree ≡ spec.compare_of how left right) }
+{
+    let (left, depth) = left;
+    let (right, other) = right;
+    let depth = depth.max(other);
+    if depth < MAX_DEPTH {
+        let left = Box::new(alloc, left)?;
+        let right = Box::new(alloc, right)?;
+        Ok((Expr::new(Node::Compare(how, left, right)), depth + 1))
+    } else {
+        Ok(cut())
+    }
+}
+
+#[tactic(auto, unfolding(crate::specs::Trees::with_operand))]
+pub fn with_operand(
+    alloc: Global,
+    operands: Operands,
+    operand: Tree,
+) -> Result<Operands, AllocError>
+    ensures { IfOk result (λ all. all ≡ spec.with_operand operands operand) }
+{
+    let (operand, other) = operand;
+    match operands {
+        Operands::One(first, depth) => {
+            let mut all = Items::new(alloc);
+            all.push(first)?;
+            all.push(operand)?;
+            Ok(Operands::Several(all, depth.max(other)))
+        }
+        Operands::Several(mut all, depth) => {
+            all.push(operand)?;
+            Ok(Operands::Several(all, depth.max(other)))
+        }
+    }
+}
+
+/// One operand alone makes no node.
+pub fn and_of(operands: Operands) -> Tree
+    ensures { result ≡ spec.and_of operands }
+{
+    match operands {
+        Operands::One(only, depth) => (only, depth),
+        Operands::Several(all, depth) => {
+            if depth < MAX_DEPTH {
+                (Expr::new(Node::And(all.into_vec())), depth + 1)
+            } else {
+                cut()
+            }
+        }
+    }
+}
+
+/// One operand alone makes no node.
+pub fn or_of(operands: Operands) -> Tree
+    ensures { result ≡ spec.or_of operands }
+{
+    match operands {
+        Operands::One(only, depth) => (only, depth),
+        Operands::Several(all, depth) => {
+            if depth < MAX_DEPTH {
+                (Expr::new(Node::Or(all.into_vec())), depth + 1)
+            } else {
+                cut()
+            }
+        }
+    }
+}
+
+/// A tuple of INSERT, with the depth of its deepest expression.
+pub type Tuple = (Items<Expr>, u32);
+
+/// The tuples of INSERT, with the depth of the deepest expression.
+pub type Tuples = (Items<Items<Expr>>, u32);
+
+/// A statement, with the depth of its deepest expression; 0 where it has none.
+pub type Draft = (Statement, u32);
+
+#[tactic(auto, unfolding(crate::specs::Trees::with_part))]
+pub fn with_part(tuple: Tuple, part: Tree) -> Result<Tuple, AllocError>
+    ensures { IfOk result (λ all. all ≡ spec.with_part tuple part) }
+{
+    let (mut all, depth) = tuple;
+    let (part, other) = part;
+    all.push(part)?;
+    Ok((all, depth.max(other)))
+}
+
+#[tactic(auto, unfolding(crate::specs::Trees::with_tuple))]
+pub fn with_tuple(tuples: Tuples, tuple: Tuple) -> Result<Tuples, AllocError>
+    ensures { IfOk result (λ all. all ≡ spec.with_tuple tuples tuple) }
+{
+    let (mut all, depth) = tuples;
+    let (tuple, other) = tuple;
+    all.push(tuple)?;
+    Ok((all, depth.max(other)))
+}
+
+/// The expression, and its depth; 0 where there is none.
+pub fn parted(tree: Option<Tree>) -> (Option<Expr>, u32)
+    ensures { result ≡ spec.parted tree }
+{
+    match tree {
+        Some((expr, depth)) => (Some(expr), depth),
+        None => (None, 0),
+    }
+}

@@ -1,0 +1,5 @@
+pub mod Truths
+pub mod Values
+pub mod Names
+pub mod Words
+pub mod Refusals

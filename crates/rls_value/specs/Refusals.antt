@@ -1,0 +1,123 @@
+-- The codes and texts of refusals (SQLSTATEs: PostgreSQL manual, Appendix A).
+use Rattle.std.specs.Prelude.{ℕ, List, ◌∷◌, [], ◌++◌, codes, Option, Some, None}
+use Rattle.std.specs.Fmt.{decimal}
+use Rattle.rls_value.specs.declared.refusal.Refusal.{Refusal}
+use Rattle.rls_value.specs.declared.refusal.Refusal.TheVariants as r
+use Rattle.rls_value.specs.declared.refusal.Limit.{Limit}
+use Rattle.rls_value.specs.declared.refusal.Limit.TheVariants as l
+use Rattle.rls_value.specs.declared.refusal.TxnState.{TxnState}
+use Rattle.rls_value.specs.declared.refusal.TxnState.TheVariants as t
+use Rattle.rls_value.specs.declared.refusal.NameKind.{NameKind}
+use Rattle.rls_value.specs.declared.refusal.NameKind.TheVariants as n
+use Rattle.rls_value.specs.declared.refusal.Why.{Why}
+use Rattle.rls_value.specs.declared.refusal.Why.TheVariants as w
+use Rattle.rls_value.specs.declared.refusal.GrantFault.{GrantFault}
+use Rattle.rls_value.specs.declared.refusal.GrantFault.TheVariants as g
+use Rattle.rls_value.specs.Words.{privilege_word, kind_word, tag_text}
+
+abbrev pub limit_code : Limit → List ℕ
+limit_code l.Name = codes "42622"
+limit_code _ = codes "54000"
+
+abbrev pub txn_code : TxnState → List ℕ
+txn_code t.AlreadyInProgress = codes "25001"
+txn_code t.NoneInProgress = codes "25P01"
+txn_code t.Over = codes "25P02"
+txn_code (t.ReadOnly tag) = codes "25006"
+
+abbrev pub undefined_code : NameKind → List ℕ
+undefined_code n.Relation = codes "42P01"
+undefined_code n.Column = codes "42703"
+undefined_code n.Role = codes "42704"
+undefined_code n.Policy = codes "42704"
+
+abbrev pub duplicate_code : NameKind → List ℕ
+duplicate_code n.Relation = codes "42P07"
+duplicate_code n.Column = codes "42701"
+duplicate_code n.Role = codes "42710"
+duplicate_code n.Policy = codes "42710"
+
+-- the SQLSTATE
+abbrev pub code_of : Refusal → List ℕ
+code_of r.NoMemory = codes "53200"
+code_of r.Syntax = codes "42601"
+code_of (r.Limit limit) = limit_code limit
+code_of (r.TxnState state) = txn_code state
+code_of (r.NoLogin role) = codes "28000"
+code_of (r.Undefined kind name) = undefined_code kind
+code_of (r.Duplicate kind name) = duplicate_code kind
+code_of r.TypeFault = codes "42804"
+code_of r.Unsupported = codes "0A000"
+code_of (r.Recursion table) = codes "42P17"
+code_of (r.Denied why) = codes "42501"
+code_of (r.GrantOp fault) = codes "0LP01"
+code_of (r.Dependent table) = codes "2BP01"
+code_of (r.Range column) = codes "22003"
+code_of (r.NotNull column) = codes "23502"
+code_of (r.Unique table) = codes "23505"
+code_of (r.Serial cause) = codes "40001"
+code_of r.Foreign = []
+code_of (r.BadAudit line) = []
+
+abbrev pub limit_text : Limit → List ℕ
+limit_text l.Line = codes "limit exceeded: line"
+limit_text l.Columns = codes "limit exceeded: columns"
+limit_text l.Nesting = codes "limit exceeded: nesting"
+limit_text l.Subqueries = codes "limit exceeded: subqueries"
+limit_text l.Parentheses = codes "limit exceeded: parentheses"
+limit_text l.Policies = codes "limit exceeded: policies"
+limit_text l.Inserts = codes "limit exceeded: inserts"
+limit_text l.Transactions = codes "limit exceeded: transactions"
+limit_text l.Sessions = codes "limit exceeded: sessions"
+limit_text l.Numbers = codes "limit exceeded: numbers"
+limit_text l.Name = codes "name too long"
+
+abbrev pub txn_text : TxnState → List ℕ
+txn_text t.AlreadyInProgress = codes "there is already a transaction in progress"
+txn_text t.NoneInProgress = codes "there is no transaction in progress"
+txn_text t.Over = codes "transaction is over, commands are ignored until COMMIT or ROLLBACK"
+txn_text (t.ReadOnly tag) = codes "cannot execute " ++ (tag_text tag ++ codes " in a read-only transaction")
+
+abbrev pub name_kind_text : NameKind → List ℕ
+name_kind_text n.Relation = codes "relation"
+name_kind_text n.Column = codes "column"
+name_kind_text n.Role = codes "role"
+name_kind_text n.Policy = codes "policy"
+
+-- what a denial says is missing
+abbrev pub why_text : Why → List ℕ
+why_text (w.Privilege p table) = codes "permission denied for table " ++ (table ++ (codes ": " ++ (privilege_word p ++ codes " is missing")))
+why_text (w.Owner table) = codes "must be owner of table " ++ table
+why_text (w.Admin role) = codes "permission denied to manage role \"" ++ (role ++ codes "\"")
+why_text (w.SetRole role) = codes "permission denied to set role \"" ++ (role ++ codes "\"")
+why_text (w.GrantOption p table) = codes "permission denied for table " ++ (table ++ (codes ": no grant option for " ++ privilege_word p))
+why_text (w.NoPermissive table kind) = codes "new row violates row-level security policy for table \"" ++ (table ++ (codes "\": no permissive " ++ (kind_word kind ++ codes " policy passes")))
+why_text (w.Restrictive policy table) = codes "new row violates row-level security policy \"" ++ (policy ++ (codes "\" for table \"" ++ (table ++ codes "\"")))
+
+abbrev pub grant_fault_text : GrantFault → List ℕ
+grant_fault_text (g.Cycle member role) = codes "role \"" ++ (member ++ (codes "\" is a member of role \"" ++ (role ++ codes "\"")))
+grant_fault_text g.PublicOption = codes "grant options cannot be granted to PUBLIC"
+grant_fault_text (g.Back grantee) = codes "grant options cannot be granted back to the grantor"
+
+-- the text of a refusal, but for a serialization failure, which names objects
+abbrev pub refusal_text : Refusal → Option (List ℕ)
+refusal_text r.NoMemory = Some (codes "out of memory")
+refusal_text r.Syntax = Some (codes "syntax error")
+refusal_text (r.Limit limit) = Some (limit_text limit)
+refusal_text (r.TxnState state) = Some (txn_text state)
+refusal_text (r.NoLogin None) = Some (codes "not connected")
+refusal_text (r.NoLogin (Some role)) = Some (codes "role \"" ++ (role ++ codes "\" may not log in"))
+refusal_text (r.Undefined kind name) = Some (name_kind_text kind ++ (codes " \"" ++ (name ++ codes "\" does not exist")))
+refusal_text (r.Duplicate kind name) = Some (name_kind_text kind ++ (codes " \"" ++ (name ++ codes "\" already exists")))
+refusal_text r.TypeFault = Some (codes "types do not match")
+refusal_text r.Unsupported = Some (codes "not supported")
+refusal_text (r.Recursion table) = Some (codes "infinite recursion detected in policy for relation \"" ++ (table ++ codes "\""))
+refusal_text (r.Denied why) = Some (why_text why)
+refusal_text (r.GrantOp fault) = Some (grant_fault_text fault)
+refusal_text (r.Dependent table) = Some (codes "dependent privileges exist")
+refusal_text (r.Range column) = Some (codes "value out of range for column \"" ++ (column ++ codes "\""))
+refusal_text (r.NotNull column) = Some (codes "null value in column \"" ++ (column ++ codes "\" violates not-null constraint"))
+refusal_text (r.Unique table) = Some (codes "duplicate key value violates the primary key of table \"" ++ (table ++ codes "\""))
+refusal_text (r.Serial cause) = None
+refusal_text r.Foreign = Some (codes "not of this engine")
+refusal_text (r.BadAudit line) = Some (codes "bad audit line " ++ decimal line)

@@ -1,0 +1,27 @@
+//! Values, truth, names, row numbers, objects, and the refusals with their texts.
+#![tactic(auto)]
+
+mod items;
+mod name;
+mod object;
+mod refusal;
+mod row;
+mod tag;
+mod text;
+mod truth;
+mod value;
+mod verb;
+
+pub use items::Items;
+pub use name::{MAX_NAME, Name, is_reserved};
+pub use object::Object;
+pub use refusal::{Cause, GrantFault, Limit, NameKind, Refusal, TxnState, Why};
+pub use row::{Row, RowId};
+pub use tag::Tag;
+pub use text::Text;
+pub use truth::Truth;
+pub use value::{ColType, Value, cmp_values, fits};
+pub use verb::{Kind, PolicyKind, Privilege};
+
+#[cfg(test)]
+mod tests;

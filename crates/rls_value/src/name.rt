@@ -1,0 +1,248 @@
+//! Names of roles, tables, columns and policies.
+
+ghost use Rattle.std.specs.Prelude.{◌≡◌, ◌<◌, ◌↔◌, ◌||◌, true, false, map, length, IfOk, IsErrOf};
+ghost use Rattle.std.specs.Str.{bytes_eq};
+ghost use Rattle.std.specs.List.{list_all};
+ghost use Rattle.std.specs.String.{string_bytes};
+ghost use Rattle.std.specs.Cmp.Lexicographic.{slice_cmp};
+ghost use Rattle.std.specs.Ordering.{nat_cmp, as_partial_cmp};
+ghost use Rattle.rls_value.specs.Names as spec;
+ghost use Rattle.rls_value.specs.Names.{folded, spells_name, is_name_text, one_of, reserved};
+
+use crate::refusal::{Limit, Refusal};
+use std::alloc::{AllocError, Global};
+use std::cmp::Ordering;
+use std::fmt;
+use std::marker::Model;
+
+/// The most bytes that a name has.
+pub const MAX_NAME: usize = 63;
+
+/// A name, in lower case, seen as its bytes (PostgreSQL manual, 4.1.1, without quoted names).
+#[derive(Debug, Drop)]
+pub struct Name {
+    letters: String,
+}
+
+impl Model for Name {
+    ghost use Rattle.std.specs.Prelude.{List, ℕ};
+    ghost use Rattle.std.specs.String.{string_bytes};
+
+    ghost Value = { List ℕ };
+
+    ghost view = { λ name. string_bytes name.letters };
+}
+
+impl Name {
+    /// The name that the text spells, folded to lower case. `Limit` where it is over `MAX_NAME` bytes,
+    /// whatever they are; `Syntax` where it is no name, as a reserved word.
+    pub fn new(alloc: Global, text: &str) -> Result<Name, Refusal>
+        ensures name { IfOk result (λ name. name ≡ folded text.now) }
+        ensures spelled { IfOk result (λ _. spells_name text.now ≡ true) }
+        ensures too_long { IsErrOf result (Refusal.Limit Limit.Name) ↔ (MAX_NAME < length text.now) }
+        ensures syntax { IsErrOf result Refusal.Syntax → spells_name text.now ≡ false }
+    {
+        if text.len() > MAX_NAME {
+            return Err(Refusal::Limit(Limit::Name));
+        }
+        if !is_name_text_of(text.as_bytes()) {
+            return Err(Refusal::Syntax);
+        }
+        let letters = text.to_ascii_lowercase(alloc)?;
+        if is_reserved(letters.as_bytes()) {
+            return Err(Refusal::Syntax);
+        }
+        Ok(Name { letters })
+    }
+
+    /// `postgres`, the role of the opening state.
+    pub fn postgres(alloc: Global) -> Result<Name, AllocError>
+        ensures { IfOk result (λ name. name ≡ Rattle.rls_value.specs.Names.postgres) }
+    {
+        Ok(Name {
+            letters: String::from_str(alloc, "postgres")?,
+        })
+    }
+
+    pub fn as_str(&self) -> &str
+        ensures { result.now ≡ self.now }
+    {
+        self.letters.as_str()
+    }
+
+    pub fn copy(&self) -> Result<Name, AllocError>
+        ensures { IfOk result (λ name. name ≡ self.now) }
+    {
+        Ok(Name {
+            letters: self.letters.clone()?,
+        })
+    }
+
+    /// Whether the two are the same name.
+    pub fn is(&self, other: &Name) -> bool
+        ensures { result ≡ bytes_eq self.now other.now }
+    {
+        self.letters.as_str() == other.letters.as_str()
+    }
+}
+
+impl fmt::Display for Name {
+    ghost use Rattle.std.specs.Prelude.{Some};
+
+    ghost output = { λ name. Some name };
+
+    fn fmt<W: fmt::Write>(&self, f: &mut fmt::Formatter<W>) -> fmt::Result {
+        let letters = self.letters.as_str();
+        write!(f, "{letters}")
+    }
+}
+
+/// Names are ordered by their bytes.
+impl Ord for Name {
+    ghost use Rattle.std.specs.Cmp.Lexicographic.{slice_cmp};
+    ghost use Rattle.std.specs.Ordering.{nat_cmp};
+    ghost use Rattle.std.proofs.Common.{rules};
+    ghost use Rattle.std.specs.Cmp.Rules.{comparing};
+
+    ghost cmp = { slice_cmp nat_cmp };
+
+    ghost total = { Prim.search (comparing, rules) };
+
+    ghost matches_partial_cmp = { Prim.search (comparing, rules) };
+
+    ghost matches_eq = { Prim.search (comparing, rules) };
+
+    fn cmp(&self, other: &Name) -> Ordering {
+        self.letters.as_str().cmp(other.letters.as_str())
+    }
+}
+
+impl PartialOrd for Name {
+    ghost use Rattle.std.specs.Cmp.Lexicographic.{slice_cmp};
+    ghost use Rattle.std.specs.Ordering.{nat_cmp, as_partial_cmp};
+    ghost use Rattle.std.proofs.Common.{rules};
+    ghost use Rattle.std.specs.Cmp.{partial_order_from_own_ties};
+    ghost use Rattle.std.specs.Cmp.Rules.{comparing};
+
+    ghost partial_cmp = { as_partial_cmp (slice_cmp nat_cmp) };
+
+    ghost laws = { partial_order_from_own_ties (Prim.search (comparing, rules)) (Prim.search (comparing, rules)) };
+
+    fn partial_cmp(&self, other: &Name) -> Option<Ordering> {
+        Some(self.cmp(other))
+    }
+}
+
+impl PartialEq for Name {
+    ghost use Rattle.std.specs.Prelude.{nat_eq};
+    ghost use Rattle.std.specs.Str.{bytes_eq};
+    ghost use Rattle.std.proofs.Common.{rules};
+    ghost use Rattle.std.specs.Cmp.Rules.{comparing};
+    ghost use lib.Pointwise.{pointwise};
+
+    ghost eq = { pointwise nat_eq };
+
+    ghost laws = { Prim.search (comparing, rules) };
+
+    fn eq(&self, other: &Name) -> bool {
+        self.letters.as_str() == other.letters.as_str()
+    }
+}
+
+impl Eq for Name {
+    ghost use Rattle.std.proofs.Common.{rules};
+    ghost use Rattle.std.specs.Cmp.Rules.{comparing};
+
+    ghost laws = { Prim.search (comparing, rules) };
+}
+
+fn is_name_text_of(bytes: &[u8]) -> bool
+    ensures { result ≡ is_name_text bytes.now }
+{
+    match bytes {
+        [first, ..] => is_letter(*first) && are_letters_or_digits(bytes),
+        [] => false,
+    }
+}
+
+fn are_letters_or_digits(bytes: &[u8]) -> bool
+    ensures { result ≡ list_all spec.is_letter_or_digit bytes.now }
+{
+    bytes.iter().all(|byte| is_letter_or_digit(*byte))
+}
+
+fn is_letter(byte: u8) -> bool
+    ensures { result ≡ spec.is_letter byte }
+{
+    match byte {
+        b'A'..=b'Z' | b'_' | b'a'..=b'z' => true,
+        _ => false,
+    }
+}
+
+fn is_letter_or_digit(byte: u8) -> bool
+    ensures { result ≡ spec.is_letter_or_digit byte }
+{
+    match byte {
+        b'0'..=b'9' => true,
+        _ => is_letter(byte),
+    }
+}
+
+const RESERVED: [&[u8]; 35] = [
+    b"all",
+    b"and",
+    b"as",
+    b"check",
+    b"create",
+    b"current_user",
+    b"default",
+    b"exists",
+    b"false",
+    b"for",
+    b"from",
+    b"grant",
+    b"group",
+    b"in",
+    b"into",
+    b"is",
+    b"none",
+    b"not",
+    b"null",
+    b"on",
+    b"or",
+    b"order",
+    b"primary",
+    b"public",
+    b"returning",
+    b"select",
+    b"session_user",
+    b"table",
+    b"to",
+    b"true",
+    b"unique",
+    b"user",
+    b"using",
+    b"where",
+    b"with",
+];
+
+/// Whether the word, in lower case, is reserved, so that it is no name.
+#[tactic(auto, unfolding(crate::specs::Names::reserved))]
+pub fn is_reserved(word: &[u8]) -> bool
+    ensures { result ≡ reserved word.now }
+{
+    is_one_of(&RESERVED, word)
+}
+
+fn is_one_of(mut words: &[&[u8]], word: &[u8]) -> bool
+    ensures { result ≡ one_of (map (λ w. w.now) words.entry.now) word.now }
+{
+    while let [first, rest @ ..] = words {
+        if *first == word {
+            return true;
+        }
+        words = rest;
+    }
+    false
+}

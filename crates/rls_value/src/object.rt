@@ -1,0 +1,76 @@
+//! What is versioned: the objects that statements read and changes write.
+
+ghost use Rattle.std.specs.Prelude.{◌≡◌, IfOk};
+
+use crate::name::Name;
+use crate::row::{Row, RowId};
+use std::alloc::{AllocError, Global};
+use std::fmt;
+
+/// A versioned object of the database.
+#[derive(Debug, Drop)]
+pub enum Object {
+    Role(Name),
+    /// The memberships that the role has.
+    Members(Name),
+    Table(Name),
+    /// The grants on the table.
+    Grants(Name),
+    /// The policies of the table.
+    Policies(Name),
+    /// All rows of the table.
+    Rows(Name),
+    /// The rows of the table that have the key.
+    Key(Name, Row),
+    /// One row of the table.
+    RowOf(Name, RowId),
+}
+
+impl Object {
+    pub fn copy(&self, alloc: Global) -> Result<Object, AllocError>
+        ensures { IfOk result (λ object. object ≡ self.now) }
+    {
+        match self {
+            Object::Role(role) => Ok(Object::Role(role.copy()?)),
+            Object::Members(member) => Ok(Object::Members(member.copy()?)),
+            Object::Table(table) => Ok(Object::Table(table.copy()?)),
+            Object::Grants(table) => Ok(Object::Grants(table.copy()?)),
+            Object::Policies(table) => Ok(Object::Policies(table.copy()?)),
+            Object::Rows(table) => Ok(Object::Rows(table.copy()?)),
+            Object::Key(table, key) => Ok(Object::Key(table.copy()?, key.copy(alloc)?)),
+            Object::RowOf(table, id) => Ok(Object::RowOf(table.copy()?, *id)),
+        }
+    }
+}
+
+/// As `grants on t` or `key ('a', 1) of t`.
+impl fmt::Display for Object {
+    fn fmt<W: fmt::Write>(&self, f: &mut fmt::Formatter<W>) -> fmt::Result {
+        match self {
+            Object::Role(role) => write!(f, "role {role}"),
+            Object::Members(member) => write!(f, "members of {member}"),
+            Object::Table(table) => write!(f, "table {table}"),
+            Object::Grants(table) => write!(f, "grants on {table}"),
+            Object::Policies(table) => write!(f, "policies on {table}"),
+            Object::Rows(table) => write!(f, "rows of {table}"),
+            Object::Key(table, key) => {
+                write!(f, "key (")?;
+                write_values(f, key)?;
+                write!(f, ") of {table}")
+            }
+            Object::RowOf(table, id) => write!(f, "row {id} of {table}"),
+        }
+    }
+}
+
+fn write_values<W: fmt::Write>(f: &mut fmt::Formatter<W>, row: &Row) -> fmt::Result {
+    let mut first = true;
+    for value in row.as_slice() {
+        if !first {
+            write!(f, ", ")?;
+        }
+        write!(f, "{value}")?;
+        first = false;
+    }
+    Ok(())
+}

@@ -1,0 +1,467 @@
+//! The refusals of the database, with their codes and texts.
+
+ghost use Rattle.std.specs.Prelude.{◌≡◌, IfOk};
+ghost use Rattle.rls_value.specs.Refusals as spec;
+
+use crate::name::Name;
+use crate::object::Object;
+use crate::tag::Tag;
+use crate::verb::{Kind, Privilege};
+use std::alloc::{AllocError, AllocFailed, Global};
+use std::fmt;
+
+/// Why something was refused. The codes are SQLSTATEs (PostgreSQL manual, Appendix A), the texts this project's.
+#[derive(Debug, Drop)]
+pub enum Refusal {
+    NoMemory,
+    Syntax,
+    Limit(Limit),
+    TxnState(TxnState),
+    /// The role may not log in; without one, the label isn't connected.
+    NoLogin(Option<Name>),
+    Undefined(NameKind, Name),
+    Duplicate(NameKind, Name),
+    TypeFault,
+    Unsupported,
+    /// A policy of the table reads the table again.
+    Recursion(Name),
+    Denied(Why),
+    GrantOp(GrantFault),
+    /// Privileges on the table depend on what would be revoked.
+    Dependent(Name),
+    /// The value doesn't fit the column.
+    Range(Name),
+    /// The column takes no null.
+    NotNull(Name),
+    /// Two rows of the table would have one key.
+    Unique(Name),
+    /// Serialization failure.
+    Serial(Cause),
+    /// A value of another engine; never printed.
+    Foreign,
+    /// The line of an audit, from 1, that has not its form.
+    BadAudit(u64),
+}
+
+/// Which limit was passed.
+#[derive(Clone, Copy, Debug, PartialEq, Eq)]
+pub enum Limit {
+    Line,
+    Columns,
+    Nesting,
+    Subqueries,
+    Parentheses,
+    Policies,
+    Inserts,
+    Transactions,
+    Sessions,
+    Numbers,
+    /// A name of over 63 bytes, which has a code and a text of its own.
+    Name,
+}
+
+/// A statement that the transaction's state doesn't allow.
+#[derive(Clone, Copy, Debug, PartialEq, Eq)]
+pub enum TxnState {
+    AlreadyInProgress,
+    NoneInProgress,
+    Over,
+    /// The command writes, and the transaction only reads.
+    ReadOnly(Tag),
+}
+
+/// What a name is the name of.
+#[derive(Clone, Copy, Debug, PartialEq, Eq)]
+pub enum NameKind {
+    Relation,
+    Column,
+    Role,
+    Policy,
+}
+
+/// What is missing where something is denied.
+#[derive(Debug, Drop)]
+pub enum Why {
+    /// The privilege on the table.
+    Privilege(Privilege, Name),
+    /// To own the table.
+    Owner(Name),
+    /// To manage the role.
+    Admin(Name),
+    /// To set the role.
+    SetRole(Name),
+    /// The grant option for the privilege on the table.
+    GrantOption(Privilege, Name),
+    /// A permissive policy of the table that passes for the type of command.
+    NoPermissive(Name, Kind),
+    /// That the restrictive policy passes: first the policy, then its table.
+    Restrictive(Name, Name),
+}
+
+/// A grant that may not be.
+#[derive(Debug, Drop)]
+pub enum GrantFault {
+    /// The first role is a member of the second already.
+    Cycle(Name, Name),
+    PublicOption,
+    /// The grantee's option is what the grantor's rests on.
+    Back(Name),
+}
+
+/// Why a transaction can't be serialized (Ports and Grittner, VLDB 2012, 3.2).
+#[derive(Debug, Drop)]
+pub enum Cause {
+    /// The object that both wrote, and the other transaction.
+    Written(Object, u64),
+    /// Two rw-antidependencies in a row: `first` read an object that `pivot` wrote, which read one that `last` wrote.
+    Structure {
+        first: u64,
+        read_by_first: Object,
+        pivot: u64,
+        read_by_pivot: Object,
+        last: u64,
+    },
+}
+
+impl From<AllocError> for Refusal {
+    ghost use Rattle.rls_value.specs.declared.refusal.Refusal.TheVariants.{NoMemory};
+
+    ghost from_gives = { λ _ refusal. refusal ≡ NoMemory };
+
+    fn from(_fault: AllocError) -> Refusal {
+        Refusal::NoMemory
+    }
+}
+
+impl<T: Drop> From<AllocFailed<T>> for Refusal {
+    ghost use Rattle.rls_value.specs.declared.refusal.Refusal.TheVariants.{NoMemory};
+
+    ghost from_gives = { λ _ refusal. refusal ≡ NoMemory };
+
+    fn from(_fault: AllocFailed<T>) -> Refusal {
+        Refusal::NoMemory
+    }
+}
+
+impl Refusal {
+    /// The SQLSTATE that is printed; empty for the two that are never printed with one.
+    pub fn code(&self) -> &'static str
+        ensures { result.now ≡ spec.code_of self.now }
+    {
+        match self {
+            Refusal::NoMemory => "53200",
+            Refusal::Syntax => "42601",
+            Refusal::Limit(limit) => limit_code(*limit),
+            Refusal::TxnState(state) => txn_code(*state),
+            Refusal::NoLogin(_) => "28000",
+            Refusal::Undefined(kind, _) => undefined_code(*kind),
+            Refusal::Duplicate(kind, _) => duplicate_code(*kind),
+            Refusal::TypeFault => "42804",
+            Refusal::Unsupported => "0A000",
+            Refusal::Recursion(_) => "42P17",
+            Refusal::Denied(_) => "42501",
+            Refusal::GrantOp(_) => "0LP01",
+            Refusal::Dependent(_) => "2BP01",
+            Refusal::Range(_) => "22003",
+            Refusal::NotNull(_) => "23502",
+            Refusal::Unique(_) => "23505",
+            Refusal::Serial(_) => "40001",
+            Refusal::Foreign | Refusal::BadAudit(_) => "",
+        }
+    }
+
+    pub fn copy(&self, alloc: Global) -> Result<Refusal, AllocError>
+        ensures { IfOk result (λ refusal. refusal ≡ self.now) }
+    {
+        match self {
+            Refusal::NoMemory => Ok(Refusal::NoMemory),
+            Refusal::Syntax => Ok(Refusal::Syntax),
+            Refusal::Limit(limit) => Ok(Refusal::Limit(*limit)),
+            Refusal::TxnState(state) => Ok(Refusal::TxnState(*state)),
+            Refusal::NoLogin(None) => Ok(Refusal::NoLogin(None)),
+            Refusal::NoLogin(Some(role)) => Ok(Refusal::NoLogin(Some(role.copy()?))),
+            Refusal::Undefined(kind, name) => Ok(Refusal::Undefined(*kind, name.copy()?)),
+            Refusal::Duplicate(kind, name) => Ok(Refusal::Duplicate(*kind, name.copy()?)),
+            Refusal::TypeFault => Ok(Refusal::TypeFault),
+            Refusal::Unsupported => Ok(Refusal::Unsupported),
+            Refusal::Recursion(table) => Ok(Refusal::Recursion(table.copy()?)),
+            Refusal::Denied(why) => Ok(Refusal::Denied(why.copy()?)),
+            Refusal::GrantOp(fault) => Ok(Refusal::GrantOp(fault.copy()?)),
+            Refusal::Dependent(table) => Ok(Refusal::Dependent(table.copy()?)),
+            Refusal::Range(column) => Ok(Refusal::Range(column.copy()?)),
+            Refusal::NotNull(column) => Ok(Refusal::NotNull(column.copy()?)),
+            Refusal::Unique(table) => Ok(Refusal::Unique(table.copy()?)),
+            Refusal::Serial(cause) => Ok(Refusal::Serial(cause.copy(alloc)?)),
+            Refusal::Foreign => Ok(Refusal::Foreign),
+            Refusal::BadAudit(line) => Ok(Refusal::BadAudit(*line)),
+        }
+    }
+}
+
+fn limit_code(limit: Limit) -> &'static str
+    ensures { result.now ≡ spec.limit_code limit }
+{
+    match limit {
+        Limit::Name => "42622",
+        _ => "54000",
+    }
+}
+
+fn txn_code(state: TxnState) -> &'static str
+    ensures { result.now ≡ spec.txn_code state }
+{
+    match state {
+        TxnState::AlreadyInProgress => "25001",
+        TxnState::NoneInProgress => "25P01",
+        TxnState::Over => "25P02",
+        TxnState::ReadOnly(_) => "25006",
+    }
+}
+
+fn undefined_code(kind: NameKind) -> &'static str
+    ensures { result.now ≡ spec.undefined_code kind }
+{
+    match kind {
+        NameKind::Relation => "42P01",
+        NameKind::Column => "42703",
+        NameKind::Role | NameKind::Policy => "42704",
+    }
+}
+
+fn duplicate_code(kind: NameKind) -> &'static str
+    ensures { result.now ≡ spec.duplicate_code kind }
+{
+    match kind {
+        NameKind::Relation => "42P07",
+        NameKind::Column => "42701",
+        NameKind::Role | NameKind::Policy => "42710",
+    }
+}
+
+impl Why {
+    pub fn copy(&self) -> Result<Why, AllocError>
+        ensures { IfOk result (λ why. why ≡ self.now) }
+    {
+        match self {
+            Why::Privilege(privilege, table) => Ok(Why::Privilege(*privilege, table.copy()?)),
+            Why::Owner(table) => Ok(Why::Owner(table.copy()?)),
+            Why::Admin(role) => Ok(Why::Admin(role.copy()?)),
+            Why::SetRole(role) => Ok(Why::SetRole(role.copy()?)),
+            Why::GrantOption(privilege, table) => Ok(Why::GrantOption(*privilege, table.copy()?)),
+            Why::NoPermissive(table, kind) => Ok(Why::NoPermissive(table.copy()?, *kind)),
+            Why::Restrictive(policy, table) => Ok(Why::Restrictive(policy.copy()?, table.copy()?)),
+        }
+    }
+}
+
+impl GrantFault {
+    pub fn copy(&self) -> Result<GrantFault, AllocError>
+        ensures { IfOk result (λ fault. fault ≡ self.now) }
+    {
+        match self {
+            GrantFault::Cycle(member, role) => Ok(GrantFault::Cycle(member.copy()?, role.copy()?)),
+            GrantFault::PublicOption => Ok(GrantFault::PublicOption),
+            GrantFault::Back(grantee) => Ok(GrantFault::Back(grantee.copy()?)),
+        }
+    }
+}
+
+impl Cause {
+    pub fn copy(&self, alloc: Global) -> Result<Cause, AllocError>
+        ensures { IfOk result (λ cause. cause ≡ self.now) }
+    {
+        match self {
+            Cause::Written(object, other) => Ok(Cause::Written(object.copy(alloc)?, *other)),
+            Cause::Structure {
+                first,
+                read_by_first,
+                pivot,
+                read_by_pivot,
+                last,
+            } => Ok(Cause::Structure {
+                first: *first,
+                read_by_first: read_by_first.copy(alloc)?,
+                pivot: *pivot,
+                read_by_pivot: read_by_pivot.copy(alloc)?,
+                last: *last,
+            }),
+        }
+    }
+}
+
+/// The text that is printed behind the code.
+impl fmt::Display for Refusal {
+    ghost use Rattle.rls_value.specs.Refusals.{refusal_text};
+
+    ghost output = { refusal_text };
+
+    fn fmt<W: fmt::Write>(&self, f: &mut fmt::Formatter<W>) -> fmt::Result {
+        match self {
+            Refusal::NoMemory => write!(f, "out of memory"),
+            Refusal::Syntax => write!(f, "syntax error"),
+            Refusal::Limit(limit) => write!(f, "{limit}"),
+            Refusal::TxnState(state) => write!(f, "{state}"),
+            Refusal::NoLogin(None) => write!(f, "not connected"),
+            Refusal::NoLogin(Some(role)) => write!(f, "role \"{role}\" may not log in"),
+            Refusal::Undefined(kind, name) => write!(f, "{kind} \"{name}\" does not exist"),
+            Refusal::Duplicate(kind, name) => write!(f, "{kind} \"{name}\" already exists"),
+            Refusal::TypeFault => write!(f, "types do not match"),
+            Refusal::Unsupported => write!(f, "not supported"),
+            Refusal::Recursion(table) => {
+                write!(
+                    f,
+                    "infinite recursion detected in policy for relation \"{table}\""
+                )
+            }
+            Refusal::Denied(why) => write!(f, "{why}"),
+            Refusal::GrantOp(fault) => write!(f, "{fault}"),
+            Refusal::Dependent(_) => write!(f, "dependent privileges exist"),
+            Refusal::Range(column) => write!(f, "value out of range for column \"{column}\""),
+            Refusal::NotNull(column) => {
+                write!(
+                    f,
+                    "null value in column \"{column}\" violates not-null constraint"
+                )
+            }
+            Refusal::Unique(table) => {
+                write!(
+                    f,
+                    "duplicate key value violates the primary key of table \"{table}\""
+                )
+            }
+            Refusal::Serial(cause) => write!(f, "could not serialize access: {cause}"),
+            Refusal::Foreign => write!(f, "not of this engine"),
+            Refusal::BadAudit(line) => write!(f, "bad audit line {line}"),
+        }
+    }
+}
+
+impl fmt::Display for Limit {
+    ghost use Rattle.std.specs.Prelude.{Some};
+    ghost use Rattle.rls_value.specs.Refusals.{limit_text};
+
+    ghost output = { λ limit. Some (limit_text limit) };
+
+    fn fmt<W: fmt::Write>(&self, f: &mut fmt::Formatter<W>) -> fmt::Result {
+        match self {
+            Limit::Line => write!(f, "limit exceeded: line"),
+            Limit::Columns => write!(f, "limit exceeded: columns"),
+            Limit::Nesting => write!(f, "limit exceeded: nesting"),
+            Limit::Subqueries => write!(f, "limit exceeded: subqueries"),
+            Limit::Parentheses => write!(f, "limit exceeded: parentheses"),
+            Limit::Policies => write!(f, "limit exceeded: policies"),
+            Limit::Inserts => write!(f, "limit exceeded: inserts"),
+            Limit::Transactions => write!(f, "limit exceeded: transactions"),
+            Limit::Sessions => write!(f, "limit exceeded: sessions"),
+            Limit::Numbers => write!(f, "limit exceeded: numbers"),
+            Limit::Name => write!(f, "name too long"),
+        }
+    }
+}
+
+impl fmt::Display for TxnState {
+    ghost use Rattle.std.specs.Prelude.{Some};
+    ghost use Rattle.rls_value.specs.Refusals.{txn_text};
+
+    ghost output = { λ state. Some (txn_text state) };
+
+    fn fmt<W: fmt::Write>(&self, f: &mut fmt::Formatter<W>) -> fmt::Result {
+        match self {
+            TxnState::AlreadyInProgress => write!(f, "there is already a transaction in progress"),
+            TxnState::NoneInProgress => write!(f, "there is no transaction in progress"),
+            TxnState::Over => write!(
+                f,
+                "transaction is over, commands are ignored until COMMIT or ROLLBACK"
+            ),
+            TxnState::ReadOnly(tag) => write!(f, "cannot execute {tag} in a read-only transaction"),
+        }
+    }
+}
+
+impl fmt::Display for NameKind {
+    ghost use Rattle.std.specs.Prelude.{Some};
+    ghost use Rattle.rls_value.specs.Refusals.{name_kind_text};
+
+    ghost output = { λ kind. Some (name_kind_text kind) };
+
+    fn fmt<W: fmt::Write>(&self, f: &mut fmt::Formatter<W>) -> fmt::Result {
+        match self {
+            NameKind::Relation => write!(f, "relation"),
+            NameKind::Column => write!(f, "column"),
+            NameKind::Role => write!(f, "role"),
+            NameKind::Policy => write!(f, "policy"),
+        }
+    }
+}
+
+impl fmt::Display for Why {
+    ghost use Rattle.std.specs.Prelude.{Some};
+    ghost use Rattle.rls_value.specs.Refusals.{why_text};
+
+    ghost output = { λ why. Some (why_text why) };
+
+    fn fmt<W: fmt::Write>(&self, f: &mut fmt::Formatter<W>) -> fmt::Result {
+        match self {
+            Why::Privilege(privilege, table) => {
+                write!(
+                    f,
+                    "permission denied for table {table}: {privilege} is missing"
+                )
+            }
+            Why::Owner(table) => write!(f, "must be owner of table {table}"),
+            Why::Admin(role) => write!(f, "permission denied to manage role \"{role}\""),
+            Why::SetRole(role) => write!(f, "permission denied to set role \"{role}\""),
+            Why::GrantOption(privilege, table) => {
+                write!(
+                    f,
+                    "permission denied for table {table}: no grant option for {privilege}"
+                )
+            }
+            Why::NoPermissive(table, kind) => write!(
+                f,
+                "new row violates row-level security policy for table \"{table}\": no permissive {kind} policy passes"
+            ),
+            Why::Restrictive(policy, table) => write!(
+                f,
+                "new row violates row-level security policy \"{policy}\" for table \"{table}\""
+            ),
+        }
+    }
+}
+
+impl fmt::Display for GrantFault {
+    ghost use Rattle.std.specs.Prelude.{Some};
+    ghost use Rattle.rls_value.specs.Refusals.{grant_fault_text};
+
+    ghost output = { λ fault. Some (grant_fault_text fault) };
+
+    fn fmt<W: fmt::Write>(&self, f: &mut fmt::Formatter<W>) -> fmt::Result {
+        match self {
+            GrantFault::Cycle(member, role) => {
+                write!(f, "role \"{member}\" is a member of role \"{role}\"")
+            }
+            GrantFault::PublicOption => write!(f, "grant options cannot be granted to PUBLIC"),
+            GrantFault::Back(_) => {
+                write!(f, "grant options cannot be granted back to the grantor")
+            }
+        }
+    }
+}
+
+impl fmt::Display for Cause {
+    fn fmt<W: fmt::Write>(&self, f: &mut fmt::Formatter<W>) -> fmt::Result {
+        match self {
+            Cause::Written(object, other) => write!(f, "{object} was written by {other}"),
+            Cause::Structure {
+                first,
+                read_by_first,
+                pivot,
+                read_by_pivot,
+                last,
+            } => {
+                write!(f, "{first} read {read_by_first}, {pivot} wrote it; ")?;
+                write!(f, "{pivot} read {read_by_pivot}, {last} wrote it")
+            }
+        }
+    }
+}

@@ -1,0 +1,71 @@
+//! A text, seen as its bytes in UTF-8.
+
+ghost use Rattle.std.specs.Prelude.{◌≡◌, ℕ, List, IfOk};
+ghost use Rattle.std.specs.String.{string_bytes};
+ghost use Rattle.std.specs.Str.{bytes_eq};
+ghost use Rattle.std.specs.Cmp.Lexicographic.{slice_cmp};
+ghost use Rattle.std.specs.Ordering.{nat_cmp};
+
+use std::alloc::{AllocError, Global};
+use std::cmp::Ordering;
+use std::marker::Model;
+
+/// A text value; texts are compared by their bytes.
+#[derive(Debug, Drop)]
+pub struct Text {
+    content: String,
+}
+
+impl Model for Text {
+    ghost use Rattle.std.specs.Prelude.{List, ℕ};
+    ghost use Rattle.std.specs.String.{string_bytes};
+
+    ghost Value = { List ℕ };
+
+    ghost view = { λ text. string_bytes text.content };
+}
+
+impl Text {
+    pub fn new(alloc: Global, content: &str) -> Result<Text, AllocError>
+        ensures { IfOk result (λ text. text ≡ content.now) }
+    {
+        Ok(Text {
+            content: String::from_str(alloc, content)?,
+        })
+    }
+
+    /// Takes the string over; no memory is needed.
+    pub fn from_string(content: String) -> Text
+        ensures { result ≡ string_bytes content }
+    {
+        Text { content }
+    }
+
+    pub fn as_str(&self) -> &str
+        ensures { result.now ≡ self.now }
+    {
+        self.content.as_str()
+    }
+
+    pub fn copy(&self) -> Result<Text, AllocError>
+        ensures { IfOk result (λ text. text ≡ self.now) }
+    {
+        Ok(Text {
+            content: self.content.clone()?,
+        })
+    }
+
+    /// Whether the two have the same bytes.
+    pub fn is(&self, other: &Text) -> bool
+        ensures { result ≡ bytes_eq self.now other.now }
+    {
+        self.content.as_str() == other.content.as_str()
+    }
+
+    /// The order of the bytes.
+    pub fn compare(&self, other: &Text) -> Ordering
+        ensures { result ≡ slice_cmp nat_cmp self.now other.now }
+    {
+        self.content.as_str().cmp(other.content.as_str())
+    }
+}

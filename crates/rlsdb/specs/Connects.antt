@@ -1,0 +1,43 @@
+-- `\connect ROLE`.
+use Rattle.std.specs.Prelude.{ℕ, Bool, true, false, cond, nat_eq, ◌&&◌, ◌||◌, ◌≡◌, ◌++◌, List, [], ◌∷◌, take, drop, codes}
+use Rattle.std.specs.List.{prefix_len}
+use Rattle.rls_value.specs.Names.{is_between, is_letter_or_digit, spells_name}
+
+-- space, tab, LF or CR
+abbrev pub is_white : ℕ → Bool
+is_white byte = nat_eq byte 32 || nat_eq byte 9 || nat_eq byte 10 || nat_eq byte 13
+
+-- the end, or white space
+abbrev pub begins_white : List ℕ → Bool
+begins_white [] = true
+begins_white (byte ∷ bytes) = is_white byte
+
+-- the word, and then white space or the end
+abbrev pub IsConnect : List ℕ → List ℕ → Type 0
+IsConnect command behind = (command ≡ codes "\\connect" ++ behind) × (begins_white behind ≡ true)
+
+abbrev pub without_white : List ℕ → List ℕ
+without_white text = drop (prefix_len is_white text) text
+
+-- how long the word at the front is; a digit begins no name
+abbrev pub word_len : List ℕ → ℕ
+word_len [] = 0
+word_len (byte ∷ bytes) = cond (is_between 48 57 byte) 0 (prefix_len is_letter_or_digit (byte ∷ bytes))
+
+-- the word that names the role
+abbrev pub role_word : List ℕ → List ℕ
+role_word text = take (word_len (without_white text)) (without_white text)
+
+-- nothing, or a comment
+abbrev pub is_comment : List ℕ → Bool
+is_comment [] = true
+is_comment (first ∷ []) = false
+is_comment (first ∷ second ∷ rest) = nat_eq first 45 && nat_eq second 45
+
+-- what stands behind that word is nothing, but for white space and a comment
+abbrev pub ends_with_role : List ℕ → Bool
+ends_with_role text = is_comment (without_white (drop (word_len (without_white text)) (without_white text)))
+
+-- one name, and nothing behind it
+abbrev pub names_role : List ℕ → Bool
+names_role text = spells_name (role_word text) && ends_with_role text

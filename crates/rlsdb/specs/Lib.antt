@@ -1,0 +1,4 @@
+pub mod Connects
+pub mod Lines
+pub mod Rendering
+pub mod Sessions

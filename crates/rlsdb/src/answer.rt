@@ -1,0 +1,28 @@
+//! What a line is answered.
+
+ghost use Rattle.std.specs.Prelude.{◌≡◌, IfOk};
+
+use rls_access::Reply;
+use rls_value::{Refusal, Tag};
+use std::alloc::AllocError;
+
+/// The answer to a line.
+#[derive(Debug, Drop)]
+pub enum Answer {
+    /// What became of its command, with the command's tag.
+    Replied(Tag, Reply),
+    /// A refusal before any statement began.
+    Refused(Refusal),
+}
+
+impl Answer {
+    /// A refusal as an answer, but for want of memory, which ends the run.
+    pub fn refused(refusal: Refusal) -> Result<Answer, AllocError>
+        ensures { IfOk result (λ answer. answer ≡ Answer.Refused refusal) }
+    {
+        match refusal {
+            Refusal::NoMemory => Err(AllocError),
+            refusal => Ok(Answer::Refused(refusal)),
+        }
+    }
+}

@@ -1,0 +1,91 @@
+//! The command line: `rlsdb run FILE`, its faults and its exit status.
+
+use crate::device::{DeviceIn, DeviceOut};
+use crate::fault::RunFault;
+use crate::script::run_script;
+use clap::error::ErrorKind;
+use clap::{Arg, Command};
+use std::alloc::Global;
+use std::convert::AsStr;
+use std::fs::File;
+use std::{env, io};
+
+// A read or a write fault, or want of memory.
+const FAULT: u8 = 1;
+
+const USAGE: u8 = 2;
+
+/// Runs what the words of the command line ask for, and gives the exit status.
+pub fn run(rt: &HostRuntime) -> u8 {
+    let Ok(words) = env::args(rt) else {
+        return report(rt, RunFault::NoMemory);
+    };
+    let Ok(words) = words.collect::<Vec<String>>(rt.alloc()) else {
+        return report(rt, RunFault::NoMemory);
+    };
+    match file_named(rt.alloc(), words.as_slice()) {
+        Ok(Some(file)) => match run_file(rt, file) {
+            Ok(()) => 0,
+            Err(fault) => report(rt, fault),
+        },
+        Ok(None) => USAGE,
+        Err(error) => explain(rt, &error),
+    }
+}
+
+/// The file that the words name.
+pub fn file_named<'a, T: AsStr>(
+    alloc: Global,
+    words: &'a [T],
+) -> Result<Option<&'a str>, clap::Error> {
+    let file = Arg::new(alloc, "FILE").required(true).help(
+        "A script: lines `LABEL: COMMAND`, a command being `\\connect ROLE` or a statement",
+    );
+    let run = Command::new(alloc, "run")
+        .about("Runs a script on an empty database and writes each answer under its label")
+        .arg(file)?;
+    let command = Command::new(alloc, "rlsdb")
+        .about("A database with row-level security")
+        .subcommand_required(true)
+        .subcommand(run)?;
+    let matches = command.try_get_matches_from(words)?;
+    Ok(
+        matches
+            .subcommand()
+            .and_then(|(_, run)| run.get_str("FILE")),
+    )
+}
+
+// Help goes to standard output, all else to standard error.
+fn explain(rt: &HostRuntime, error: &clap::Error) -> u8 {
+    if error.kind() == ErrorKind::OutOfMemory {
+        return report(rt, RunFault::NoMemory);
+    }
+    match error.print(rt) {
+        Err(_) if !error.use_stderr() => report(rt, RunFault::Write),
+        _ if error.use_stderr() => USAGE,
+        _ => 0,
+    }
+}
+
+fn report(rt: &HostRuntime, fault: RunFault) -> u8 {
+    let _ = eprintln!(rt; "rlsdb: {fault}");
+    FAULT
+}
+
+fn run_file(rt: &HostRuntime, file: &str) -> Result<(), RunFault> {
+    let file = File::open(rt, file).map_err(|error| fault_of(&error, RunFault::Read))?;
+    let mut input = DeviceIn::new(rt.alloc(), file).map_err(|_| RunFault::NoMemory)?;
+    let mut output = DeviceOut::new(rt.alloc(), io::writer(rt)).map_err(|_| RunFault::NoMemory)?;
+    let ran = run_script(rt.alloc(), &mut input, &mut output);
+    let finished = output.finish();
+    let _ = ran?;
+    finished.map_err(|error| fault_of(&error, RunFault::Write))
+}
+
+fn fault_of(error: &io::Error, other: RunFault) -> RunFault {
+    match error.kind() {
+        io::ErrorKind::OutOfMemory => RunFault::NoMemory,
+        _ => other,
+    }
+}

@@ -1,0 +1,146 @@
+//! A script, run line by line.
+
+ghost use Rattle.std.specs.Prelude.{◌≡◌, ◌⊎◌, ◌+◌, ◌<◌, ◌≤◌, length, OnOk, OnErr, IfOk, IsErrOf};
+
+use crate::answer::Answer;
+use crate::fault::RunFault;
+use crate::line::{Line, first_line, read_line};
+use crate::render::render;
+use crate::session::Session;
+use crate::stream::{Failed, ScriptIn, ScriptOut};
+use rls_catalog::Catalog;
+use rls_value::{Limit, Refusal};
+use std::alloc::{AllocError, Global};
+
+/// The most bytes that a script has.
+pub const MAX_SCRIPT: usize = 16_777_216;
+
+/// Reads the script whole, then runs its lines and writes each answer. `Read` comes only where the reader failed
+/// or the script is over `MAX_SCRIPT` bytes, `Write` only where the writer failed. `Ok` is the state that the lines left.
+pub fn run_script<R: ScriptIn, W: ScriptOut>(
+    alloc: Global,
+    input: &mut R,
+    output: &mut W,
+) -> Result<Catalog, RunFault>
+    requires input_whole { R.failures input.old ≡ 0 }
+    requires input_fresh { R.given input.old ≡ 0 }
+    requires output_whole { W.failures output.old ≡ 0 }
+    ensures read { IsErrOf result RunFault.Read → (R.failures input.new ≡ 1) ⊎ (MAX_SCRIPT < R.given input.new) }
+    ensures write { IsErrOf result RunFault.Write → W.failures output.new ≡ 1 }
+    ensures reads { R.given input.new ≤ MAX_SCRIPT + 1 }
+    ensures ok { OnOk result (W.failures output.new ≡ 0) }
+{
+    let script = read_script(alloc, input)?;
+    run_lines(alloc, script.as_slice(), output)
+}
+
+fn read_script<R: ScriptIn>(alloc: Global, input: &mut R) -> Result<Vec<u8>, RunFault>
+    requires input_whole { R.failures input.old ≡ 0 }
+    requires input_fresh { R.given input.old ≡ 0 }
+    ensures read { IsErrOf result RunFault.Read → (R.failures input.new ≡ 1) ⊎ (MAX_SCRIPT < R.given input.new) }
+    ensures write { ¬ IsErrOf result RunFault.Write }
+    ensures reads { R.given input.new ≤ MAX_SCRIPT + 1 }
+    ensures ok { IfOk result (λ script. length script.items ≡ R.given input.new) }
+{
+    let mut script = Vec::new(alloc);
+    for _ in 0..MAX_SCRIPT {
+        match input.next_byte() {
+            Ok(Some(byte)) => script.push(byte)?,
+            Ok(None) => return Ok(script),
+            Err(Failed) => return Err(RunFault::Read),
+        }
+    }
+    match input.next_byte() {
+        Ok(None) => Ok(script),
+        Ok(Some(_)) | Err(Failed) => Err(RunFault::Read),
+    }
+}
+
+fn run_lines<W: ScriptOut>(
+    alloc: Global,
+    script: &[u8],
+    output: &mut W,
+) -> Result<Catalog, RunFault>
+    requires output_whole { W.failures output.old ≡ 0 }
+    ensures read { ¬ IsErrOf result RunFault.Read }
+    ensures write { IsErrOf result RunFault.Write → W.failures output.new ≡ 1 }
+    ensures ok { OnOk result (W.failures output.new ≡ 0) }
+{
+    let mut label = None;
+    let mut session = Session::new(alloc)?;
+    let mut rest = script;
+    while !rest.is_empty() {
+        let (line, behind) = first_line(rest);
+        run_line(alloc, &mut label, &mut session, read_line(line), output)?;
+        rest = behind;
+    }
+    Ok(session.into_catalog())
+}
+
+fn run_line<'a, W: ScriptOut>(
+    alloc: Global,
+    first: &mut Option<&'a str>,
+    session: &mut Session,
+    line: Line<'a>,
+    output: &mut W,
+) -> Result<(), RunFault>
+    requires output_whole { W.failures output.old ≡ 0 }
+    ensures read { ¬ IsErrOf result RunFault.Read }
+    ensures write { IsErrOf result RunFault.Write → W.failures output.new ≡ 1 }
+    ensures ok { OnOk result (W.failures output.new ≡ 0) }
+{
+    match line {
+        Line::Skipped | Line::Phase => Ok(()),
+        Line::Command { label, command } => {
+            let answer = answer_of(alloc, first, session, label, command)?;
+            write_answer(alloc, label, &answer, output)
+        }
+        Line::Unlabelled => write_answer(alloc, "?", &Answer::Refused(Refusal::Syntax), output),
+    }
+}
+
+// One label has a session for now, the script's first.
+fn answer_of<'a>(
+    alloc: Global,
+    first: &mut Option<&'a str>,
+    session: &mut Session,
+    label: &'a str,
+    command: &str,
+) -> Result<Answer, AllocError> {
+    if *first.get_or_insert(label) == label {
+        session.execute(alloc, command)
+    } else {
+        Answer::refused(Refusal::Limit(Limit::Sessions))
+    }
+}
+
+fn write_answer<W: ScriptOut>(
+    alloc: Global,
+    label: &str,
+    answer: &Answer,
+    output: &mut W,
+) -> Result<(), RunFault>
+    requires output_whole { W.failures output.old ≡ 0 }
+    ensures read { ¬ IsErrOf result RunFault.Read }
+    ensures write { IsErrOf result RunFault.Write → W.failures output.new ≡ 1 }
+    ensures ok { OnOk result (W.failures output.new ≡ 0) }
+{
+    let bytes = render(alloc, label, answer)?;
+    match write_all(bytes.as_slice(), output) {
+        Ok(()) => Ok(()),
+        Err(Failed) => Err(RunFault::Write),
+    }
+}
+
+fn write_all<W: ScriptOut>(bytes: &[u8], output: &mut W) -> Result<(), Failed>
+    requires output_whole { W.failures output.old ≡ 0 }
+    ensures ok { OnOk result (W.failures output.new ≡ 0) }
+    ensures err { OnErr result (W.failures output.new ≡ 1) }
+{
+    let mut rest = bytes;
+    while !rest.is_empty() {
+        let taken = output.write_some(rest)?;
+        rest = &rest[taken..];
+    }
+    Ok(())
+}
