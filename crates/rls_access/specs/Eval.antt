@@ -27,6 +27,7 @@ alone user = record { user = user; rows = [] }
 abbrev pub row_at : List (List Value) → ℕ → List Value
 row_at rows out = unwrap_or (slice_get rows out) []
 
+-- each operator by `=`, `<` and NOT
 abbrev pub compared : Comparison → Value → Value → Truth
 compared c.Equal a b = equal_values a b
 compared c.NotEqual a b = negation_of (equal_values a b)
@@ -49,10 +50,12 @@ abbrev mutual
   value_of (IsNull t) env = Flag (is_null (value_of t env))
   value_of (IsNotNull t) env = Flag (not (is_null (value_of t env)))
 
+  -- AND of all parts
   pub all_of : Terms → Environment → Truth
   all_of End env = True
   all_of (More t ts) env = conjunction_of (truth_in (value_of t env)) (all_of ts env)
 
+  -- OR of all parts
   pub any_of : Terms → Environment → Truth
   any_of End env = False
   any_of (More t ts) env = disjunction_of (truth_in (value_of t env)) (any_of ts env)

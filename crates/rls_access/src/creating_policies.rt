@@ -1,6 +1,7 @@
 //! CREATE POLICY.
 
-ghost use Rattle.std.specs.Prelude.{◌≤◌, length};
+ghost use Rattle.std.specs.Prelude.{◌≤◌, length, ◌≡◌, IfOk};
+ghost use Rattle.rls_access.specs.Effects.{ChangesUnlessRefused};
 
 use crate::checks::{require_roles, table_named};
 use crate::context::Ctx;
@@ -24,7 +25,10 @@ pub fn run_create_policy<S: RowSource>(
     notes: &mut Footprint,
     ctx: &Ctx,
     create: &CreatePolicy,
-) -> Result<Effect, Refusal> {
+) -> Result<Effect, Refusal>
+    ensures unchanged { IfOk result (λ effect. ChangesUnlessRefused effect.reply effect.delta) }
+    ensures state { S.state source.new ≡ S.state source.old }
+{
     let table = table_named(alloc, source, notes, &create.table)?;
     require_roles(alloc, source, notes, create.policy.to.as_slice())?;
     let from = FromTable {

@@ -1,5 +1,9 @@
 //! CREATE ROLE.
 
+ghost use Rattle.std.specs.Prelude.{◌≡◌, ◌++◌};
+ghost use Rattle.rls_access.specs.Effects.{Gives, UnlessNoMemory};
+ghost use Rattle.rls_access.specs.CreatingRoles.{create_role, create_role_reads};
+
 use crate::checks::require_superuser;
 use crate::context::Ctx;
 use crate::effect::Effect;
@@ -17,7 +21,12 @@ pub fn run_create_role<S: RowSource>(
     notes: &mut Footprint,
     ctx: &Ctx,
     create: &CreateRole,
-) -> Result<Effect, Refusal> {
+) -> Result<Effect, Refusal>
+    ensures effect { Gives result (create_role (S.state source.old) ctx.now create.now) }
+    ensures read { UnlessNoMemory result (source.new ≡ S.after source.old (create_role_reads (S.state source.old) ctx.now create.now)) }
+    ensures noted { UnlessNoMemory result (notes.new ≡ notes.old ++ create_role_reads (S.state source.old) ctx.now create.now) }
+    ensures state { S.state source.new ≡ S.state source.old }
+{
     if noted_role(alloc, source, notes, &create.name)?.is_some() {
         return Err(Refusal::Duplicate(NameKind::Role, create.name.copy()?));
     }

@@ -1,5 +1,9 @@
 //! CREATE TABLE, ALTER TABLE.
 
+ghost use Rattle.std.specs.Prelude.{◌≡◌, ◌++◌, IfOk};
+ghost use Rattle.rls_access.specs.Effects.{Gives, UnlessNoMemory, ChangesUnlessRefused};
+ghost use Rattle.rls_access.specs.AlteringTables.{alter_table, alter_table_reads};
+
 use crate::checks::table_named;
 use crate::context::Ctx;
 use crate::effect::Effect;
@@ -20,7 +24,10 @@ pub fn run_create_table<S: RowSource>(
     notes: &mut Footprint,
     ctx: &Ctx,
     create: &CreateTable,
-) -> Result<Effect, Refusal> {
+) -> Result<Effect, Refusal>
+    ensures unchanged { IfOk result (λ effect. ChangesUnlessRefused effect.reply effect.delta) }
+    ensures state { S.state source.new ≡ S.state source.old }
+{
     if noted_table(alloc, source, notes, &create.name)?.is_some() {
         return Err(Refusal::Duplicate(NameKind::Relation, create.name.copy()?));
     }
@@ -72,7 +79,12 @@ pub fn run_alter_table<S: RowSource>(
     notes: &mut Footprint,
     ctx: &Ctx,
     alter: &AlterTable,
-) -> Result<Effect, Refusal> {
+) -> Result<Effect, Refusal>
+    ensures effect { Gives result (alter_table (S.state source.old) ctx.now alter.now) }
+    ensures read { UnlessNoMemory result (source.new ≡ S.after source.old (alter_table_reads (S.state source.old) ctx.now alter.now)) }
+    ensures noted { UnlessNoMemory result (notes.new ≡ notes.old ++ alter_table_reads (S.state source.old) ctx.now alter.now) }
+    ensures state { S.state source.new ≡ S.state source.old }
+{
     let mut table = table_named(alloc, source, notes, &alter.table)?;
     let standing = standing_of(alloc, source, notes, &ctx.role)?;
     standing.require_owner(&alter.table, &table)?;

@@ -1,5 +1,8 @@
 //! What a statement does, before its reads are put beside it.
 
+ghost use Rattle.std.specs.Prelude.{◌≡◌, [], ◌∷◌, IfOk};
+ghost use Rattle.rls_access.specs.Effects.{writes};
+
 use crate::outcome::{Decision, Reply};
 use rls_catalog::{Change, Delta};
 use rls_value::{Items, Refusal};
@@ -15,12 +18,20 @@ pub struct Effect {
 
 impl Effect {
     /// A refusal before any row was judged.
-    pub fn refused(alloc: Global, refusal: Refusal) -> Effect {
+    pub fn refused(alloc: Global, refusal: Refusal) -> Effect
+        ensures reply { result.reply ≡ Reply.Refused refusal }
+        ensures decisions { result.decisions ≡ [] }
+        ensures delta { result.delta ≡ [] }
+    {
         Effect::judged(alloc, Reply::Refused(refusal), Items::new(alloc))
     }
 
     /// A reply with the decisions that led to it, and no change.
-    pub fn judged(alloc: Global, reply: Reply, decisions: Items<Decision>) -> Effect {
+    pub fn judged(alloc: Global, reply: Reply, decisions: Items<Decision>) -> Effect
+        ensures reply { result.reply ≡ reply }
+        ensures decisions { result.decisions ≡ decisions }
+        ensures delta { result.delta ≡ [] }
+    {
         Effect {
             reply,
             decisions,
@@ -29,14 +40,18 @@ impl Effect {
     }
 
     /// A statement that writes one object and no rows.
-    pub fn changed(alloc: Global, change: Change) -> Result<Effect, AllocError> {
+    pub fn changed(alloc: Global, change: Change) -> Result<Effect, AllocError>
+        ensures { IfOk result (λ effect. effect ≡ writes (change ∷ [])) }
+    {
         let mut delta = Delta::new(alloc);
         delta.push(change)?;
         Ok(Effect::done(alloc, delta))
     }
 
     /// A statement that writes objects and no rows.
-    pub fn done(alloc: Global, delta: Delta) -> Effect {
+    pub fn done(alloc: Global, delta: Delta) -> Effect
+        ensures { result ≡ writes delta }
+    {
         Effect {
             reply: Reply::Done,
             decisions: Items::new(alloc),

@@ -1,15 +1,16 @@
 //! GRANT of table privileges.
 
-ghost use Rattle.std.specs.Prelude.{◌≤◌, length};
+ghost use Rattle.std.specs.Prelude.{◌≤◌, length, ◌≡◌, IfOk};
+ghost use Rattle.rls_access.specs.Effects.{ChangesUnlessRefused};
 
 use crate::checks::{require_roles, table_named};
 use crate::context::Ctx;
 use crate::effect::Effect;
 use crate::noted::noted_grants;
-use crate::options::{is_among, options};
 use crate::standing::{Standing, standing_of};
 use rls_catalog::{Change, Grant, Grantee};
 use rls_expr::TableDef;
+use rls_grant::{is_among, options};
 use rls_source::{Footprint, RowSource};
 use rls_text::{GrantPrivileges, Privileges};
 use rls_value::{Items, Name, Privilege, Refusal, Why};
@@ -23,7 +24,10 @@ pub fn run_grant<S: RowSource>(
     notes: &mut Footprint,
     ctx: &Ctx,
     grant: &GrantPrivileges,
-) -> Result<Effect, Refusal> {
+) -> Result<Effect, Refusal>
+    ensures unchanged { IfOk result (λ effect. ChangesUnlessRefused effect.reply effect.delta) }
+    ensures state { S.state source.new ≡ S.state source.old }
+{
     let table = table_named(alloc, source, notes, &grant.table)?;
     require_roles(alloc, source, notes, grant.to.as_slice())?;
     let mut grants = noted_grants(alloc, source, notes, &grant.table)?.into_vec();

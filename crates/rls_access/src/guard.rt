@@ -1,13 +1,16 @@
 //! Row security of one table for one type of command: which policies are asked, and what they say of a row.
 
-use crate::combining::{Judged, combine, expression_of};
+ghost use Rattle.std.specs.Prelude.{◌≡◌, ◌++◌, map, IfOk, OnOk};
+ghost use Rattle.rls_access.specs.Guards as spec;
+
 use crate::evaluation::truth_over;
 use crate::noted::noted_policies;
 use crate::standing::Standing;
 use rls_catalog::{Policy, Side, Verdict};
 use rls_expr::{Expr, FromTable, Scope, resolve};
+use rls_policy::{chosen, combine, expression_of};
 use rls_source::{Footprint, RowSource};
-use rls_value::{Items, Kind, Name, Refusal, Row};
+use rls_value::{Items, Kind, Name, Refusal, Row, Truth};
 use std::alloc::{AllocError, Global};
 
 /// What guards the rows of a table.
@@ -15,74 +18,48 @@ use std::alloc::{AllocError, Global};
 pub enum Guard {
     /// Row security doesn't apply.
     Exempt,
-    Policies(Items<Rule>),
-}
-
-/// A policy that applies, with its expression resolved.
-#[derive(Drop)]
-pub struct Rule {
-    name: Name,
-    permissive: bool,
-    condition: Expr,
+    /// The policies that apply, and the resolved expression of each.
+    Policies(Items<Policy>, Items<Expr>),
 }
 
 /// The guard of the table for the role, the type of command and the side of a row. It reads the policies, unless the
 /// role is exempt.
-pub fn guard_of<S: RowSource>(
+pub fn guard_of<'x, S: RowSource>(
     alloc: Global,
     source: &mut S,
     notes: &mut Footprint,
     standing: &Standing,
-    from: FromTable,
+    from: FromTable<'x>,
     kind: Kind,
     side: Side,
-) -> Result<Guard, AllocError> {
+) -> Result<Guard, AllocError>
+    ensures read { OnOk result (source.new ≡ S.after source.old (spec.guard_reads standing.now.attributes standing.now.reach.superuser standing.now.reach.names from.entry.name.now from.entry.table.now)) }
+    ensures noted { OnOk result (notes.new ≡ notes.old ++ spec.guard_reads standing.now.attributes standing.now.reach.superuser standing.now.reach.names from.entry.name.now from.entry.table.now) }
+    ensures state { S.state source.new ≡ S.state source.old }
+{
     if standing.is_exempt(from.table) {
         return Ok(Guard::Exempt);
     }
     let policies = noted_policies(alloc, source, notes, from.name)?;
-    let rules = rules_of(alloc, policies.as_slice(), standing, from, kind, side)?;
-    Ok(Guard::Policies(rules))
+    let policies = chosen(policies, &standing.reach, kind, side);
+    let conditions = conditions_of(alloc, policies.as_slice(), from, kind, side)?;
+    Ok(Guard::Policies(policies, conditions))
 }
 
-fn rules_of(
+fn conditions_of(
     alloc: Global,
     policies: &[Policy],
-    standing: &Standing,
     from: FromTable,
     kind: Kind,
     side: Side,
-) -> Result<Items<Rule>, AllocError> {
-    let mut rules = Vec::with_capacity(alloc, policies.len())?;
+) -> Result<Items<Expr>, AllocError> {
+    let mut conditions = Items::new(alloc);
     for policy in policies {
-        if is_for(policy, standing) {
-            if let Some(expr) = expression_of(policy, kind, side) {
-                rules.push(rule_of(alloc, policy, expr, from)?)?;
-            }
+        if let Some(expr) = expression_of(policy, kind, side) {
+            conditions.push(resolved_or_kept(alloc, expr, from)?)?;
         }
     }
-    Ok(Items::from_vec(rules))
-}
-
-fn is_for(policy: &Policy, standing: &Standing) -> bool {
-    policy
-        .to
-        .as_slice()
-        .iter()
-        .any(|grantee| standing.is_grantee(grantee))
-}
-
-fn rule_of(
-    alloc: Global,
-    policy: &Policy,
-    expr: &Expr,
-    from: FromTable,
-) -> Result<Rule, AllocError> {
-    Ok(Rule {
-        name: policy.name.copy()?,
-        permissive: policy.permissive,
-        condition: resolved_or_kept(alloc, expr, from)?,
-    })
+    Ok(conditions)
 }
 
 /// A policy's expression with its columns resolved. Where one isn't there it stays as it is, and its value is null.
@@ -96,41 +73,45 @@ fn resolved_or_kept(alloc: Global, expr: &Expr, from: FromTable) -> Result<Expr,
 }
 
 /// What the guard says of the row.
-pub fn verdict(
+pub fn verdict_on(
     alloc: Global,
     guard: &Guard,
     user: &Name,
     row: &Row,
-) -> Result<Verdict, AllocError> {
+) -> Result<Verdict, AllocError>
+    ensures { IfOk result (λ verdict. verdict ≡ spec.verdict_on guard.now user.now row.now) }
+{
     match guard {
         Guard::Exempt => Ok(Verdict::Exempt),
-        Guard::Policies(rules) => {
-            let judged = judge(alloc, rules.as_slice(), user, row)?;
-            combine(judged.as_slice())
+        Guard::Policies(policies, conditions) => {
+            let truths = truths_on(alloc, conditions.as_slice(), user, row)?;
+            let verdict = combine(policies.as_slice(), truths.as_slice())?;
+            Ok(verdict)
         }
     }
 }
 
-fn judge<'a>(
+/// What each condition is for the row.
+fn truths_on(
     alloc: Global,
-    rules: &'a [Rule],
+    conditions: &[Expr],
     user: &Name,
     row: &Row,
-) -> Result<Vec<Judged<'a>>, AllocError> {
-    let mut judged = Vec::with_capacity(alloc, rules.len())?;
-    for rule in rules {
-        let truth = truth_over(alloc, &rule.condition, user, row)?;
-        judged.push(Judged {
-            name: &rule.name,
-            permissive: rule.permissive,
-            truth,
-        })?;
+) -> Result<Items<Truth>, AllocError>
+    ensures { IfOk result (λ truths. truths ≡ map (spec.truth_on user.now row.now) conditions.now) }
+{
+    let mut truths = Items::new(alloc);
+    for condition in conditions {
+        let truth = truth_over(alloc, condition, user, row)?;
+        truths.push(truth)?;
     }
-    Ok(judged)
+    Ok(truths)
 }
 
 /// Whether the row may be seen or written.
-pub fn allows(verdict: &Verdict) -> bool {
+pub fn allows(verdict: &Verdict) -> bool
+    ensures { result ≡ spec.allows verdict.now }
+{
     match verdict {
         Verdict::Exempt | Verdict::By(_) => true,
         Verdict::NoPermissive | Verdict::Restrictive(_) => false,

@@ -1,9 +1,12 @@
 //! INSERT.
 
+ghost use Rattle.std.specs.Prelude.{◌≡◌, false, IfOk};
+ghost use Rattle.rls_access.specs.Effects.{ChangesUnlessRefused, is_refused};
+
 use crate::checks::table_named;
 use crate::context::Ctx;
 use crate::effect::Effect;
-use crate::guard::{Guard, guard_of, verdict};
+use crate::guard::{Guard, guard_of, verdict_on};
 use crate::keys::{keys_of, require_unique};
 use crate::outcome::{Decision, Reply};
 use crate::standing::standing_of;
@@ -30,7 +33,10 @@ pub fn run_insert<S: RowSource>(
     notes: &mut Footprint,
     ctx: &Ctx,
     insert: &Insert,
-) -> Result<Effect, Refusal> {
+) -> Result<Effect, Refusal>
+    ensures unchanged { IfOk result (λ effect. ChangesUnlessRefused effect.reply effect.delta) }
+    ensures state { S.state source.new ≡ S.state source.old }
+{
     let table = table_named(alloc, source, notes, &insert.table)?;
     let columns = table.columns.as_slice();
     let tuples = check_tuples(alloc, insert.tuples.as_slice(), columns)?;
@@ -92,7 +98,7 @@ fn judge(
             id: *id,
             side: Side::New,
             kind: Kind::Insert,
-            verdict: verdict(alloc, guard, role, row)?,
+            verdict: verdict_on(alloc, guard, role, row)?,
         })?;
     }
     Ok(decisions)
@@ -106,7 +112,9 @@ fn require_rows<S: RowSource>(
     from: FromTable,
     decisions: &[Decision],
     new: &NewRows,
-) -> Result<(), Refusal> {
+) -> Result<(), Refusal>
+    ensures state { S.state source.new ≡ S.state source.old }
+{
     require_allowed(from.name, decisions)?;
     require_not_null(&new.rows, from.table.columns.as_slice())?;
     require_unique(alloc, source, notes, from.name, &new.keys)
@@ -132,7 +140,9 @@ fn inserted(
     table: &Name,
     new: NewRows,
     decisions: Vec<Decision>,
-) -> Result<Effect, AllocError> {
+) -> Result<Effect, AllocError>
+    ensures { IfOk result (λ effect. is_refused effect.reply ≡ false) }
+{
     let NewRows { ids, keys, rows } = new;
     let count = ids.len() as u64;
     let mut delta = Delta::new(alloc);

@@ -1,5 +1,7 @@
 //! The primary keys of new rows.
 
+ghost use Rattle.std.specs.Prelude.{◌≡◌};
+
 use crate::listing::{has_twins, sort_rows};
 use crate::noted::noted_key;
 use rls_expr::TableDef;
@@ -31,7 +33,9 @@ pub fn require_unique<S: RowSource>(
     notes: &mut Footprint,
     name: &Name,
     keys: &[Row],
-) -> Result<(), Refusal> {
+) -> Result<(), Refusal>
+    ensures state { S.state source.new ≡ S.state source.old }
+{
     let mut whole = Vec::new(alloc);
     let mut taken = false;
     for key in keys {

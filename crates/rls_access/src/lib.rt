@@ -2,7 +2,6 @@
 #![tactic(auto)]
 
 mod checks;
-mod combining;
 mod context;
 mod creating_policies;
 mod creating_roles;
@@ -15,7 +14,6 @@ mod inserting;
 mod keys;
 mod listing;
 mod noted;
-mod options;
 mod outcome;
 mod selecting;
 mod standing;

@@ -1,6 +1,6 @@
 //! Reads of a source, with a note of each.
 
-ghost use Rattle.std.specs.Prelude.{◌≡◌, [], ◌∷◌, ◌++◌, IfOk, OnOk, OnErr};
+ghost use Rattle.std.specs.Prelude.{◌≡◌, [], ◌∷◌, ◌++◌, IfOk, OnOk};
 ghost use Rattle.rls_catalog.specs.State.{role_of, table_of, grants_of, policies_of, rows_of, rows_with_key};
 
 use rls_catalog::{Grant, Policy, RoleDef, Stored};
@@ -18,7 +18,7 @@ pub fn noted_role<S: RowSource>(
     ensures found { IfOk result (λ found. found ≡ role_of (S.state source.old) name.now) }
     ensures read { OnOk result (source.new ≡ S.after source.old (Object.Role name.now ∷ [])) }
     ensures noted { OnOk result (notes.new ≡ notes.old ++ Object.Role name.now ∷ []) }
-    ensures err { OnErr result (S.state source.new ≡ S.state source.old) }
+    ensures state { S.state source.new ≡ S.state source.old }
 {
     let read = Object::Role(name.copy()?);
     let found = source.role(alloc, name)?;
@@ -35,7 +35,7 @@ pub fn noted_table<S: RowSource>(
     ensures found { IfOk result (λ found. found ≡ table_of (S.state source.old) name.now) }
     ensures read { OnOk result (source.new ≡ S.after source.old (Object.Table name.now ∷ [])) }
     ensures noted { OnOk result (notes.new ≡ notes.old ++ Object.Table name.now ∷ []) }
-    ensures err { OnErr result (S.state source.new ≡ S.state source.old) }
+    ensures state { S.state source.new ≡ S.state source.old }
 {
     let read = Object::Table(name.copy()?);
     let found = source.table(alloc, name)?;
@@ -52,7 +52,7 @@ pub fn noted_grants<S: RowSource>(
     ensures found { IfOk result (λ found. found ≡ grants_of (S.state source.old) table.now) }
     ensures read { OnOk result (source.new ≡ S.after source.old (Object.Grants table.now ∷ [])) }
     ensures noted { OnOk result (notes.new ≡ notes.old ++ Object.Grants table.now ∷ []) }
-    ensures err { OnErr result (S.state source.new ≡ S.state source.old) }
+    ensures state { S.state source.new ≡ S.state source.old }
 {
     let read = Object::Grants(table.copy()?);
     let found = source.grants(alloc, table)?;
@@ -69,7 +69,7 @@ pub fn noted_policies<S: RowSource>(
     ensures found { IfOk result (λ found. found ≡ policies_of (S.state source.old) table.now) }
     ensures read { OnOk result (source.new ≡ S.after source.old (Object.Policies table.now ∷ [])) }
     ensures noted { OnOk result (notes.new ≡ notes.old ++ Object.Policies table.now ∷ []) }
-    ensures err { OnErr result (S.state source.new ≡ S.state source.old) }
+    ensures state { S.state source.new ≡ S.state source.old }
 {
     let read = Object::Policies(table.copy()?);
     let found = source.policies(alloc, table)?;
@@ -86,7 +86,7 @@ pub fn noted_scan<S: RowSource>(
     ensures found { IfOk result (λ found. found ≡ rows_of (S.state source.old) table.now) }
     ensures read { OnOk result (source.new ≡ S.after source.old (Object.Rows table.now ∷ [])) }
     ensures noted { OnOk result (notes.new ≡ notes.old ++ Object.Rows table.now ∷ []) }
-    ensures err { OnErr result (S.state source.new ≡ S.state source.old) }
+    ensures state { S.state source.new ≡ S.state source.old }
 {
     let read = Object::Rows(table.copy()?);
     let found = source.scan(alloc, table)?;
@@ -104,7 +104,7 @@ pub fn noted_key<S: RowSource>(
     ensures found { IfOk result (λ found. found ≡ rows_with_key (S.state source.old) table.now key.now) }
     ensures read { OnOk result (source.new ≡ S.after source.old (Object.Key table.now key.now ∷ [])) }
     ensures noted { OnOk result (notes.new ≡ notes.old ++ Object.Key table.now key.now ∷ []) }
-    ensures err { OnErr result (S.state source.new ≡ S.state source.old) }
+    ensures state { S.state source.new ≡ S.state source.old }
 {
     let read = Object::Key(table.copy()?, key.copy(alloc)?);
     let found = source.by_key(alloc, table, key)?;

@@ -1,10 +1,13 @@
 //! SELECT.
 
+ghost use Rattle.std.specs.Prelude.{◌≡◌, [], IfOk};
+ghost use Rattle.rls_access.specs.Effects.{ChangesUnlessRefused};
+
 use crate::checks::table_named;
 use crate::context::Ctx;
 use crate::effect::Effect;
 use crate::evaluation::{truth_over, value_over};
-use crate::guard::{Guard, allows, guard_of, verdict};
+use crate::guard::{Guard, allows, guard_of, verdict_on};
 use crate::listing::sort_rows;
 use crate::noted::noted_scan;
 use crate::outcome::{Decision, Reply};
@@ -30,7 +33,10 @@ pub fn run_select<S: RowSource>(
     notes: &mut Footprint,
     ctx: &Ctx,
     select: &Select,
-) -> Result<Effect, Refusal> {
+) -> Result<Effect, Refusal>
+    ensures unchanged { IfOk result (λ effect. ChangesUnlessRefused effect.reply effect.delta) }
+    ensures state { S.state source.new ≡ S.state source.old }
+{
     let table = table_named(alloc, source, notes, &select.table)?;
     let from = FromTable {
         name: &select.table,
@@ -81,11 +87,13 @@ fn list(
     guard: &Guard,
     role: &Name,
     candidates: &[Stored],
-) -> Result<Effect, AllocError> {
+) -> Result<Effect, AllocError>
+    ensures { IfOk result (λ effect. effect.delta ≡ []) }
+{
     let mut decisions = Vec::with_capacity(alloc, candidates.len())?;
     let mut rows = Vec::new(alloc);
     for stored in candidates {
-        let verdict = verdict(alloc, guard, role, &stored.row)?;
+        let verdict = verdict_on(alloc, guard, role, &stored.row)?;
         if allows(&verdict) && meets(alloc, query, role, &stored.row)? {
             rows.push(selected(alloc, query, role, &stored.row)?)?;
         }

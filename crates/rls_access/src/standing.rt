@@ -1,17 +1,28 @@
 //! Who the current role is for a statement: its attributes, and whose privileges it has.
 
+ghost use Rattle.std.specs.Prelude.{◌≡◌, ◌∷◌, ◌++◌, ◌||◌, IfOk, OnOk, OnErr};
+ghost use Rattle.rls_value.specs.Names.{one_of};
+ghost use Rattle.rls_value.specs.declared.object.Object.{Object};
+ghost use Rattle.rls_catalog.specs.State.{grants_of};
+ghost use Rattle.rls_catalog.specs.Membership.{attributes_in, attributes_of, walked_by, walk_reads, reach_reads};
+ghost use Rattle.rls_catalog.specs.Verdict.{exempts};
+ghost use Rattle.rls_access.specs.Effects.{Gives, UnlessNoMemory};
+ghost use Rattle.rls_access.specs.Standings as spec;
+
 use crate::noted::{noted_grants, noted_role};
-use rls_catalog::{Grant, Grantee, RoleDef};
+use rls_catalog::RoleDef;
 use rls_expr::TableDef;
+use rls_grant::is_granted;
+use rls_policy::exempt;
 use rls_role::{Reach, reach_of};
 use rls_source::{Footprint, RowSource};
 use rls_value::{Name, Object, Privilege, Refusal, Why};
 use std::alloc::{AllocError, Global};
 
-/// The current role, as its memberships make it.
+/// The current role, as its attributes and its memberships make it.
 #[derive(Drop)]
 pub struct Standing {
-    pub def: Option<RoleDef>,
+    pub attributes: RoleDef,
     pub reach: Reach,
 }
 
@@ -21,15 +32,39 @@ pub fn standing_of<S: RowSource>(
     source: &mut S,
     notes: &mut Footprint,
     role: &Name,
-) -> Result<Standing, AllocError> {
-    let def = noted_role(alloc, source, notes, role)?;
+) -> Result<Standing, AllocError>
+    ensures attributes { IfOk result (λ standing. standing.attributes ≡ attributes_of (S.state source.old) role.now) }
+    ensures superuser { IfOk result (λ standing. standing.reach.superuser ≡ (attributes_of (S.state source.old) role.now).superuser) }
+    ensures names { IfOk result (λ standing. standing.reach.names ≡ walked_by (S.state source.old) role.now) }
+    ensures read { OnOk result (source.new ≡ S.after source.old (spec.standing_reads (S.state source.old) role.now)) }
+    ensures noted { OnOk result (notes.new ≡ notes.old ++ spec.standing_reads (S.state source.old) role.now) }
+    ensures state { S.state source.new ≡ S.state source.old }
+{
+    let attributes = attributes(noted_role(alloc, source, notes, role)?);
+    let read = Object::Role(role.copy()?);
     let reach = reach_of(alloc, source, role)?;
-    note_walk(notes, &reach)?;
-    Ok(Standing { def, reach })
+    notes.note(read)?;
+    note_walk(notes, reach.names.as_slice())?;
+    Ok(Standing { attributes, reach })
 }
 
-fn note_walk(notes: &mut Footprint, reach: &Reach) -> Result<(), AllocError> {
-    for name in reach.names.as_slice() {
+fn attributes(def: Option<RoleDef>) -> RoleDef
+    ensures { result ≡ attributes_in def }
+{
+    match def {
+        Some(def) => def,
+        None => RoleDef {
+            superuser: false,
+            login: false,
+            bypass_rls: false,
+        },
+    }
+}
+
+fn note_walk(notes: &mut Footprint, names: &[Name]) -> Result<(), AllocError>
+    ensures { OnOk result (notes.new ≡ notes.old ++ walk_reads names.now) }
+{
+    for name in names {
         notes.note(Object::Role(name.copy()?))?;
         notes.note(Object::Members(name.copy()?))?;
     }
@@ -45,32 +80,27 @@ impl Standing {
         notes: &mut Footprint,
         privilege: Privilege,
         table: &Name,
-    ) -> Result<(), Refusal> {
+    ) -> Result<(), Refusal>
+        ensures given { Gives result (spec.privilege_or_denied self.now.reach.superuser self.now.reach.names privilege table.now (grants_of (S.state source.old) table.now)) }
+        ensures read { UnlessNoMemory result (source.new ≡ S.after source.old (spec.grants_reads self.now.reach.superuser table.now)) }
+        ensures noted { UnlessNoMemory result (notes.new ≡ notes.old ++ spec.grants_reads self.now.reach.superuser table.now) }
+        ensures state { S.state source.new ≡ S.state source.old }
+    {
         if self.reach.superuser {
             return Ok(());
         }
         let grants = noted_grants(alloc, source, notes, table)?;
-        if self.is_granted(grants.as_slice(), privilege) {
+        if is_granted(grants.as_slice(), privilege, &self.reach) {
             Ok(())
         } else {
             Err(Refusal::Denied(Why::Privilege(privilege, table.copy()?)))
         }
     }
 
-    fn is_granted(&self, grants: &[Grant], privilege: Privilege) -> bool {
-        grants.iter().any(|grant| grant.privilege == privilege && self.is_grantee(&grant.grantee))
-    }
-
-    /// Whether what is granted to the grantee is granted to the role.
-    pub fn is_grantee(&self, grantee: &Grantee) -> bool {
-        match grantee {
-            Grantee::Public => true,
-            Grantee::Role(name) => self.reach.has(name),
-        }
-    }
-
     /// Denied where the role hasn't the privileges of the table's owner.
-    pub fn require_owner(&self, name: &Name, table: &TableDef) -> Result<(), Refusal> {
+    pub fn require_owner(&self, name: &Name, table: &TableDef) -> Result<(), Refusal>
+        ensures { Gives result (spec.owner_or_denied self.now.reach.superuser self.now.reach.names name.now table.now) }
+    {
         if self.reach.has(&table.owner) {
             Ok(())
         } else {
@@ -78,16 +108,10 @@ impl Standing {
         }
     }
 
-    /// Whether row security doesn't apply: it is off, the role is a superuser or has BYPASSRLS itself, or it has the
-    /// privileges of the owner and row security isn't forced.
-    pub fn is_exempt(&self, table: &TableDef) -> bool {
-        !table.enabled || self.bypasses() || (!table.forced && self.reach.has(&table.owner))
-    }
-
-    fn bypasses(&self) -> bool {
-        match self.def {
-            Some(def) => def.superuser || def.bypass_rls,
-            None => false,
-        }
+    /// Whether row security doesn't apply to the role on the table.
+    pub fn is_exempt(&self, table: &TableDef) -> bool
+        ensures { result ≡ exempts self.now.attributes table.now (self.now.reach.superuser || one_of self.now.reach.names table.now.owner) }
+    {
+        exempt(&self.attributes, table, self.reach.has(&table.owner))
     }
 }

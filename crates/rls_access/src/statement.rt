@@ -1,5 +1,8 @@
 //! One statement.
 
+ghost use Rattle.std.specs.Prelude.{◌≡◌, IfOk};
+ghost use Rattle.rls_access.specs.Effects.{ChangesUnlessRefused};
+
 use crate::context::{Ctx, Mode};
 use crate::creating_policies::run_create_policy;
 use crate::creating_roles::run_create_role;
@@ -21,7 +24,11 @@ pub fn run_statement<S: RowSource>(
     source: &mut S,
     ctx: &Ctx,
     statement: &Statement,
-) -> Result<Outcome, AllocError> {
+) -> Result<Outcome, AllocError>
+    ensures unchanged { IfOk result (λ outcome. ChangesUnlessRefused outcome.reply outcome.delta) }
+    ensures role { IfOk result (λ outcome. outcome.role ≡ ctx.now.role) }
+    ensures state { S.state source.new ≡ S.state source.old }
+{
     let mut notes = Footprint::new(alloc);
     let effect = match effect_of(alloc, source, &mut notes, ctx, statement) {
         Ok(effect) => effect,
@@ -48,7 +55,10 @@ fn effect_of<S: RowSource>(
     notes: &mut Footprint,
     ctx: &Ctx,
     statement: &Statement,
-) -> Result<Effect, Refusal> {
+) -> Result<Effect, Refusal>
+    ensures unchanged { IfOk result (λ effect. ChangesUnlessRefused effect.reply effect.delta) }
+    ensures state { S.state source.new ≡ S.state source.old }
+{
     require_mode(ctx.mode, statement.tag())?;
     match statement {
         Statement::CreateRole(create) => run_create_role(alloc, source, notes, ctx, create),

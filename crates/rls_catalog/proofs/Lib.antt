@@ -1,1 +1,2 @@
 pub mod RowsListed
+pub mod Deltas

@@ -2,10 +2,13 @@ pub mod State
 pub mod StateCode
 pub mod StateOf
 pub mod Changed
+pub mod Contents
 pub mod Membership
 pub mod Walks
+pub mod Inheriting
 pub mod Privileges
 pub mod Verdict
+pub mod Frames
 pub use Rattle.rls_value.specs.Names
 pub use Rattle.rls_value.specs.Values
 pub use Rattle.rls_expr.specs.Terms

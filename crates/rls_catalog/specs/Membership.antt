@@ -1,7 +1,7 @@
 -- Membership (PostgreSQL manual, 22.3, "Role Membership"): a role has the privileges of itself and, transitively, of
 -- each role that it is a member of through memberships whose INHERIT option is true. A superuser has those of every
 -- role. Neither SUPERUSER nor another attribute is inherited.
-use Rattle.std.specs.Prelude.{◌≡◌, ℕ, zero, suc, ◌+◌, List, [], ◌∷◌, ◌++◌, Option, Some, None, Bool, true, false, ◌||◌, if◌then◌else◌, map, filter, length, slice_get, Contains}
+use Rattle.std.specs.Prelude.{◌≡◌, ℕ, zero, suc, ◌+◌, List, [], ◌∷◌, ◌++◌, Option, Some, None, Bool, true, false, ◌||◌, if◌then◌else◌, map, filter, length, slice_get}
 use Rattle.std.specs.List.{flat_map}
 use Rattle.rls_value.specs.Names.{one_of}
 use Rattle.rls_value.specs.declared.object.Object.{Object}
@@ -36,7 +36,7 @@ inherited_by s role = inherited_if (role_of s role) (members_of s role)
 -- the least reflexive, transitive relation that contains the memberships whose INHERIT option is true
 pub data Inherits (s : State) (role : List ℕ) : List ℕ → Type 0 where
   Itself : Inherits s role role
-  Through : (between granted : List ℕ) → Inherits s role between → Contains (inherited_by s between) granted → Inherits s role granted
+  Through : (between granted : List ℕ) → Inherits s role between → one_of (inherited_by s between) granted ≡ true → Inherits s role granted
 
 -- those of the names that aren't seen yet, each once
 abbrev pub fresh : List (List ℕ) → List (List ℕ) → List (List ℕ)

@@ -24,7 +24,7 @@ use Rattle.rls_catalog.specs.declared.policy.Verdict.{Verdict}
 use Rattle.rls_catalog.specs.declared.policy.Verdict.TheVariants as v
 use Rattle.rls_catalog.specs.State.{State, policies_of, name_order}
 use Rattle.rls_catalog.specs.Membership.{attributes_of, has_privileges_of, reach_reads}
-use Rattle.rls_catalog.specs.Privileges.{concerns}
+use Rattle.rls_catalog.specs.Privileges.{includes, concerns}
 
 -- row security is off, or the role is SUPERUSER or BYPASSRLS itself, or it has the owner's privileges and the table
 -- isn't under FORCE
@@ -78,6 +78,10 @@ asked_of s table kind which = filter (is_asked kind which) (policies_of s table)
 -- the policy is TO PUBLIC, or to a role whose privileges the role has
 abbrev pub is_to : State → List ℕ → Policy → Bool
 is_to s role policy = list_any (concerns s role) policy.to
+
+-- of these policies those that apply to a role that isn't exempt, by whose privileges the role has
+abbrev pub chosen : Bool → List (List ℕ) → Kind → Side → List Policy → List Policy
+chosen superuser names kind which policies = filter (λ policy. list_any (includes superuser names) policy.to) (filter (is_asked kind which) policies)
 
 -- the policies that apply to a role that isn't exempt, in byte order of their names
 abbrev pub applying_of : State → List ℕ → List ℕ → Kind → Side → List Policy

@@ -47,7 +47,7 @@ inherited_within : (ms : List Membership) → Within (granted_inherited ms) (map
 inherited_within [] = λ name is. is
 inherited_within (m ∷ ms) = subst (λ names. Within names (m.role ∷ map (λ m. m.role) ms)) (sym (granted_if m.inherit m ms)) (with_inherit m.inherit m.role (granted_inherited ms) (map (λ m. m.role) ms) (inherited_within ms))
 
-among_first : (xs ys : List (List ℕ)) → Within xs (xs ++ ys)
+pub among_first : (xs ys : List (List ℕ)) → Within xs (xs ++ ys)
 among_first xs ys name is = one_of-append xs ys name ∙ or_left (one_of xs name) (one_of ys name) is
 
 among_last : (xs ys zs : List (List ℕ)) → Within zs ys → Within zs (xs ++ ys)
@@ -92,13 +92,13 @@ left_more : (names seen : List (List ℕ)) (x : List ℕ) → left names (seen +
 left_more [] seen x = omega arith
 left_more (name ∷ names) seen x = omega (arith, cost_more seen x name, left_more names seen x)
 
-bytes_same : (a b : List ℕ) → bytes_eq a b ≡ true → a ≡ b
+pub bytes_same : (a b : List ℕ) → bytes_eq a b ≡ true → a ≡ b
 bytes_same a b = (bytes_eq-Decides a b).0
 
-bytes_own : (a : List ℕ) → bytes_eq a a ≡ true
+pub bytes_own : (a : List ℕ) → bytes_eq a a ≡ true
 bytes_own a = (bytes_eq-Decides a a).1 refl
 
-one_of_last : (seen : List (List ℕ)) (x : List ℕ) → one_of (seen ++ x ∷ []) x ≡ true
+pub one_of_last : (seen : List (List ℕ)) (x : List ℕ) → one_of (seen ++ x ∷ []) x ≡ true
 one_of_last seen x = one_of-append seen (x ∷ []) x ∙ or_right (one_of seen x) (one_of (x ∷ []) x) (or_left (bytes_eq x x) false (bytes_own x))
 
 left_head : (b : Bool) (name : List ℕ) (names seen : List (List ℕ)) (x : List ℕ)
@@ -124,7 +124,7 @@ fresh_if false all seen x more rest is among few few_more =
     let same : left all ((seen ++ x ∷ []) ++ more) ≡ left all (seen ++ x ∷ more) = ap (left all) (append_assoc seen (x ∷ []) more) in
     omega (arith, few_more, left_falls all seen x among is, same)
 
-fresh_few : (all seen names : List (List ℕ)) → Within names all → length (fresh seen names) + left all (seen ++ fresh seen names) ≤ left all seen
+pub fresh_few : (all seen names : List (List ℕ)) → Within names all → length (fresh seen names) + left all (seen ++ fresh seen names) ≤ left all seen
 fresh_few all seen [] within = omega (arith, ap (left all) (append-nil seen))
 fresh_few all seen (name ∷ names) within =
     let rest : Within names all = λ x is. within x (or_right (bytes_eq name x) (one_of names x) is) in
@@ -163,7 +163,7 @@ cost_small : (b : Bool) → cost b ≤ 1
 cost_small true = omega arith
 cost_small false = omega arith
 
-left_all : (names seen : List (List ℕ)) → left names seen ≤ length names
+pub left_all : (names seen : List (List ℕ)) → left names seen ≤ length names
 left_all [] seen = omega arith
 left_all (name ∷ names) seen = omega (arith, left_all names seen, cost_small (one_of seen name))
 

@@ -1,9 +1,10 @@
 //! A whole state: every object and its content.
 
-ghost use Rattle.std.specs.Prelude.{◌≡◌, IfOk, OnOk, map};
+ghost use Rattle.std.specs.Prelude.{◌≡◌, IfOk, OnOk, OnErr, map};
 ghost use Rattle.std.specs.Option.{option_copied};
 ghost use Rattle.rls_catalog.specs.State.{role_of, members_of, table_of, grants_of, policies_of, rows_of, rows_with_key, with_key, stored_of};
-ghost use Rattle.rls_catalog.specs.Changed.{opening};
+ghost use Rattle.rls_catalog.specs.StateOf.{rows_listed};
+ghost use Rattle.rls_catalog.specs.Changed.{opening, changed, changed_all, rows_changed, with_row, with_first_row, IsPartly};
 
 use crate::change::{Change, Delta, RowChange};
 use crate::grant::Grant;
@@ -132,15 +133,22 @@ impl Catalog {
         }
     }
 
-    /// Puts the changes on, one after another. An `Err` may leave the first of them put on.
-    pub fn apply(&mut self, alloc: Global, delta: &Delta) -> Result<(), AllocError> {
+    /// Puts the changes on, one after another. An `Err` leaves some first of them put on, and the others not.
+    #[tactic(auto, using(crate::proofs::Deltas::changed_all_more))]
+    pub fn apply(&mut self, alloc: Global, delta: &Delta) -> Result<(), AllocError>
+        ensures ok { OnOk result (self.new ≡ changed_all self.old delta.now) }
+        ensures err { OnErr result (IsPartly self.old delta.now self.new) }
+    {
         for change in delta.as_slice() {
             self.apply_one(alloc, change)?;
         }
         Ok(())
     }
 
-    fn apply_one(&mut self, alloc: Global, change: &Change) -> Result<(), AllocError> {
+    fn apply_one(&mut self, alloc: Global, change: &Change) -> Result<(), AllocError>
+        ensures ok { OnOk result (self.new ≡ changed self.old change.now) }
+        ensures err { OnErr result (self.new ≡ self.old) }
+    {
         match change {
             Change::Role(name, def) => {
                 self.roles.insert(name.copy()?, *def)?;
@@ -150,7 +158,8 @@ impl Catalog {
                 self.members.insert(name.copy()?, copies)?;
             }
             Change::Table(name, def) => {
-                self.tables.insert(name.copy()?, def.copy(alloc)?)?;
+                let copied = def.copy(alloc)?;
+                self.tables.insert(name.copy()?, copied)?;
             }
             Change::Grants(name, content) => {
                 let copies = Grant::copy_all(alloc, content.as_slice())?;
@@ -170,21 +179,59 @@ fn put_row(
     tables: &mut BTreeMap<Name, BTreeMap<RowId, Keyed>>,
     alloc: Global,
     change: &RowChange,
-) -> Result<(), AllocError> {
-    match (tables.get_mut(&change.table), &change.after) {
-        (Some(rows), Some(keyed)) => {
-            rows.insert(change.id, keyed.copy(alloc)?)?;
-        }
-        (Some(rows), None) => {
-            rows.remove(&change.id);
-        }
-        (None, Some(keyed)) => {
-            let mut rows = BTreeMap::new(alloc);
-            rows.insert(change.id, keyed.copy(alloc)?)?;
-            tables.insert(change.table.copy()?, rows)?;
-        }
-        (None, None) => {}
+) -> Result<(), AllocError>
+    ensures ok { OnOk result (rows_listed tables.new.entries ≡ rows_changed (rows_listed tables.old.entries) change.now) }
+    ensures err { OnErr result (rows_listed tables.new.entries ≡ rows_listed tables.old.entries) }
+{
+    match tables.get_mut(&change.table) {
+        Some(rows) => match set_row(rows, alloc, change.id, &change.after) {
+            Ok(()) => Ok(()),
+            Err(refused) => Err(refused),
+        },
+        None => match put_first_row(tables, alloc, change) {
+            Ok(()) => Ok(()),
+            Err(refused) => Err(refused),
+        },
     }
+}
+
+fn set_row(
+    rows: &mut BTreeMap<RowId, Keyed>,
+    alloc: Global,
+    id: RowId,
+    content: &Option<Keyed>,
+) -> Result<(), AllocError>
+    ensures ok { OnOk result (rows.new.entries ≡ with_row id content.now rows.old.entries) }
+    ensures err { OnErr result (rows.new.entries ≡ rows.old.entries) }
+{
+    match content {
+        Some(keyed) => {
+            let copied = keyed.copy(alloc)?;
+            rows.insert(id, copied)?;
+        }
+        None => {
+            rows.remove(&id);
+        }
+    }
+    Ok(())
+}
+
+#[tactic(auto, using(crate::proofs::RowsListed::rows_listed_insert))]
+fn put_first_row(
+    tables: &mut BTreeMap<Name, BTreeMap<RowId, Keyed>>,
+    alloc: Global,
+    change: &RowChange,
+) -> Result<(), AllocError>
+    ensures ok { OnOk result (rows_listed tables.new.entries ≡ with_first_row change.now.table change.now.id change.now.after (rows_listed tables.old.entries)) }
+    ensures err { OnErr result (tables.new.entries ≡ tables.old.entries) }
+{
+    let Some(keyed) = &change.after else {
+        return Ok(());
+    };
+    let copied = keyed.copy(alloc)?;
+    let mut rows = BTreeMap::new(alloc);
+    rows.insert(change.id, copied)?;
+    tables.insert(change.table.copy()?, rows)?;
     Ok(())
 }
 

@@ -4,6 +4,7 @@ use Rattle.rls_expr.specs.declared.expr.Node.TheVariants as n
 use Rattle.rls_expr.specs.Terms.{Term, terms_of}
 use Rattle.rls_expr.specs.Terms as t
 
+-- the same with each part by its value
 abbrev pub term_of : Node → Term
 term_of (n.Literal v) = t.Literal v
 term_of (n.Column name) = t.Column name

@@ -13,6 +13,7 @@ abbrev pub and_then : {A B : Type 0} → Result A (List ℕ) → (A → Result B
 and_then (Ok a) next = next a
 and_then (Err name) next = Err name
 
+-- the column at its place, or its name where there is none
 abbrev pub at_place : List ℕ → Option (ℕ × ℕ) → Result Term (List ℕ)
 at_place name (Some place) = Ok (Place place.0 place.1)
 at_place name None = Err name
@@ -31,6 +32,7 @@ abbrev mutual
   resolved (IsNull t) tables = and_then (resolved t tables) (λ u. Ok (IsNull u))
   resolved (IsNotNull t) tables = and_then (resolved t tables) (λ u. Ok (IsNotNull u))
 
+  -- the same of a list of terms
   pub resolved_all : Terms → List TableDef → Result Terms (List ℕ)
   resolved_all End tables = Ok End
   resolved_all (More t ts) tables = and_then (resolved t tables) (λ u. and_then (resolved_all ts tables) (λ us. Ok (More u us)))
@@ -41,10 +43,12 @@ Misses NoMemory found = Unit {0}
 Misses (Undefined kind.Column name) found = found ≡ Err name
 Misses _ found = ⊥
 
+-- what resolving gives is what is found
 abbrev pub ResolvesTo : Result Term Refusal → Result Term (List ℕ) → Type 0
 ResolvesTo (Ok t) found = found ≡ Ok t
 ResolvesTo (Err refusal) found = Misses refusal found
 
+-- the same of a list of terms
 abbrev pub ResolveTo : Result (List Term) Refusal → Result Terms (List ℕ) → Type 0
 ResolveTo (Ok ts) found = found ≡ Ok (terms_of ts)
 ResolveTo (Err refusal) found = Misses refusal found

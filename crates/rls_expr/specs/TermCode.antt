@@ -6,11 +6,13 @@ use Rattle.rls_value.specs.contracts.value.Value as value
 use Rattle.rls_expr.specs.contracts.expr.Comparison as comparison
 use Rattle.rls_expr.specs.Terms.{Term, Terms, Literal, Column, Place, CurrentUser, Compare, And, Or, Not, IsNull, IsNotNull, End, More}
 
+-- the first part of a pair
 abbrev pub first : Gv → Gv
 first gnil = gnil
 first (gnum n) = gnil
 first (gcons a b) = a
 
+-- the second part of a pair
 abbrev pub rest : Gv → Gv
 rest gnil = gnil
 rest (gnum n) = gnil
@@ -52,5 +54,6 @@ mutual
   inj_ts (More t ts) (More u us) p = λ i. More (inj_t t u (ap (λ g. first (rest g)) p) i) (inj_ts ts us (ap (λ g. rest (rest g)) p) i)
   inj_ts x y p = absurd (omega (arith, ap (λ g. num (first g)) p))
 
+-- the code of terms
 abbrev pub term_code : Coded Term
 term_code = record { code = code_t; inj = inj_t }

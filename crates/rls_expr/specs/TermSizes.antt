@@ -7,5 +7,6 @@ size_get [] i d h = absurd (omega arith)
 size_get (e ∷ es) zero d h = omega arith
 size_get (e ∷ es) (suc i) d h = omega (arith, size_get es i d (omega arith))
 
+-- the part at an index is no larger than the list
 pub size_at : (es : List Term) (i : ℕ) (e : Term) → i < length es → e ≡ get_or es i e → term_size e ≤ terms_size (terms_of es)
 size_at es i e h is = omega (arith, size_get es i e h, ap term_size is)

@@ -22,6 +22,7 @@ mutual
     End : Terms
     More : Term → Terms → Terms
 
+-- a list of terms, as a term holds it
 abbrev pub terms_of : List Term → Terms
 terms_of [] = End
 terms_of (t ∷ ts) = More t (terms_of ts)

@@ -19,6 +19,7 @@ use Rattle.rls_expr.specs.Terms.{Term, Terms, Literal, Place, CurrentUser, Compa
 use Rattle.rls_expr.specs.Terms as term
 use Rattle.rls_expr.specs.Resolving.{resolved}
 
+-- whether two categories are one
 abbrev pub same_type : Category → Category → Bool
 same_type t.Number t.Number = true
 same_type t.Text t.Text = true
@@ -32,16 +33,19 @@ category_of c.BigInt = t.Number
 category_of c.Text = t.Text
 category_of c.Boolean = t.Boolean
 
+-- the type of a literal; null has none
 abbrev pub literal_type : Value → Typing
 literal_type v.Null = Null
 literal_type (v.Int n) = Of t.Number
 literal_type (v.Text x) = Of t.Text
 literal_type (v.Bool b) = Of t.Boolean
 
+-- the type of a column, which has to be there
 abbrev pub column_type : Option Column → Typing
 column_type (Some column) = Of (category_of column.kind)
 column_type None = Fault
 
+-- the column at that place, if there is one
 abbrev pub column_of : Option TableDef → ℕ → Option Column
 column_of (Some table) column = slice_get table.columns column
 column_of None column = None
@@ -50,6 +54,7 @@ column_of None column = None
 abbrev pub place_type : List TableDef → ℕ → ℕ → Typing
 place_type tables out column = column_type (column_of (slice_get tables out) column)
 
+-- a boolean, if types fit
 abbrev pub boolean_if : Bool → Typing
 boolean_if true = Of t.Boolean
 boolean_if false = Fault
@@ -62,6 +67,7 @@ goes_with Null right = Of t.Boolean
 goes_with left Null = Of t.Boolean
 goes_with (Of left) (Of right) = boolean_if (same_type left right)
 
+-- IS NULL takes each type
 abbrev pub tested : Typing → Typing
 tested Fault = Fault
 tested Null = Of t.Boolean
@@ -87,10 +93,12 @@ abbrev mutual
   type_of (IsNull u) tables = tested (type_of u tables)
   type_of (IsNotNull u) tables = tested (type_of u tables)
 
+  -- each of them may stand where a boolean is wanted
   pub all_booleans : Terms → List TableDef → Bool
   all_booleans End tables = true
   all_booleans (More u us) tables = takes_boolean (type_of u tables) && all_booleans us tables
 
+-- a type or none, as typing finds it
 abbrev pub typing_of : Option Category → Typing
 typing_of None = Null
 typing_of (Some type) = Of type
@@ -107,6 +115,7 @@ pub record Misfits (expr : Term) (tables : List TableDef) (wanted : Typing → T
   pub resolves : resolved expr tables ≡ Ok term
   pub misfits : wanted (type_of term tables)
 
+-- a refusal is the first unknown column, or else that types misfit
 abbrev pub Refuses : Refusal → Term → List TableDef → (Typing → Type 0) → Type 0
 Refuses NoMemory expr tables wanted = Unit {0}
 Refuses (Undefined kind.Column name) expr tables wanted = resolved expr tables ≡ Err name
@@ -118,14 +127,17 @@ pub record IsTyped (typed : Typed) (expr : Term) (tables : List TableDef) : Type
   pub resolves : resolved expr tables ≡ Ok typed.expr
   pub typing : type_of typed.expr tables ≡ typing_of typed.kind
 
+-- what `check` gives
 abbrev pub Checks : Result Typed Refusal → Term → List TableDef → Type 0
 Checks (Ok typed) expr tables = IsTyped typed expr tables
 Checks (Err refusal) expr tables = Refuses refusal expr tables (λ typing. typing ≡ Fault)
 
+-- a condition is the resolved expression, and a boolean or null
 pub record IsCondition (term : Term) (expr : Term) (tables : List TableDef) : Type 0 where
   pub resolves : resolved expr tables ≡ Ok term
   pub boolean : takes_boolean (type_of term tables) ≡ true
 
+-- what `check_condition` gives
 abbrev pub ChecksCondition : Result Term Refusal → Term → List TableDef → Type 0
 ChecksCondition (Ok term) expr tables = IsCondition term expr tables
 ChecksCondition (Err refusal) expr tables = Refuses refusal expr tables (λ typing. takes_boolean typing ≡ false)

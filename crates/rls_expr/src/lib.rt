@@ -1,3 +1,4 @@
+//! Table definitions, expressions, and the typing of expressions.
 #![tactic(auto)]
 
 mod expr;

@@ -33,7 +33,8 @@ pub fn holds<S: RowSource>(
     Ok(is_granted(grants.as_slice(), privilege, &reach))
 }
 
-fn is_granted(grants: &[Grant], privilege: Privilege, reach: &Reach) -> bool
+/// Whether some of the grants is of the privilege and for the role.
+pub fn is_granted(grants: &[Grant], privilege: Privilege, reach: &Reach) -> bool
     ensures { result ≡ list_any (λ grant. spec.is_same_privilege grant.privilege privilege && spec.includes reach.now.superuser reach.now.names grant.grantee) grants.now }
 {
     grants.iter().any(|grant| {

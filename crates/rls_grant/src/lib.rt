@@ -2,5 +2,7 @@
 #![tactic(auto)]
 
 mod holding;
+mod optioning;
 
-pub use holding::holds;
+pub use holding::{holds, is_granted};
+pub use optioning::{is_among, options};

@@ -104,6 +104,13 @@ pub fn applying<S: RowSource>(
     Ok(concerned(policies, &reach))
 }
 
+/// Of the policies of a table those that apply to a role that isn't exempt, by whose privileges the role has.
+pub fn chosen(policies: Items<Policy>, reach: &Reach, kind: Kind, side: Side) -> Items<Policy>
+    ensures { result ≡ spec.chosen reach.now.superuser reach.now.names kind side policies }
+{
+    concerned(asked(policies, kind, side), reach)
+}
+
 fn asked(policies: Items<Policy>, kind: Kind, side: Side) -> Items<Policy>
     ensures { result ≡ filter (spec.is_asked kind side) policies }
 {

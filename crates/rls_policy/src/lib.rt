@@ -5,7 +5,7 @@ mod choosing;
 mod combining;
 mod exemption;
 
-pub use choosing::{applying, expression_of};
+pub use choosing::{applying, chosen, expression_of};
 pub use combining::combine;
 pub use exemption::{exempt, is_exempt};
 pub use rls_catalog::{Policy, Side, Verdict};

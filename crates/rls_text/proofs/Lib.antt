@@ -1,3 +1,4 @@
 pub mod Loops
 pub mod Wording
 pub mod Laws
+pub mod Kept

@@ -23,6 +23,7 @@ limit_at unclosed (t.Word w) = if nat_lt 63 (length w) then Some l.Name else Non
 limit_at unclosed (t.Symbol s.LParen) = if nat_le 256 unclosed then Some l.Parentheses else None
 limit_at unclosed _ = None
 
+-- the first that there is
 abbrev pub or_next : Option Limit → Option Limit → Option Limit
 or_next (Some limit) further = Some limit
 or_next None further = further
@@ -32,9 +33,11 @@ abbrev pub limit_from : ℕ → List Token → Option Limit
 limit_from unclosed [] = None
 limit_from unclosed (token ∷ tokens) = or_next (limit_at unclosed token) (limit_from (open_behind unclosed token) tokens)
 
+-- from the left, where none is open
 abbrev pub first_limit : List Token → Option Limit
 first_limit tokens = limit_from 0 tokens
 
+-- how many columns it defines
 abbrev pub columns_of : Statement → ℕ
 columns_of (st.CreateTable table) = length table.columns
 columns_of _ = 0

@@ -19,14 +19,17 @@ abbrev pub Fails : {A : Type 0} → Fault → Outcome A → Type 0
 Fails NoMemory read = Unit {0}
 Fails Syntax read = read ≡ None
 
+-- what is given is what is read, with what follows it
 abbrev pub Gives : {A : Type 0} → Result (A × Bor (List Token)) Fault → Outcome A → Type 0
 Gives (Ok x) read = read ≡ Some (x.0, x.1.now)
 Gives (Err fault) read = Fails fault read
 
+-- the token that is looked for is there or not
 abbrev pub Finds : Option (Bor (List Token)) → Outcome (Unit {0}) → Type 0
 Finds (Some rest) read = read ≡ Some (tt, rest.now)
 Finds None read = read ≡ None
 
+-- the token that must come is there
 abbrev pub Passes : Result (Bor (List Token)) Fault → Outcome (Unit {0}) → Type 0
 Passes (Ok rest) read = read ≡ Some (tt, rest.now)
 Passes (Err fault) read = Fails fault read
@@ -35,6 +38,7 @@ Passes (Err fault) read = Fails fault read
 unfoldable pub counted : Outcome (List (Unit {0})) → Outcome ℕ
 counted read = and_then read (λ xs rest. Some (length xs, rest))
 
+-- and so many before
 unfoldable pub added : ℕ → Outcome ℕ → Outcome ℕ
 added n read = and_then read (λ m rest. Some (n + m, rest))
 
@@ -46,6 +50,7 @@ with_front front read = and_then read (λ xs rest. Some (front ++ xs, rest))
 unfoldable pub folded : {A B : Type 0} → (B → A → B) → B → Outcome (List A) → Outcome B
 folded step into read = and_then read (λ xs rest. Some (put_in step into xs, rest))
 
+-- none where there is no list
 unfoldable pub or_no_items : {A : Type 0} → Outcome (Option (List A)) → Outcome (List A)
 or_no_items read = and_then read (λ xs rest. Some (or_empty xs, rest))
 
@@ -55,14 +60,17 @@ finished None = None
 finished (Some (x, [])) = Some x
 finished (Some (x, _ ∷ _)) = None
 
+-- the statement that takes up all of the tokens
 unfoldable pub whole_of : List Token → Option Draft
 whole_of ts = finished ((r.statement (length ts + 1)).read ts)
 
+-- what is given is what takes up all of them
 abbrev pub GivesWhole : Result Draft Fault → Option Draft → Type 0
 GivesWhole (Ok x) read = read ≡ Some x
 GivesWhole (Err NoMemory) read = Unit {0}
 GivesWhole (Err Syntax) read = read ≡ None
 
+-- what is given is the name
 abbrev pub GivesName : Result (List ℕ) Fault → Option (List ℕ) → Type 0
 GivesName (Ok name) given = given ≡ Some name
 GivesName (Err NoMemory) given = Unit {0}
@@ -73,9 +81,11 @@ abbrev pub answered : Option Draft → Result Statement Refusal
 answered None = Err refusal.Syntax
 answered (Some draft) = limited draft
 
+-- a limit on words comes first
 abbrev pub unless_over : Option Limit → Result Statement Refusal → Result Statement Refusal
 unless_over (Some limit) answer = Err (refusal.Limit limit)
 unless_over None answer = answer
 
+-- what the tokens are answered with
 abbrev pub answer_of : List Token → Result Statement Refusal
 answer_of tokens = unless_over (first_limit tokens) (answered (whole_of tokens))

@@ -9,9 +9,11 @@ use Rattle.rls_text.specs.declared.token.Token.TheVariants.{Word, Number, Text, 
 use Rattle.rls_text.specs.declared.token.Token.TheVariants as t
 pub use Rattle.rls_value.specs.Names.{reserved}
 
+-- one sign
 abbrev pub same_symbol : Symbol → Symbol → Bool
 same_symbol = sameb the_type
 
+-- one token, of words and signs
 abbrev pub same : Token → Token → Bool
 same (Word a) (Word b) = bytes_eq a b
 same (t.Symbol a) (t.Symbol b) = same_symbol a b
@@ -24,6 +26,7 @@ pub data Head : Type 0 where
   Numbers : Head
   Texts : Head
 
+-- the token is of that kind
 abbrev pub fits : Head → Token → Bool
 fits (Exact u) t = same u t
 fits Names (Word w) = not (reserved w)
@@ -31,6 +34,7 @@ fits Numbers (Number n) = true
 fits Texts (Text x) = true
 fits _ _ = false
 
+-- it is of one of these kinds
 abbrev pub begins : List Head → Token → Bool
 begins [] t = false
 begins (h ∷ hs) t = fits h t || begins hs t
@@ -51,6 +55,7 @@ clash Numbers Numbers = true
 clash Texts Texts = true
 clash _ _ = false
 
+-- a token may be of that kind and of one of these
 abbrev pub clash_any : Head → List Head → Bool
 clash_any h [] = false
 clash_any h (k ∷ ks) = clash h k || clash_any h ks
@@ -60,6 +65,7 @@ abbrev pub apart : List Head → List Head → Bool
 apart [] ks = true
 apart (h ∷ hs) ks = not (clash_any h ks) && apart hs ks
 
+-- one kind
 abbrev pub same_head : Head → Head → Bool
 same_head (Exact t) (Exact u) = same t u
 same_head Names Names = true
@@ -67,6 +73,7 @@ same_head Numbers Numbers = true
 same_head Texts Texts = true
 same_head _ _ = false
 
+-- it is one of these
 abbrev pub has_head : Head → List Head → Bool
 has_head h [] = false
 has_head h (k ∷ ks) = same_head h k || has_head h ks

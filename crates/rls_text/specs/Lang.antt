@@ -2,6 +2,7 @@
 use Rattle.std.specs.Prelude.{◌≡◌, Bool, true, List, [], ◌∷◌, ◌++◌, ◌⊎◌, Option, Some, None}
 use Rattle.rls_text.specs.declared.token.Token.{Token}
 
+-- a language: which values a list of tokens spells
 abbrev pub Lang : Type 0 → Type 1
 Lang A = List Token → A → Type 0
 
@@ -17,14 +18,17 @@ pub record Both {A B : Type 0} (p : List Token → A → Type 0) (q : List Token
   pub one : p front r.0
   pub other : q rest r.1
 
+-- those of p, with f of their value
 pub record Mapped {A B : Type 0} (f : A → B) (p : List Token → A → Type 0) (ts : List Token) (b : B) : Type 0 where
   pub source : A
   pub spelled : p ts source
   pub value : b ≡ f source
 
+-- one or the other
 abbrev pub Either : {A : Type 0} → Lang A → Lang A → Lang A
 Either p q ts a = p ts a ⊎ q ts a
 
+-- one, or nothing
 abbrev pub Perhaps : {A : Type 0} → Lang A → Lang (Option A)
 Perhaps p ts None = ts ≡ []
 Perhaps p ts (Some a) = p ts a
@@ -39,6 +43,7 @@ pub record Checked {A : Type 0} (test : A → Bool) (p : List Token → A → Ty
   pub spelled : p ts a
   pub passes : test a ≡ true
 
+-- none
 abbrev pub Never : {A : Type 0} → Lang A
 Never ts a = ⊥
 
@@ -52,6 +57,7 @@ pub record One {A : Type 0} (f : Token → Option A) (ts : List Token) (a : A) :
 abbrev pub After : {A B : Type 0} → Lang A → Lang B → Lang B
 After p q = Mapped (λ r. r.1) (Both p q)
 
+-- both, with the value of the first
 abbrev pub Before : {A B : Type 0} → Lang A → Lang B → Lang A
 Before p q = Mapped (λ r. r.0) (Both p q)
 

@@ -3,8 +3,11 @@ pub mod Heads
 pub mod Lang
 pub mod Parses
 pub mod Trees
+pub mod Heights
 pub mod Grammar
 pub mod Words
 pub mod Answers
 pub mod Readers
 pub mod Gives
+pub use Rattle.rls_value.specs.Names
+pub use Rattle.rls_expr.specs.Terms

@@ -1,4 +1,5 @@
--- A reader of each language of the grammar.
+-- A reader of each language of the grammar, under the name of its rule; behind it, by which tokens a phrase begins,
+-- and which may not follow it.
 use Rattle.std.specs.Prelude.{◌≡◌, ℕ, zero, suc, length, Bool, true, false, not, ◌||◌, if◌then◌else◌, List, [], ◌∷◌, ◌++◌, Option, Some, None, codes, refl}
 use Rattle.rls_value.specs.Names.{reserved}
 use Rattle.rls_value.specs.declared.value.Value.TheVariants as v

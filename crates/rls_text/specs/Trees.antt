@@ -9,9 +9,11 @@ use Rattle.rls_text.specs.declared.tree.Operands.{Operands}
 use Rattle.rls_text.specs.declared.tree.Operands.TheVariants.{One, Several}
 use Rattle.rls_text.specs.Lang.{put_in}
 
+-- an expression, or what stands for it, with its depth
 abbrev pub Tree : Type 0
 Tree = Term × ℕ
 
+-- without operands
 abbrev pub leaf : Term → Tree
 leaf term = (term, 1)
 
@@ -23,6 +25,7 @@ cut = (t.Literal Null, 65)
 abbrev pub above : ℕ → Term → Tree
 above depth node = if◌then◌else◌ {A = Tree} (nat_lt depth 64) (node, depth + 1) cut
 
+-- NOT
 abbrev pub not_of : Tree → Tree
 not_of tree = above tree.1 (t.Not tree.0)
 
@@ -31,9 +34,11 @@ unfoldable pub null_test_of : Tree → Option (Unit {0}) → Tree
 null_test_of tree None = above tree.1 (t.IsNull tree.0)
 null_test_of tree (Some _) = above tree.1 (t.IsNotNull tree.0)
 
+-- a comparison
 abbrev pub compare_of : Comparison → Tree → Tree → Tree
 compare_of how left right = above (max left.1 right.1) (t.Compare how left.0 right.0)
 
+-- one operand more, as deep as the deepest
 unfoldable pub with_operand : Operands → Tree → Operands
 with_operand (One first depth) tree = Several (first ∷ tree.0 ∷ []) (max depth tree.1)
 with_operand (Several all depth) tree = Several (all ++ tree.0 ∷ []) (max depth tree.1)
@@ -47,6 +52,7 @@ abbrev pub and_of : Operands → Tree
 and_of (One only depth) = (only, depth)
 and_of (Several all depth) = above depth (t.And (terms_of all))
 
+-- OR; one operand alone makes no node
 abbrev pub or_of : Operands → Tree
 or_of (One only depth) = (only, depth)
 or_of (Several all depth) = above depth (t.Or (terms_of all))
@@ -55,9 +61,11 @@ or_of (Several all depth) = above depth (t.Or (terms_of all))
 abbrev pub Tuple : Type 0
 Tuple = List Term × ℕ
 
+-- one part more
 unfoldable pub with_part : Tuple → Tree → Tuple
 with_part tuple tree = (tuple.0 ++ tree.0 ∷ [], max tuple.1 tree.1)
 
+-- a tuple of these parts
 abbrev pub tuple_of : Tree → List Tree → Tuple
 tuple_of first more = put_in with_part (first.0 ∷ [], first.1) more
 
@@ -65,9 +73,11 @@ tuple_of first more = put_in with_part (first.0 ∷ [], first.1) more
 abbrev pub Tuples : Type 0
 Tuples = List (List Term) × ℕ
 
+-- one tuple more
 unfoldable pub with_tuple : Tuples → Tuple → Tuples
 with_tuple tuples tuple = (tuples.0 ++ tuple.0 ∷ [], max tuples.1 tuple.1)
 
+-- these tuples
 abbrev pub tuples_of : Tuple → List Tuple → Tuples
 tuples_of first more = put_in with_tuple (first.0 ∷ [], first.1) more
 

@@ -38,6 +38,7 @@ behind_letters (c ∷ cs) = if is_letter_or_digit c then behind_letters cs else 
 abbrev pub word_of : ℕ → List ℕ → Token × List ℕ
 word_of c cs = (t.Word (to_ascii_lowercase c ∷ letters cs), behind_letters cs)
 
+-- 0 to 9
 abbrev pub is_digit : ℕ → Bool
 is_digit c = is_between 48 57 c
 
@@ -46,6 +47,7 @@ abbrev pub number_from : ℕ → List ℕ → Token × List ℕ
 number_from n [] = (t.Number n, [])
 number_from n (c ∷ cs) = if◌then◌else◌ {A = Token × List ℕ} (is_digit c) (number_from (min (n * 10 + (c - 48)) 18446744073709551615) cs) (t.Number n, c ∷ cs)
 
+-- behind these bytes
 unfoldable pub with_content : List ℕ → Option (List ℕ × List ℕ) → Option (List ℕ × List ℕ)
 with_content front None = None
 with_content front (Some read) = Some (front ++ read.0, read.1)
@@ -60,6 +62,7 @@ unfoldable pub next_quoted : List ℕ → Option (Option ℕ × List ℕ)
 next_quoted [] = None
 next_quoted (c ∷ cs) = Some (if◌then◌else◌ {A = Option ℕ × List ℕ} (nat_eq c 39) (behind_quote cs) (Some c, cs))
 
+-- a character and what follows it, up to the end
 abbrev pub quoted_and_more : (List ℕ → Option (List ℕ × List ℕ)) → Option (Option ℕ × List ℕ) → Option (List ℕ × List ℕ)
 quoted_and_more more None = None
 quoted_and_more more (Some (None, rest)) = Some ([], rest)
@@ -84,16 +87,19 @@ abbrev pub double : ℕ → ℕ → Option Symbol
 double c d = if nat_eq c 60 && nat_eq d 62 then Some s.NotEqual else (if nat_eq c 33 && nat_eq d 61 then Some s.NotEqual else
     (if nat_eq c 60 && nat_eq d 61 then Some s.LessOrEqual else (if nat_eq c 62 && nat_eq d 61 then Some s.GreaterOrEqual else None)))
 
+-- a sign of one character; another begins no word
 abbrev pub single : ℕ → Token
 single c = if nat_eq c 40 then t.Symbol s.LParen else (if nat_eq c 41 then t.Symbol s.RParen else (if nat_eq c 44 then t.Symbol s.Comma else
     (if nat_eq c 46 then t.Symbol s.Dot else (if nat_eq c 59 then t.Symbol s.Semicolon else (if nat_eq c 42 then t.Symbol s.Star else
     (if nat_eq c 43 then t.Symbol s.Plus else (if nat_eq c 45 then t.Symbol s.Minus else (if nat_eq c 61 then t.Symbol s.Equal else
     (if nat_eq c 60 then t.Symbol s.Less else (if nat_eq c 62 then t.Symbol s.Greater else t.Bad))))))))))
 
+-- two characters that are one sign, or the first alone
 abbrev pub sign_with : ℕ → ℕ → List ℕ → Option Symbol → Token × List ℕ
 sign_with c d ds (Some symbol) = (t.Symbol symbol, ds)
 sign_with c d ds None = (single c, d ∷ ds)
 
+-- the sign at the front
 abbrev pub sign_from : ℕ → List ℕ → Token × List ℕ
 sign_from c [] = (single c, [])
 sign_from c (d ∷ ds) = sign_with c d ds (double c d)
@@ -103,15 +109,17 @@ unfoldable pub word_from : ℕ → List ℕ → Token × List ℕ
 word_from c cs = if◌then◌else◌ {A = Token × List ℕ} (nat_eq c 39) (quoted cs) (if◌then◌else◌ {A = Token × List ℕ} (is_letter c) (word_of c cs)
     (if◌then◌else◌ {A = Token × List ℕ} (is_digit c) (number_from (c - 48) cs) (sign_from c cs)))
 
+-- no word of a statement
 abbrev pub is_bad : Token → Bool
 is_bad t.Bad = true
 is_bad _ = false
 
--- the first word, behind blanks and comments, and what follows it
+-- the word at the front, and what follows it
 abbrev pub word_at : List ℕ → Option (Token × List ℕ)
 word_at [] = None
 word_at (c ∷ cs) = Some (word_from c cs)
 
+-- the first word, behind blanks and comments, and what follows it
 unfoldable pub next_word : List ℕ → Option (Token × List ℕ)
 next_word cs = word_at (behind_blanks false cs)
 

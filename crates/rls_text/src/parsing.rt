@@ -1,10 +1,11 @@
 //! A statement from a text.
 
-ghost use Rattle.std.specs.Prelude.{◌≡◌, IfOk};
+ghost use Rattle.std.specs.Prelude.{◌≡◌, ◌≤◌, IfOk};
 ghost use Rattle.rls_text.specs.Gives.{Gives, GivesWhole, whole_of, answer_of};
 ghost use Rattle.rls_text.specs.Readers as r;
 ghost use Rattle.rls_text.specs.Grammar as g;
 ghost use Rattle.rls_text.specs.Words.{words_of};
+ghost use Rattle.rls_text.specs.Heights.{height_of};
 ghost use Rattle.rls_text.specs.Answers as spec;
 ghost use Rattle.rls_text.specs.Answers.{Answers, IsSpelled};
 
@@ -28,6 +29,7 @@ pub const MAX_COLUMNS: usize = 64;
 /// of over 63 bytes, a 257th open parenthesis), then `Syntax`, then `Limit` of columns, then of nesting.
 pub fn parse(alloc: Global, text: &str) -> Result<Statement, Refusal>
     ensures ok { IfOk result (λ statement. IsSpelled (words_of text.now) statement) }
+    ensures within { IfOk result (λ statement. height_of statement ≤ MAX_DEPTH) }
 
     // It is what the grammar and the limits say, unless memory runs out.
     ensures answer { ¬ (result ≡ Err Refusal.NoMemory) → Answers (words_of text.now) result }

@@ -1,3 +1,5 @@
+//! Texts that are read, refused, and at the limits.
+
 use crate::parsing::parse;
 use std::alloc::Global;
 use std::test::Fail;
@@ -10,15 +12,27 @@ fn reads(rt: HostRuntime) -> Result<(), Fail> {
         ("CREATE ROLE r", "CREATE ROLE"),
         ("create user r with NOLOGIN Superuser;", "CREATE ROLE"),
         ("CREATE ROLE role NOBYPASSRLS", "CREATE ROLE"),
-        ("CREATE TABLE Policy (Row int, LEVEL text, b boolean, c bigint)", "CREATE TABLE"),
+        (
+            "CREATE TABLE Policy (Row int, LEVEL text, b boolean, c bigint)",
+            "CREATE TABLE",
+        ),
         ("ALTER TABLE t ENABLE ROW LEVEL SECURITY", "ALTER TABLE"),
-        ("CREATE POLICY p ON t TO a, PUBLIC USING (a = current_user) WITH CHECK (a < 'it''s')", "CREATE POLICY"),
+        (
+            "CREATE POLICY p ON t TO a, PUBLIC USING (a = current_user) WITH CHECK (a < 'it''s')",
+            "CREATE POLICY",
+        ),
         ("CREATE POLICY p ON t", "CREATE POLICY"),
         ("GRANT ALL PRIVILEGES ON TABLE t TO PUBLIC, r", "GRANT"),
         ("GRANT SELECT, INSERT, SELECT ON t TO r;", "GRANT"),
-        ("INSERT INTO t VALUES (1, NULL), (- 9223372036854775808, 'a -- b')", "INSERT"),
+        (
+            "INSERT INTO t VALUES (1, NULL), (- 9223372036854775808, 'a -- b')",
+            "INSERT",
+        ),
         ("SELECT * FROM t -- all of it", "SELECT"),
-        ("SELECT a,b FROM t WHERE a>=1AND NOT NOT(b IS NOT NULL OR TRUE)IS NULL", "SELECT"),
+        (
+            "SELECT a,b FROM t WHERE a>=1AND NOT NOT(b IS NOT NULL OR TRUE)IS NULL",
+            "SELECT",
+        ),
     ] {
         match parse(alloc, text) {
             Ok(statement) => assert_eq!(rt; statement.copy(alloc)?.tag().text(), want, "{text}"),

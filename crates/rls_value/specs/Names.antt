@@ -9,6 +9,7 @@ use Rattle.std.specs.Str.{bytes_eq}
 abbrev pub folded : List ℕ → List ℕ
 folded text = map to_ascii_lowercase text
 
+-- from the one to the other
 abbrev pub is_between : ℕ → ℕ → ℕ → Bool
 is_between low high byte = nat_le low byte && nat_le byte high
 
@@ -16,6 +17,7 @@ is_between low high byte = nat_le low byte && nat_le byte high
 abbrev pub is_letter : ℕ → Bool
 is_letter byte = is_between 65 90 byte || nat_eq byte 95 || is_between 97 122 byte
 
+-- a letter, `_` or a digit
 abbrev pub is_letter_or_digit : ℕ → Bool
 is_letter_or_digit byte = is_between 48 57 byte || is_letter byte
 
@@ -24,6 +26,7 @@ abbrev pub is_name_text : List ℕ → Bool
 is_name_text [] = false
 is_name_text (first ∷ rest) = is_letter first && list_all is_letter_or_digit (first ∷ rest)
 
+-- the word is one of them
 abbrev pub one_of : List (List ℕ) → List ℕ → Bool
 one_of [] word = false
 one_of (w ∷ ws) word = bytes_eq w word || one_of ws word

@@ -15,22 +15,26 @@ use Rattle.rls_value.specs.declared.refusal.GrantFault.{GrantFault}
 use Rattle.rls_value.specs.declared.refusal.GrantFault.TheVariants as g
 use Rattle.rls_value.specs.Words.{privilege_word, kind_word, tag_text}
 
+-- a name that is too long has a code of its own
 abbrev pub limit_code : Limit → List ℕ
 limit_code l.Name = codes "42622"
 limit_code _ = codes "54000"
 
+-- by what the transaction's state forbids
 abbrev pub txn_code : TxnState → List ℕ
 txn_code t.AlreadyInProgress = codes "25001"
 txn_code t.NoneInProgress = codes "25P01"
 txn_code t.Over = codes "25P02"
 txn_code (t.ReadOnly tag) = codes "25006"
 
+-- by what is not there
 abbrev pub undefined_code : NameKind → List ℕ
 undefined_code n.Relation = codes "42P01"
 undefined_code n.Column = codes "42703"
 undefined_code n.Role = codes "42704"
 undefined_code n.Policy = codes "42704"
 
+-- by what is there already
 abbrev pub duplicate_code : NameKind → List ℕ
 duplicate_code n.Relation = codes "42P07"
 duplicate_code n.Column = codes "42701"
@@ -59,6 +63,7 @@ code_of (r.Serial cause) = codes "40001"
 code_of r.Foreign = []
 code_of (r.BadAudit line) = []
 
+-- which limit was passed
 abbrev pub limit_text : Limit → List ℕ
 limit_text l.Line = codes "limit exceeded: line"
 limit_text l.Columns = codes "limit exceeded: columns"
@@ -72,12 +77,14 @@ limit_text l.Sessions = codes "limit exceeded: sessions"
 limit_text l.Numbers = codes "limit exceeded: numbers"
 limit_text l.Name = codes "name too long"
 
+-- what the transaction's state forbids
 abbrev pub txn_text : TxnState → List ℕ
 txn_text t.AlreadyInProgress = codes "there is already a transaction in progress"
 txn_text t.NoneInProgress = codes "there is no transaction in progress"
 txn_text t.Over = codes "transaction is over, commands are ignored until COMMIT or ROLLBACK"
 txn_text (t.ReadOnly tag) = codes "cannot execute " ++ (tag_text tag ++ codes " in a read-only transaction")
 
+-- what a name is the name of
 abbrev pub name_kind_text : NameKind → List ℕ
 name_kind_text n.Relation = codes "relation"
 name_kind_text n.Column = codes "column"
@@ -94,6 +101,7 @@ why_text (w.GrantOption p table) = codes "permission denied for table " ++ (tabl
 why_text (w.NoPermissive table kind) = codes "new row violates row-level security policy for table \"" ++ (table ++ (codes "\": no permissive " ++ (kind_word kind ++ codes " policy passes")))
 why_text (w.Restrictive policy table) = codes "new row violates row-level security policy \"" ++ (policy ++ (codes "\" for table \"" ++ (table ++ codes "\"")))
 
+-- why a grant may not be
 abbrev pub grant_fault_text : GrantFault → List ℕ
 grant_fault_text (g.Cycle member role) = codes "role \"" ++ (member ++ (codes "\" is a member of role \"" ++ (role ++ codes "\"")))
 grant_fault_text g.PublicOption = codes "grant options cannot be granted to PUBLIC"

@@ -27,12 +27,14 @@ truth_in (Int n) = False
 truth_in (Text t) = False
 truth_in (Flag b) = truth_of b
 
+-- whether it is null
 abbrev pub is_null : Value → Bool
 is_null Null = true
 is_null (Int n) = false
 is_null (Text t) = false
 is_null (Flag b) = false
 
+-- the two are both true or both false
 abbrev pub same_flag : Bool → Bool → Bool
 same_flag true other = other
 same_flag false other = not other
@@ -51,6 +53,7 @@ less_values (Text a) (Text b) = truth_of (is_lt (slice_cmp nat_cmp a b))
 less_values (Flag a) (Flag b) = truth_of (not a && b)
 less_values _ _ = Unknown
 
+-- false before true
 abbrev pub flag_order : Bool → Bool → Ordering
 flag_order false false = Equal
 flag_order false true = Less

@@ -25,21 +25,27 @@ boundary_behind p ascii bs (suc m) u le all =
 pub prefix_boundary : (p : ℕ → Bool) → IsOfAscii p → (bs : List ℕ) → IsUtf8 bs → IsCharBoundary bs (prefix_len p bs)
 prefix_boundary p ascii bs u = boundary_behind p ascii bs (prefix_len p bs) u (prefix_len-le-length p bs) (λ k lt. prefix_len_passes p bs k 0 lt)
 
+-- a blank is ASCII
 pub blank_is_ascii : IsOfAscii is_blank
 blank_is_ascii byte h = search rules
 
+-- behind the blanks at the front
 pub blanks_boundary : (bs : List ℕ) → IsUtf8 bs → IsCharBoundary bs (prefix_len is_blank bs)
 blanks_boundary bs u = prefix_boundary is_blank blank_is_ascii bs u
 
+-- white space is ASCII
 pub white_is_ascii : IsOfAscii is_white
 white_is_ascii byte h = search rules
 
+-- behind the white space at the front
 pub whites_boundary : (bs : List ℕ) → IsUtf8 bs → IsCharBoundary bs (prefix_len is_white bs)
 whites_boundary bs u = prefix_boundary is_white white_is_ascii bs u
 
+-- letters, digits and `_` are ASCII
 pub letter_is_ascii : IsOfAscii is_letter_or_digit
 letter_is_ascii byte h = search rules
 
+-- behind the word at the front
 pub word_boundary : (bs : List ℕ) → IsUtf8 bs → IsCharBoundary bs (word_len bs)
 word_boundary [] u = IsCharBoundary-start [] u
 word_boundary (byte ∷ bytes) u =

@@ -16,6 +16,7 @@ begins_white (byte ∷ bytes) = is_white byte
 abbrev pub IsConnect : List ℕ → List ℕ → Type 0
 IsConnect command behind = (command ≡ codes "\\connect" ++ behind) × (begins_white behind ≡ true)
 
+-- behind the white space at the front
 abbrev pub without_white : List ℕ → List ℕ
 without_white text = drop (prefix_len is_white text) text
 

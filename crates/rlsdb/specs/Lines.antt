@@ -28,9 +28,11 @@ is_skipped (first ∷ second ∷ rest) = nat_eq first 45 && nat_eq second 45
 abbrev pub is_label_byte : ℕ → Bool
 is_label_byte byte = is_between 97 122 byte || is_between 48 57 byte || nat_eq byte 95
 
+-- 1 to 63 of them
 abbrev pub is_label : List ℕ → Bool
 is_label text = nat_lt 0 (length text) && nat_le (length text) 63 && list_all is_label_byte text
 
+-- what ends a label
 abbrev pub is_colon : ℕ → Bool
 is_colon byte = nat_eq byte 58
 

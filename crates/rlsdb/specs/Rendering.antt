@@ -1,5 +1,5 @@
 -- How answers are written.
-use Rattle.std.specs.Prelude.{ℕ, Bool, true, false, cond, nat_eq, Option, Some, None, option_map, List, [], ◌∷◌, ◌++◌, length, codes}
+use Rattle.std.specs.Prelude.{ℕ, true, false, cond, nat_eq, Option, Some, option_map, List, [], ◌∷◌, ◌++◌, length, codes}
 use Rattle.std.specs.Fmt.{decimal, signed_decimal}
 use Rattle.rls_value.specs.declared.value.Value.{Value}
 use Rattle.rls_value.specs.declared.value.Value.TheVariants as v
@@ -17,6 +17,7 @@ use Rattle.rlsdb.specs.declared.answer.Answer.TheVariants as a
 abbrev pub escaped_byte : ℕ → List ℕ
 escaped_byte byte = cond (nat_eq byte 92) (92 ∷ 92 ∷ []) (cond (nat_eq byte 124) (92 ∷ 124 ∷ []) (cond (nat_eq byte 10) (92 ∷ 110 ∷ []) (cond (nat_eq byte 13) (92 ∷ 114 ∷ []) (byte ∷ []))))
 
+-- a text, byte by byte
 abbrev pub escaped : List ℕ → List ℕ
 escaped [] = []
 escaped (byte ∷ bytes) = escaped_byte byte ++ escaped bytes
@@ -34,6 +35,7 @@ abbrev pub more_fields : List Value → List ℕ
 more_fields [] = []
 more_fields (value ∷ values) = 124 ∷ [] ++ field_text value ++ more_fields values
 
+-- fields joined by bars
 abbrev pub fields_text : List Value → List ℕ
 fields_text [] = []
 fields_text (value ∷ values) = field_text value ++ more_fields values
@@ -42,9 +44,11 @@ fields_text (value ∷ values) = field_text value ++ more_fields values
 abbrev pub line_of : List ℕ → List ℕ → List ℕ
 line_of label text = label ++ codes ": " ++ text ++ 10 ∷ []
 
+-- a row's line
 abbrev pub row_line : List ℕ → List Value → List ℕ
 row_line label values = line_of label (fields_text values)
 
+-- the rows' lines, in order
 abbrev pub row_lines : List ℕ → List (List Value) → List ℕ
 row_lines label [] = []
 row_lines label (row ∷ rows) = row_line label row ++ row_lines label rows

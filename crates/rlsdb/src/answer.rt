@@ -1,6 +1,6 @@
 //! What a line is answered.
 
-ghost use Rattle.std.specs.Prelude.{◌≡◌, IfOk};
+ghost use Rattle.std.specs.Prelude.{◌≡◌, IfOk, OnOk, OnErr};
 
 use rls_access::Reply;
 use rls_value::{Refusal, Tag};
@@ -18,7 +18,9 @@ pub enum Answer {
 impl Answer {
     /// A refusal as an answer, but for want of memory, which ends the run.
     pub fn refused(refusal: Refusal) -> Result<Answer, AllocError>
-        ensures { IfOk result (λ answer. answer ≡ Answer.Refused refusal) }
+        ensures ok { IfOk result (λ answer. answer ≡ Answer.Refused refusal) }
+        ensures memory { OnOk result (¬ (refusal ≡ Refusal.NoMemory)) }
+        ensures err { OnErr result (refusal ≡ Refusal.NoMemory) }
     {
         match refusal {
             Refusal::NoMemory => Err(AllocError),

@@ -1,8 +1,7 @@
 //! The session of a label: the state, who is connected, and the number of the next transaction.
 
-ghost use Rattle.std.specs.Prelude.{◌≡◌, ◌<◌, length, Some, None, OnOk, OnErr, IfOk, IsErrOf, true, false};
-ghost use Rattle.rls_catalog.specs.State.{role_of};
-ghost use Rattle.rlsdb.specs.Sessions.{may_log_in};
+ghost use Rattle.std.specs.Prelude.{◌≡◌, ◌⊎◌, ◌≤◌, length, Some, None, OnOk, OnErr, IfOk, IfErr, IsErrOf, true};
+ghost use Rattle.rlsdb.specs.Sessions.{may_log_in, begin_fault, connect_answer, login_after, next_after};
 
 use crate::answer::Answer;
 use crate::connect::{behind_connect, role_in};
@@ -57,7 +56,11 @@ impl Session {
     }
 
     // The old session ends first, also where the role is then refused.
-    fn connect(&mut self, role: Name) -> Result<Answer, AllocError> {
+    fn connect(&mut self, role: Name) -> Result<Answer, AllocError>
+        ensures answer { IfOk result (λ answer. answer ≡ connect_answer (begin_fault self.old.catalog self.old.next role)) }
+        ensures login { OnOk result (self.new.login ≡ login_after (begin_fault self.old.catalog self.old.next role) role) }
+        ensures kept { self.new.catalog ≡ self.old.catalog }
+    {
         self.login = None;
         match begin(&self.catalog, &mut self.next, &role) {
             Ok(_) => {
@@ -76,7 +79,16 @@ impl Session {
     }
 
     // The statement and what it is run in. Nobody connected comes first, then the length, the grammar, the begin.
-    fn begun(&mut self, alloc: Global, command: &str) -> Result<(Ctx, Statement), Refusal> {
+    fn begun(&mut self, alloc: Global, command: &str) -> Result<(Ctx, Statement), Refusal>
+        ensures login { IfOk result (λ begun. self.old.login ≡ Some begun.0.login) }
+        ensures role { IfOk result (λ begun. begun.0.role ≡ begun.0.login) }
+        ensures number { IfOk result (λ begun. self.old.next ≡ Some begun.0.txn) }
+        ensures allowed { IfOk result (λ begun. may_log_in self.old.catalog begun.0.login ≡ true) }
+        ensures not_connected { self.old.login ≡ None → IsErrOf result (Refusal.NoLogin None) }
+        ensures fits { OnOk result (length command.now ≤ MAX_COMMAND) }
+        ensures kept { (self.new.catalog ≡ self.old.catalog) × (self.new.login ≡ self.old.login) }
+        ensures err { OnErr result (self.new ≡ self.old) }
+    {
         let Some(login) = &self.login else {
             return Err(Refusal::NoLogin(None));
         };
@@ -84,11 +96,13 @@ impl Session {
             return Err(Refusal::Limit(Limit::Line));
         }
         let statement = parse(alloc, command)?;
+        let role = login.copy()?;
+        let user = login.copy()?;
         let txn = begin(&self.catalog, &mut self.next, login)?;
         let ctx = Ctx {
             txn,
-            login: login.copy()?,
-            role: login.copy()?,
+            login: user,
+            role,
             mode: Mode::Write,
             next: 0,
         };
@@ -96,7 +110,12 @@ impl Session {
     }
 
     // Runs the statement and puts its changes on.
-    fn run(&mut self, alloc: Global, ctx: &Ctx, statement: &Statement) -> Result<Answer, AllocError> {
+    fn run(
+        &mut self,
+        alloc: Global,
+        ctx: &Ctx,
+        statement: &Statement,
+    ) -> Result<Answer, AllocError> {
         let outcome = run_statement(alloc, &mut Plain::new(&self.catalog), ctx, statement)?;
         self.catalog.apply(alloc, &outcome.delta)?;
         let Outcome {
@@ -112,9 +131,9 @@ impl Session {
 
 /// The number of a new transaction of a role that may log in. One that may not takes no number.
 fn begin(catalog: &Catalog, next: &mut Option<u64>, login: &Name) -> Result<u64, Refusal>
-    ensures ok { IfOk result (λ txn. (may_log_in catalog.now login.now ≡ true) × (next.old ≡ Some txn)) }
-    ensures no_login { IsErrOf result (Refusal.NoLogin (Some login.now)) → may_log_in catalog.now login.now ≡ false }
-    ensures over { IsErrOf result (Refusal.Limit Limit.Numbers) → next.old ≡ None }
+    ensures ok { IfOk result (λ txn. (begin_fault catalog.now next.old login.now ≡ None) × (next.old ≡ Some txn)) }
+    ensures refused { IfErr result (λ refusal. (refusal ≡ Refusal.NoMemory) ⊎ (begin_fault catalog.now next.old login.now ≡ Some refusal)) }
+    ensures next { IfOk result (λ txn. next.new ≡ next_after txn) }
     ensures err { OnErr result (next.new ≡ next.old) }
 {
     if !may_log_in(catalog, login) {

@@ -1,5 +1,6 @@
 use Rattle.std.proofs.Common.{sym, ◌∙◌, subst, IfOk}
 use Rattle.rls_text.specs.Answers.{Answers, IsSpelled}
+use Rattle.rls_text.proofs.Kept.{ok_low}
 use Rattle.rls_text.proofs.Laws.{is_answer, ok_spelled}
 use Rattle.rls_text.proofs.parsing.parse.Goals as goal
 
@@ -10,3 +11,6 @@ returns-clause-ok c = subst (λ ts. IfOk c.answer.result (λ x. IsSpelled ts x))
 pub returns-clause-answer : goal.returns-clause-answer
 returns-clause-answer c = λ h. subst (λ ts. Answers ts c.answer.result) (c.as_slice.ensures.value ∙ c.in_ok-tokens.ensures)
     (subst (λ r. Answers c.as_slice.result.now r) (sym (c.answer.ensures h)) (is_answer c.as_slice.result.now))
+
+pub returns-clause-within : goal.returns-clause-within
+returns-clause-within c = ok_low c.answer.result c.as_slice.result.now (ok_spelled c.answer.result c.as_slice.result.now c.answer.ensures)

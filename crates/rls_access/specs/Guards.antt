@@ -1,0 +1,38 @@
+-- Row security of a table: what is read for it, and what the policies that apply say of a row.
+use Rattle.std.specs.Prelude.{ℕ, List, [], ◌∷◌, Bool, true, false, ◌||◌, if◌then◌else◌, map}
+use Rattle.rls_value.specs.Names.{one_of}
+use Rattle.rls_value.specs.declared.value.Value.{Value}
+use Rattle.rls_value.specs.declared.truth.Truth.{Truth}
+use Rattle.rls_value.specs.declared.object.Object.{Object}
+use Rattle.rls_value.specs.declared.object.Object.TheVariants as o
+use Rattle.rls_value.specs.Values.{truth_in}
+use Rattle.rls_expr.specs.declared.table.TableDef.{TableDef}
+use Rattle.rls_expr.specs.Terms.{Term}
+use Rattle.rls_catalog.specs.declared.role.RoleDef.{RoleDef}
+use Rattle.rls_catalog.specs.declared.policy.Verdict.{Verdict}
+use Rattle.rls_catalog.specs.declared.policy.Verdict.TheVariants as v
+use Rattle.rls_catalog.specs.Verdict.{judged, verdict_of, exempts}
+use Rattle.rls_access.specs.declared.guard.Guard.{Guard}
+use Rattle.rls_access.specs.declared.guard.Guard.TheVariants.{Exempt, Policies}
+use Rattle.rls_access.specs.Eval.{value_of, over}
+
+-- what is read to guard a table: its policies, unless the role is exempt
+abbrev pub guard_reads : RoleDef → Bool → List (List ℕ) → List ℕ → TableDef → List Object
+guard_reads attributes superuser names name table =
+    if exempts attributes table (superuser || one_of names table.owner) then [] else (o.Policies name ∷ [])
+
+-- the truth value of a condition for the row
+abbrev pub truth_on : List ℕ → List Value → Term → Truth
+truth_on user row condition = truth_in (value_of condition (over user row))
+
+-- what the policies that apply say of the row
+abbrev pub verdict_on : Guard → List ℕ → List Value → Verdict
+verdict_on Exempt user row = v.Exempt
+verdict_on (Policies policies conditions) user row = verdict_of (judged policies (map (truth_on user row) conditions))
+
+-- whether the row may be seen or written
+abbrev pub allows : Verdict → Bool
+allows v.Exempt = true
+allows (v.By policy) = true
+allows v.NoPermissive = false
+allows (v.Restrictive policy) = false

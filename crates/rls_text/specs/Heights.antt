@@ -1,0 +1,47 @@
+-- How deep an expression is: a leaf counts one.
+use Rattle.std.specs.Prelude.{◌≡◌, ℕ, ◌+◌, ◌≤◌, max, List, [], ◌∷◌, Option, Some, None}
+use Rattle.rls_expr.specs.Terms.{Term, Terms, Literal, Column, Place, CurrentUser, Compare, And, Or, Not, IsNull, IsNotNull, End, More}
+use Rattle.rls_expr.specs.Terms.{terms_of}
+use Rattle.rls_text.specs.declared.statement.Statement.{Statement}
+use Rattle.rls_text.specs.declared.statement.Statement.TheVariants as st
+use Rattle.rls_text.specs.Trees.{Tree}
+
+abbrev mutual
+  -- the nodes on its longest path
+  pub height : Term → ℕ
+  height (Literal v) = 1
+  height (Column name) = 1
+  height (Place out column) = 1
+  height CurrentUser = 1
+  height (Compare how a b) = max (height a) (height b) + 1
+  height (And ts) = heights ts + 1
+  height (Or ts) = heights ts + 1
+  height (Not t) = height t + 1
+  height (IsNull t) = height t + 1
+  height (IsNotNull t) = height t + 1
+
+  -- the highest of them
+  pub heights : Terms → ℕ
+  heights End = 0
+  heights (More t ts) = max (height t) (heights ts)
+
+-- the depth that is kept with a tree is its height, unless it was cut
+abbrev pub IsKept : Tree → Type 0
+IsKept tree = tree.1 ≤ 64 → height tree.0 ≡ tree.1
+
+-- how high a condition is; 0 where there is none
+abbrev pub height_if : Option Term → ℕ
+height_if None = 0
+height_if (Some term) = height term
+
+-- the highest of all the tuples
+abbrev pub highest : List (List Term) → ℕ
+highest [] = 0
+highest (terms ∷ tuples) = max (heights (terms_of terms)) (highest tuples)
+
+-- the highest expression of a statement; 0 where it has none but columns
+abbrev pub height_of : Statement → ℕ
+height_of (st.Select select) = height_if select.condition
+height_of (st.Insert insert) = highest insert.tuples
+height_of (st.CreatePolicy create) = max (height_if create.policy.using) (height_if create.policy.check)
+height_of _ = 0
