@@ -12,7 +12,8 @@ use Rattle.rls_text.specs.declared.statement.RowSecurity.TheVariants.{Enable}
 use Rattle.rls_text.specs.declared.statement.AlterTable.{AlterTable}
 use Rattle.rls_access.specs.declared.context.Ctx.{Ctx}
 use Rattle.rls_access.specs.declared.effect.Effect.{Effect}
-use Rattle.rls_access.specs.Effects.{writes, and_then, reads_then}
+use Rattle.rls_value.specs.Giving.{and_then}
+use Rattle.rls_access.specs.Effects.{writes, reads_then}
 use Rattle.rls_access.specs.Checks.{table_or_undefined}
 use Rattle.rls_access.specs.Standings.{owner_or_denied, standing_reads}
 

@@ -12,27 +12,6 @@ use Rattle.rls_access.specs.declared.outcome.Reply.TheVariants.{Done, Refused}
 abbrev pub writes : List Change → Effect
 writes changes = record { reply = Done; decisions = []; delta = changes }
 
--- what a call gives is what is meant, unless memory ran out
-abbrev pub Fails : {A : Type 0} → Refusal → Result A Refusal → Type 0
-Fails r.NoMemory meant = Unit {0}
-Fails refusal meant = meant ≡ Err refusal
-
--- the same, where it gives something
-abbrev pub Gives : {A : Type 0} → Result A Refusal → Result A Refusal → Type 0
-Gives (Ok a) meant = meant ≡ Ok a
-Gives (Err refusal) meant = Fails refusal meant
-
--- what holds of a call that memory didn't end
-abbrev pub UnlessNoMemory : {A : Type 0} → Result A Refusal → Type 0 → Type 0
-UnlessNoMemory (Ok a) fact = fact
-UnlessNoMemory (Err r.NoMemory) fact = Unit {0}
-UnlessNoMemory (Err refusal) fact = fact
-
--- the first refusal stands
-abbrev pub and_then : {A B : Type 0} → Result A Refusal → (A → Result B Refusal) → Result B Refusal
-and_then (Ok a) next = next a
-and_then (Err refusal) next = Err refusal
-
 -- what is read once that is found
 abbrev pub reads_then : {A : Type 0} → Option A → List Object → List Object
 reads_then (Some a) reads = reads

@@ -1,20 +1,40 @@
 -- Row security of a table: what is read for it, and what the policies that apply say of a row.
-use Rattle.std.specs.Prelude.{ℕ, List, [], ◌∷◌, Bool, true, false, ◌||◌, if◌then◌else◌, map}
+use Rattle.std.specs.Prelude.{ℕ, List, [], ◌∷◌, Bool, true, false, ◌||◌, Option, Some, None, if◌then◌else◌, map}
 use Rattle.rls_value.specs.Names.{one_of}
 use Rattle.rls_value.specs.declared.value.Value.{Value}
 use Rattle.rls_value.specs.declared.truth.Truth.{Truth}
+use Rattle.rls_value.specs.declared.verb.Kind.{Kind}
 use Rattle.rls_value.specs.declared.object.Object.{Object}
 use Rattle.rls_value.specs.declared.object.Object.TheVariants as o
 use Rattle.rls_value.specs.Values.{truth_in}
 use Rattle.rls_expr.specs.declared.table.TableDef.{TableDef}
 use Rattle.rls_expr.specs.Terms.{Term}
+use Rattle.rls_expr.specs.Placing.{placed}
 use Rattle.rls_catalog.specs.declared.role.RoleDef.{RoleDef}
+use Rattle.rls_catalog.specs.declared.policy.Policy.{Policy}
+use Rattle.rls_catalog.specs.declared.policy.Side.{Side}
 use Rattle.rls_catalog.specs.declared.policy.Verdict.{Verdict}
 use Rattle.rls_catalog.specs.declared.policy.Verdict.TheVariants as v
-use Rattle.rls_catalog.specs.Verdict.{judged, verdict_of, exempts}
+use Rattle.rls_catalog.specs.Verdict.{judged, verdict_of, exempts, chosen, expression_of}
 use Rattle.rls_access.specs.declared.guard.Guard.{Guard}
 use Rattle.rls_access.specs.declared.guard.Guard.TheVariants.{Exempt, Policies}
 use Rattle.rls_access.specs.Eval.{value_of, over}
+
+-- the condition in front of the others
+abbrev pub with_condition : TableDef → Option Term → List Term → List Term
+with_condition table (Some term) terms = placed term (table ∷ []) ∷ terms
+with_condition table None terms = terms
+
+-- the expressions that the policies are asked for, with their columns by their places
+abbrev pub conditions_of : Kind → Side → TableDef → List Policy → List Term
+conditions_of kind side table [] = []
+conditions_of kind side table (policy ∷ policies) = with_condition table (expression_of policy kind side) (conditions_of kind side table policies)
+
+-- what guards the rows of a table with these policies from a role of such attributes and privileges
+abbrev pub guard_of : RoleDef → Bool → List (List ℕ) → Kind → Side → TableDef → List Policy → Guard
+guard_of attributes superuser names kind side table policies =
+    if exempts attributes table (superuser || one_of names table.owner) then Exempt
+    else Policies (chosen superuser names kind side policies) (conditions_of kind side table (chosen superuser names kind side policies))
 
 -- what is read to guard a table: its policies, unless the role is exempt
 abbrev pub guard_reads : RoleDef → Bool → List (List ℕ) → List ℕ → TableDef → List Object

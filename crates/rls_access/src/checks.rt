@@ -3,7 +3,7 @@
 ghost use Rattle.std.specs.Prelude.{◌≡◌, [], ◌∷◌, ◌++◌, Ok, Err, if◌then◌else◌};
 ghost use Rattle.rls_catalog.specs.Membership.{attributes_of};
 ghost use Rattle.rls_value.specs.declared.object.Object.{Object};
-ghost use Rattle.rls_access.specs.Effects.{Gives, UnlessNoMemory};
+ghost use Rattle.rls_value.specs.Giving.{Gives, UnlessNoMemory};
 ghost use Rattle.rls_access.specs.Checks.{table_or_undefined, superuser_or_denied};
 
 use crate::noted::{noted_role, noted_table};

@@ -1,7 +1,7 @@
 //! CREATE ROLE.
 
 ghost use Rattle.std.specs.Prelude.{◌≡◌, ◌++◌};
-ghost use Rattle.rls_access.specs.Effects.{Gives, UnlessNoMemory};
+ghost use Rattle.rls_value.specs.Giving.{Gives, UnlessNoMemory};
 ghost use Rattle.rls_access.specs.CreatingRoles.{create_role, create_role_reads};
 
 use crate::checks::require_superuser;

@@ -1,7 +1,8 @@
 //! CREATE TABLE, ALTER TABLE.
 
 ghost use Rattle.std.specs.Prelude.{◌≡◌, ◌++◌, IfOk};
-ghost use Rattle.rls_access.specs.Effects.{Gives, UnlessNoMemory, ChangesUnlessRefused};
+ghost use Rattle.rls_value.specs.Giving.{Gives, UnlessNoMemory};
+ghost use Rattle.rls_access.specs.Effects.{ChangesUnlessRefused};
 ghost use Rattle.rls_access.specs.AlteringTables.{alter_table, alter_table_reads};
 
 use crate::checks::table_named;

@@ -1,16 +1,18 @@
 //! Row security of one table for one type of command: which policies are asked, and what they say of a row.
 
-ghost use Rattle.std.specs.Prelude.{◌≡◌, ◌++◌, map, IfOk, OnOk};
+ghost use Rattle.std.specs.Prelude.{◌≡◌, [], ◌∷◌, ◌++◌, map, IfOk, OnOk};
+ghost use Rattle.rls_expr.specs.Placing.{placed};
+ghost use Rattle.rls_catalog.specs.State.{policies_of};
 ghost use Rattle.rls_access.specs.Guards as spec;
 
 use crate::evaluation::truth_over;
 use crate::noted::noted_policies;
 use crate::standing::Standing;
 use rls_catalog::{Policy, Side, Verdict};
-use rls_expr::{Expr, FromTable, Scope, resolve};
+use rls_expr::{Expr, FromTable, Scope, place_columns};
 use rls_policy::{chosen, combine, expression_of};
 use rls_source::{Footprint, RowSource};
-use rls_value::{Items, Kind, Name, Refusal, Row, Truth};
+use rls_value::{Items, Kind, Name, Row, Truth};
 use std::alloc::{AllocError, Global};
 
 /// What guards the rows of a table.
@@ -33,6 +35,7 @@ pub fn guard_of<'x, S: RowSource>(
     kind: Kind,
     side: Side,
 ) -> Result<Guard, AllocError>
+    ensures guard { IfOk result (λ guard. guard ≡ spec.guard_of standing.now.attributes standing.now.reach.superuser standing.now.reach.names kind side from.entry.table.now (policies_of (S.state source.old) from.entry.name.now)) }
     ensures read { OnOk result (source.new ≡ S.after source.old (spec.guard_reads standing.now.attributes standing.now.reach.superuser standing.now.reach.names from.entry.name.now from.entry.table.now)) }
     ensures noted { OnOk result (notes.new ≡ notes.old ++ spec.guard_reads standing.now.attributes standing.now.reach.superuser standing.now.reach.names from.entry.name.now from.entry.table.now) }
     ensures state { S.state source.new ≡ S.state source.old }
@@ -52,24 +55,25 @@ fn conditions_of(
     from: FromTable,
     kind: Kind,
     side: Side,
-) -> Result<Items<Expr>, AllocError> {
+) -> Result<Items<Expr>, AllocError>
+    ensures { IfOk result (λ conditions. conditions ≡ spec.conditions_of kind side from.entry.table.now policies.now) }
+{
     let mut conditions = Items::new(alloc);
     for policy in policies {
         if let Some(expr) = expression_of(policy, kind, side) {
-            conditions.push(resolved_or_kept(alloc, expr, from)?)?;
+            conditions.push(condition_of(alloc, expr, from)?)?;
         }
     }
     Ok(conditions)
 }
 
-/// A policy's expression with its columns resolved. Where one isn't there it stays as it is, and its value is null.
-fn resolved_or_kept(alloc: Global, expr: &Expr, from: FromTable) -> Result<Expr, AllocError> {
+/// A policy's expression with its columns by their places. One that isn't there is null.
+fn condition_of(alloc: Global, expr: &Expr, from: FromTable) -> Result<Expr, AllocError>
+    ensures { IfOk result (λ condition. condition ≡ placed expr.now (from.entry.table.now ∷ [])) }
+{
     let tables = [from];
-    match resolve(alloc, expr, &Scope { tables: &tables }) {
-        Ok(resolved) => Ok(resolved),
-        Err(Refusal::NoMemory) => Err(AllocError),
-        Err(_) => expr.copy(alloc),
-    }
+    let condition = place_columns(alloc, expr, &Scope { tables: &tables })?;
+    Ok(condition)
 }
 
 /// What the guard says of the row.

@@ -2,7 +2,7 @@
 
 ghost use Rattle.std.specs.Prelude.{◌≡◌};
 
-use crate::listing::{has_twins, sort_rows};
+use crate::listing::{has_twins, listing_of};
 use crate::noted::noted_key;
 use rls_expr::TableDef;
 use rls_source::{Footprint, RowSource};
@@ -44,8 +44,8 @@ pub fn require_unique<S: RowSource>(
             whole.push(key.copy(alloc)?)?;
         }
     }
-    sort_rows(&mut whole)?;
-    if taken || has_twins(&whole) {
+    let whole = listing_of(whole)?;
+    if taken || has_twins(whole.as_slice()) {
         return Err(Refusal::Unique(name.copy()?));
     }
     Ok(())

@@ -1,8 +1,11 @@
 //! What a statement gives.
 
+ghost use Rattle.std.specs.Prelude.{◌≡◌, IfOk};
+
 use rls_catalog::{Delta, Side, Verdict};
 use rls_source::Footprint;
 use rls_value::{Items, Kind, Name, Refusal, Row, RowId};
+use std::alloc::{AllocError, Global};
 
 /// What a statement answers.
 #[derive(Debug, Drop)]
@@ -36,4 +39,40 @@ pub struct Outcome {
     pub delta: Delta,
     /// The current role afterwards.
     pub role: Name,
+}
+
+impl Reply {
+    pub fn copy(&self, alloc: Global) -> Result<Reply, AllocError>
+        ensures { IfOk result (λ reply. reply ≡ self.now) }
+    {
+        match self {
+            Reply::Rows(rows) => Ok(Reply::Rows(copy_rows(alloc, rows.as_slice())?)),
+            Reply::Count(count) => Ok(Reply::Count(*count)),
+            Reply::Done => Ok(Reply::Done),
+            Reply::Refused(refusal) => Ok(Reply::Refused(refusal.copy(alloc)?)),
+        }
+    }
+}
+
+fn copy_rows(alloc: Global, rows: &[Row]) -> Result<Items<Row>, AllocError>
+    ensures { IfOk result (λ copies. copies ≡ rows.now) }
+{
+    let mut copies = Vec::with_capacity(alloc, rows.len())?;
+    for row in rows {
+        copies.push(row.copy(alloc)?)?;
+    }
+    Ok(Items::from_vec(copies))
+}
+
+impl Decision {
+    pub fn copy(&self) -> Result<Decision, AllocError>
+        ensures { IfOk result (λ decision. decision ≡ self.now) }
+    {
+        Ok(Decision {
+            id: self.id,
+            side: self.side,
+            kind: self.kind,
+            verdict: self.verdict.copy()?,
+        })
+    }
 }

@@ -1,6 +1,13 @@
 //! SELECT.
 
-ghost use Rattle.std.specs.Prelude.{◌≡◌, [], IfOk};
+ghost use Rattle.std.specs.Prelude.{◌≡◌, [], ◌&&◌, map, IfOk, IfErr};
+ghost use Rattle.rls_access.specs.Eval.{value_of, over};
+ghost use Rattle.rls_access.specs.Guards as spec;
+ghost use Rattle.rls_value.specs.Giving.{Fails, Gives};
+ghost use Rattle.rls_expr.specs.Scopes.{tables_in};
+ghost use Rattle.rls_access.specs.Selecting.{items_of, selection_of, where_of, query_of, selectable, IsListed};
+ghost use Rattle.rls_access.specs.Listings as listings;
+ghost use Rattle.rls_access.specs.Listings.{Lists, hits, meets, decision_on};
 ghost use Rattle.rls_access.specs.Effects.{ChangesUnlessRefused};
 
 use crate::checks::table_named;
@@ -8,15 +15,15 @@ use crate::context::Ctx;
 use crate::effect::Effect;
 use crate::evaluation::{truth_over, value_over};
 use crate::guard::{Guard, allows, guard_of, verdict_on};
-use crate::listing::sort_rows;
+use crate::listing::listing_of;
 use crate::noted::noted_scan;
 use crate::outcome::{Decision, Reply};
 use crate::standing::standing_of;
-use rls_catalog::{Side, Stored};
+use rls_catalog::{Side, Stored, Verdict};
 use rls_expr::{Expr, FromTable, Scope, check, check_condition};
 use rls_source::{Footprint, RowSource};
 use rls_text::{Select, Selected};
-use rls_value::{Items, Kind, Name, Privilege, Refusal, Row};
+use rls_value::{Items, Kind, Name, Privilege, Refusal, Row, RowId};
 use std::alloc::{AllocError, Global};
 
 /// A SELECT whose names are resolved; no items stand for all columns, no condition for one that is true.
@@ -35,6 +42,8 @@ pub fn run_select<S: RowSource>(
     select: &Select,
 ) -> Result<Effect, Refusal>
     ensures unchanged { IfOk result (λ effect. ChangesUnlessRefused effect.reply effect.delta) }
+    ensures refused { IfErr result (λ refusal. Fails refusal (selectable (S.state source.old) ctx.now.role select.now)) }
+    ensures listed { IfOk result (λ effect. IsListed (S.state source.old) ctx.now.role select.now.table effect (selectable (S.state source.old) ctx.now.role select.now)) }
     ensures state { S.state source.new ≡ S.state source.old }
 {
     let table = table_named(alloc, source, notes, &select.table)?;
@@ -58,26 +67,57 @@ pub fn run_select<S: RowSource>(
     Ok(list(alloc, &query, &guard, &ctx.role, candidates.as_slice())?)
 }
 
-fn check_query(alloc: Global, select: &Select, from: FromTable) -> Result<Query, Refusal> {
+fn check_query(alloc: Global, select: &Select, from: FromTable) -> Result<Query, Refusal>
+    ensures { Gives result (query_of select.now from.entry.table.now) }
+{
     let tables = [from];
     let scope = Scope { tables: &tables };
-    let items = match &select.items {
-        Selected::All => None,
-        Selected::Items(items) => Some(check_items(alloc, items.as_slice(), &scope)?),
-    };
-    let condition = match &select.condition {
-        None => None,
-        Some(condition) => Some(check_condition(alloc, condition, &scope)?),
-    };
+    let items = check_selection(alloc, &select.items, &scope)?;
+    let condition = check_where(alloc, &select.condition, &scope)?;
     Ok(Query { items, condition })
 }
 
-fn check_items(alloc: Global, items: &[Expr], scope: &Scope) -> Result<Items<Expr>, Refusal> {
-    let mut checked = Vec::with_capacity(alloc, items.len())?;
-    for item in items {
-        checked.push(check(alloc, item, scope)?.expr)?;
+fn check_selection(
+    alloc: Global,
+    selected: &Selected,
+    scope: &Scope,
+) -> Result<Option<Items<Expr>>, Refusal>
+    ensures { Gives result (selection_of selected.now (tables_in scope.now)) }
+{
+    match selected {
+        Selected::All => Ok(None),
+        Selected::Items(items) => {
+            let items = check_items(alloc, items.as_slice(), scope)?;
+            Ok(Some(items))
+        }
     }
-    Ok(Items::from_vec(checked))
+}
+
+fn check_where(
+    alloc: Global,
+    condition: &Option<Expr>,
+    scope: &Scope,
+) -> Result<Option<Expr>, Refusal>
+    ensures { Gives result (where_of condition.now (tables_in scope.now)) }
+{
+    match condition {
+        None => Ok(None),
+        Some(condition) => {
+            let condition = check_condition(alloc, condition, scope)?;
+            Ok(Some(condition))
+        }
+    }
+}
+
+fn check_items(alloc: Global, items: &[Expr], scope: &Scope) -> Result<Items<Expr>, Refusal>
+    ensures { Gives result (items_of items.now (tables_in scope.now)) }
+{
+    let mut done = Items::new(alloc);
+    for item in items {
+        let typed = check(alloc, item, scope)?;
+        done.push(typed.expr)?;
+    }
+    Ok(done)
 }
 
 /// Judges each candidate, and lists those that are allowed and meet the condition.
@@ -88,31 +128,46 @@ fn list(
     role: &Name,
     candidates: &[Stored],
 ) -> Result<Effect, AllocError>
-    ensures { IfOk result (λ effect. effect.delta ≡ []) }
+    ensures reply { IfOk result (λ effect. Lists effect.reply (hits guard.now query.now role.now candidates.now)) }
+    ensures decisions { IfOk result (λ effect. effect.decisions ≡ map (decision_on guard.now role.now) candidates.now) }
+    ensures delta { IfOk result (λ effect. effect.delta ≡ []) }
 {
-    let mut decisions = Vec::with_capacity(alloc, candidates.len())?;
+    let mut decisions = Items::new(alloc);
     let mut rows = Vec::new(alloc);
     for stored in candidates {
         let verdict = verdict_on(alloc, guard, role, &stored.row)?;
-        if allows(&verdict) && meets(alloc, query, role, &stored.row)? {
+        if is_hit(alloc, query, &verdict, role, &stored.row)? {
             rows.push(selected(alloc, query, role, &stored.row)?)?;
         }
-        decisions.push(Decision {
-            id: stored.id,
-            side: Side::Old,
-            kind: Kind::Select,
-            verdict,
-        })?;
+        decisions.push(decision(stored.id, verdict))?;
     }
-    sort_rows(&mut rows)?;
-    Ok(Effect::judged(
-        alloc,
-        Reply::Rows(Items::from_vec(rows)),
-        Items::from_vec(decisions),
-    ))
+    let listing = listing_of(rows)?;
+    Ok(Effect::judged(alloc, Reply::Rows(listing), decisions))
 }
 
-fn meets(alloc: Global, query: &Query, role: &Name, row: &Row) -> Result<bool, AllocError> {
+fn decision(id: RowId, verdict: Verdict) -> Decision
+    ensures { result ≡ record { id = id; side = Side.Old; kind = Kind.Select; verdict = verdict } }
+{
+    Decision {
+        id,
+        side: Side::Old,
+        kind: Kind::Select,
+        verdict,
+    }
+}
+
+fn is_hit(
+    alloc: Global,
+    query: &Query,
+    verdict: &Verdict,
+    role: &Name,
+    row: &Row,
+) -> Result<bool, AllocError>
+    ensures { IfOk result (λ hit. hit ≡ (spec.allows verdict.now && meets query.now.condition role.now row.now)) }
+{
+    if !allows(verdict) {
+        return Ok(false);
+    }
     match &query.condition {
         None => Ok(true),
         Some(condition) => {
@@ -122,14 +177,21 @@ fn meets(alloc: Global, query: &Query, role: &Name, row: &Row) -> Result<bool, A
     }
 }
 
-fn selected(alloc: Global, query: &Query, role: &Name, row: &Row) -> Result<Row, AllocError> {
+fn selected(alloc: Global, query: &Query, role: &Name, row: &Row) -> Result<Row, AllocError>
+    ensures { IfOk result (λ values. values ≡ listings.selected query.now.items role.now row.now) }
+{
     match &query.items {
-        None => row.copy(alloc),
+        None => {
+            let copy = row.copy(alloc)?;
+            Ok(copy)
+        }
         Some(items) => values_over(alloc, items.as_slice(), role, row),
     }
 }
 
-fn values_over(alloc: Global, items: &[Expr], role: &Name, row: &Row) -> Result<Row, AllocError> {
+fn values_over(alloc: Global, items: &[Expr], role: &Name, row: &Row) -> Result<Row, AllocError>
+    ensures { IfOk result (λ values. values ≡ map (λ item. value_of item (over role.now row.now)) items.now) }
+{
     let mut values = Vec::with_capacity(alloc, items.len())?;
     for item in items {
         values.push(value_over(alloc, item, role, row)?)?;

@@ -6,7 +6,7 @@ ghost use Rattle.rls_value.specs.declared.object.Object.{Object};
 ghost use Rattle.rls_catalog.specs.State.{grants_of};
 ghost use Rattle.rls_catalog.specs.Membership.{attributes_in, attributes_of, walked_by, walk_reads, reach_reads};
 ghost use Rattle.rls_catalog.specs.Verdict.{exempts};
-ghost use Rattle.rls_access.specs.Effects.{Gives, UnlessNoMemory};
+ghost use Rattle.rls_value.specs.Giving.{Gives, UnlessNoMemory};
 ghost use Rattle.rls_access.specs.Standings as spec;
 
 use crate::noted::{noted_grants, noted_role};

@@ -2,6 +2,9 @@
 
 ghost use Rattle.std.specs.Prelude.{◌≡◌, IfOk};
 ghost use Rattle.rls_access.specs.Effects.{ChangesUnlessRefused};
+ghost use Rattle.rls_access.specs.Statements as spec;
+ghost use Rattle.rls_access.specs.Statements.{IsMeant, Means, Shows, mode_or_refused};
+ghost use Rattle.rls_value.specs.Giving.{Gives};
 
 use crate::context::{Ctx, Mode};
 use crate::creating_policies::run_create_policy;
@@ -25,16 +28,14 @@ pub fn run_statement<S: RowSource>(
     ctx: &Ctx,
     statement: &Statement,
 ) -> Result<Outcome, AllocError>
+    ensures meant { IfOk result (λ outcome. IsMeant (S.state source.old) ctx.now statement.now (spec.effect_of outcome)) }
     ensures unchanged { IfOk result (λ outcome. ChangesUnlessRefused outcome.reply outcome.delta) }
     ensures role { IfOk result (λ outcome. outcome.role ≡ ctx.now.role) }
     ensures state { S.state source.new ≡ S.state source.old }
 {
     let mut notes = Footprint::new(alloc);
-    let effect = match effect_of(alloc, source, &mut notes, ctx, statement) {
-        Ok(effect) => effect,
-        Err(Refusal::NoMemory) => return Err(AllocError),
-        Err(refusal) => Effect::refused(alloc, refusal),
-    };
+    let given = effect_of(alloc, source, &mut notes, ctx, statement);
+    let effect = shown(alloc, given)?;
     let Effect {
         reply,
         decisions,
@@ -49,6 +50,17 @@ pub fn run_statement<S: RowSource>(
     })
 }
 
+/// What was given, a refusal as a reply.
+fn shown(alloc: Global, given: Result<Effect, Refusal>) -> Result<Effect, AllocError>
+    ensures { IfOk result (λ effect. Shows effect given) }
+{
+    match given {
+        Ok(effect) => Ok(effect),
+        Err(Refusal::NoMemory) => Err(AllocError),
+        Err(refusal) => Ok(Effect::refused(alloc, refusal)),
+    }
+}
+
 fn effect_of<S: RowSource>(
     alloc: Global,
     source: &mut S,
@@ -56,6 +68,7 @@ fn effect_of<S: RowSource>(
     ctx: &Ctx,
     statement: &Statement,
 ) -> Result<Effect, Refusal>
+    ensures means { Means (S.state source.old) ctx.now statement.now result }
     ensures unchanged { IfOk result (λ effect. ChangesUnlessRefused effect.reply effect.delta) }
     ensures state { S.state source.new ≡ S.state source.old }
 {
@@ -72,7 +85,9 @@ fn effect_of<S: RowSource>(
 }
 
 /// A transaction that only reads takes no command that writes.
-fn require_mode(mode: Mode, tag: Tag) -> Result<(), Refusal> {
+fn require_mode(mode: Mode, tag: Tag) -> Result<(), Refusal>
+    ensures { Gives result (mode_or_refused mode tag) }
+{
     match (mode, tag) {
         (Mode::Write, _) | (Mode::Read, Tag::Select | Tag::Set | Tag::Reset) => Ok(()),
         (Mode::Read, tag) => Err(Refusal::TxnState(TxnState::ReadOnly(tag))),

@@ -1,2 +1,4 @@
 pub mod RowsListed
 pub mod Deltas
+pub mod Examples
+pub mod Laws

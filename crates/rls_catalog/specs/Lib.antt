@@ -6,9 +6,14 @@ pub mod Contents
 pub mod Membership
 pub mod Walks
 pub mod Inheriting
+pub mod Paths
+pub mod Reaching
 pub mod Privileges
 pub mod Verdict
+pub mod GrantOptions
+pub mod Revoking
 pub mod Frames
+pub mod PathFrames
 pub use Rattle.rls_value.specs.Names
 pub use Rattle.rls_value.specs.Values
 pub use Rattle.rls_expr.specs.Terms

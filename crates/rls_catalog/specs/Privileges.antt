@@ -1,6 +1,7 @@
 -- Privileges on tables (PostgreSQL manual, 5.8, "Privileges").
-use Rattle.std.specs.Prelude.{ℕ, List, [], ◌∷◌, ◌++◌, Bool, true, false, ◌&&◌, ◌||◌, if◌then◌else◌}
-use Rattle.std.specs.List.{list_any}
+use Rattle.std.specs.Prelude.{◌≡◌, ◌↔◌, ℕ, List, [], ◌∷◌, ◌++◌, Bool, true, false, ◌&&◌, ◌||◌, if◌then◌else◌, filter}
+use Rattle.std.specs.List.{list_any, flat_map}
+use Rattle.std.specs.Str.{bytes_eq}
 use Rattle.rls_value.specs.Names.{one_of}
 use Rattle.rls_value.specs.declared.verb.Privilege.{Privilege}
 use Rattle.rls_value.specs.declared.verb.Privilege.TheVariants as p
@@ -37,3 +38,26 @@ holds s role privilege table =
 -- what it reads to tell whether a role holds a privilege
 abbrev pub holds_reads : State → List ℕ → List ℕ → List Object
 holds_reads s role table = reach_reads s role ++ (if (attributes_of s role).superuser then [] else (o.Grants table ∷ []))
+
+-- a grant option is for a role: PUBLIC holds none
+abbrev pub roles_in : Grantee → List (List ℕ)
+roles_in g.Public = []
+roles_in (g.Role name) = name ∷ []
+
+-- the grant is of the privilege, with its grant option, by the role
+abbrev pub is_option_by : Privilege → List ℕ → Grant → Bool
+is_option_by privilege grantor grant = grant.option && (is_same_privilege grant.privilege privilege && bytes_eq grant.grantor grantor)
+
+-- those to whom the role granted the grant option for the privilege
+abbrev pub optioned_by : List Grant → Privilege → List ℕ → List (List ℕ)
+optioned_by grants privilege grantor = flat_map (λ grant. roles_in grant.grantee) (filter (is_option_by privilege grantor) grants)
+
+-- who holds the grant option (PostgreSQL manual, GRANT and REVOKE): the least set that has the owner and each grantee of
+-- a grant with option whose grantor is in it
+pub data Options (owner : List ℕ) (grants : List Grant) (privilege : Privilege) : List ℕ → Type 0 where
+  Owner : Options owner grants privilege owner
+  Granted : (grantor grantee : List ℕ) → Options owner grants privilege grantor → one_of (optioned_by grants privilege grantor) grantee ≡ true → Options owner grants privilege grantee
+
+-- the roles are those that hold the grant option, and no others
+abbrev pub AreOptions : List ℕ → List Grant → Privilege → List (List ℕ) → Type 0
+AreOptions owner grants privilege holders = (role : List ℕ) → (one_of holders role ≡ true) ↔ Options owner grants privilege role

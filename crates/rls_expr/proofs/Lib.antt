@@ -1,1 +1,2 @@
 pub mod ResolvingLemmas
+pub mod PlacingLemmas

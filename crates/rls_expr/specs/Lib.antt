@@ -7,3 +7,4 @@ pub mod Scopes
 pub mod Resolving
 pub mod Typing
 pub mod TermSizes
+pub mod Placing

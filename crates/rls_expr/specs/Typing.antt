@@ -98,46 +98,37 @@ abbrev mutual
   all_booleans End tables = true
   all_booleans (More u us) tables = takes_boolean (type_of u tables) && all_booleans us tables
 
--- a type or none, as typing finds it
-abbrev pub typing_of : Option Category → Typing
-typing_of None = Null
-typing_of (Some type) = Of type
-
 -- whether a column takes values of what was typed, their range aside
 abbrev pub goes_into : Typing → ColType → Bool
 goes_into Fault column = false
 goes_into Null column = true
 goes_into (Of category) column = same_type category (category_of column)
 
--- names resolve, and types don't fit
-pub record Misfits (expr : Term) (tables : List TableDef) (wanted : Typing → Type 0) : Type 0 where
-  pub term : Term
-  pub resolves : resolved expr tables ≡ Ok term
-  pub misfits : wanted (type_of term tables)
+-- a type, if types fit
+abbrev pub with_typing : Term → Typing → Result Typed Refusal
+with_typing term Fault = Err TypeFault
+with_typing term Null = Ok (record { expr = term; kind = None })
+with_typing term (Of category) = Ok (record { expr = term; kind = Some category })
 
--- a refusal is the first unknown column, or else that types misfit
-abbrev pub Refuses : Refusal → Term → List TableDef → (Typing → Type 0) → Type 0
-Refuses NoMemory expr tables wanted = Unit {0}
-Refuses (Undefined kind.Column name) expr tables wanted = resolved expr tables ≡ Err name
-Refuses TypeFault expr tables wanted = Misfits expr tables wanted
-Refuses _ expr tables wanted = ⊥
+-- the type of what was resolved
+abbrev pub with_type : List TableDef → Result Term (List ℕ) → Result Typed Refusal
+with_type tables (Ok term) = with_typing term (type_of term tables)
+with_type tables (Err name) = Err (Undefined kind.Column name)
 
--- a checked expression is the resolved one with its type
-pub record IsTyped (typed : Typed) (expr : Term) (tables : List TableDef) : Type 0 where
-  pub resolves : resolved expr tables ≡ Ok typed.expr
-  pub typing : type_of typed.expr tables ≡ typing_of typed.kind
+-- the resolved expression with its type; else the first unknown column, or else that types don't fit
+abbrev pub checked : Term → List TableDef → Result Typed Refusal
+checked expr tables = with_type tables (resolved expr tables)
 
--- what `check` gives
-abbrev pub Checks : Result Typed Refusal → Term → List TableDef → Type 0
-Checks (Ok typed) expr tables = IsTyped typed expr tables
-Checks (Err refusal) expr tables = Refuses refusal expr tables (λ typing. typing ≡ Fault)
+-- the condition, if it is a boolean
+abbrev pub boolean_or_fault : Term → Bool → Result Term Refusal
+boolean_or_fault term true = Ok term
+boolean_or_fault term false = Err TypeFault
 
--- a condition is the resolved expression, and a boolean or null
-pub record IsCondition (term : Term) (expr : Term) (tables : List TableDef) : Type 0 where
-  pub resolves : resolved expr tables ≡ Ok term
-  pub boolean : takes_boolean (type_of term tables) ≡ true
+-- the condition that was resolved, if it is a boolean
+abbrev pub if_boolean : List TableDef → Result Term (List ℕ) → Result Term Refusal
+if_boolean tables (Ok term) = boolean_or_fault term (takes_boolean (type_of term tables))
+if_boolean tables (Err name) = Err (Undefined kind.Column name)
 
--- what `check_condition` gives
-abbrev pub ChecksCondition : Result Term Refusal → Term → List TableDef → Type 0
-ChecksCondition (Ok term) expr tables = IsCondition term expr tables
-ChecksCondition (Err refusal) expr tables = Refuses refusal expr tables (λ typing. takes_boolean typing ≡ false)
+-- the same of a condition, which has to be a boolean or null
+abbrev pub condition_checked : Term → List TableDef → Result Term Refusal
+condition_checked expr tables = if_boolean tables (resolved expr tables)

@@ -2,12 +2,14 @@
 #![tactic(auto)]
 
 mod expr;
+mod placing;
 mod resolving;
 mod scope;
 mod table;
 mod typing;
 
 pub use expr::{Comparison, Expr, Node};
+pub use placing::place_columns;
 pub use resolving::resolve;
 pub use scope::{FromTable, Scope};
 pub use table::{Column, TableDef};

@@ -1,8 +1,9 @@
 //! The types of expressions, and the check that names resolve and types fit.
 
 ghost use Rattle.std.specs.Prelude.{◌≡◌, take, IfOk};
+ghost use Rattle.rls_value.specs.Giving.{Gives};
 ghost use Rattle.rls_expr.specs.Typing as spec;
-ghost use Rattle.rls_expr.specs.Typing.{type_of, all_booleans, goes_with, goes_into, takes_boolean, category_of, Checks, ChecksCondition};
+ghost use Rattle.rls_expr.specs.Typing.{type_of, all_booleans, goes_with, goes_into, takes_boolean, category_of, checked, condition_checked};
 ghost use Rattle.rls_expr.specs.Scopes.{tables_in};
 ghost use Rattle.rls_expr.specs.Terms.{terms_of};
 
@@ -71,7 +72,7 @@ pub fn goes_into(typing: Typing, column: ColType) -> bool
 /// The expression with its columns resolved, and its type. The first unknown column in text order is refused,
 /// and only where all are known types that don't fit.
 pub fn check(alloc: Global, expr: &Expr, scope: &Scope) -> Result<Typed, Refusal>
-    ensures { Checks result expr.now (tables_in scope.now) }
+    ensures { Gives result (checked expr.now (tables_in scope.now)) }
 {
     let expr = resolve(alloc, expr, scope)?;
     match typing_of(&expr, scope) {
@@ -86,7 +87,7 @@ pub fn check(alloc: Global, expr: &Expr, scope: &Scope) -> Result<Typed, Refusal
 
 /// The same for a condition, as of WHERE or of a policy, which has to be a boolean or null.
 pub fn check_condition(alloc: Global, expr: &Expr, scope: &Scope) -> Result<Expr, Refusal>
-    ensures { ChecksCondition result expr.now (tables_in scope.now) }
+    ensures { Gives result (condition_checked expr.now (tables_in scope.now)) }
 {
     let expr = resolve(alloc, expr, scope)?;
     if is_boolean(typing_of(&expr, scope)) {

@@ -42,7 +42,8 @@ pub fn is_granted(grants: &[Grant], privilege: Privilege, reach: &Reach) -> bool
     })
 }
 
-fn is_same_privilege(left: Privilege, right: Privilege) -> bool
+/// Whether the two are the same privilege.
+pub fn is_same_privilege(left: Privilege, right: Privilege) -> bool
     ensures { result ≡ spec.is_same_privilege left right }
 {
     match (left, right) {

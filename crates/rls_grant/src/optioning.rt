@@ -1,50 +1,70 @@
 //! Who holds a grant option.
 
-ghost use Rattle.std.specs.Prelude.{◌<◌, length};
+ghost use Rattle.std.specs.Prelude.{◌≡◌, ◌++◌, slice_get, IfOk, OnOk};
+ghost use Rattle.std.specs.Option.{option_copied};
+ghost use Rattle.rls_value.specs.Names.{one_of};
+ghost use Rattle.rls_catalog.specs.Membership.{fresh};
+ghost use Rattle.rls_catalog.specs.Privileges as spec;
+ghost use Rattle.rls_catalog.specs.Privileges.{roles_in, optioned_by, AreOptions};
 
+use crate::holding::is_same_privilege;
 use rls_catalog::{Grant, Grantee};
 use rls_value::{Items, Name, Privilege};
 use std::alloc::{AllocError, Global};
 
-/// The roles that hold the grant option for the privilege: the owner, and each grantee of a grant with option whose
-/// grantor holds it.
+/// The roles that hold the grant option for the privilege, each once: the owner, and each grantee of a grant with option
+/// whose grantor holds it.
 pub fn options(
     alloc: Global,
     owner: &Name,
     grants: &[Grant],
     privilege: Privilege,
-) -> Result<Items<Name>, AllocError> {
+) -> Result<Items<Name>, AllocError>
+    ensures { IfOk result (λ holders. AreOptions owner.now grants.now privilege holders) }
+{
     let mut holders = Vec::new(alloc);
     holders.push(owner.copy()?)?;
     let mut next = 0;
-    for _ in grants {
-        if next < holders.len() {
-            add_grantees(&mut holders, next, grants, privilege)?;
-            next += 1;
-        }
+    while let Some(holder) = holder_at(&holders, next) {
+        let holder = holder.copy()?;
+        add_optioned(&mut holders, grants, privilege, &holder)?;
+        next += 1;
     }
     Ok(Items::from_vec(holders))
 }
 
-/// Adds those to whom the holder at the index granted the option.
-fn add_grantees(
+fn holder_at(holders: &[Name], index: usize) -> Option<&Name>
+    ensures { option_copied result ≡ slice_get holders.now index }
+{
+    holders.get(index)
+}
+
+/// Adds those to whom the holder granted the option and that aren't there yet.
+fn add_optioned(
     holders: &mut Vec<Name>,
-    holder: usize,
     grants: &[Grant],
     privilege: Privilege,
+    holder: &Name,
 ) -> Result<(), AllocError>
-    requires { holder < length holders.old.items }
+    ensures { OnOk result (holders.new.items ≡ holders.old.items ++ fresh holders.old.items (optioned_by grants.now privilege holder.now)) }
 {
-    let grantor = holders[holder].copy()?;
     for grant in grants {
-        if grant.option && grant.privilege == privilege && grant.grantor.is(&grantor) {
+        if is_option_by(grant, privilege, holder) {
             add_grantee(holders, &grant.grantee)?;
         }
     }
     Ok(())
 }
 
-fn add_grantee(holders: &mut Vec<Name>, grantee: &Grantee) -> Result<(), AllocError> {
+fn is_option_by(grant: &Grant, privilege: Privilege, grantor: &Name) -> bool
+    ensures { result ≡ spec.is_option_by privilege grantor.now grant.now }
+{
+    grant.option && is_same_privilege(grant.privilege, privilege) && grant.grantor.is(grantor)
+}
+
+fn add_grantee(holders: &mut Vec<Name>, grantee: &Grantee) -> Result<(), AllocError>
+    ensures { OnOk result (holders.new.items ≡ holders.old.items ++ fresh holders.old.items (roles_in grantee.now)) }
+{
     match grantee {
         Grantee::Public => Ok(()),
         Grantee::Role(name) => {
@@ -57,6 +77,8 @@ fn add_grantee(holders: &mut Vec<Name>, grantee: &Grantee) -> Result<(), AllocEr
 }
 
 /// Whether the name is one of them.
-pub fn is_among(name: &Name, names: &[Name]) -> bool {
-    names.iter().any(|other| other.is(name))
+pub fn is_among(name: &Name, names: &[Name]) -> bool
+    ensures { result ≡ one_of names.now name.now }
+{
+    rls_role::is_among(names, name)
 }

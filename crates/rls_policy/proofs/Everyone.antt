@@ -1,7 +1,7 @@
 -- Policies TO PUBLIC are for each role.
 use Rattle.std.specs.Prelude.{◌≡◌, refl, ℕ, List, [], ◌∷◌, Bool, true, false, ◌&&◌, ◌||◌, cond, filter}
 use Rattle.std.specs.List.{list_any, list_all}
-use Rattle.std.proofs.Common.{ap, ◌∙◌, sym}
+use Rattle.std.proofs.Common.{ap, sym}
 use Rattle.std.proofs.lemmas.Bool.{true≢false}
 use Rattle.rls_catalog.specs.declared.grant.Grantee.{Grantee}
 use Rattle.rls_catalog.specs.declared.grant.Grantee.TheVariants.{Public, Role}

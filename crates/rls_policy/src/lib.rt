@@ -4,6 +4,8 @@
 mod choosing;
 mod combining;
 mod exemption;
+#[cfg(test)]
+mod tests;
 
 pub use choosing::{applying, chosen, expression_of};
 pub use combining::combine;

@@ -1,1 +1,2 @@
+pub mod SeenNames
 pub mod Visits

@@ -3,8 +3,8 @@ use Rattle.std.specs.Prelude.{◌≡◌, ℕ, suc, ◌+◌, List, [], ◌∷◌,
 use Rattle.std.proofs.Common.{arith, ap, ◌∙◌, sym}
 use Rattle.rls_value.specs.declared.object.Object.{Object}
 use Rattle.rls_catalog.specs.State.{State}
-use Rattle.rls_catalog.specs.Membership.{fresh, inherited_by, walk, visit_reads, walk_reads, reached_of}
-use Rattle.rls_catalog.specs.Walks.{leads_on, reads_on, reads_all, reached_is}
+use Rattle.rls_catalog.specs.Membership.{fresh, inherited_by, walk, visit_reads, walk_reads}
+use Rattle.rls_catalog.specs.Walks.{leads_on, reads_on, reads_all}
 
 one_more : (next : ℕ) → next + 1 ≡ suc next
 one_more next = omega arith

@@ -1,2 +1,1 @@
-pub use Rattle.rls_catalog.specs.Membership
-pub use Rattle.rls_catalog.specs.Privileges
+pub mod Seen

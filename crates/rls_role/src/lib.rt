@@ -5,3 +5,4 @@ mod reach;
 mod walking;
 
 pub use reach::{Reach, has, reach_of};
+pub use walking::is_among;

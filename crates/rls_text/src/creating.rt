@@ -16,8 +16,9 @@ use crate::token::{Symbol, Token};
 use crate::tree::{Draft, Tree, parted};
 use rls_catalog::{Grantee, Policy};
 use rls_expr::Column;
-use rls_value::{ColType, Items, Name, PolicyKind};
+use rls_value::{ColType, Items, PolicyKind};
 use std::alloc::{AllocError, Global};
+use std::collections::BTreeSet;
 
 #[tactic(auto, unfolding(crate::specs::Readers::create))]
 pub fn create(alloc: Global, depth: usize, tokens: &[Token]) -> Result<(Draft, &[Token]), Fault>
@@ -64,29 +65,25 @@ fn distinct_columns(alloc: Global, tokens: &[Token]) -> Result<(Items<Column>, &
     ensures { Gives result (r.distinct_columns.read tokens.now) }
 {
     let (columns, rest) = columns(alloc, tokens)?;
-    if are_distinct(columns.as_slice()) {
+    if are_distinct(alloc, columns.as_slice())? {
         Ok((columns, rest))
     } else {
         Err(Fault::Syntax)
     }
 }
 
-fn are_distinct(mut columns: &[Column]) -> bool
-    ensures { result ≡ g.are_distinct columns.entry.now }
+/// Whether no two columns have one name. It sorts the names, since there may be thousands of columns.
+fn are_distinct(alloc: Global, mut columns: &[Column]) -> Result<bool, AllocError>
+    ensures { IfOk result (λ distinct. distinct ≡ g.are_distinct columns.entry.now) }
 {
+    let mut seen = BTreeSet::new(alloc);
     while let [first, rest @ ..] = columns {
-        if has_column(&first.name, rest) {
-            return false;
+        if !seen.insert(first.name.as_str())? {
+            return Ok(false);
         }
         columns = rest;
     }
-    true
-}
-
-fn has_column(name: &Name, columns: &[Column]) -> bool
-    ensures { result ≡ g.has_column name.now columns.now }
-{
-    columns.iter().any(|column| column.name.is(name))
+    Ok(true)
 }
 
 #[tactic(auto, unfolding(crate::specs::Readers::definitions, crate::specs::Gives::with_front))]

@@ -14,9 +14,9 @@ mod verb;
 
 pub use items::Items;
 pub use name::{MAX_NAME, Name, is_reserved};
-pub use object::Object;
+pub use object::{Object, cmp_objects};
 pub use refusal::{Cause, GrantFault, Limit, NameKind, Refusal, TxnState, Why};
-pub use row::{Row, RowId};
+pub use row::{Row, RowId, cmp_rows};
 pub use tag::Tag;
 pub use text::Text;
 pub use truth::Truth;

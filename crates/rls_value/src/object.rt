@@ -1,10 +1,12 @@
 //! What is versioned: the objects that statements read and changes write.
 
 ghost use Rattle.std.specs.Prelude.{◌≡◌, IfOk};
+ghost use Rattle.rls_value.specs.Objects as spec;
 
 use crate::name::Name;
-use crate::row::{Row, RowId};
+use crate::row::{Row, RowId, cmp_rows};
 use std::alloc::{AllocError, Global};
+use std::cmp::Ordering;
 use std::fmt;
 
 /// A versioned object of the database.
@@ -40,6 +42,56 @@ impl Object {
             Object::Key(table, key) => Ok(Object::Key(table.copy()?, key.copy(alloc)?)),
             Object::RowOf(table, id) => Ok(Object::RowOf(table.copy()?, *id)),
         }
+    }
+}
+
+/// The order of objects: by kind as they stand in `Object`, then by the name of the role or table, then by the values of
+/// the key or the number of the row.
+pub fn cmp_objects(left: &Object, right: &Object) -> Ordering
+    ensures { result ≡ spec.object_order left.now right.now }
+{
+    kind_of(left)
+        .cmp(&kind_of(right))
+        .then(name_of(left).cmp(name_of(right)))
+        .then(cmp_parts(left, right))
+}
+
+fn kind_of(object: &Object) -> u8
+    ensures { result ≡ spec.kind_of object.now }
+{
+    match object {
+        Object::Role(_) => 0,
+        Object::Members(_) => 1,
+        Object::Table(_) => 2,
+        Object::Grants(_) => 3,
+        Object::Policies(_) => 4,
+        Object::Rows(_) => 5,
+        Object::Key(_, _) => 6,
+        Object::RowOf(_, _) => 7,
+    }
+}
+
+fn name_of(object: &Object) -> &Name
+    ensures { result.now ≡ spec.name_of object.now }
+{
+    match object {
+        Object::Role(name) | Object::Members(name) | Object::Table(name) | Object::Grants(name) =>
+            name,
+        Object::Policies(name) | Object::Rows(name) => name,
+        Object::Key(name, _) => name,
+        Object::RowOf(name, _) => name,
+    }
+}
+
+fn cmp_parts(left: &Object, right: &Object) -> Ordering
+    ensures { result ≡ spec.part_order left.now right.now }
+{
+    match (left, right) {
+        (Object::Key(_, left), Object::Key(_, right)) => cmp_rows(left, right),
+        (Object::RowOf(_, left), Object::RowOf(_, right)) => {
+            left.txn.cmp(&right.txn).then(left.n.cmp(&right.n))
+        }
+        (_, _) => Ordering::Equal,
     }
 }
 

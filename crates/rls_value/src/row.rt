@@ -2,10 +2,12 @@
 
 ghost use Rattle.std.specs.Prelude.{◌≡◌, length, slice_get, IfOk};
 ghost use Rattle.std.specs.Option.{option_copied};
-ghost use Rattle.rls_value.specs.Values.{value_at};
+ghost use Rattle.std.specs.Cmp.Lexicographic.{slice_cmp};
+ghost use Rattle.rls_value.specs.Values.{listed, value_at};
 
-use crate::value::Value;
+use crate::value::{Value, cmp_values};
 use std::alloc::{AllocError, Global};
+use std::cmp::Ordering;
 use std::fmt;
 use std::marker::Model;
 
@@ -79,6 +81,100 @@ fn copy_values(alloc: Global, values: &[Value]) -> Result<Vec<Value>, AllocError
         copies.push(value.copy()?)?;
     }
     Ok(copies)
+}
+
+/// Rows are ordered as they are listed.
+impl Ord for Row {
+    ghost use Rattle.std.specs.Cmp.Lexicographic.{slice_cmp};
+    ghost use Rattle.std.proofs.Common.{rules};
+    ghost use Rattle.std.specs.Cmp.Rules.{comparing};
+    ghost use Rattle.rls_value.specs.Values.{listed};
+    ghost use Rattle.rls_value.specs.Listing.{rows_total};
+
+    ghost cmp = { slice_cmp listed };
+
+    ghost total = { rows_total };
+
+    ghost matches_partial_cmp = { Prim.search (comparing, rules) };
+
+    ghost matches_eq = { Prim.search (comparing, rules) };
+
+    fn cmp(&self, other: &Row) -> Ordering {
+        cmp_rows(self, other)
+    }
+}
+
+impl PartialOrd for Row {
+    ghost use Rattle.std.specs.Cmp.Lexicographic.{slice_cmp};
+    ghost use Rattle.std.specs.Ordering.{as_partial_cmp};
+    ghost use Rattle.std.proofs.Common.{rules};
+    ghost use Rattle.std.specs.Cmp.{partial_order_from_own_ties};
+    ghost use Rattle.std.specs.Cmp.Rules.{comparing};
+    ghost use Rattle.rls_value.specs.Values.{listed};
+    ghost use Rattle.rls_value.specs.Listing.{rows_total};
+
+    ghost partial_cmp = { as_partial_cmp (slice_cmp listed) };
+
+    ghost laws = { partial_order_from_own_ties (Prim.search (comparing, rules, rows_total)) (Prim.search (comparing, rules)) };
+
+    fn partial_cmp(&self, other: &Row) -> Option<Ordering> {
+        Some(self.cmp(other))
+    }
+}
+
+impl PartialEq for Row {
+    ghost use Rattle.std.specs.Cmp.Lexicographic.{slice_cmp};
+    ghost use Rattle.std.specs.Ordering.{eq_by_cmp};
+    ghost use Rattle.std.proofs.lemmas.Cmp.{eq_by_cmp_equiv};
+    ghost use Rattle.std.proofs.Common.{rules};
+    ghost use Rattle.std.specs.Cmp.Rules.{comparing};
+    ghost use Rattle.rls_value.specs.Values.{listed};
+    ghost use Rattle.rls_value.specs.Listing.{rows_total};
+
+    ghost eq = { eq_by_cmp (slice_cmp listed) };
+
+    ghost laws = { Prim.search (comparing, rules, eq_by_cmp_equiv rows_total) };
+
+    fn eq(&self, other: &Row) -> bool {
+        cmp_rows(self, other) == Ordering::Equal
+    }
+}
+
+impl Eq for Row {
+    ghost use Rattle.std.proofs.lemmas.Cmp.{eq_by_cmp_equiv};
+    ghost use Rattle.rls_value.specs.Listing.{rows_total};
+
+    ghost laws = { eq_by_cmp_equiv rows_total };
+}
+
+/// The order in which rows are listed: by their values, left to right; where none differ the shorter comes first.
+pub fn cmp_rows(left: &Row, right: &Row) -> Ordering
+    ensures { result ≡ slice_cmp listed left.now right.now }
+{
+    cmp_lists(left.as_slice(), right.as_slice())
+}
+
+fn cmp_lists(mut left: &[Value], mut right: &[Value]) -> Ordering
+    ensures { result ≡ slice_cmp listed left.entry.now right.entry.now }
+{
+    while let [one, rest @ ..] = left {
+        match right {
+            [other, others @ ..] => {
+                let order = cmp_values(one, other);
+                if order != Ordering::Equal {
+                    return order;
+                }
+                right = others;
+            }
+            [] => return Ordering::Greater,
+        }
+        left = rest;
+    }
+    if right.is_empty() {
+        Ordering::Equal
+    } else {
+        Ordering::Less
+    }
 }
 
 /// The number of a row: the transaction that inserted it, and its place among that one's insertions, from 0.

@@ -1,6 +1,7 @@
 //! Values of columns: how they compare, in which order they are listed, which column types they fit.
 
 ghost use Rattle.std.specs.Prelude.{◌≡◌, IfOk};
+ghost use Rattle.std.specs.Cmp.{IsTotalOrder};
 ghost use Rattle.rls_value.specs.Values as spec;
 ghost use Rattle.rls_value.specs.Values.{listed, fits_type, equal_values, less_values, truth_in, value_of_truth};
 
@@ -100,8 +101,10 @@ impl Value {
 
 /// The order in which rows are listed: null last, false before true, numbers by size, texts by bytes.
 /// Between values of different types, which no column has, numbers come first, then texts, then booleans.
+#[tactic(auto, using(crate::specs::Listing::listed_total))]
 pub fn cmp_values(left: &Value, right: &Value) -> Ordering
-    ensures { result ≡ listed left.now right.now }
+    ensures order { result ≡ listed left.now right.now }
+    ensures total { IsTotalOrder listed }
 {
     match (left, right) {
         (Value::Int(left), Value::Int(right)) => left.cmp(right),

@@ -1,7 +1,5 @@
-use Rattle.std.proofs.Common.{rules, ap, sym, ◌∙◌, ◌≡◌, filter, List, true}
+use Rattle.std.proofs.Common.{rules, ap, sym, ◌∙◌, ◌≡◌, filter, true}
 use Rattle.std.specs.List.{list_all}
-use Rattle.rls_catalog.specs.declared.policy.Policy.{Policy}
-use Rattle.rls_catalog.specs.State.{policies_of}
 use Rattle.rls_catalog.specs.Verdict as spec
 use Rattle.rls_policy.proofs.Everyone.{all_are_to}
 use Rattle.rls_policy.proofs.choosing.applying.Goals as goal

@@ -1,8 +1,7 @@
-use Rattle.std.proofs.Common.{rules, ap, ◌∙◌, ◌≡◌, ◌++◌, ℕ, List, Some, None, sym}
+use Rattle.std.proofs.Common.{rules, ap, ◌∙◌, ◌≡◌, Some, None}
 use Rattle.std.specs.Prelude.{slice_get}
-use Rattle.std.proofs.lemmas.Option.{slice_get_past, slice_get_read}
 use Rattle.rls_catalog.specs.State.{State}
-use Rattle.rls_catalog.specs.Membership.{fresh, inherited_by, reached_of}
+use Rattle.rls_catalog.specs.Membership.{reached_of}
 use Rattle.rls_catalog.specs.Walks.{reached_is}
 use Rattle.rls_role.proofs.Visits.{leads_next, reads_next, reads_end}
 use Rattle.rls_role.proofs.walking.reached.Goals as goal
@@ -15,6 +14,7 @@ loop-name-preserved g c =
       state = ap g.S.RowSource.state c.in_ok-visit.ensures.read ∙ g.met.S.RowSource.stands _ _ ∙ c.loop-name.invariant.state;
       leads = leads_next now (g.S.RowSource.state c.loop-name.source) c.args.role.now c.loop-name.names.items c.visit.new.names.items c.loop-name.next c.in_ok-name.name c.loop-name.invariant.state found c.in_ok-visit.ensures.names c.loop-name.invariant.leads;
       reads = reads_next g.S.RowSource.after g.met.S.RowSource.after_more c.args.source.now c.loop-name.source c.visit.new.source c.loop-name.names.items c.visit.new.names.items _ c.loop-name.next c.in_ok-name.name found c.in_ok-visit.ensures.names c.loop-name.invariant.reads c.in_ok-visit.ensures.read;
+      seen = c.in_ok-visit.ensures.seen;
     }
 
 pub returns-clause-names : goal.returns-clause-names

@@ -1,0 +1,53 @@
+-- The rows that a SELECT lists, and the decisions on the way.
+use Rattle.std.specs.Prelude.{ℕ, List, [], ◌∷◌, Bool, true, false, ◌&&◌, Option, Some, None, map, filter}
+use Rattle.std.specs.List.Sorted.{IsPermutation, IsSorted}
+use Rattle.std.specs.Cmp.Lexicographic.{slice_cmp}
+use Rattle.rls_value.specs.declared.value.Value.{Value}
+use Rattle.rls_value.specs.declared.verb.Kind.TheVariants as kind
+use Rattle.rls_value.specs.Truths.{is_true}
+use Rattle.rls_value.specs.Values.{listed}
+use Rattle.rls_expr.specs.Terms.{Term}
+use Rattle.rls_catalog.specs.declared.policy.Side.TheVariants as side
+use Rattle.rls_catalog.specs.declared.policy.Verdict.{Verdict}
+use Rattle.rls_catalog.specs.declared.stored.Stored.{Stored}
+use Rattle.rls_access.specs.declared.guard.Guard.{Guard}
+use Rattle.rls_access.specs.declared.outcome.Decision.{Decision}
+use Rattle.rls_access.specs.declared.outcome.Reply.{Reply}
+use Rattle.rls_access.specs.declared.outcome.Reply.TheVariants.{Rows, Count, Done, Refused}
+use Rattle.rls_access.specs.declared.selecting.Query.{Query}
+use Rattle.rls_access.specs.Eval.{value_of, over}
+use Rattle.rls_access.specs.Guards.{truth_on, verdict_on, allows}
+
+-- the same rows, in listing order
+pub record IsListing (rows listing : List (List Value)) : Type 0 where
+  pub same : IsPermutation rows listing
+  pub ordered : IsSorted (slice_cmp listed) listing
+
+-- WHERE holds of the row, if there is one
+abbrev pub meets : Option Term → List ℕ → List Value → Bool
+meets None user row = true
+meets (Some condition) user row = is_true (truth_on user row condition)
+
+-- the items' values for the row, or all of it
+abbrev pub selected : Option (List Term) → List ℕ → List Value → List Value
+selected None user row = row
+selected (Some items) user row = map (λ item. value_of item (over user row)) items
+
+-- the row may be seen, and WHERE holds of it
+abbrev pub is_hit : Guard → Option Term → List ℕ → List Value → Bool
+is_hit guard condition user row = allows (verdict_on guard user row) && meets condition user row
+
+-- what row security says of a row that is there, for a SELECT
+abbrev pub decision_on : Guard → List ℕ → Stored → Decision
+decision_on guard user stored = record { id = stored.id; side = side.Old; kind = kind.Select; verdict = verdict_on guard user stored.row }
+
+-- the values selected of the rows that are hit, in the rows' own order
+abbrev pub hits : Guard → Query → List ℕ → List Stored → List (List Value)
+hits guard query user candidates = map (λ stored. selected query.items user stored.row) (filter (λ stored. is_hit guard query.condition user stored.row) candidates)
+
+-- the reply lists these rows
+abbrev pub Lists : Reply → List (List Value) → Type 0
+Lists (Rows listing) rows = IsListing rows listing
+Lists (Count n) rows = ⊥
+Lists Done rows = ⊥
+Lists (Refused refusal) rows = ⊥

@@ -1,0 +1,123 @@
+-- A walk over grants with option meets who holds the option.
+use Rattle.std.specs.Prelude.{◌≡◌, refl, ℕ, zero, suc, ◌+◌, List, [], ◌∷◌, ◌++◌, Option, Some, None, Bool, true, false, if◌then◌else◌, take, slice_get}
+use Rattle.std.specs.Str.{bytes_eq}
+use Rattle.std.proofs.Common.{arith, sym, ap, ◌∙◌, subst, append_assoc, append-nil}
+use Rattle.std.proofs.lemmas.Bool.{true≢false, or_left, or_right}
+use Rattle.std.proofs.lemmas.Option.{slice_get_within}
+use Rattle.rls_value.specs.Names.{one_of}
+use Rattle.rls_value.specs.declared.verb.Privilege.{Privilege}
+use Rattle.rls_catalog.specs.declared.grant.Grant.{Grant}
+use Rattle.rls_catalog.specs.Membership.{fresh}
+use Rattle.rls_catalog.specs.Privileges.{optioned_by, Options, Owner, Granted, AreOptions}
+use Rattle.rls_catalog.specs.Walks.{Within, one_of-append, among_first, bytes_same, bytes_own, one_of_last, reads_all}
+use Rattle.rls_catalog.specs.Inheriting.{or_either, among_got}
+
+-- each of the names holds the option
+abbrev pub Sound : List ℕ → List Grant → Privilege → List (List ℕ) → Type 0
+Sound owner grants privilege names = (name : List ℕ) → one_of names name ≡ true → Options owner grants privilege name
+
+-- those to whom these granted the option are among the names
+abbrev pub Closed : List Grant → Privilege → List (List ℕ) → List (List ℕ) → Type 0
+Closed grants privilege these names = (name : List ℕ) → one_of these name ≡ true → Within (optioned_by grants privilege name) names
+
+more_if : (b : Bool) (seen : List (List ℕ)) (x : List ℕ) (xs ys : List (List ℕ))
+    → (seen ++ fresh seen xs) ++ fresh (seen ++ fresh seen xs) ys ≡ seen ++ fresh seen (xs ++ ys)
+    → ((seen ++ x ∷ []) ++ fresh (seen ++ x ∷ []) xs) ++ fresh ((seen ++ x ∷ []) ++ fresh (seen ++ x ∷ []) xs) ys ≡ (seen ++ x ∷ []) ++ fresh (seen ++ x ∷ []) (xs ++ ys)
+    → (seen ++ (if b then fresh seen xs else (x ∷ fresh (seen ++ x ∷ []) xs))) ++ fresh (seen ++ (if b then fresh seen xs else (x ∷ fresh (seen ++ x ∷ []) xs))) ys
+    ≡ seen ++ (if b then fresh seen (xs ++ ys) else (x ∷ fresh (seen ++ x ∷ []) (xs ++ ys)))
+more_if true seen x xs ys old new = old
+more_if false seen x xs ys old new =
+    ap (λ grown. grown ++ fresh grown ys) (sym (append_assoc seen (x ∷ []) (fresh (seen ++ x ∷ []) xs)))
+    ∙ new ∙ append_assoc seen (x ∷ []) (fresh (seen ++ x ∷ []) (xs ++ ys))
+
+-- what is fresh of names, and then of others
+pub fresh_more : (seen xs ys : List (List ℕ)) → (seen ++ fresh seen xs) ++ fresh (seen ++ fresh seen xs) ys ≡ seen ++ fresh seen (xs ++ ys)
+fresh_more seen [] ys = ap (λ grown. grown ++ fresh grown ys) (append-nil seen)
+fresh_more seen (x ∷ xs) ys = more_if (one_of seen x) seen x xs ys (fresh_more seen xs ys) (fresh_more (seen ++ x ∷ []) xs ys)
+
+-- ---- what is fresh of names is of them, and with what was seen it is all of them
+
+within_if : (b : Bool) (x : List ℕ) (some more names : List (List ℕ)) → Within some names → Within more names → Within (if b then some else (x ∷ more)) (x ∷ names)
+within_if true x some more names within also name is = or_right (bytes_eq x name) (one_of names name) (within name is)
+within_if false x some more names within also name is = or_either (bytes_eq x name) (one_of more name) is (λ here. or_left (bytes_eq x name) (one_of names name) here) (λ there. or_right (bytes_eq x name) (one_of names name) (also name there))
+
+fresh_within : (seen names : List (List ℕ)) → Within (fresh seen names) names
+fresh_within seen [] = λ name is. is
+fresh_within seen (x ∷ xs) = within_if (one_of seen x) x (fresh seen xs) (fresh (seen ++ x ∷ []) xs) xs (fresh_within seen xs) (fresh_within (seen ++ x ∷ []) xs)
+
+all_if : (b : Bool) (seen : List (List ℕ)) (x : List ℕ) (xs some more : List (List ℕ)) → one_of seen x ≡ b
+    → Within xs (seen ++ some) → Within xs ((seen ++ x ∷ []) ++ more) → Within (x ∷ xs) (seen ++ (if b then some else (x ∷ more)))
+all_if true seen x xs some more is within also name among =
+    or_either (bytes_eq x name) (one_of xs name) among (λ same. among_first seen some name (sym (ap (one_of seen) (bytes_same x name same)) ∙ is)) (λ there. within name there)
+all_if false seen x xs some more is within also name among =
+    subst (λ names. one_of names name ≡ true) (append_assoc seen (x ∷ []) more)
+    (or_either (bytes_eq x name) (one_of xs name) among (λ same. among_first (seen ++ x ∷ []) more name (sym (ap (one_of (seen ++ x ∷ [])) (bytes_same x name same)) ∙ one_of_last seen x)) (λ there. also name there))
+
+fresh_all : (seen names : List (List ℕ)) → Within names (seen ++ fresh seen names)
+fresh_all seen [] = λ name is. absurd (true≢false (sym is))
+fresh_all seen (x ∷ xs) = all_if (one_of seen x) seen x xs (fresh seen xs) (fresh (seen ++ x ∷ []) xs) refl (fresh_all seen xs) (fresh_all (seen ++ x ∷ []) xs)
+
+abbrev name_in : List ℕ → Option (List ℕ) → List ℕ
+name_in none (Some name) = name
+name_in none None = none
+
+take_on : (names more : List (List ℕ)) (next : ℕ) (name : List ℕ) → slice_get names next ≡ Some name → take (suc next) (names ++ more) ≡ take next names ++ name ∷ []
+take_on [] more next name found = absurd (omega (arith, slice_get_within [] next name found))
+take_on (x ∷ xs) more zero name found = ap (λ y. name_in [] y ∷ []) found
+take_on (x ∷ xs) more (suc next) name found = ap (λ rest. x ∷ rest) (take_on xs more next name found)
+
+one_more : (next : ℕ) → next + 1 ≡ suc next
+one_more next = omega arith
+
+-- ---- one more visit
+
+-- the owner alone
+pub sound_owner : (owner : List ℕ) (grants : List Grant) (privilege : Privilege) → Sound owner grants privilege (owner ∷ [])
+sound_owner owner grants privilege name is =
+    or_either (bytes_eq owner name) false is (λ same. subst (Options owner grants privilege) (bytes_same owner name same) Owner) (λ no. absurd (true≢false (sym no)))
+
+pub own_owner : (owner : List ℕ) → one_of (owner ∷ []) owner ≡ true
+own_owner owner = or_left (bytes_eq owner owner) false (bytes_own owner)
+
+pub closed_none : (grants : List Grant) (privilege : Privilege) (names : List (List ℕ)) → Closed grants privilege [] names
+closed_none grants privilege names name is = absurd (true≢false (sym is))
+
+pub sound_next : (owner : List ℕ) (grants : List Grant) (privilege : Privilege) (names grown : List (List ℕ)) (next : ℕ) (name : List ℕ) → slice_get names next ≡ Some name
+    → grown ≡ names ++ fresh names (optioned_by grants privilege name) → Sound owner grants privilege names → Sound owner grants privilege grown
+sound_next owner grants privilege names grown next name found grows sound x is =
+    let more : List (List ℕ) = fresh names (optioned_by grants privilege name) in
+    or_either (one_of names x) (one_of more x) (sym (one_of-append names more x) ∙ ap (λ ns. one_of ns x) (sym grows) ∙ is) (sound x)
+    (λ new. Granted name x (sound name (among_got names next name found)) (fresh_within names (optioned_by grants privilege name) x new))
+
+pub keeps_next : (names grown more : List (List ℕ)) (x : List ℕ) → grown ≡ names ++ more → one_of names x ≡ true → one_of grown x ≡ true
+keeps_next names grown more x grows is = ap (λ ns. one_of ns x) grows ∙ among_first names more x is
+
+closed_grown : (grants : List Grant) (privilege : Privilege) (names : List (List ℕ)) (next : ℕ) (name : List ℕ) → slice_get names next ≡ Some name
+    → Closed grants privilege (take next names) names
+    → Closed grants privilege (take (suc next) (names ++ fresh names (optioned_by grants privilege name))) (names ++ fresh names (optioned_by grants privilege name))
+closed_grown grants privilege names next name found closed grantor among granted is =
+    let more : List (List ℕ) = fresh names (optioned_by grants privilege name) in
+    or_either (one_of (take next names) grantor) (one_of (name ∷ []) grantor) (sym (one_of-append (take next names) (name ∷ []) grantor) ∙ ap (λ ns. one_of ns grantor) (sym (take_on names more next name found)) ∙ among)
+    (λ before. among_first names more granted (closed grantor before granted is))
+    (λ now. or_either (bytes_eq name grantor) false now
+    (λ same. fresh_all names (optioned_by grants privilege name) granted (ap (λ b. one_of (optioned_by grants privilege b) granted) (bytes_same name grantor same) ∙ is))
+    (λ no. absurd (true≢false (sym no))))
+
+pub closed_next : (grants : List Grant) (privilege : Privilege) (names grown : List (List ℕ)) (next : ℕ) (name : List ℕ) → slice_get names next ≡ Some name
+    → grown ≡ names ++ fresh names (optioned_by grants privilege name) → Closed grants privilege (take next names) names → Closed grants privilege (take (next + 1) grown) grown
+closed_next grants privilege names grown next name found grows closed =
+    subst (λ ns. Closed grants privilege (take (next + 1) ns) ns) (sym grows)
+    (subst (λ n. Closed grants privilege (take n (names ++ fresh names (optioned_by grants privilege name))) (names ++ fresh names (optioned_by grants privilege name))) (sym (one_more next)) (closed_grown grants privilege names next name found closed))
+
+-- ---- at the end
+
+complete : (owner : List ℕ) (grants : List Grant) (privilege : Privilege) (names : List (List ℕ)) → one_of names owner ≡ true → Closed grants privilege names names
+    → (name : List ℕ) → Options owner grants privilege name → one_of names name ≡ true
+complete owner grants privilege names itself closed name Owner = itself
+complete owner grants privilege names itself closed name (Granted grantor grantee holds is) = closed grantor (complete owner grants privilege names itself closed grantor holds) grantee is
+
+pub all_options : (owner : List ℕ) (grants : List Grant) (privilege : Privilege) (names items : List (List ℕ)) (next : ℕ) → items ≡ names → slice_get names next ≡ None
+    → Sound owner grants privilege names → one_of names owner ≡ true → Closed grants privilege (take next names) names → AreOptions owner grants privilege items
+all_options owner grants privilege names items next same past sound itself closed =
+    subst (AreOptions owner grants privilege) (sym same)
+    (λ name. (sound name, complete owner grants privilege names itself (subst (λ these. Closed grants privilege these names) (reads_all names next past) closed) name))
