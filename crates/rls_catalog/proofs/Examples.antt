@@ -295,7 +295,7 @@ postgres_is_there = refl
 others_are_absent : role_of opening (codes "alice") ≡ None
 others_are_absent = refl
 
--- a state with a row 7 of t agrees with the opening state on the rows of u and on the key (8) of t, and not on the key (7) of t
+-- a state that has a row of t with the key (7) agrees with the opening state on the rows of u and on the key (8) of t, and not on the key (7) of t
 agrees_elsewhere : AgreesOn opening (changed_all opening (put (codes "t") (Some (keyed 7)) ∷ [])) (o.Rows (codes "u") ∷ o.Key (codes "t") (v.Int (pos 8) ∷ []) ∷ o.Role (codes "postgres") ∷ [])
 agrees_elsewhere = (refl, (refl, (refl, tt)))
 

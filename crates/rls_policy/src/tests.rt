@@ -150,3 +150,34 @@ fn exemption_follows_ownership_and_nothing_else(rt: HostRuntime) -> Result<(), F
     }
     Ok(())
 }
+
+/// A chain of a thousand roles from `r0` up to `c`; the membership of the role numbered `broken` is without INHERIT.
+fn long_chain(alloc: Global, broken: u32) -> Result<Catalog, Refusal> {
+    let mut catalog = Catalog::new(alloc)?;
+    for n in 0..1000 {
+        let role = format!(in alloc; "r{n}")?;
+        let next = format!(in alloc; "r{}", n + 1)?;
+        add_role(&mut catalog, alloc, role.as_str(), false)?;
+        add_member(
+            &mut catalog,
+            alloc,
+            role.as_str(),
+            next.as_str(),
+            n != broken,
+        )?;
+    }
+    add_role(&mut catalog, alloc, "r1000", false)?;
+    add_member(&mut catalog, alloc, "r1000", "c", true)?;
+    add_role(&mut catalog, alloc, "c", false)?;
+    Ok(catalog)
+}
+
+#[test]
+fn chain_of_a_thousand_roles_is_walked(rt: HostRuntime) -> Result<(), Fail> {
+    for (broken, want) in [(5000, true), (500, false)] {
+        let catalog = long_chain(rt.alloc(), broken)?;
+        let is = exempts(&catalog, rt.alloc(), "r0", false)?;
+        assert_eq!(rt; is, want, "{broken}");
+    }
+    Ok(())
+}

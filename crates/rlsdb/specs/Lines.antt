@@ -1,7 +1,7 @@
 -- The lines of a script.
 use Rattle.std.specs.Prelude.{ℕ, Bool, true, false, cond, nat_eq, nat_lt, nat_le, ◌&&◌, ◌||◌, ◌-◌, ◌≡◌, List, [], ◌∷◌, length, take, drop, slice_index, codes}
 use Rattle.std.specs.List.{list_all, prefix_len, position_or_len, before_first, after_first}
-use Rattle.std.specs.Str.{IsUtf8}
+use Rattle.std.specs.Str.{IsUtf8, bytes_eq}
 use Rattle.rls_value.specs.Names.{is_between}
 use Rattle.rlsdb.specs.declared.line.Line.{Line}
 use Rattle.rlsdb.specs.declared.line.Line.TheVariants as l
@@ -48,9 +48,13 @@ is_blank byte = nat_eq byte 32 || nat_eq byte 9
 abbrev pub command_in : List ℕ → List ℕ
 command_in line = let behind = after_first is_colon line in drop (prefix_len is_blank behind) behind
 
+-- two equal signs and no more
+abbrev pub is_phase : List ℕ → Bool
+is_phase line = bytes_eq line (codes "==")
+
 -- what a line is: skipped first, then the line of two equal signs, then a text with a label
 abbrev pub IsRead : List ℕ → Line → Type 0
 IsRead line l.Skipped = is_skipped line ≡ true
-IsRead line l.Phase = line ≡ codes "=="
-IsRead line (l.Command label command) = (is_skipped line ≡ false) × (is_labelled line ≡ true) × IsUtf8 line × (label.now ≡ before_first is_colon line) × (command.now ≡ command_in line)
-IsRead line l.Unlabelled = (is_skipped line ≡ false) × (IsUtf8 line → is_labelled line ≡ false)
+IsRead line l.Phase = (is_skipped line ≡ false) × (is_phase line ≡ true)
+IsRead line (l.Command label command) = (is_skipped line ≡ false) × (is_phase line ≡ false) × (is_labelled line ≡ true) × IsUtf8 line × (label.now ≡ before_first is_colon line) × (command.now ≡ command_in line)
+IsRead line l.Unlabelled = (is_skipped line ≡ false) × (is_phase line ≡ false) × (IsUtf8 line → is_labelled line ≡ false)

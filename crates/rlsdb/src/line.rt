@@ -3,7 +3,7 @@
 ghost use Rattle.std.specs.Prelude.{◌≡◌, ◌<◌, false, length, drop};
 ghost use Rattle.std.specs.List.{position_or_len, after_first, prefix_len, list_all};
 ghost use Rattle.rlsdb.specs.Lines as spec;
-ghost use Rattle.rlsdb.specs.Lines.{IsRead, ends_line, first_line_of, is_skipped, is_blank};
+ghost use Rattle.rlsdb.specs.Lines.{IsRead, ends_line, first_line_of, is_skipped, is_phase, is_blank};
 
 use std::str;
 
@@ -66,17 +66,27 @@ pub fn read_line(line: &[u8]) -> Line<'_>
 {
     match line {
         [] | [b'-', b'-', ..] => Line::Skipped,
-        b"==" => Line::Phase,
-        _ => match str::from_utf8(line) {
-            Ok(text) => labelled(text),
-            Err(_) => Line::Unlabelled,
-        },
+        _ => written(line),
+    }
+}
+
+fn written(line: &[u8]) -> Line<'_>
+    requires { is_skipped line.now ≡ false }
+    ensures { IsRead line.now result }
+{
+    if line == b"==".as_slice() {
+        return Line::Phase;
+    }
+    match str::from_utf8(line) {
+        Ok(text) => labelled(text),
+        Err(_) => Line::Unlabelled,
     }
 }
 
 #[tactic(auto, using(crate::proofs::LineLemmas::split_at_colon))]
 fn labelled(text: &str) -> Line<'_>
-    requires { is_skipped text.now ≡ false }
+    requires shown { is_skipped text.now ≡ false }
+    requires no_phase { is_phase text.now ≡ false }
     ensures { IsRead text.now result }
 {
     match text.split_once(':') {
