@@ -10,7 +10,8 @@ use crate::noted::noted_grants;
 use crate::standing::{Standing, standing_of};
 use rls_catalog::{Change, Grant, Grantee};
 use rls_expr::TableDef;
-use rls_grant::{is_among, options};
+use rls_grant::options;
+use rls_role::is_among;
 use rls_source::{Footprint, RowSource};
 use rls_text::{GrantPrivileges, Privileges};
 use rls_value::{Items, Name, Privilege, Refusal, Why};
@@ -87,7 +88,7 @@ fn grantor_of(
         return Ok(Some(table.owner.copy()?));
     }
     let holders = options(alloc, &table.owner, grants, privilege)?;
-    if is_among(&ctx.role, holders.as_slice()) {
+    if is_among(holders.as_slice(), &ctx.role) {
         return Ok(Some(ctx.role.copy()?));
     }
     match least_common(standing.reach.names.as_slice(), holders.as_slice()) {
@@ -99,7 +100,7 @@ fn grantor_of(
 fn least_common<'a>(roles: &'a [Name], holders: &[Name]) -> Option<&'a Name> {
     let mut least: Option<&Name> = None;
     for role in roles {
-        if is_among(role, holders) && is_below(role, least) {
+        if is_among(holders, role) && is_below(role, least) {
             least = Some(role);
         }
     }

@@ -36,7 +36,7 @@ fresh_if_within : (b : Bool) (x : List ℕ) (some more names : List (List ℕ)) 
 fresh_if_within true x some more names within also name is = or_right (bytes_eq x name) (one_of names name) (within name is)
 fresh_if_within false x some more names within also name is = or_either (bytes_eq x name) (one_of more name) is (λ here. or_left (bytes_eq x name) (one_of names name) here) (λ there. or_right (bytes_eq x name) (one_of names name) (also name there))
 
-fresh_within : (seen names : List (List ℕ)) → Within (fresh seen names) names
+pub fresh_within : (seen names : List (List ℕ)) → Within (fresh seen names) names
 fresh_within seen [] = λ name is. is
 fresh_within seen (x ∷ xs) = fresh_if_within (one_of seen x) x (fresh seen xs) (fresh (seen ++ x ∷ []) xs) xs (fresh_within seen xs) (fresh_within (seen ++ x ∷ []) xs)
 
@@ -72,11 +72,11 @@ fresh_if_all false seen x xs some more is within also name among =
     subst (λ names. one_of names name ≡ true) (append_assoc seen (x ∷ []) more)
     (or_either (bytes_eq x name) (one_of xs name) among (λ same. among_first (seen ++ x ∷ []) more name (sym (ap (one_of (seen ++ x ∷ [])) (bytes_same x name same)) ∙ one_of_last seen x)) (λ there. also name there))
 
-fresh_all : (seen names : List (List ℕ)) → Within names (seen ++ fresh seen names)
+pub fresh_all : (seen names : List (List ℕ)) → Within names (seen ++ fresh seen names)
 fresh_all seen [] = λ name is. absurd (true≢false (sym is))
 fresh_all seen (x ∷ xs) = fresh_if_all (one_of seen x) seen x xs (fresh seen xs) (fresh (seen ++ x ∷ []) xs) refl (fresh_all seen xs) (fresh_all (seen ++ x ∷ []) xs)
 
-take_on : (names more : List (List ℕ)) (next : ℕ) (name : List ℕ) → slice_get names next ≡ Some name → take (suc next) (names ++ more) ≡ take next names ++ name ∷ []
+pub take_on : (names more : List (List ℕ)) (next : ℕ) (name : List ℕ) → slice_get names next ≡ Some name → take (suc next) (names ++ more) ≡ take next names ++ name ∷ []
 take_on [] more next name found = absurd (omega (arith, slice_get_within [] next name found))
 take_on (x ∷ xs) more zero name found = ap (λ y. y ∷ []) (some_same x name found)
 take_on (x ∷ xs) more (suc next) name found = ap (λ rest. x ∷ rest) (take_on xs more next name found)

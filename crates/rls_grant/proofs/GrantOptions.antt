@@ -1,16 +1,15 @@
 -- A walk over grants with option meets who holds the option.
-use Rattle.std.specs.Prelude.{◌≡◌, refl, ℕ, zero, suc, ◌+◌, List, [], ◌∷◌, ◌++◌, Option, Some, None, Bool, true, false, if◌then◌else◌, take, slice_get}
+use Rattle.std.specs.Prelude.{◌≡◌, ℕ, suc, ◌+◌, List, [], ◌∷◌, ◌++◌, Option, Some, None, Bool, true, false, if◌then◌else◌, take, slice_get}
 use Rattle.std.specs.Str.{bytes_eq}
 use Rattle.std.proofs.Common.{arith, sym, ap, ◌∙◌, subst, append_assoc, append-nil}
-use Rattle.std.proofs.lemmas.Bool.{true≢false, or_left, or_right}
-use Rattle.std.proofs.lemmas.Option.{slice_get_within}
+use Rattle.std.proofs.lemmas.Bool.{true≢false, or_left}
 use Rattle.rls_value.specs.Names.{one_of}
 use Rattle.rls_value.specs.declared.verb.Privilege.{Privilege}
 use Rattle.rls_catalog.specs.declared.grant.Grant.{Grant}
 use Rattle.rls_catalog.specs.Membership.{fresh}
 use Rattle.rls_catalog.specs.Privileges.{optioned_by, Options, Owner, Granted, AreOptions}
-use Rattle.rls_catalog.specs.Walks.{Within, one_of-append, among_first, bytes_same, bytes_own, one_of_last, reads_all}
-use Rattle.rls_catalog.specs.Inheriting.{or_either, among_got}
+use Rattle.rls_catalog.specs.Walks.{Within, one_of-append, among_first, bytes_same, bytes_own, reads_all}
+use Rattle.rls_catalog.specs.Inheriting.{or_either, among_got, fresh_within, fresh_all, take_on}
 
 -- each of the names holds the option
 abbrev pub Sound : List ℕ → List Grant → Privilege → List (List ℕ) → Type 0
@@ -34,37 +33,6 @@ more_if false seen x xs ys old new =
 pub fresh_more : (seen xs ys : List (List ℕ)) → (seen ++ fresh seen xs) ++ fresh (seen ++ fresh seen xs) ys ≡ seen ++ fresh seen (xs ++ ys)
 fresh_more seen [] ys = ap (λ grown. grown ++ fresh grown ys) (append-nil seen)
 fresh_more seen (x ∷ xs) ys = more_if (one_of seen x) seen x xs ys (fresh_more seen xs ys) (fresh_more (seen ++ x ∷ []) xs ys)
-
--- ---- what is fresh of names is of them, and with what was seen it is all of them
-
-within_if : (b : Bool) (x : List ℕ) (some more names : List (List ℕ)) → Within some names → Within more names → Within (if b then some else (x ∷ more)) (x ∷ names)
-within_if true x some more names within also name is = or_right (bytes_eq x name) (one_of names name) (within name is)
-within_if false x some more names within also name is = or_either (bytes_eq x name) (one_of more name) is (λ here. or_left (bytes_eq x name) (one_of names name) here) (λ there. or_right (bytes_eq x name) (one_of names name) (also name there))
-
-fresh_within : (seen names : List (List ℕ)) → Within (fresh seen names) names
-fresh_within seen [] = λ name is. is
-fresh_within seen (x ∷ xs) = within_if (one_of seen x) x (fresh seen xs) (fresh (seen ++ x ∷ []) xs) xs (fresh_within seen xs) (fresh_within (seen ++ x ∷ []) xs)
-
-all_if : (b : Bool) (seen : List (List ℕ)) (x : List ℕ) (xs some more : List (List ℕ)) → one_of seen x ≡ b
-    → Within xs (seen ++ some) → Within xs ((seen ++ x ∷ []) ++ more) → Within (x ∷ xs) (seen ++ (if b then some else (x ∷ more)))
-all_if true seen x xs some more is within also name among =
-    or_either (bytes_eq x name) (one_of xs name) among (λ same. among_first seen some name (sym (ap (one_of seen) (bytes_same x name same)) ∙ is)) (λ there. within name there)
-all_if false seen x xs some more is within also name among =
-    subst (λ names. one_of names name ≡ true) (append_assoc seen (x ∷ []) more)
-    (or_either (bytes_eq x name) (one_of xs name) among (λ same. among_first (seen ++ x ∷ []) more name (sym (ap (one_of (seen ++ x ∷ [])) (bytes_same x name same)) ∙ one_of_last seen x)) (λ there. also name there))
-
-fresh_all : (seen names : List (List ℕ)) → Within names (seen ++ fresh seen names)
-fresh_all seen [] = λ name is. absurd (true≢false (sym is))
-fresh_all seen (x ∷ xs) = all_if (one_of seen x) seen x xs (fresh seen xs) (fresh (seen ++ x ∷ []) xs) refl (fresh_all seen xs) (fresh_all (seen ++ x ∷ []) xs)
-
-abbrev name_in : List ℕ → Option (List ℕ) → List ℕ
-name_in none (Some name) = name
-name_in none None = none
-
-take_on : (names more : List (List ℕ)) (next : ℕ) (name : List ℕ) → slice_get names next ≡ Some name → take (suc next) (names ++ more) ≡ take next names ++ name ∷ []
-take_on [] more next name found = absurd (omega (arith, slice_get_within [] next name found))
-take_on (x ∷ xs) more zero name found = ap (λ y. name_in [] y ∷ []) found
-take_on (x ∷ xs) more (suc next) name found = ap (λ rest. x ∷ rest) (take_on xs more next name found)
 
 one_more : (next : ℕ) → next + 1 ≡ suc next
 one_more next = omega arith

@@ -5,4 +5,4 @@ mod holding;
 mod optioning;
 
 pub use holding::{holds, is_granted};
-pub use optioning::{is_among, options};
+pub use optioning::options;

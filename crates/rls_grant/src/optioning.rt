@@ -2,13 +2,13 @@
 
 ghost use Rattle.std.specs.Prelude.{◌≡◌, ◌++◌, slice_get, IfOk, OnOk};
 ghost use Rattle.std.specs.Option.{option_copied};
-ghost use Rattle.rls_value.specs.Names.{one_of};
 ghost use Rattle.rls_catalog.specs.Membership.{fresh};
 ghost use Rattle.rls_catalog.specs.Privileges as spec;
 ghost use Rattle.rls_catalog.specs.Privileges.{roles_in, optioned_by, AreOptions};
 
 use crate::holding::is_same_privilege;
 use rls_catalog::{Grant, Grantee};
+use rls_role::is_among;
 use rls_value::{Items, Name, Privilege};
 use std::alloc::{AllocError, Global};
 
@@ -68,17 +68,10 @@ fn add_grantee(holders: &mut Vec<Name>, grantee: &Grantee) -> Result<(), AllocEr
     match grantee {
         Grantee::Public => Ok(()),
         Grantee::Role(name) => {
-            if !is_among(name, holders) {
+            if !is_among(holders, name) {
                 holders.push(name.copy()?)?;
             }
             Ok(())
         }
     }
-}
-
-/// Whether the name is one of them.
-pub fn is_among(name: &Name, names: &[Name]) -> bool
-    ensures { result ≡ one_of names.now name.now }
-{
-    rls_role::is_among(names, name)
 }
