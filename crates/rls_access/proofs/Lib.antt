@@ -1,2 +1,4 @@
-pub mod ItemLemmas
-pub mod SelectedLemmas
+pub mod DoubleLemmas
+pub mod EachLemmas
+pub mod HolderLemmas
+pub mod StandingLaws

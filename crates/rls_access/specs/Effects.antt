@@ -1,21 +1,49 @@
--- What a statement does: its reply, decisions and changes, or the refusal that comes before any row is judged.
-use Rattle.std.specs.Prelude.{◌≡◌, ℕ, Bool, true, false, List, [], ◌∷◌, Option, Some, None, Result, Ok, Err}
+-- What a statement does: its reply, its decisions on rows and its changes.
+use Rattle.std.specs.Prelude.{◌≡◌, Bool, true, false, List, [], Result, Ok, Err}
 use Rattle.rls_value.specs.declared.refusal.Refusal.{Refusal}
-use Rattle.rls_value.specs.declared.refusal.Refusal.TheVariants as r
-use Rattle.rls_value.specs.declared.object.Object.{Object}
+use Rattle.rls_value.specs.declared.value.Value.{Value}
+use Rattle.rls_value.specs.Giving.{Fails}
 use Rattle.rls_catalog.specs.declared.change.Change.{Change}
 use Rattle.rls_access.specs.declared.effect.Effect.{Effect}
+use Rattle.rls_access.specs.declared.outcome.Decision.{Decision}
 use Rattle.rls_access.specs.declared.outcome.Reply.{Reply}
 use Rattle.rls_access.specs.declared.outcome.Reply.TheVariants.{Done, Refused}
+use Rattle.rls_access.specs.Listings.{Lists}
+
+-- what a statement comes to: an effect; or rows to be listed, with the decisions on the way, which changes nothing
+pub data Meaning : Type 0 where
+  Exactly : Effect → Meaning
+  Listing : List (List Value) → List Decision → Meaning
 
 -- a statement that writes objects and no rows
 abbrev pub writes : List Change → Effect
 writes changes = record { reply = Done; decisions = []; delta = changes }
 
--- what is read once that is found
-abbrev pub reads_then : {A : Type 0} → Option A → List Object → List Object
-reads_then (Some a) reads = reads
-reads_then None reads = []
+-- a refusal that comes before any row is judged
+abbrev pub refused_by : Refusal → Effect
+refused_by refusal = record { reply = Refused refusal; decisions = []; delta = [] }
+
+-- the rows are listed, and nothing changes
+pub record IsListed (rows : List (List Value)) (judged : List Decision) (effect : Effect) : Type 0 where
+  pub reply : Lists effect.reply rows
+  pub decisions : effect.decisions ≡ judged
+  pub delta : effect.delta ≡ []
+
+-- the effect is what the statement comes to
+abbrev pub IsEffect : Effect → Meaning → Type 0
+IsEffect effect (Exactly meant) = effect ≡ meant
+IsEffect effect (Listing rows decisions) = IsListed rows decisions effect
+
+-- a call that may refuse gives the effect that is meant, unless memory ran out
+abbrev pub GivesEffect : Result Effect Refusal → Result Meaning Refusal → Type 0
+GivesEffect (Ok effect) (Ok meaning) = IsEffect effect meaning
+GivesEffect (Ok effect) (Err refusal) = ⊥
+GivesEffect (Err refusal) meant = Fails refusal meant
+
+-- the effect is what is meant, where a refusal is one too
+abbrev pub Shows : Effect → Result Meaning Refusal → Type 0
+Shows effect (Ok meaning) = IsEffect effect meaning
+Shows effect (Err refusal) = effect ≡ refused_by refusal
 
 -- whether it is a refusal
 abbrev pub is_refused : Reply → Bool

@@ -1,23 +1,24 @@
 -- Row security of a table: what is read for it, and what the policies that apply say of a row.
-use Rattle.std.specs.Prelude.{ℕ, List, [], ◌∷◌, Bool, true, false, ◌||◌, Option, Some, None, if◌then◌else◌, map}
-use Rattle.rls_value.specs.Names.{one_of}
+use Rattle.std.specs.Prelude.{ℕ, List, [], ◌∷◌, Bool, true, false, Option, Some, None, Ok, if◌then◌else◌, map}
 use Rattle.rls_value.specs.declared.value.Value.{Value}
 use Rattle.rls_value.specs.declared.truth.Truth.{Truth}
 use Rattle.rls_value.specs.declared.verb.Kind.{Kind}
-use Rattle.rls_value.specs.declared.object.Object.{Object}
-use Rattle.rls_value.specs.declared.object.Object.TheVariants as o
 use Rattle.rls_value.specs.Values.{truth_in}
 use Rattle.rls_expr.specs.declared.table.TableDef.{TableDef}
 use Rattle.rls_expr.specs.Terms.{Term}
 use Rattle.rls_expr.specs.Placing.{placed}
-use Rattle.rls_catalog.specs.declared.role.RoleDef.{RoleDef}
 use Rattle.rls_catalog.specs.declared.policy.Policy.{Policy}
 use Rattle.rls_catalog.specs.declared.policy.Side.{Side}
 use Rattle.rls_catalog.specs.declared.policy.Verdict.{Verdict}
 use Rattle.rls_catalog.specs.declared.policy.Verdict.TheVariants as v
 use Rattle.rls_catalog.specs.Verdict.{judged, verdict_of, exempts, chosen, expression_of}
+use Rattle.rls_catalog.specs.State.{State}
+use Rattle.rls_access.specs.declared.standing.Standing.{Standing}
 use Rattle.rls_access.specs.declared.guard.Guard.{Guard}
 use Rattle.rls_access.specs.declared.guard.Guard.TheVariants.{Exempt, Policies}
+use Rattle.rls_access.specs.Readings.{Reading, known, followed_by}
+use Rattle.rls_access.specs.Asked.{asked_policies}
+use Rattle.rls_access.specs.Standings.{has_owner}
 use Rattle.rls_access.specs.Eval.{value_of, over}
 
 -- the condition in front of the others
@@ -30,16 +31,17 @@ abbrev pub conditions_of : Kind → Side → TableDef → List Policy → List T
 conditions_of kind side table [] = []
 conditions_of kind side table (policy ∷ policies) = with_condition table (expression_of policy kind side) (conditions_of kind side table policies)
 
--- what guards the rows of a table with these policies from a role of such attributes and privileges
-abbrev pub guard_of : RoleDef → Bool → List (List ℕ) → Kind → Side → TableDef → List Policy → Guard
-guard_of attributes superuser names kind side table policies =
-    if exempts attributes table (superuser || one_of names table.owner) then Exempt
-    else Policies (chosen superuser names kind side policies) (conditions_of kind side table (chosen superuser names kind side policies))
+-- the policies that apply to the role, with their conditions
+abbrev pub guard_by : Standing → Kind → Side → TableDef → List Policy → Guard
+guard_by standing kind side table policies =
+    let asked = chosen standing.reach.superuser standing.reach.names kind side policies in
+    Policies asked (conditions_of kind side table asked)
 
--- what is read to guard a table: its policies, unless the role is exempt
-abbrev pub guard_reads : RoleDef → Bool → List (List ℕ) → List ℕ → TableDef → List Object
-guard_reads attributes superuser names name table =
-    if exempts attributes table (superuser || one_of names table.owner) then [] else (o.Policies name ∷ [])
+-- what guards the rows of a table from the role
+abbrev pub guard_for : State → Standing → List ℕ → TableDef → Kind → Side → Reading Guard
+guard_for s standing name table kind side =
+    if exempts standing.attributes table (has_owner standing table) then known (Ok Exempt)
+    else followed_by (asked_policies s name) (λ policies. known (Ok (guard_by standing kind side table policies)))
 
 -- the truth value of a condition for the row
 abbrev pub truth_on : List ℕ → List Value → Term → Truth

@@ -3,10 +3,12 @@ use Rattle.std.specs.Prelude.{ℕ, List, [], ◌∷◌, Bool, true, false, ◌&&
 use Rattle.std.specs.List.Sorted.{IsPermutation, IsSorted}
 use Rattle.std.specs.Cmp.Lexicographic.{slice_cmp}
 use Rattle.rls_value.specs.declared.value.Value.{Value}
+use Rattle.rls_value.specs.declared.verb.Kind.{Kind}
 use Rattle.rls_value.specs.declared.verb.Kind.TheVariants as kind
 use Rattle.rls_value.specs.Truths.{is_true}
 use Rattle.rls_value.specs.Values.{listed}
 use Rattle.rls_expr.specs.Terms.{Term}
+use Rattle.rls_catalog.specs.declared.policy.Side.{Side}
 use Rattle.rls_catalog.specs.declared.policy.Side.TheVariants as side
 use Rattle.rls_catalog.specs.declared.policy.Verdict.{Verdict}
 use Rattle.rls_catalog.specs.declared.stored.Stored.{Stored}
@@ -37,9 +39,13 @@ selected (Some items) user row = map (λ item. value_of item (over user row)) it
 abbrev pub is_hit : Guard → Option Term → List ℕ → List Value → Bool
 is_hit guard condition user row = allows (verdict_on guard user row) && meets condition user row
 
--- what row security says of a row that is there, for a SELECT
+-- what row security says of a row, before or after, for a type of command
+abbrev pub decision_by : Side → Kind → Guard → List ℕ → Stored → Decision
+decision_by which command guard user stored = record { id = stored.id; side = which; kind = command; verdict = verdict_on guard user stored.row }
+
+-- of a row that is there, for a SELECT
 abbrev pub decision_on : Guard → List ℕ → Stored → Decision
-decision_on guard user stored = record { id = stored.id; side = side.Old; kind = kind.Select; verdict = verdict_on guard user stored.row }
+decision_on = decision_by side.Old kind.Select
 
 -- the values selected of the rows that are hit, in the rows' own order
 abbrev pub hits : Guard → Query → List ℕ → List Stored → List (List Value)

@@ -1,15 +1,13 @@
 //! What a statement asks before it looks at rows: names, privileges, owners.
 
-ghost use Rattle.std.specs.Prelude.{◌≡◌, [], ◌∷◌, ◌++◌, Ok, Err, if◌then◌else◌};
-ghost use Rattle.rls_catalog.specs.Membership.{attributes_of};
-ghost use Rattle.rls_value.specs.declared.object.Object.{Object};
+ghost use Rattle.std.specs.Prelude.{◌≡◌, ◌++◌};
 ghost use Rattle.rls_value.specs.Giving.{Gives, UnlessNoMemory};
-ghost use Rattle.rls_access.specs.Checks.{table_or_undefined, superuser_or_denied};
+ghost use Rattle.rls_access.specs.Checks.{table_or_undefined, role_or_undefined, grantees_or_undefined, superuser_or_denied};
 
 use crate::noted::{noted_role, noted_table};
 use rls_catalog::{Grantee, RoleDef};
 use rls_expr::TableDef;
-use rls_source::{Footprint, RowSource};
+use rls_source::{Reads, RowSource};
 use rls_value::{Name, NameKind, Refusal, Why};
 use std::alloc::Global;
 
@@ -17,12 +15,11 @@ use std::alloc::Global;
 pub fn table_named<S: RowSource>(
     alloc: Global,
     source: &mut S,
-    notes: &mut Footprint,
+    notes: &mut Reads,
     name: &Name,
 ) -> Result<TableDef, Refusal>
-    ensures given { Gives result (table_or_undefined (S.state source.old) name.now) }
-    ensures read { UnlessNoMemory result (source.new ≡ S.after source.old (Object.Table name.now ∷ [])) }
-    ensures noted { UnlessNoMemory result (notes.new ≡ notes.old ++ Object.Table name.now ∷ []) }
+    ensures given { Gives result (table_or_undefined (S.state source.old) name.now).gives }
+    ensures noted { UnlessNoMemory result (notes.new ≡ notes.old ++ (table_or_undefined (S.state source.old) name.now).reads) }
     ensures state { S.state source.new ≡ S.state source.old }
 {
     match noted_table(alloc, source, notes, name)? {
@@ -35,9 +32,11 @@ pub fn table_named<S: RowSource>(
 pub fn require_roles<S: RowSource>(
     alloc: Global,
     source: &mut S,
-    notes: &mut Footprint,
+    notes: &mut Reads,
     grantees: &[Grantee],
 ) -> Result<(), Refusal>
+    ensures given { Gives result (grantees_or_undefined (S.state source.old) grantees.now).gives }
+    ensures noted { UnlessNoMemory result (notes.new ≡ notes.old ++ (grantees_or_undefined (S.state source.old) grantees.now).reads) }
     ensures state { S.state source.new ≡ S.state source.old }
 {
     for grantee in grantees {
@@ -51,9 +50,11 @@ pub fn require_roles<S: RowSource>(
 fn require_role<S: RowSource>(
     alloc: Global,
     source: &mut S,
-    notes: &mut Footprint,
+    notes: &mut Reads,
     name: &Name,
 ) -> Result<RoleDef, Refusal>
+    ensures given { Gives result (role_or_undefined (S.state source.old) name.now).gives }
+    ensures noted { UnlessNoMemory result (notes.new ≡ notes.old ++ (role_or_undefined (S.state source.old) name.now).reads) }
     ensures state { S.state source.new ≡ S.state source.old }
 {
     match noted_role(alloc, source, notes, name)? {
@@ -66,13 +67,12 @@ fn require_role<S: RowSource>(
 pub fn require_superuser<S: RowSource>(
     alloc: Global,
     source: &mut S,
-    notes: &mut Footprint,
+    notes: &mut Reads,
     role: &Name,
     managed: &Name,
 ) -> Result<(), Refusal>
-    ensures given { Gives result (superuser_or_denied (S.state source.old) role.now managed.now) }
-    ensures read { UnlessNoMemory result (source.new ≡ S.after source.old (Object.Role role.now ∷ [])) }
-    ensures noted { UnlessNoMemory result (notes.new ≡ notes.old ++ Object.Role role.now ∷ []) }
+    ensures given { Gives result (superuser_or_denied (S.state source.old) role.now managed.now).gives }
+    ensures noted { UnlessNoMemory result (notes.new ≡ notes.old ++ (superuser_or_denied (S.state source.old) role.now managed.now).reads) }
     ensures state { S.state source.new ≡ S.state source.old }
 {
     match noted_role(alloc, source, notes, role)? {

@@ -1,15 +1,16 @@
 //! CREATE ROLE.
 
 ghost use Rattle.std.specs.Prelude.{◌≡◌, ◌++◌};
-ghost use Rattle.rls_value.specs.Giving.{Gives, UnlessNoMemory};
-ghost use Rattle.rls_access.specs.CreatingRoles.{create_role, create_role_reads};
+ghost use Rattle.rls_value.specs.Giving.{UnlessNoMemory};
+ghost use Rattle.rls_access.specs.Effects.{GivesEffect};
+ghost use Rattle.rls_access.specs.CreatingRoles.{create_role};
 
 use crate::checks::require_superuser;
 use crate::context::Ctx;
 use crate::effect::Effect;
 use crate::noted::noted_role;
 use rls_catalog::{Change, RoleDef};
-use rls_source::{Footprint, RowSource};
+use rls_source::{Reads, RowSource};
 use rls_text::CreateRole;
 use rls_value::{NameKind, Refusal};
 use std::alloc::Global;
@@ -18,13 +19,12 @@ use std::alloc::Global;
 pub fn run_create_role<S: RowSource>(
     alloc: Global,
     source: &mut S,
-    notes: &mut Footprint,
+    notes: &mut Reads,
     ctx: &Ctx,
     create: &CreateRole,
 ) -> Result<Effect, Refusal>
-    ensures effect { Gives result (create_role (S.state source.old) ctx.now create.now) }
-    ensures read { UnlessNoMemory result (source.new ≡ S.after source.old (create_role_reads (S.state source.old) ctx.now create.now)) }
-    ensures noted { UnlessNoMemory result (notes.new ≡ notes.old ++ create_role_reads (S.state source.old) ctx.now create.now) }
+    ensures effect { GivesEffect result (create_role (S.state source.old) ctx.now create.now).gives }
+    ensures noted { UnlessNoMemory result (notes.new ≡ notes.old ++ (create_role (S.state source.old) ctx.now create.now).reads) }
     ensures state { S.state source.new ≡ S.state source.old }
 {
     if noted_role(alloc, source, notes, &create.name)?.is_some() {

@@ -1,19 +1,23 @@
 //! CREATE TABLE, ALTER TABLE.
 
-ghost use Rattle.std.specs.Prelude.{◌≡◌, ◌++◌, IfOk};
-ghost use Rattle.rls_value.specs.Giving.{Gives, UnlessNoMemory};
-ghost use Rattle.rls_access.specs.Effects.{ChangesUnlessRefused};
-ghost use Rattle.rls_access.specs.AlteringTables.{alter_table, alter_table_reads};
+ghost use Rattle.std.specs.Prelude.{◌≡◌, [], ◌∷◌, ◌++◌, IfOk};
+ghost use Rattle.rls_value.specs.Giving.{UnlessNoMemory};
+ghost use Rattle.rls_access.specs.Effects.{GivesEffect, writes};
+ghost use Rattle.rls_access.specs.AlteringTables.{alter_table};
+ghost use Rattle.rls_access.specs.CreatingTables as spec;
+ghost use Rattle.rls_access.specs.CreatingTables.{table_with};
+ghost use Rattle.rls_access.specs.Granting as granted;
+ghost use Rattle.rls_access.specs.Granting.{with_grants};
 
 use crate::checks::table_named;
 use crate::context::Ctx;
 use crate::effect::Effect;
-use crate::granting::{put_grant, unmarked};
+use crate::granting::{plain_grant, put_grants};
 use crate::noted::{noted_grants, noted_table};
 use crate::standing::standing_of;
 use rls_catalog::{Change, Delta, Grant, Grantee};
 use rls_expr::{Column, TableDef};
-use rls_source::{Footprint, RowSource};
+use rls_source::{Reads, RowSource};
 use rls_text::{AlterTable, CreateTable, RowSecurity};
 use rls_value::{Items, Name, NameKind, Privilege, Refusal};
 use std::alloc::{AllocError, Global};
@@ -22,32 +26,52 @@ use std::alloc::{AllocError, Global};
 pub fn run_create_table<S: RowSource>(
     alloc: Global,
     source: &mut S,
-    notes: &mut Footprint,
+    notes: &mut Reads,
     ctx: &Ctx,
     create: &CreateTable,
 ) -> Result<Effect, Refusal>
-    ensures unchanged { IfOk result (λ effect. ChangesUnlessRefused effect.reply effect.delta) }
+    ensures effect { GivesEffect result (spec.create_table (S.state source.old) ctx.now create.now).gives }
+    ensures noted { UnlessNoMemory result (notes.new ≡ notes.old ++ (spec.create_table (S.state source.old) ctx.now create.now).reads) }
     ensures state { S.state source.new ≡ S.state source.old }
 {
     if noted_table(alloc, source, notes, &create.name)?.is_some() {
         return Err(Refusal::Duplicate(NameKind::Relation, create.name.copy()?));
     }
     let grants = noted_grants(alloc, source, notes, &create.name)?;
-    let table = TableDef {
-        owner: ctx.role.copy()?,
+    let grants = put_grants(grants, own_grants(alloc, &ctx.role)?)?;
+    let table = new_table(alloc, &ctx.role, create)?;
+    Ok(created(alloc, &create.name, table, grants)?)
+}
+
+fn created(
+    alloc: Global,
+    name: &Name,
+    table: TableDef,
+    grants: Items<Grant>,
+) -> Result<Effect, AllocError>
+    ensures { IfOk result (λ effect. effect ≡ writes (Change.Table name.now table ∷ Change.Grants name.now grants ∷ [])) }
+{
+    let mut delta = Delta::new(alloc);
+    delta.push(Change::Table(name.copy()?, table))?;
+    delta.push(Change::Grants(name.copy()?, grants))?;
+    Ok(Effect::done(alloc, delta))
+}
+
+fn new_table(alloc: Global, owner: &Name, create: &CreateTable) -> Result<TableDef, AllocError>
+    ensures { IfOk result (λ table. table ≡ table_with owner.now create.now.columns) }
+{
+    Ok(TableDef {
+        owner: owner.copy()?,
         enabled: false,
         forced: false,
         columns: copy_columns(alloc, create.columns.as_slice())?,
         key: Items::new(alloc),
-    };
-    let grants = with_owner(grants, &ctx.role)?;
-    let mut delta = Delta::new(alloc);
-    delta.push(Change::Table(create.name.copy()?, table))?;
-    delta.push(Change::Grants(create.name.copy()?, grants))?;
-    Ok(Effect::done(alloc, delta))
+    })
 }
 
-fn copy_columns(alloc: Global, columns: &[Column]) -> Result<Items<Column>, AllocError> {
+fn copy_columns(alloc: Global, columns: &[Column]) -> Result<Items<Column>, AllocError>
+    ensures { IfOk result (λ copies. copies ≡ columns.now) }
+{
     let mut copies = Vec::with_capacity(alloc, columns.len())?;
     for column in columns {
         copies.push(column.copy()?)?;
@@ -55,35 +79,34 @@ fn copy_columns(alloc: Global, columns: &[Column]) -> Result<Items<Column>, Allo
     Ok(Items::from_vec(copies))
 }
 
-/// The owner's own grants of the four privileges, put into those that are there.
-fn with_owner(grants: Items<Grant>, owner: &Name) -> Result<Items<Grant>, AllocError> {
-    let mut grants = grants.into_vec();
-    let all = [
-        Privilege::Select,
-        Privilege::Insert,
-        Privilege::Update,
-        Privilege::Delete,
-    ];
-    for privilege in all {
-        put_grant(
-            &mut grants,
-            unmarked(privilege, Grantee::Role(owner.copy()?), owner)?,
-        )?;
-    }
-    Ok(Items::from_vec(grants))
+/// The owner's own grants of the four privileges.
+fn own_grants(alloc: Global, owner: &Name) -> Result<Items<Grant>, AllocError>
+    ensures { IfOk result (λ grants. grants ≡ spec.own_grants owner.now) }
+{
+    let mut grants = Items::new(alloc);
+    grants.push(own_grant(Privilege::Select, owner)?)?;
+    grants.push(own_grant(Privilege::Insert, owner)?)?;
+    grants.push(own_grant(Privilege::Update, owner)?)?;
+    grants.push(own_grant(Privilege::Delete, owner)?)?;
+    Ok(grants)
+}
+
+fn own_grant(privilege: Privilege, owner: &Name) -> Result<Grant, AllocError>
+    ensures { IfOk result (λ grant. grant ≡ granted.plain_grant privilege (Grantee.Role owner.now) owner.now) }
+{
+    plain_grant(privilege, Grantee::Role(owner.copy()?), owner)
 }
 
 /// Turns row security on.
 pub fn run_alter_table<S: RowSource>(
     alloc: Global,
     source: &mut S,
-    notes: &mut Footprint,
+    notes: &mut Reads,
     ctx: &Ctx,
     alter: &AlterTable,
 ) -> Result<Effect, Refusal>
-    ensures effect { Gives result (alter_table (S.state source.old) ctx.now alter.now) }
-    ensures read { UnlessNoMemory result (source.new ≡ S.after source.old (alter_table_reads (S.state source.old) ctx.now alter.now)) }
-    ensures noted { UnlessNoMemory result (notes.new ≡ notes.old ++ alter_table_reads (S.state source.old) ctx.now alter.now) }
+    ensures effect { GivesEffect result (alter_table (S.state source.old) ctx.now alter.now).gives }
+    ensures noted { UnlessNoMemory result (notes.new ≡ notes.old ++ (alter_table (S.state source.old) ctx.now alter.now).reads) }
     ensures state { S.state source.new ≡ S.state source.old }
 {
     let mut table = table_named(alloc, source, notes, &alter.table)?;

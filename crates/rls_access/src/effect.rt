@@ -1,7 +1,7 @@
 //! What a statement does, before its reads are put beside it.
 
 ghost use Rattle.std.specs.Prelude.{◌≡◌, [], ◌∷◌, IfOk};
-ghost use Rattle.rls_access.specs.Effects.{writes};
+ghost use Rattle.rls_access.specs.Effects.{writes, refused_by};
 
 use crate::outcome::{Decision, Reply};
 use rls_catalog::{Change, Delta};
@@ -19,9 +19,7 @@ pub struct Effect {
 impl Effect {
     /// A refusal before any row was judged.
     pub fn refused(alloc: Global, refusal: Refusal) -> Effect
-        ensures reply { result.reply ≡ Reply.Refused refusal }
-        ensures decisions { result.decisions ≡ [] }
-        ensures delta { result.delta ≡ [] }
+        ensures { result ≡ refused_by refusal }
     {
         Effect::judged(alloc, Reply::Refused(refusal), Items::new(alloc))
     }

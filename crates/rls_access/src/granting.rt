@@ -1,7 +1,18 @@
 //! GRANT of table privileges.
 
-ghost use Rattle.std.specs.Prelude.{◌≤◌, length, ◌≡◌, IfOk};
-ghost use Rattle.rls_access.specs.Effects.{ChangesUnlessRefused};
+ghost use Rattle.std.specs.Prelude.{◌≡◌, ◌≤◌, ◌++◌, length, map, filter, IfOk, OnOk};
+ghost use Rattle.std.specs.List.{position_or_len, flat_map};
+ghost use Rattle.std.specs.Option.{option_copied};
+ghost use Rattle.std.specs.Ordering.{is_lt};
+ghost use Rattle.rls_value.specs.Names.{one_of};
+ghost use Rattle.rls_value.specs.Giving.{Gives, UnlessNoMemory};
+ghost use Rattle.rls_catalog.specs.Verdict as verdict;
+ghost use Rattle.rls_catalog.specs.Verdict.{least};
+ghost use Rattle.rls_access.specs.Effects.{GivesEffect};
+ghost use Rattle.rls_access.specs.Sequences.{each_of};
+ghost use Rattle.rls_access.specs.Holders.{holders_of};
+ghost use Rattle.rls_access.specs.Granting as spec;
+ghost use Rattle.rls_access.specs.Granting.{with_grants, grants_by, grantor_by, grant_on, grants_made};
 
 use crate::checks::{require_roles, table_named};
 use crate::context::Ctx;
@@ -12,114 +23,230 @@ use rls_catalog::{Change, Grant, Grantee};
 use rls_expr::TableDef;
 use rls_grant::options;
 use rls_role::is_among;
-use rls_source::{Footprint, RowSource};
+use rls_source::{Reads, RowSource};
 use rls_text::{GrantPrivileges, Privileges};
 use rls_value::{Items, Name, Privilege, Refusal, Why};
 use std::alloc::{AllocError, Global};
 use std::cmp::Ordering;
 
+/// Who grants a privilege.
+#[derive(Drop)]
+struct Grantor {
+    privilege: Privilege,
+    name: Name,
+}
+
 /// Grants the privileges to each grantee. Each privilege has its own grantor; the first without one is refused.
 pub fn run_grant<S: RowSource>(
     alloc: Global,
     source: &mut S,
-    notes: &mut Footprint,
+    notes: &mut Reads,
     ctx: &Ctx,
     grant: &GrantPrivileges,
 ) -> Result<Effect, Refusal>
-    ensures unchanged { IfOk result (λ effect. ChangesUnlessRefused effect.reply effect.delta) }
+    ensures effect { GivesEffect result (spec.grant (S.state source.old) ctx.now grant.now).gives }
+    ensures noted { UnlessNoMemory result (notes.new ≡ notes.old ++ (spec.grant (S.state source.old) ctx.now grant.now).reads) }
     ensures state { S.state source.new ≡ S.state source.old }
 {
     let table = table_named(alloc, source, notes, &grant.table)?;
     require_roles(alloc, source, notes, grant.to.as_slice())?;
-    let mut grants = noted_grants(alloc, source, notes, &grant.table)?.into_vec();
-    let standing = standing_of(alloc, source, notes, &ctx.role)?;
-    for privilege in [
-        Privilege::Select,
-        Privilege::Insert,
-        Privilege::Update,
-        Privilege::Delete,
-    ] {
-        if is_granted(&grant.privileges, privilege) {
-            grant_one(alloc, &mut grants, &standing, ctx, &table, privilege, grant)?;
-        }
-    }
-    let change = Change::Grants(grant.table.copy()?, Items::from_vec(grants));
-    Ok(Effect::changed(alloc, change)?)
+    run_grant_on(alloc, source, notes, &ctx.role, &table, grant)
 }
 
-fn is_granted(privileges: &Privileges, privilege: Privilege) -> bool {
-    match privilege {
-        Privilege::Select => privileges.select,
-        Privilege::Insert => privileges.insert,
-        Privilege::Update => privileges.update,
-        Privilege::Delete => privileges.delete,
-    }
-}
-
-fn grant_one(
+fn run_grant_on<S: RowSource>(
     alloc: Global,
-    grants: &mut Vec<Grant>,
-    standing: &Standing,
-    ctx: &Ctx,
+    source: &mut S,
+    notes: &mut Reads,
+    role: &Name,
     table: &TableDef,
-    privilege: Privilege,
     grant: &GrantPrivileges,
-) -> Result<(), Refusal> {
-    let Some(grantor) = grantor_of(alloc, grants, standing, ctx, table, privilege)? else {
-        return Err(Refusal::Denied(Why::GrantOption(privilege, grant.table.copy()?)));
-    };
-    for grantee in grant.to.as_slice() {
-        put_grant(grants, unmarked(privilege, grantee.copy()?, &grantor)?)?;
+) -> Result<Effect, Refusal>
+    ensures effect { GivesEffect result (grant_on (S.state source.old) role.now table.now grant.now).gives }
+    ensures noted { UnlessNoMemory result (notes.new ≡ notes.old ++ (grant_on (S.state source.old) role.now table.now grant.now).reads) }
+    ensures state { S.state source.new ≡ S.state source.old }
+{
+    let grants = noted_grants(alloc, source, notes, &grant.table)?;
+    let standing = standing_of(alloc, source, notes, role)?;
+    make_grants(alloc, &standing, role, table, grants, grant)
+}
+
+fn make_grants(
+    alloc: Global,
+    standing: &Standing,
+    role: &Name,
+    table: &TableDef,
+    grants: Items<Grant>,
+    grant: &GrantPrivileges,
+) -> Result<Effect, Refusal>
+    ensures { GivesEffect result (grants_made standing.now role.now table.now grants grant.now) }
+{
+    let named = named_privileges(alloc, &grant.privileges)?;
+    let grantors = grantors_of(
+        alloc,
+        standing,
+        role,
+        &grant.table,
+        table,
+        grants.as_slice(),
+        &named,
+    )?;
+    let new = new_grants(alloc, grantors.as_slice(), grant.to.as_slice())?;
+    let grants = put_grants(grants, new)?;
+    Ok(Effect::changed(alloc, Change::Grants(grant.table.copy()?, grants))?)
+}
+
+/// The privileges that are named, in the order in which they are granted.
+fn named_privileges(alloc: Global, named: &Privileges) -> Result<Vec<Privilege>, AllocError>
+    ensures { IfOk result (λ privileges. privileges.items ≡ filter (spec.is_named named.now) spec.all_privileges) }
+{
+    let mut privileges = Vec::new(alloc);
+    if named.select {
+        privileges.push(Privilege::Select)?;
     }
-    Ok(())
+    if named.insert {
+        privileges.push(Privilege::Insert)?;
+    }
+    if named.update {
+        privileges.push(Privilege::Update)?;
+    }
+    if named.delete {
+        privileges.push(Privilege::Delete)?;
+    }
+    Ok(privileges)
+}
+
+/// Who grants each of the privileges; the first that nobody grants is denied.
+fn grantors_of(
+    alloc: Global,
+    standing: &Standing,
+    role: &Name,
+    name: &Name,
+    table: &TableDef,
+    grants: &[Grant],
+    privileges: &[Privilege],
+) -> Result<Items<Grantor>, Refusal>
+    ensures { Gives result (each_of (spec.granted_by standing.now role.now name.now table.now grants.now) privileges.now) }
+{
+    let mut grantors = Items::new(alloc);
+    for privilege in privileges {
+        let grantor = grantor_of(alloc, standing, role, name, table, grants, privilege)?;
+        grantors.push(grantor)?;
+    }
+    Ok(grantors)
+}
+
+fn grantor_of(
+    alloc: Global,
+    standing: &Standing,
+    role: &Name,
+    name: &Name,
+    table: &TableDef,
+    grants: &[Grant],
+    privilege: &Privilege,
+) -> Result<Grantor, Refusal>
+    ensures { Gives result (spec.granted_by standing.now role.now name.now table.now grants.now privilege.now) }
+{
+    let privilege = *privilege;
+    match grantor_name(alloc, standing, role, table, grants, privilege)? {
+        Some(name) => Ok(Grantor { privilege, name }),
+        None => Err(Refusal::Denied(Why::GrantOption(privilege, name.copy()?))),
+    }
 }
 
 /// The owner, where the role has its privileges; else the role itself, where it holds the grant option; else the
 /// byte-least role whose privileges it has and that holds it.
-fn grantor_of(
+#[tactic(auto, using(crate::proofs::HolderLemmas::grantor_same))]
+fn grantor_name(
     alloc: Global,
-    grants: &[Grant],
     standing: &Standing,
-    ctx: &Ctx,
+    role: &Name,
     table: &TableDef,
+    grants: &[Grant],
     privilege: Privilege,
-) -> Result<Option<Name>, AllocError> {
-    if standing.reach.has(&table.owner) {
-        return Ok(Some(table.owner.copy()?));
-    }
+) -> Result<Option<Name>, AllocError>
+    ensures { IfOk result (λ name. name ≡ grantor_by standing.now role.now table.now (holders_of table.now.owner grants.now privilege)) }
+{
     let holders = options(alloc, &table.owner, grants, privilege)?;
-    if is_among(holders.as_slice(), &ctx.role) {
-        return Ok(Some(ctx.role.copy()?));
-    }
-    match least_common(standing.reach.names.as_slice(), holders.as_slice()) {
+    match grantor_among(standing, role, table, holders.as_slice()) {
         Some(name) => Ok(Some(name.copy()?)),
         None => Ok(None),
     }
 }
 
-fn least_common<'a>(roles: &'a [Name], holders: &[Name]) -> Option<&'a Name> {
-    let mut least: Option<&Name> = None;
-    for role in roles {
-        if is_among(holders, role) && is_below(role, least) {
-            least = Some(role);
-        }
+fn grantor_among<'a>(
+    standing: &'a Standing,
+    role: &'a Name,
+    table: &'a TableDef,
+    holders: &[Name],
+) -> Option<&'a Name>
+    ensures { option_copied result ≡ grantor_by standing.now role.now table.now holders.now }
+{
+    if standing.reach.has(&table.owner) {
+        return Some(&table.owner);
     }
-    least
+    if is_among(holders, role) {
+        return Some(role);
+    }
+    least_common(standing.reach.names.as_slice(), holders)
 }
 
-fn is_below(name: &Name, least: Option<&Name>) -> bool {
-    match least {
-        Some(other) => *name < *other,
-        None => true,
+fn least_common<'a>(roles: &'a [Name], holders: &[Name]) -> Option<&'a Name>
+    ensures { option_copied result ≡ least None (filter (one_of holders.now) roles.now) }
+{
+    let mut best = None;
+    for role in roles {
+        if is_among(holders, role) {
+            best = Some(lesser(best, role));
+        }
     }
+    best
+}
+
+fn lesser<'a>(best: Option<&'a Name>, name: &'a Name) -> &'a Name
+    ensures { result.now ≡ verdict.lesser (option_copied best.entry) name.now }
+{
+    match best {
+        Some(best) => { if *best > *name { name } else { best } }
+        None => name,
+    }
+}
+
+/// Each privilege to each grantee.
+fn new_grants(
+    alloc: Global,
+    grantors: &[Grantor],
+    grantees: &[Grantee],
+) -> Result<Items<Grant>, AllocError>
+    ensures { IfOk result (λ grants. grants ≡ flat_map (grants_by grantees.now) grantors.now) }
+{
+    let mut grants = Items::new(alloc);
+    for grantor in grantors {
+        add_grants(&mut grants, grantor, grantees)?;
+    }
+    Ok(grants)
+}
+
+fn add_grants(
+    grants: &mut Items<Grant>,
+    grantor: &Grantor,
+    grantees: &[Grantee],
+) -> Result<(), AllocError>
+    ensures { OnOk result (grants.new ≡ grants.old ++ grants_by grantees.now grantor.now) }
+{
+    for grantee in grantees {
+        grants.push(plain_grant(grantor.privilege, grantee.copy()?, &grantor.name)?)?;
+    }
+    Ok(())
 }
 
 /// A grant without the grant option.
-pub fn unmarked(
+pub fn plain_grant(
     privilege: Privilege,
     grantee: Grantee,
     grantor: &Name,
-) -> Result<Grant, AllocError> {
+) -> Result<Grant, AllocError>
+    ensures { IfOk result (λ grant. grant ≡ spec.plain_grant privilege grantee grantor.now) }
+{
     Ok(Grant {
         privilege,
         grantee,
@@ -128,38 +255,83 @@ pub fn unmarked(
     })
 }
 
-/// Puts the grant into its place by privilege, grantee and grantor; where it is there already, its mark stays.
-pub fn put_grant(grants: &mut Vec<Grant>, grant: Grant) -> Result<(), AllocError> {
-    let place = first_not_before(grants, &grant);
-    if let Some(other) = grants.get(place) {
-        if cmp_grants(other, &grant) == Ordering::Equal {
-            return Ok(());
-        }
+/// The grants with new ones put into their places; where one is there already, its mark stays.
+pub fn put_grants(grants: Items<Grant>, new: Items<Grant>) -> Result<Items<Grant>, AllocError>
+    ensures { IfOk result (λ all. all ≡ with_grants grants new) }
+{
+    let mut grants = grants.into_vec();
+    for grant in new.into_vec() {
+        put_grant(&mut grants, grant)?;
     }
+    Ok(Items::from_vec(grants))
+}
+
+fn put_grant(grants: &mut Vec<Grant>, grant: Grant) -> Result<(), AllocError>
+    ensures { OnOk result (grants.new.items ≡ spec.with_grant grants.old.items grant) }
+{
+    if is_there(grants, &grant) {
+        return Ok(());
+    }
+    let place = first_after(grants, &grant);
     grants.insert(place, grant)?;
     Ok(())
 }
 
-fn first_not_before(grants: &[Grant], grant: &Grant) -> usize
-    ensures { result ≤ length grants.now }
+fn is_there(grants: &[Grant], grant: &Grant) -> bool
+    ensures { result ≡ spec.is_there grants.now grant.now }
 {
-    for (place, other) in grants.iter().enumerate() {
-        if cmp_grants(other, grant) != Ordering::Less {
-            return place;
-        }
-    }
-    grants.len()
+    grants
+        .iter()
+        .any(|other| cmp_grants(other, grant) == Ordering::Equal)
 }
 
-fn cmp_grants(left: &Grant, right: &Grant) -> Ordering {
-    left.privilege
-        .cmp(&right.privilege)
+fn first_after(grants: &[Grant], grant: &Grant) -> usize
+    ensures place { result ≡ position_or_len (λ other. is_lt (spec.grant_order grant.now other)) grants.now }
+    ensures within { result ≤ length grants.now }
+{
+    let mut place = 0;
+    let mut rest = grants;
+    while let [other, others @ ..] = rest {
+        if is_before(grant, other) {
+            break;
+        }
+        place += 1;
+        rest = others;
+    }
+    place
+}
+
+fn is_before(left: &Grant, right: &Grant) -> bool
+    ensures { result ≡ is_lt (spec.grant_order left.now right.now) }
+{
+    cmp_grants(left, right) == Ordering::Less
+}
+
+/// By privilege, then by grantee, then by grantor.
+fn cmp_grants(left: &Grant, right: &Grant) -> Ordering
+    ensures { result ≡ spec.grant_order left.now right.now }
+{
+    place_of(left.privilege)
+        .cmp(&place_of(right.privilege))
         .then(cmp_grantees(&left.grantee, &right.grantee))
         .then(left.grantor.cmp(&right.grantor))
 }
 
+fn place_of(privilege: Privilege) -> u8
+    ensures { result ≡ spec.place_of privilege }
+{
+    match privilege {
+        Privilege::Select => 0,
+        Privilege::Insert => 1,
+        Privilege::Update => 2,
+        Privilege::Delete => 3,
+    }
+}
+
 /// PUBLIC stands before every name, as its bytes do.
-fn cmp_grantees(left: &Grantee, right: &Grantee) -> Ordering {
+fn cmp_grantees(left: &Grantee, right: &Grantee) -> Ordering
+    ensures { result ≡ spec.grantee_order left.now right.now }
+{
     match (left, right) {
         (Grantee::Public, Grantee::Public) => Ordering::Equal,
         (Grantee::Public, Grantee::Role(_)) => Ordering::Less,

@@ -1,8 +1,7 @@
 //! Row security of one table for one type of command: which policies are asked, and what they say of a row.
 
-ghost use Rattle.std.specs.Prelude.{◌≡◌, [], ◌∷◌, ◌++◌, map, IfOk, OnOk};
+ghost use Rattle.std.specs.Prelude.{◌≡◌, [], ◌∷◌, ◌++◌, Ok, map, IfOk, OnOk};
 ghost use Rattle.rls_expr.specs.Placing.{placed};
-ghost use Rattle.rls_catalog.specs.State.{policies_of};
 ghost use Rattle.rls_access.specs.Guards as spec;
 
 use crate::evaluation::truth_over;
@@ -11,7 +10,7 @@ use crate::standing::Standing;
 use rls_catalog::{Policy, Side, Verdict};
 use rls_expr::{Expr, FromTable, Scope, place_columns};
 use rls_policy::{chosen, combine, expression_of};
-use rls_source::{Footprint, RowSource};
+use rls_source::{Reads, RowSource};
 use rls_value::{Items, Kind, Name, Row, Truth};
 use std::alloc::{AllocError, Global};
 
@@ -29,15 +28,14 @@ pub enum Guard {
 pub fn guard_of<'x, S: RowSource>(
     alloc: Global,
     source: &mut S,
-    notes: &mut Footprint,
+    notes: &mut Reads,
     standing: &Standing,
     from: FromTable<'x>,
     kind: Kind,
     side: Side,
 ) -> Result<Guard, AllocError>
-    ensures guard { IfOk result (λ guard. guard ≡ spec.guard_of standing.now.attributes standing.now.reach.superuser standing.now.reach.names kind side from.entry.table.now (policies_of (S.state source.old) from.entry.name.now)) }
-    ensures read { OnOk result (source.new ≡ S.after source.old (spec.guard_reads standing.now.attributes standing.now.reach.superuser standing.now.reach.names from.entry.name.now from.entry.table.now)) }
-    ensures noted { OnOk result (notes.new ≡ notes.old ++ spec.guard_reads standing.now.attributes standing.now.reach.superuser standing.now.reach.names from.entry.name.now from.entry.table.now) }
+    ensures given { IfOk result (λ guard. (spec.guard_for (S.state source.old) standing.now from.entry.name.now from.entry.table.now kind side).gives ≡ Ok guard) }
+    ensures noted { OnOk result (notes.new ≡ notes.old ++ (spec.guard_for (S.state source.old) standing.now from.entry.name.now from.entry.table.now kind side).reads) }
     ensures state { S.state source.new ≡ S.state source.old }
 {
     if standing.is_exempt(from.table) {

@@ -1,50 +1,93 @@
 //! INSERT.
 
-ghost use Rattle.std.specs.Prelude.{◌≡◌, false, IfOk};
-ghost use Rattle.rls_access.specs.Effects.{ChangesUnlessRefused, is_refused};
+ghost use Rattle.std.specs.Prelude.{◌≡◌, ◌+◌, ◌≤◌, ◌++◌, length, map, IfOk, OnOk};
+ghost use Rattle.rls_value.specs.Giving.{Gives, UnlessNoMemory};
+ghost use Rattle.rls_access.specs.Effects.{GivesEffect, Shows};
+ghost use Rattle.rls_access.specs.Listings.{decision_by};
+ghost use Rattle.rls_access.specs.Sequences.{each_or_refused};
+ghost use Rattle.rls_access.specs.Inserting as spec;
 
 use crate::checks::table_named;
 use crate::context::Ctx;
 use crate::effect::Effect;
 use crate::guard::{Guard, guard_of, verdict_on};
-use crate::keys::{keys_of, require_unique};
+use crate::keys::{key_at, require_unique};
 use crate::outcome::{Decision, Reply};
-use crate::standing::standing_of;
-use crate::tuples::{check_tuples, require_not_null, require_range, rows_of};
-use rls_catalog::{Change, Delta, Keyed, RowChange, Side, Verdict};
-use rls_expr::FromTable;
-use rls_source::{Footprint, RowSource};
+use crate::standing::{Standing, standing_of};
+use crate::tuples::{check_tuples, require_range, require_values, rows_of};
+use rls_catalog::{Change, Delta, Keyed, RowChange, Side, Stored, Verdict};
+use rls_expr::{Column, Expr, FromTable};
+use rls_source::{Reads, RowSource};
 use rls_text::Insert;
 use rls_value::{Items, Kind, Limit, Name, Privilege, Refusal, Row, RowId, Why};
 use std::alloc::{AllocError, Global};
-
-/// The rows to be written, with their numbers and keys, each list in the order of the tuples.
-#[derive(Drop)]
-struct NewRows {
-    ids: Vec<RowId>,
-    keys: Vec<Row>,
-    rows: Vec<Row>,
-}
 
 /// Adds the rows of the tuples.
 pub fn run_insert<S: RowSource>(
     alloc: Global,
     source: &mut S,
-    notes: &mut Footprint,
+    notes: &mut Reads,
     ctx: &Ctx,
     insert: &Insert,
 ) -> Result<Effect, Refusal>
-    ensures unchanged { IfOk result (λ effect. ChangesUnlessRefused effect.reply effect.delta) }
+    ensures effect { GivesEffect result (spec.insert (S.state source.old) ctx.now insert.now).gives }
+    ensures noted { UnlessNoMemory result (notes.new ≡ notes.old ++ (spec.insert (S.state source.old) ctx.now insert.now).reads) }
     ensures state { S.state source.new ≡ S.state source.old }
 {
     let table = table_named(alloc, source, notes, &insert.table)?;
-    let columns = table.columns.as_slice();
-    let tuples = check_tuples(alloc, insert.tuples.as_slice(), columns)?;
-    let ids = ids_of(alloc, ctx, tuples.len())?;
     let from = FromTable {
         name: &insert.table,
         table: &table,
     };
+    let rows = new_rows(
+        alloc,
+        ctx,
+        table.columns.as_slice(),
+        insert.tuples.as_slice(),
+    )?;
+    insert_into(alloc, source, notes, ctx, from, rows.into_vec())
+}
+
+/// The rows of the tuples, where names and types are right and numbers are left.
+fn new_rows(
+    alloc: Global,
+    ctx: &Ctx,
+    columns: &[Column],
+    tuples: &[Items<Expr>],
+) -> Result<Items<Row>, Refusal>
+    ensures given { Gives result (spec.new_rows ctx.now columns.now tuples.now) }
+    ensures room { IfOk result (λ rows. ctx.now.next + length rows ≤ 4294967295) }
+{
+    let tuples = check_tuples(alloc, tuples, columns)?;
+    require_room(ctx.next, tuples.len())?;
+    let rows = rows_of(alloc, tuples.as_slice(), columns, &ctx.role)?;
+    Ok(rows)
+}
+
+/// A transaction gives at most `u32::MAX` numbers.
+fn require_room(next: u32, count: usize) -> Result<(), Refusal>
+    ensures { Gives result (spec.room_or_limit next count) }
+{
+    if count > (u32::MAX - next) as usize {
+        Err(Refusal::Limit(Limit::Inserts))
+    } else {
+        Ok(())
+    }
+}
+
+fn insert_into<'x, S: RowSource>(
+    alloc: Global,
+    source: &mut S,
+    notes: &mut Reads,
+    ctx: &Ctx,
+    from: FromTable<'x>,
+    rows: Vec<Row>,
+) -> Result<Effect, Refusal>
+    requires { ctx.now.next + length rows.items ≤ 4294967295 }
+    ensures effect { GivesEffect result (spec.insert_into (S.state source.old) ctx.now from.entry.name.now from.entry.table.now rows.items).gives }
+    ensures noted { UnlessNoMemory result (notes.new ≡ notes.old ++ (spec.insert_into (S.state source.old) ctx.now from.entry.name.now from.entry.table.now rows.items).reads) }
+    ensures state { S.state source.new ≡ S.state source.old }
+{
     let standing = standing_of(alloc, source, notes, &ctx.role)?;
     let guard = guard_of(
         alloc,
@@ -55,108 +98,200 @@ pub fn run_insert<S: RowSource>(
         Kind::Insert,
         Side::New,
     )?;
-    standing.require_privilege(alloc, source, notes, Privilege::Insert, &insert.table)?;
-    let rows = rows_of(alloc, &tuples, columns.len(), &ctx.role)?;
-    require_range(&rows, columns)?;
-    let decisions = judge(alloc, &guard, &ctx.role, &ids, &rows)?;
-    let keys = keys_of(alloc, &table, &rows)?;
-    let new = NewRows { ids, keys, rows };
-    match require_rows(alloc, source, notes, from, &decisions, &new) {
-        Ok(()) => Ok(inserted(alloc, &insert.table, new, decisions)?),
-        Err(Refusal::NoMemory) => Err(Refusal::NoMemory),
-        Err(refusal) => Ok(Effect::judged(
-            alloc,
-            Reply::Refused(refusal),
-            Items::from_vec(decisions),
-        )),
-    }
+    insert_guarded(alloc, source, notes, ctx, from, &standing, &guard, rows)
 }
 
-/// The numbers of so many new rows; a transaction gives at most `u32::MAX`.
-fn ids_of(alloc: Global, ctx: &Ctx, count: usize) -> Result<Vec<RowId>, Refusal> {
-    let first = ctx.next;
-    if count > (u32::MAX - first) as usize {
-        return Err(Refusal::Limit(Limit::Inserts));
+fn insert_guarded<'x, S: RowSource>(
+    alloc: Global,
+    source: &mut S,
+    notes: &mut Reads,
+    ctx: &Ctx,
+    from: FromTable<'x>,
+    standing: &Standing,
+    guard: &Guard,
+    rows: Vec<Row>,
+) -> Result<Effect, Refusal>
+    requires { ctx.now.next + length rows.items ≤ 4294967295 }
+    ensures effect { GivesEffect result (spec.insert_guarded (S.state source.old) ctx.now from.entry.name.now from.entry.table.now standing.now guard.now rows.items).gives }
+    ensures noted { UnlessNoMemory result (notes.new ≡ notes.old ++ (spec.insert_guarded (S.state source.old) ctx.now from.entry.name.now from.entry.table.now standing.now guard.now rows.items).reads) }
+    ensures state { S.state source.new ≡ S.state source.old }
+{
+    standing.require_privilege(alloc, source, notes, Privilege::Insert, from.name)?;
+    require_range(&rows, from.table.columns.as_slice())?;
+    let rows = numbered(alloc, ctx, from.table.key.as_slice(), rows)?;
+    let effect = insert_rows(alloc, source, notes, &ctx.role, from, guard, rows)?;
+    Ok(effect)
+}
+
+/// The rows with their keys, numbered on from the transaction's next.
+fn numbered(
+    alloc: Global,
+    ctx: &Ctx,
+    places: &[usize],
+    rows: Vec<Row>,
+) -> Result<Items<Stored>, AllocError>
+    requires { ctx.now.next + length rows.items ≤ 4294967295 }
+    ensures { IfOk result (λ new. new ≡ spec.numbered places.now ctx.now.txn ctx.now.next rows.items) }
+{
+    let mut new = Items::new(alloc);
+    let mut n = ctx.next;
+    for row in rows {
+        let key = key_at(alloc, places, &row)?;
+        let id = RowId { txn: ctx.txn, n };
+        new.push(Stored { id, key, row })?;
+        n += 1;
     }
-    let mut ids = Vec::with_capacity(alloc, count)?;
-    for n in first..first + count as u32 {
-        ids.push(RowId { txn: ctx.txn, n })?;
+    Ok(new)
+}
+
+/// Each new row is judged, and then all are put in or none.
+fn insert_rows<'x, S: RowSource>(
+    alloc: Global,
+    source: &mut S,
+    notes: &mut Reads,
+    role: &Name,
+    from: FromTable<'x>,
+    guard: &Guard,
+    rows: Items<Stored>,
+) -> Result<Effect, AllocError>
+    ensures effect { IfOk result (λ effect. Shows effect (spec.insert_rows (S.state source.old) role.now from.entry.name.now from.entry.table.now guard.now rows).gives) }
+    ensures noted { OnOk result (notes.new ≡ notes.old ++ (spec.insert_rows (S.state source.old) role.now from.entry.name.now from.entry.table.now guard.now rows).reads) }
+    ensures state { S.state source.new ≡ S.state source.old }
+{
+    let decisions = judge(alloc, guard, role, rows.as_slice())?;
+    match require_rows(
+        alloc,
+        source,
+        notes,
+        from,
+        decisions.as_slice(),
+        rows.as_slice(),
+    ) {
+        Ok(()) => inserted(alloc, from.name, rows.as_slice(), decisions),
+        Err(Refusal::NoMemory) => Err(AllocError),
+        Err(refusal) => Ok(Effect::judged(alloc, Reply::Refused(refusal), decisions)),
     }
-    Ok(ids)
 }
 
 fn judge(
     alloc: Global,
     guard: &Guard,
     role: &Name,
-    ids: &[RowId],
-    rows: &[Row],
-) -> Result<Vec<Decision>, AllocError> {
-    let mut decisions = Vec::with_capacity(alloc, rows.len())?;
-    for (id, row) in ids.iter().zip(rows) {
-        decisions.push(Decision {
-            id: *id,
-            side: Side::New,
-            kind: Kind::Insert,
-            verdict: verdict_on(alloc, guard, role, row)?,
-        })?;
+    rows: &[Stored],
+) -> Result<Items<Decision>, AllocError>
+    ensures { IfOk result (λ decisions. decisions ≡ map (decision_by Side.New Kind.Insert guard.now role.now) rows.now) }
+{
+    let mut decisions = Items::new(alloc);
+    for stored in rows {
+        decisions.push(decision_on(alloc, guard, role, stored)?)?;
     }
     Ok(decisions)
 }
 
+fn decision_on(
+    alloc: Global,
+    guard: &Guard,
+    role: &Name,
+    stored: &Stored,
+) -> Result<Decision, AllocError>
+    ensures { IfOk result (λ decision. decision ≡ decision_by Side.New Kind.Insert guard.now role.now stored.now) }
+{
+    Ok(Decision {
+        id: stored.id,
+        side: Side::New,
+        kind: Kind::Insert,
+        verdict: verdict_on(alloc, guard, role, &stored.row)?,
+    })
+}
+
 /// The first denied row, then the first null where none may be, then a key that is taken.
-fn require_rows<S: RowSource>(
+fn require_rows<'x, S: RowSource>(
     alloc: Global,
     source: &mut S,
-    notes: &mut Footprint,
-    from: FromTable,
+    notes: &mut Reads,
+    from: FromTable<'x>,
     decisions: &[Decision],
-    new: &NewRows,
+    rows: &[Stored],
 ) -> Result<(), Refusal>
+    ensures given { Gives result (spec.rows_or_refused (S.state source.old) from.entry.name.now from.entry.table.now.columns decisions.now rows.now).gives }
+    ensures noted { UnlessNoMemory result (notes.new ≡ notes.old ++ (spec.rows_or_refused (S.state source.old) from.entry.name.now from.entry.table.now.columns decisions.now rows.now).reads) }
     ensures state { S.state source.new ≡ S.state source.old }
 {
     require_allowed(from.name, decisions)?;
-    require_not_null(&new.rows, from.table.columns.as_slice())?;
-    require_unique(alloc, source, notes, from.name, &new.keys)
+    require_constraints(alloc, source, notes, from, rows)
 }
 
-fn require_allowed(table: &Name, decisions: &[Decision]) -> Result<(), Refusal> {
+/// The first null where none may be, then a key that is taken.
+fn require_constraints<'x, S: RowSource>(
+    alloc: Global,
+    source: &mut S,
+    notes: &mut Reads,
+    from: FromTable<'x>,
+    rows: &[Stored],
+) -> Result<(), Refusal>
+    ensures given { Gives result (spec.constraints_or_refused (S.state source.old) from.entry.name.now from.entry.table.now.columns rows.now).gives }
+    ensures noted { UnlessNoMemory result (notes.new ≡ notes.old ++ (spec.constraints_or_refused (S.state source.old) from.entry.name.now from.entry.table.now.columns rows.now).reads) }
+    ensures state { S.state source.new ≡ S.state source.old }
+{
+    require_values(rows, from.table.columns.as_slice())?;
+    require_unique(alloc, source, notes, from.name, rows)
+}
+
+fn require_allowed(table: &Name, decisions: &[Decision]) -> Result<(), Refusal>
+    ensures { Gives result (each_or_refused (spec.allowed_or_denied table.now) decisions.now) }
+{
     for decision in decisions {
-        match &decision.verdict {
-            Verdict::Exempt | Verdict::By(_) => {}
-            Verdict::NoPermissive => {
-                return Err(Refusal::Denied(Why::NoPermissive(table.copy()?, decision.kind)));
-            }
-            Verdict::Restrictive(policy) => {
-                return Err(Refusal::Denied(Why::Restrictive(policy.copy()?, table.copy()?)));
-            }
-        }
+        require_verdict(table, decision)?;
     }
     Ok(())
+}
+
+fn require_verdict(table: &Name, decision: &Decision) -> Result<(), Refusal>
+    ensures { Gives result (spec.allowed_or_denied table.now decision.now) }
+{
+    match &decision.verdict {
+        Verdict::Exempt | Verdict::By(_) => Ok(()),
+        Verdict::NoPermissive => Err(Refusal::Denied(Why::NoPermissive(
+            table.copy()?,
+            decision.kind,
+        ))),
+        Verdict::Restrictive(policy) => Err(Refusal::Denied(Why::Restrictive(
+            policy.copy()?,
+            table.copy()?,
+        ))),
+    }
 }
 
 fn inserted(
     alloc: Global,
     table: &Name,
-    new: NewRows,
-    decisions: Vec<Decision>,
+    rows: &[Stored],
+    decisions: Items<Decision>,
 ) -> Result<Effect, AllocError>
-    ensures { IfOk result (λ effect. is_refused effect.reply ≡ false) }
+    ensures { IfOk result (λ effect. effect ≡ record { reply = Reply.Count (length rows.now); decisions = decisions; delta = map (spec.inserted_row table.now) rows.now }) }
 {
-    let NewRows { ids, keys, rows } = new;
-    let count = ids.len() as u64;
     let mut delta = Delta::new(alloc);
-    for ((id, key), row) in ids.iter().zip(keys).zip(rows) {
-        delta.push(Change::Row(RowChange {
-            table: table.copy()?,
-            id: *id,
-            before: None,
-            after: Some(Keyed { key, row }),
-        }))?;
+    for stored in rows {
+        delta.push(inserted_row(alloc, table, stored)?)?;
     }
     Ok(Effect {
-        reply: Reply::Count(count),
-        decisions: Items::from_vec(decisions),
+        reply: Reply::Count(rows.len() as u64),
+        decisions,
         delta,
     })
+}
+
+fn inserted_row(alloc: Global, table: &Name, stored: &Stored) -> Result<Change, AllocError>
+    ensures { IfOk result (λ change. change ≡ spec.inserted_row table.now stored.now) }
+{
+    let after = Keyed {
+        key: stored.key.copy(alloc)?,
+        row: stored.row.copy(alloc)?,
+    };
+    Ok(Change::Row(RowChange {
+        table: table.copy()?,
+        id: stored.id,
+        before: None,
+        after: Some(after),
+    }))
 }

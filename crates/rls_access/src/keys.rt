@@ -1,24 +1,23 @@
 //! The primary keys of new rows.
 
-ghost use Rattle.std.specs.Prelude.{◌≡◌};
+ghost use Rattle.std.specs.Prelude.{◌≡◌, ◌++◌, Ok, map, IfOk, OnOk};
+ghost use Rattle.std.specs.List.{list_any};
+ghost use Rattle.rls_value.specs.Values.{is_null};
+ghost use Rattle.rls_value.specs.Giving.{Gives, UnlessNoMemory};
+ghost use Rattle.rls_access.specs.Inserting as spec;
+ghost use Rattle.rls_access.specs.Inserting.{unique_or_refused, keys_taken, has_doubles};
 
-use crate::listing::{has_twins, listing_of};
 use crate::noted::noted_key;
-use rls_expr::TableDef;
-use rls_source::{Footprint, RowSource};
+use rls_catalog::Stored;
+use rls_source::{Reads, RowSource};
 use rls_value::{Name, Refusal, Row, Value};
 use std::alloc::{AllocError, Global};
+use std::collections::BTreeSet;
 
-/// The key of each row, in their order; empty where the table has none.
-pub fn keys_of(alloc: Global, table: &TableDef, rows: &[Row]) -> Result<Vec<Row>, AllocError> {
-    let mut keys = Vec::with_capacity(alloc, rows.len())?;
-    for row in rows {
-        keys.push(key_of(alloc, table.key.as_slice(), row)?)?;
-    }
-    Ok(keys)
-}
-
-fn key_of(alloc: Global, places: &[usize], row: &Row) -> Result<Row, AllocError> {
+/// The values of the row at the places of a key; no places give the empty key.
+pub fn key_at(alloc: Global, places: &[usize], row: &Row) -> Result<Row, AllocError>
+    ensures { IfOk result (λ key. key ≡ spec.key_at places.now row.now) }
+{
     let mut values = Vec::with_capacity(alloc, places.len())?;
     for place in places {
         values.push(row.value(*place)?)?;
@@ -30,28 +29,90 @@ fn key_of(alloc: Global, places: &[usize], row: &Row) -> Result<Row, AllocError>
 pub fn require_unique<S: RowSource>(
     alloc: Global,
     source: &mut S,
-    notes: &mut Footprint,
+    notes: &mut Reads,
     name: &Name,
-    keys: &[Row],
+    rows: &[Stored],
 ) -> Result<(), Refusal>
+    ensures given { Gives result (unique_or_refused (S.state source.old) name.now (spec.keys_of rows.now)).gives }
+    ensures noted { UnlessNoMemory result (notes.new ≡ notes.old ++ (unique_or_refused (S.state source.old) name.now (spec.keys_of rows.now)).reads) }
     ensures state { S.state source.new ≡ S.state source.old }
 {
-    let mut whole = Vec::new(alloc);
-    let mut taken = false;
-    for key in keys {
-        if is_whole(key.as_slice()) {
-            taken |= !noted_key(alloc, source, notes, name, key)?.is_empty();
-            whole.push(key.copy(alloc)?)?;
-        }
-    }
-    let whole = listing_of(whole)?;
-    if taken || has_twins(whole.as_slice()) {
+    let keys = whole_keys(alloc, rows)?;
+    let taken = are_taken(alloc, source, notes, name, &keys)?;
+    if taken || have_doubles(alloc, &keys)? {
         return Err(Refusal::Unique(name.copy()?));
     }
     Ok(())
 }
 
+/// The keys that have no null, of a table that has a key.
+fn whole_keys(alloc: Global, rows: &[Stored]) -> Result<Vec<Row>, AllocError>
+    ensures { IfOk result (λ keys. keys.items ≡ spec.keys_of rows.now) }
+{
+    let mut keys = Vec::new(alloc);
+    for stored in rows {
+        if is_whole(stored.key.as_slice()) {
+            keys.push(stored.key.copy(alloc)?)?;
+        }
+    }
+    Ok(keys)
+}
+
 /// Whether it is the key of a keyed table, and has no null.
-fn is_whole(key: &[Value]) -> bool {
-    !key.is_empty() && key.iter().all(|value| !value.is_null())
+fn is_whole(key: &[Value]) -> bool
+    ensures { result ≡ spec.is_whole key.now }
+{
+    match key {
+        [] => false,
+        [value, values @ ..] => !(value.is_null() || have_null(values)),
+    }
+}
+
+fn have_null(values: &[Value]) -> bool
+    ensures { result ≡ list_any is_null values.now }
+{
+    values.iter().any(|value| value.is_null())
+}
+
+/// Whether a row of the table has one of the keys. All are looked up.
+fn are_taken<S: RowSource>(
+    alloc: Global,
+    source: &mut S,
+    notes: &mut Reads,
+    name: &Name,
+    keys: &[Row],
+) -> Result<bool, AllocError>
+    ensures given { IfOk result (λ taken. (keys_taken (S.state source.old) name.now keys.now).gives ≡ Ok taken) }
+    ensures noted { OnOk result (notes.new ≡ notes.old ++ (keys_taken (S.state source.old) name.now keys.now).reads) }
+    ensures state { S.state source.new ≡ S.state source.old }
+{
+    let mut taken = false;
+    for key in keys {
+        let found = noted_key(alloc, source, notes, name, key)?;
+        taken = taken || is_any(found.as_slice());
+    }
+    Ok(taken)
+}
+
+fn is_any(rows: &[Stored]) -> bool
+    ensures { result ≡ spec.is_any rows.now }
+{
+    match rows {
+        [] => false,
+        _ => true,
+    }
+}
+
+/// Whether two keys are the same.
+fn have_doubles(alloc: Global, mut keys: &[Row]) -> Result<bool, AllocError>
+    ensures { IfOk result (λ doubles. doubles ≡ has_doubles keys.entry.now) }
+{
+    let mut seen = BTreeSet::new(alloc);
+    while let [key, rest @ ..] = keys {
+        if !seen.insert(key)? {
+            return Ok(true);
+        }
+        keys = rest;
+    }
+    Ok(false)
 }

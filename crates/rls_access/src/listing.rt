@@ -13,17 +13,3 @@ pub fn listing_of(mut rows: Vec<Row>) -> Result<Items<Row>, AllocError>
     rows.sort()?;
     Ok(Items::from_vec(rows))
 }
-
-/// Whether two neighbours are the same, as rows in listing order are where any two are.
-pub fn has_twins(rows: &[Row]) -> bool {
-    let mut rest = rows;
-    while let [one, others @ ..] = rest {
-        if let [other, ..] = others {
-            if one == other {
-                return true;
-            }
-        }
-        rest = others;
-    }
-    false
-}

@@ -5,14 +5,14 @@ ghost use Rattle.rls_catalog.specs.State.{role_of, table_of, grants_of, policies
 
 use rls_catalog::{Grant, Policy, RoleDef, Stored};
 use rls_expr::TableDef;
-use rls_source::{Footprint, RowSource};
+use rls_source::{Reads, RowSource};
 use rls_value::{Items, Name, Object, Row};
 use std::alloc::{AllocError, Global};
 
 pub fn noted_role<S: RowSource>(
     alloc: Global,
     source: &mut S,
-    notes: &mut Footprint,
+    notes: &mut Reads,
     name: &Name,
 ) -> Result<Option<RoleDef>, AllocError>
     ensures found { IfOk result (λ found. found ≡ role_of (S.state source.old) name.now) }
@@ -29,7 +29,7 @@ pub fn noted_role<S: RowSource>(
 pub fn noted_table<S: RowSource>(
     alloc: Global,
     source: &mut S,
-    notes: &mut Footprint,
+    notes: &mut Reads,
     name: &Name,
 ) -> Result<Option<TableDef>, AllocError>
     ensures found { IfOk result (λ found. found ≡ table_of (S.state source.old) name.now) }
@@ -46,7 +46,7 @@ pub fn noted_table<S: RowSource>(
 pub fn noted_grants<S: RowSource>(
     alloc: Global,
     source: &mut S,
-    notes: &mut Footprint,
+    notes: &mut Reads,
     table: &Name,
 ) -> Result<Items<Grant>, AllocError>
     ensures found { IfOk result (λ found. found ≡ grants_of (S.state source.old) table.now) }
@@ -63,7 +63,7 @@ pub fn noted_grants<S: RowSource>(
 pub fn noted_policies<S: RowSource>(
     alloc: Global,
     source: &mut S,
-    notes: &mut Footprint,
+    notes: &mut Reads,
     table: &Name,
 ) -> Result<Items<Policy>, AllocError>
     ensures found { IfOk result (λ found. found ≡ policies_of (S.state source.old) table.now) }
@@ -80,7 +80,7 @@ pub fn noted_policies<S: RowSource>(
 pub fn noted_scan<S: RowSource>(
     alloc: Global,
     source: &mut S,
-    notes: &mut Footprint,
+    notes: &mut Reads,
     table: &Name,
 ) -> Result<Items<Stored>, AllocError>
     ensures found { IfOk result (λ found. found ≡ rows_of (S.state source.old) table.now) }
@@ -97,7 +97,7 @@ pub fn noted_scan<S: RowSource>(
 pub fn noted_key<S: RowSource>(
     alloc: Global,
     source: &mut S,
-    notes: &mut Footprint,
+    notes: &mut Reads,
     table: &Name,
     key: &Row,
 ) -> Result<Items<Stored>, AllocError>

@@ -34,7 +34,7 @@ pub struct Outcome {
     pub reply: Reply,
     /// One for each row that was looked at, then one for each new row; none where the statement was refused before.
     pub decisions: Items<Decision>,
-    /// The objects that were read, those of a refused statement included.
+    /// The objects that were read, each once, those of a refused statement included.
     pub footprint: Footprint,
     pub delta: Delta,
     /// The current role afterwards.

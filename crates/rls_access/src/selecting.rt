@@ -1,14 +1,16 @@
 //! SELECT.
 
-ghost use Rattle.std.specs.Prelude.{◌≡◌, [], ◌&&◌, map, IfOk, IfErr};
-ghost use Rattle.rls_access.specs.Eval.{value_of, over};
-ghost use Rattle.rls_access.specs.Guards as spec;
-ghost use Rattle.rls_value.specs.Giving.{Fails, Gives};
+ghost use Rattle.std.specs.Prelude.{◌≡◌, ◌&&◌, ◌++◌, map, IfOk};
+ghost use Rattle.rls_value.specs.Giving.{Gives, UnlessNoMemory};
 ghost use Rattle.rls_expr.specs.Scopes.{tables_in};
-ghost use Rattle.rls_access.specs.Selecting.{items_of, selection_of, where_of, query_of, selectable, IsListed};
+ghost use Rattle.rls_access.specs.Eval.{value_of, over};
+ghost use Rattle.rls_access.specs.Guards as guards;
 ghost use Rattle.rls_access.specs.Listings as listings;
-ghost use Rattle.rls_access.specs.Listings.{Lists, hits, meets, decision_on};
-ghost use Rattle.rls_access.specs.Effects.{ChangesUnlessRefused};
+ghost use Rattle.rls_access.specs.Listings.{hits, meets, decision_on};
+ghost use Rattle.rls_access.specs.Effects.{GivesEffect, IsListed};
+ghost use Rattle.rls_access.specs.Sequences.{each_of};
+ghost use Rattle.rls_access.specs.Selecting as spec;
+ghost use Rattle.rls_access.specs.Selecting.{selection_of, where_of, query_of};
 
 use crate::checks::table_named;
 use crate::context::Ctx;
@@ -18,10 +20,10 @@ use crate::guard::{Guard, allows, guard_of, verdict_on};
 use crate::listing::listing_of;
 use crate::noted::noted_scan;
 use crate::outcome::{Decision, Reply};
-use crate::standing::standing_of;
+use crate::standing::{Standing, standing_of};
 use rls_catalog::{Side, Stored, Verdict};
 use rls_expr::{Expr, FromTable, Scope, check, check_condition};
-use rls_source::{Footprint, RowSource};
+use rls_source::{Reads, RowSource};
 use rls_text::{Select, Selected};
 use rls_value::{Items, Kind, Name, Privilege, Refusal, Row, RowId};
 use std::alloc::{AllocError, Global};
@@ -37,13 +39,12 @@ struct Query {
 pub fn run_select<S: RowSource>(
     alloc: Global,
     source: &mut S,
-    notes: &mut Footprint,
+    notes: &mut Reads,
     ctx: &Ctx,
     select: &Select,
 ) -> Result<Effect, Refusal>
-    ensures unchanged { IfOk result (λ effect. ChangesUnlessRefused effect.reply effect.delta) }
-    ensures refused { IfErr result (λ refusal. Fails refusal (selectable (S.state source.old) ctx.now.role select.now)) }
-    ensures listed { IfOk result (λ effect. IsListed (S.state source.old) ctx.now.role select.now.table effect (selectable (S.state source.old) ctx.now.role select.now)) }
+    ensures effect { GivesEffect result (spec.select (S.state source.old) ctx.now select.now).gives }
+    ensures noted { UnlessNoMemory result (notes.new ≡ notes.old ++ (spec.select (S.state source.old) ctx.now select.now).reads) }
     ensures state { S.state source.new ≡ S.state source.old }
 {
     let table = table_named(alloc, source, notes, &select.table)?;
@@ -52,7 +53,23 @@ pub fn run_select<S: RowSource>(
         table: &table,
     };
     let query = check_query(alloc, select, from)?;
-    let standing = standing_of(alloc, source, notes, &ctx.role)?;
+    select_from(alloc, source, notes, &ctx.role, from, &query)
+}
+
+/// The standing of the role, what guards the rows from it, and the rows.
+fn select_from<'x, S: RowSource>(
+    alloc: Global,
+    source: &mut S,
+    notes: &mut Reads,
+    role: &Name,
+    from: FromTable<'x>,
+    query: &Query,
+) -> Result<Effect, Refusal>
+    ensures effect { GivesEffect result (spec.select_from (S.state source.old) role.now from.entry.name.now from.entry.table.now query.now).gives }
+    ensures noted { UnlessNoMemory result (notes.new ≡ notes.old ++ (spec.select_from (S.state source.old) role.now from.entry.name.now from.entry.table.now query.now).reads) }
+    ensures state { S.state source.new ≡ S.state source.old }
+{
+    let standing = standing_of(alloc, source, notes, role)?;
     let guard = guard_of(
         alloc,
         source,
@@ -62,9 +79,29 @@ pub fn run_select<S: RowSource>(
         Kind::Select,
         Side::Old,
     )?;
-    standing.require_privilege(alloc, source, notes, Privilege::Select, &select.table)?;
-    let candidates = noted_scan(alloc, source, notes, &select.table)?;
-    Ok(list(alloc, &query, &guard, &ctx.role, candidates.as_slice())?)
+    list_guarded(
+        alloc, source, notes, &standing, &guard, query, role, from.name,
+    )
+}
+
+/// The rows, where the role may read the table.
+fn list_guarded<S: RowSource>(
+    alloc: Global,
+    source: &mut S,
+    notes: &mut Reads,
+    standing: &Standing,
+    guard: &Guard,
+    query: &Query,
+    role: &Name,
+    name: &Name,
+) -> Result<Effect, Refusal>
+    ensures effect { GivesEffect result (spec.listed_for (S.state source.old) standing.now guard.now query.now role.now name.now).gives }
+    ensures noted { UnlessNoMemory result (notes.new ≡ notes.old ++ (spec.listed_for (S.state source.old) standing.now guard.now query.now role.now name.now).reads) }
+    ensures state { S.state source.new ≡ S.state source.old }
+{
+    standing.require_privilege(alloc, source, notes, Privilege::Select, name)?;
+    let candidates = noted_scan(alloc, source, notes, name)?;
+    Ok(list(alloc, query, guard, role, candidates.as_slice())?)
 }
 
 fn check_query(alloc: Global, select: &Select, from: FromTable) -> Result<Query, Refusal>
@@ -110,14 +147,21 @@ fn check_where(
 }
 
 fn check_items(alloc: Global, items: &[Expr], scope: &Scope) -> Result<Items<Expr>, Refusal>
-    ensures { Gives result (items_of items.now (tables_in scope.now)) }
+    ensures { Gives result (each_of (spec.item_of (tables_in scope.now)) items.now) }
 {
     let mut done = Items::new(alloc);
     for item in items {
-        let typed = check(alloc, item, scope)?;
-        done.push(typed.expr)?;
+        let found = check_item(alloc, item, scope)?;
+        done.push(found)?;
     }
     Ok(done)
+}
+
+fn check_item(alloc: Global, item: &Expr, scope: &Scope) -> Result<Expr, Refusal>
+    ensures { Gives result (spec.item_of (tables_in scope.now) item.now) }
+{
+    let typed = check(alloc, item, scope)?;
+    Ok(typed.expr)
 }
 
 /// Judges each candidate, and lists those that are allowed and meet the condition.
@@ -128,9 +172,7 @@ fn list(
     role: &Name,
     candidates: &[Stored],
 ) -> Result<Effect, AllocError>
-    ensures reply { IfOk result (λ effect. Lists effect.reply (hits guard.now query.now role.now candidates.now)) }
-    ensures decisions { IfOk result (λ effect. effect.decisions ≡ map (decision_on guard.now role.now) candidates.now) }
-    ensures delta { IfOk result (λ effect. effect.delta ≡ []) }
+    ensures { IfOk result (IsListed (hits guard.now query.now role.now candidates.now) (map (decision_on guard.now role.now) candidates.now)) }
 {
     let mut decisions = Items::new(alloc);
     let mut rows = Vec::new(alloc);
@@ -163,7 +205,7 @@ fn is_hit(
     role: &Name,
     row: &Row,
 ) -> Result<bool, AllocError>
-    ensures { IfOk result (λ hit. hit ≡ (spec.allows verdict.now && meets query.now.condition role.now row.now)) }
+    ensures { IfOk result (λ hit. hit ≡ (guards.allows verdict.now && meets query.now.condition role.now row.now)) }
 {
     if !allows(verdict) {
         return Ok(false);

@@ -1,10 +1,7 @@
 //! Who the current role is for a statement: its attributes, and whose privileges it has.
 
-ghost use Rattle.std.specs.Prelude.{◌≡◌, ◌∷◌, ◌++◌, ◌||◌, IfOk, OnOk, OnErr};
-ghost use Rattle.rls_value.specs.Names.{one_of};
-ghost use Rattle.rls_value.specs.declared.object.Object.{Object};
-ghost use Rattle.rls_catalog.specs.State.{grants_of};
-ghost use Rattle.rls_catalog.specs.Membership.{attributes_in, attributes_of, walked_by, walk_reads, reach_reads};
+ghost use Rattle.std.specs.Prelude.{◌≡◌, ◌++◌, IfOk, OnOk};
+ghost use Rattle.rls_catalog.specs.Membership.{attributes_in, walk_reads};
 ghost use Rattle.rls_catalog.specs.Verdict.{exempts};
 ghost use Rattle.rls_value.specs.Giving.{Gives, UnlessNoMemory};
 ghost use Rattle.rls_access.specs.Standings as spec;
@@ -15,7 +12,7 @@ use rls_expr::TableDef;
 use rls_grant::is_granted;
 use rls_policy::exempt;
 use rls_role::{Reach, reach_of};
-use rls_source::{Footprint, RowSource};
+use rls_source::{Reads, RowSource};
 use rls_value::{Name, Object, Privilege, Refusal, Why};
 use std::alloc::{AllocError, Global};
 
@@ -30,13 +27,10 @@ pub struct Standing {
 pub fn standing_of<S: RowSource>(
     alloc: Global,
     source: &mut S,
-    notes: &mut Footprint,
+    notes: &mut Reads,
     role: &Name,
 ) -> Result<Standing, AllocError>
-    ensures attributes { IfOk result (λ standing. standing.attributes ≡ attributes_of (S.state source.old) role.now) }
-    ensures superuser { IfOk result (λ standing. standing.reach.superuser ≡ (attributes_of (S.state source.old) role.now).superuser) }
-    ensures names { IfOk result (λ standing. standing.reach.names ≡ walked_by (S.state source.old) role.now) }
-    ensures read { OnOk result (source.new ≡ S.after source.old (spec.standing_reads (S.state source.old) role.now)) }
+    ensures given { IfOk result (λ standing. standing ≡ spec.standing_in (S.state source.old) role.now) }
     ensures noted { OnOk result (notes.new ≡ notes.old ++ spec.standing_reads (S.state source.old) role.now) }
     ensures state { S.state source.new ≡ S.state source.old }
 {
@@ -61,7 +55,7 @@ fn attributes(def: Option<RoleDef>) -> RoleDef
     }
 }
 
-fn note_walk(notes: &mut Footprint, names: &[Name]) -> Result<(), AllocError>
+fn note_walk(notes: &mut Reads, names: &[Name]) -> Result<(), AllocError>
     ensures { OnOk result (notes.new ≡ notes.old ++ walk_reads names.now) }
 {
     for name in names {
@@ -77,13 +71,12 @@ impl Standing {
         &self,
         alloc: Global,
         source: &mut S,
-        notes: &mut Footprint,
+        notes: &mut Reads,
         privilege: Privilege,
         table: &Name,
     ) -> Result<(), Refusal>
-        ensures given { Gives result (spec.privilege_or_denied self.now.reach.superuser self.now.reach.names privilege table.now (grants_of (S.state source.old) table.now)) }
-        ensures read { UnlessNoMemory result (source.new ≡ S.after source.old (spec.grants_reads self.now.reach.superuser table.now)) }
-        ensures noted { UnlessNoMemory result (notes.new ≡ notes.old ++ spec.grants_reads self.now.reach.superuser table.now) }
+        ensures given { Gives result (spec.privilege_or_denied (S.state source.old) self.now privilege table.now).gives }
+        ensures noted { UnlessNoMemory result (notes.new ≡ notes.old ++ (spec.privilege_or_denied (S.state source.old) self.now privilege table.now).reads) }
         ensures state { S.state source.new ≡ S.state source.old }
     {
         if self.reach.superuser {
@@ -99,7 +92,7 @@ impl Standing {
 
     /// Denied where the role hasn't the privileges of the table's owner.
     pub fn require_owner(&self, name: &Name, table: &TableDef) -> Result<(), Refusal>
-        ensures { Gives result (spec.owner_or_denied self.now.reach.superuser self.now.reach.names name.now table.now) }
+        ensures { Gives result (spec.owner_or_denied self.now name.now table.now) }
     {
         if self.reach.has(&table.owner) {
             Ok(())
@@ -110,7 +103,7 @@ impl Standing {
 
     /// Whether row security doesn't apply to the role on the table.
     pub fn is_exempt(&self, table: &TableDef) -> bool
-        ensures { result ≡ exempts self.now.attributes table.now (self.now.reach.superuser || one_of self.now.reach.names table.now.owner) }
+        ensures { result ≡ exempts self.now.attributes table.now (spec.has_owner self.now table.now) }
     {
         exempt(&self.attributes, table, self.reach.has(&table.owner))
     }

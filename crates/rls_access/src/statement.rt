@@ -1,10 +1,12 @@
 //! One statement.
 
-ghost use Rattle.std.specs.Prelude.{◌≡◌, IfOk};
-ghost use Rattle.rls_access.specs.Effects.{ChangesUnlessRefused};
+ghost use Rattle.std.specs.Prelude.{◌≡◌, ◌++◌, IfOk, OnOk};
+ghost use Rattle.rls_value.specs.Giving.{Gives, UnlessNoMemory};
+ghost use Rattle.rls_catalog.specs.State.{State, AgreesOn};
+ghost use Rattle.rls_source.specs.Footprints.{footprint_of};
+ghost use Rattle.rls_access.specs.Effects.{GivesEffect, ChangesUnlessRefused};
 ghost use Rattle.rls_access.specs.Statements as spec;
-ghost use Rattle.rls_access.specs.Statements.{IsMeant, Means, Shows, mode_or_refused};
-ghost use Rattle.rls_value.specs.Giving.{Gives};
+ghost use Rattle.rls_access.specs.Statements.{IsMeant, step, mode_or_refused};
 
 use crate::context::{Ctx, Mode};
 use crate::creating_policies::run_create_policy;
@@ -15,13 +17,13 @@ use crate::granting::run_grant;
 use crate::inserting::run_insert;
 use crate::outcome::Outcome;
 use crate::selecting::run_select;
-use rls_source::{Footprint, RowSource};
+use rls_source::{Footprint, Reads, RowSource};
 use rls_text::Statement;
 use rls_value::{Refusal, Tag, TxnState};
 use std::alloc::{AllocError, Global};
 
 /// Runs the statement over the source: its reply, the decisions on rows, what it read, and its changes, which the
-/// source doesn't get. A refused statement has no changes.
+/// source doesn't get. All that it depends on is in the footprint.
 pub fn run_statement<S: RowSource>(
     alloc: Global,
     source: &mut S,
@@ -29,13 +31,14 @@ pub fn run_statement<S: RowSource>(
     statement: &Statement,
 ) -> Result<Outcome, AllocError>
     ensures meant { IfOk result (λ outcome. IsMeant (S.state source.old) ctx.now statement.now (spec.effect_of outcome)) }
+    ensures footprint { IfOk result (λ outcome. outcome.footprint ≡ footprint_of (step (S.state source.old) ctx.now statement.now).reads) }
+    ensures frame { IfOk result (λ outcome. (other : State) → AgreesOn (S.state source.old) other outcome.footprint → step other ctx.now statement.now ≡ step (S.state source.old) ctx.now statement.now) }
     ensures unchanged { IfOk result (λ outcome. ChangesUnlessRefused outcome.reply outcome.delta) }
     ensures role { IfOk result (λ outcome. outcome.role ≡ ctx.now.role) }
     ensures state { S.state source.new ≡ S.state source.old }
 {
-    let mut notes = Footprint::new(alloc);
-    let given = effect_of(alloc, source, &mut notes, ctx, statement);
-    let effect = shown(alloc, given)?;
+    let mut reads = Reads::new(alloc);
+    let effect = effect_of(alloc, source, &mut reads, ctx, statement)?;
     let Effect {
         reply,
         decisions,
@@ -44,35 +47,57 @@ pub fn run_statement<S: RowSource>(
     Ok(Outcome {
         reply,
         decisions,
-        footprint: notes,
+        footprint: Footprint::from_reads(alloc, reads)?,
         delta,
         role: ctx.role.copy()?,
     })
 }
 
-/// What was given, a refusal as a reply.
-fn shown(alloc: Global, given: Result<Effect, Refusal>) -> Result<Effect, AllocError>
-    ensures { IfOk result (λ effect. Shows effect given) }
+/// What the statement comes to, a refusal as a reply.
+fn effect_of<S: RowSource>(
+    alloc: Global,
+    source: &mut S,
+    notes: &mut Reads,
+    ctx: &Ctx,
+    statement: &Statement,
+) -> Result<Effect, AllocError>
+    ensures meant { IfOk result (IsMeant (S.state source.old) ctx.now statement.now) }
+    ensures noted { OnOk result (notes.new ≡ notes.old ++ (step (S.state source.old) ctx.now statement.now).reads) }
+    ensures state { S.state source.new ≡ S.state source.old }
 {
-    match given {
+    match run(alloc, source, notes, ctx, statement) {
         Ok(effect) => Ok(effect),
         Err(Refusal::NoMemory) => Err(AllocError),
         Err(refusal) => Ok(Effect::refused(alloc, refusal)),
     }
 }
 
-fn effect_of<S: RowSource>(
+fn run<S: RowSource>(
     alloc: Global,
     source: &mut S,
-    notes: &mut Footprint,
+    notes: &mut Reads,
     ctx: &Ctx,
     statement: &Statement,
 ) -> Result<Effect, Refusal>
-    ensures means { Means (S.state source.old) ctx.now statement.now result }
-    ensures unchanged { IfOk result (λ effect. ChangesUnlessRefused effect.reply effect.delta) }
+    ensures effect { GivesEffect result (step (S.state source.old) ctx.now statement.now).gives }
+    ensures noted { UnlessNoMemory result (notes.new ≡ notes.old ++ (step (S.state source.old) ctx.now statement.now).reads) }
     ensures state { S.state source.new ≡ S.state source.old }
 {
     require_mode(ctx.mode, statement.tag())?;
+    done_by(alloc, source, notes, ctx, statement)
+}
+
+fn done_by<S: RowSource>(
+    alloc: Global,
+    source: &mut S,
+    notes: &mut Reads,
+    ctx: &Ctx,
+    statement: &Statement,
+) -> Result<Effect, Refusal>
+    ensures effect { GivesEffect result (spec.done_by (S.state source.old) ctx.now statement.now).gives }
+    ensures noted { UnlessNoMemory result (notes.new ≡ notes.old ++ (spec.done_by (S.state source.old) ctx.now statement.now).reads) }
+    ensures state { S.state source.new ≡ S.state source.old }
+{
     match statement {
         Statement::CreateRole(create) => run_create_role(alloc, source, notes, ctx, create),
         Statement::CreateTable(create) => run_create_table(alloc, source, notes, ctx, create),

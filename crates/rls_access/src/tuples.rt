@@ -1,7 +1,15 @@
 //! The tuples of an INSERT: their check, their rows, the range of their values.
 
+ghost use Rattle.std.specs.Prelude.{◌≡◌, map, IfOk};
+ghost use Rattle.std.specs.List.{list_all};
+ghost use Rattle.rls_value.specs.Giving.{Gives};
+ghost use Rattle.rls_access.specs.Sequences.{each_of, each_or_refused};
+ghost use Rattle.rls_access.specs.Inserting as spec;
+
+use crate::creating_policies::known_term;
 use crate::evaluation::value_alone;
-use rls_expr::{Column, Expr, Scope, TableDef, goes_into, resolve, typing_of};
+use rls_catalog::Stored;
+use rls_expr::{Column, Expr, Scope, goes_into, typing_of};
 use rls_value::{Items, Name, Refusal, Row, Value, fits};
 use std::alloc::{AllocError, Global};
 
@@ -11,37 +19,67 @@ pub fn check_tuples(
     alloc: Global,
     tuples: &[Items<Expr>],
     columns: &[Column],
-) -> Result<Vec<Items<Expr>>, Refusal> {
-    let mut resolved = Vec::with_capacity(alloc, tuples.len())?;
+) -> Result<Items<Items<Expr>>, Refusal>
+    ensures { Gives result (spec.fitting_tuples columns.now tuples.now) }
+{
+    let known = known_tuples(alloc, tuples)?;
+    if tuples_fit(known.as_slice(), columns) {
+        Ok(known)
+    } else {
+        Err(Refusal::TypeFault)
+    }
+}
+
+fn known_tuples(alloc: Global, tuples: &[Items<Expr>]) -> Result<Items<Items<Expr>>, Refusal>
+    ensures { Gives result (each_of spec.tuple_of tuples.now) }
+{
+    let mut known = Items::new(alloc);
     for tuple in tuples {
-        resolved.push(resolve_tuple(alloc, tuple.as_slice())?)?;
+        let found = known_tuple(alloc, tuple.as_slice())?;
+        known.push(found)?;
     }
-    for tuple in &resolved {
-        if !tuple_fits(tuple.as_slice(), columns) {
-            return Err(Refusal::TypeFault);
-        }
-    }
-    Ok(resolved)
+    Ok(known)
 }
 
-fn resolve_tuple(alloc: Global, tuple: &[Expr]) -> Result<Items<Expr>, Refusal> {
-    let scope = Scope { tables: &[] };
-    let mut resolved = Vec::with_capacity(alloc, tuple.len())?;
+fn known_tuple(alloc: Global, tuple: &[Expr]) -> Result<Items<Expr>, Refusal>
+    ensures { Gives result (spec.tuple_of tuple.now) }
+{
+    let mut known = Items::new(alloc);
     for expr in tuple {
-        resolved.push(resolve(alloc, expr, &scope)?)?;
+        let found = known_alone(alloc, expr)?;
+        known.push(found)?;
     }
-    Ok(Items::from_vec(resolved))
+    Ok(known)
 }
 
-fn tuple_fits(tuple: &[Expr], columns: &[Column]) -> bool {
-    let scope = Scope { tables: &[] };
-    if tuple.len() > columns.len() {
-        return false;
-    }
-    for (expr, column) in tuple.iter().zip(columns) {
-        if !goes_into(typing_of(expr, &scope), column.kind) {
-            return false;
+fn known_alone(alloc: Global, expr: &Expr) -> Result<Expr, Refusal>
+    ensures { Gives result (spec.term_alone expr.now) }
+{
+    known_term(alloc, expr, &Scope { tables: &[] })
+}
+
+fn tuples_fit(tuples: &[Items<Expr>], columns: &[Column]) -> bool
+    ensures { result ≡ list_all (spec.tuple_fits columns.now) tuples.now }
+{
+    tuples
+        .iter()
+        .all(|tuple| tuple_fits(tuple.as_slice(), columns))
+}
+
+fn tuple_fits(mut tuple: &[Expr], mut columns: &[Column]) -> bool
+    ensures { result ≡ spec.tuple_fits columns.entry.now tuple.entry.now }
+{
+    while let [expr, rest @ ..] = tuple {
+        match columns {
+            [column, others @ ..] => {
+                if !goes_into(typing_of(expr, &Scope { tables: &[] }), column.kind) {
+                    return false;
+                }
+                columns = others;
+            }
+            [] => return false,
         }
+        tuple = rest;
     }
     true
 }
@@ -50,57 +88,93 @@ fn tuple_fits(tuple: &[Expr], columns: &[Column]) -> bool {
 pub fn rows_of(
     alloc: Global,
     tuples: &[Items<Expr>],
-    width: usize,
+    columns: &[Column],
     role: &Name,
-) -> Result<Vec<Row>, AllocError> {
+) -> Result<Items<Row>, AllocError>
+    ensures { IfOk result (λ rows. rows ≡ map (spec.row_of_tuple role.now columns.now) tuples.now) }
+{
     let mut rows = Vec::with_capacity(alloc, tuples.len())?;
     for tuple in tuples {
-        rows.push(row_of(alloc, tuple.as_slice(), width, role)?)?;
+        rows.push(row_of(alloc, tuple.as_slice(), columns, role)?)?;
     }
-    Ok(rows)
+    Ok(Items::from_vec(rows))
 }
 
-fn row_of(alloc: Global, tuple: &[Expr], width: usize, role: &Name) -> Result<Row, AllocError> {
-    let mut values = Vec::with_capacity(alloc, width)?;
-    for expr in tuple {
-        values.push(value_alone(alloc, expr, role)?)?;
-    }
-    for _ in tuple.len()..width {
-        values.push(Value::Null)?;
+fn row_of(
+    alloc: Global,
+    mut tuple: &[Expr],
+    columns: &[Column],
+    role: &Name,
+) -> Result<Row, AllocError>
+    ensures { IfOk result (λ row. row ≡ spec.row_of_tuple role.now columns.now tuple.entry.now) }
+{
+    let mut values = Vec::with_capacity(alloc, columns.len())?;
+    let mut left = columns;
+    while let [_, others @ ..] = left {
+        match tuple {
+            [expr, rest @ ..] => {
+                values.push(value_alone(alloc, expr, role)?)?;
+                tuple = rest;
+            }
+            [] => values.push(Value::Null)?,
+        }
+        left = others;
     }
     Ok(Row::new(values))
 }
 
 /// The first column of the first row whose value doesn't fit it is out of range.
-pub fn require_range(rows: &[Row], columns: &[Column]) -> Result<(), Refusal> {
+pub fn require_range(rows: &[Row], columns: &[Column]) -> Result<(), Refusal>
+    ensures { Gives result (each_or_refused (spec.row_in_range columns.now) rows.now) }
+{
     for row in rows {
-        row_fits(row.as_slice(), columns)?;
+        row_in_range(row.as_slice(), columns)?;
     }
     Ok(())
 }
 
-fn row_fits(values: &[Value], columns: &[Column]) -> Result<(), Refusal> {
-    for (value, column) in values.iter().zip(columns) {
-        if !fits(value, column.kind) {
-            return Err(Refusal::Range(column.name.copy()?));
+fn row_in_range(mut values: &[Value], mut columns: &[Column]) -> Result<(), Refusal>
+    ensures { Gives result (spec.row_in_range columns.entry.now values.entry.now) }
+{
+    while let [column, others @ ..] = columns {
+        match values {
+            [value, rest @ ..] => {
+                if !fits(value, column.kind) {
+                    return Err(Refusal::Range(column.name.copy()?));
+                }
+                values = rest;
+            }
+            [] => return Ok(()),
         }
+        columns = others;
     }
     Ok(())
 }
 
 /// The first column of the first row that has a null and takes none.
-pub fn require_not_null(rows: &[Row], columns: &[Column]) -> Result<(), Refusal> {
-    for row in rows {
-        row_has_values(row.as_slice(), columns)?;
+pub fn require_values(rows: &[Stored], columns: &[Column]) -> Result<(), Refusal>
+    ensures { Gives result (each_or_refused (spec.stored_has_values columns.now) rows.now) }
+{
+    for stored in rows {
+        row_has_values(stored.row.as_slice(), columns)?;
     }
     Ok(())
 }
 
-fn row_has_values(values: &[Value], columns: &[Column]) -> Result<(), Refusal> {
-    for (value, column) in values.iter().zip(columns) {
-        if column.not_null && value.is_null() {
-            return Err(Refusal::NotNull(column.name.copy()?));
+fn row_has_values(mut values: &[Value], mut columns: &[Column]) -> Result<(), Refusal>
+    ensures { Gives result (spec.row_has_values columns.entry.now values.entry.now) }
+{
+    while let [column, others @ ..] = columns {
+        match values {
+            [value, rest @ ..] => {
+                if column.not_null && value.is_null() {
+                    return Err(Refusal::NotNull(column.name.copy()?));
+                }
+                values = rest;
+            }
+            [] => return Ok(()),
         }
+        columns = others;
     }
     Ok(())
 }

@@ -1,5 +1,5 @@
 -- What changes make of a state.
-use Rattle.std.specs.Prelude.{◌≡◌, ℕ, List, [], ◌∷◌, Option, Some, None, take}
+use Rattle.std.specs.Prelude.{ℕ, List, [], ◌∷◌, Option, Some, None}
 use Rattle.std.specs.BTreeMap.{is_at, insert_entry}
 use Rattle.std.specs.Map.{set_value, remove_entry}
 use Rattle.rls_value.specs.declared.row.RowId.{RowId}
@@ -46,7 +46,3 @@ changed s (c.Row change) = record s { rows = rows_changed s.rows change }
 abbrev pub changed_all : State → List Change → State
 changed_all s [] = s
 changed_all s (change ∷ more) = changed_all (changed s change) more
-
--- some first of the changes were put on, and the others not
-abbrev pub IsPartly : State → List Change → State → Type 0
-IsPartly s delta after = (count : ℕ) × (after ≡ changed_all s (take count delta))

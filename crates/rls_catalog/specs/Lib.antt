@@ -1,8 +1,14 @@
 pub mod State
 pub mod StateCode
-pub mod StateOf
 pub mod Changed
+pub mod Kept
+pub mod KeptCode
+pub mod Undone
+pub mod KeyIndex
 pub mod Contents
+pub mod Bases
+pub mod RowsChanged
+pub mod Covering
 pub mod Membership
 pub mod Walks
 pub mod Inheriting

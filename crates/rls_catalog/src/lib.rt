@@ -3,11 +3,16 @@
 
 mod catalog;
 mod change;
+mod contents;
+mod entries;
 mod grant;
+mod key_index;
 mod policy;
 mod role;
 mod same;
+mod slots;
 mod stored;
+mod undo;
 
 pub use catalog::Catalog;
 pub use change::{Change, Delta, RowChange};

@@ -1,3 +1,5 @@
-pub mod Covers
+pub mod Footprints
+pub mod FootprintLaws
 pub use Rattle.rls_catalog.specs.State
 pub use Rattle.rls_catalog.specs.Changed
+pub use Rattle.rls_catalog.specs.Bases

@@ -1,15 +1,27 @@
 //! Which changes an object is covered by.
 
 ghost use Rattle.std.specs.Prelude.{◌≡◌};
-ghost use Rattle.rls_source.specs.Covers as spec;
+ghost use Rattle.rls_catalog.specs.Bases as spec;
 
-use rls_catalog::{Change, Keyed, RowChange, is_same_row};
-use rls_value::{Name, Object, Row};
+use rls_catalog::{Change, Keyed, is_same_row};
+use rls_value::{Object, Row};
 
-/// Whether the change writes the object or, for the rows of a table, one of them. A change of a row writes the row,
-/// and the keys that it had and has.
+/// Whether the object shows what stood at the place that the change overwrites, or what stands there now. A change of a
+/// row covers the row, the rows of its table, and the keys that it had and has.
 pub fn covers(object: &Object, change: &Change) -> bool
     ensures { result ≡ spec.covers object.now change.now }
+{
+    match change {
+        Change::Row(row) => {
+            shows(object, change, &row.before) || shows(object, change, &row.after)
+        }
+        _ => shows(object, change, &None),
+    }
+}
+
+/// Whether the object shows the content at the place that the change overwrites.
+fn shows(object: &Object, change: &Change, content: &Option<Keyed>) -> bool
+    ensures { result ≡ spec.shows object.now (spec.base_of change.now) content.now }
 {
     match (object, change) {
         (Object::Role(name), Change::Role(changed, _)) => name.is(changed),
@@ -18,16 +30,12 @@ pub fn covers(object: &Object, change: &Change) -> bool
         (Object::Grants(table), Change::Grants(changed, _)) => table.is(changed),
         (Object::Policies(table), Change::Policies(changed, _)) => table.is(changed),
         (Object::Rows(table), Change::Row(row)) => table.is(&row.table),
-        (Object::Key(table, key), Change::Row(row)) => covers_key(table, key, row),
+        (Object::Key(table, key), Change::Row(row)) => {
+            table.is(&row.table) && has_key(content, key)
+        }
         (Object::RowOf(table, id), Change::Row(row)) => table.is(&row.table) && *id == row.id,
         (_, _) => false,
     }
-}
-
-fn covers_key(table: &Name, key: &Row, change: &RowChange) -> bool
-    ensures { result ≡ spec.covers_key table.now key.now change.now }
-{
-    table.is(&change.table) && (has_key(&change.before, key) || has_key(&change.after, key))
 }
 
 fn has_key(content: &Option<Keyed>, key: &Row) -> bool

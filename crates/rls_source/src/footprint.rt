@@ -1,15 +1,19 @@
-//! What was read.
+//! The objects that were read, each once.
 
-ghost use Rattle.std.specs.Prelude.{◌≡◌, [], ◌∷◌, ◌++◌, IfOk, OnOk, OnErr};
+ghost use Rattle.std.specs.Prelude.{◌≡◌, [], IfOk, OnOk, OnErr};
+ghost use Rattle.rls_value.specs.declared.object.Object.{Object as Read};
+ghost use Rattle.rls_source.specs.Footprints.{with_object, footprint_of, is_among, IsInOrder};
 
+use crate::reads::Reads;
 use rls_value::Object;
 use std::alloc::{AllocError, Global};
+use std::collections::{BTreeSet, btree_set};
 use std::marker::Model;
 
-/// The objects that were read, in the order of the reads, as often as they were read.
+/// The objects that were read, each once, in the order of objects.
 #[derive(Drop)]
 pub struct Footprint {
-    objects: Vec<Object>,
+    objects: BTreeSet<Object>,
 }
 
 impl Model for Footprint {
@@ -22,7 +26,7 @@ impl Model for Footprint {
 
     ghost coded = { coded_list object.the_row.coded };
 
-    ghost view = { λ footprint. footprint.objects.items };
+    ghost view = { λ footprint. footprint.objects.keys };
 }
 
 impl Footprint {
@@ -30,39 +34,53 @@ impl Footprint {
         ensures { result ≡ [] }
     {
         Footprint {
-            objects: Vec::new(alloc),
+            objects: BTreeSet::new(alloc),
         }
     }
 
+    /// The objects of the reads.
+    pub fn from_reads(alloc: Global, reads: Reads) -> Result<Footprint, AllocError>
+        ensures { IfOk result (λ footprint. footprint ≡ footprint_of reads) }
+    {
+        let mut footprint = Footprint::new(alloc);
+        for object in reads.into_vec() {
+            footprint.note(object)?;
+        }
+        Ok(footprint)
+    }
+
+    /// Puts the object in its place, unless it is there.
     pub fn note(&mut self, object: Object) -> Result<(), AllocError>
-        ensures ok { OnOk result (self.new ≡ self.old ++ object ∷ []) }
+        ensures ok { OnOk result (self.new ≡ with_object self.old object) }
         ensures err { OnErr result (self.new ≡ self.old) }
     {
-        self.objects.push(object)?;
+        self.objects.insert(object)?;
         Ok(())
     }
 
-    pub fn as_slice(&self) -> &[Object]
-        ensures { result.now ≡ self.now }
+    /// Whether the object was read.
+    pub fn contains(&self, object: &Object) -> bool
+        ensures { result ≡ is_among self.now object.now }
     {
-        self.objects.as_slice()
+        self.objects.contains(object)
     }
 
+    /// The objects, in order.
+    pub fn iter(&self) -> btree_set::Iter<'_, Object>
+        ensures objects { result ≡ self.now }
+        ensures ordered { IsInOrder self.now }
+    {
+        self.objects.iter()
+    }
+
+    #[tactic(auto, using(crate::specs::FootprintLaws::footprint_ordered))]
     pub fn copy(&self, alloc: Global) -> Result<Footprint, AllocError>
         ensures { IfOk result (λ footprint. footprint ≡ self.now) }
     {
-        Ok(Footprint {
-            objects: copy_objects(alloc, &self.objects)?,
-        })
+        let mut footprint = Footprint::new(alloc);
+        for object in self.objects.iter() {
+            footprint.note(object.copy(alloc)?)?;
+        }
+        Ok(footprint)
     }
-}
-
-fn copy_objects(alloc: Global, objects: &[Object]) -> Result<Vec<Object>, AllocError>
-    ensures { IfOk result (λ copies. copies.items ≡ objects.now) }
-{
-    let mut copies = Vec::with_capacity(alloc, objects.len())?;
-    for object in objects {
-        copies.push(object.copy(alloc)?)?;
-    }
-    Ok(copies)
 }

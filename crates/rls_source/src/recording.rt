@@ -1,7 +1,8 @@
 //! A source with a note of what was read from it.
 
-ghost use Rattle.std.specs.Prelude.{◌≡◌, [], ◌++◌};
-ghost use Rattle.std.proofs.Common.{append-nil, append_assoc};
+ghost use Rattle.std.specs.Prelude.{◌≡◌, []};
+ghost use Rattle.rls_source.specs.Footprints.{with_reads};
+ghost use Rattle.rls_source.specs.FootprintLaws.{with_reads_more};
 
 use crate::footprint::Footprint;
 use crate::source::RowSource;
@@ -32,7 +33,7 @@ impl<S: RowSource> Recording<S> {
 impl<S: RowSource> RowSource for Recording<S> {
     ghost state = { λ s. S.state s.source };
 
-    ghost after = { λ s os. record { source = S.after s.source os; footprint = s.footprint ++ os } };
+    ghost after = { λ s os. record { source = S.after s.source os; footprint = with_reads s.footprint os } };
 
     fn role(&mut self, alloc: Global, name: &Name) -> Result<Option<RoleDef>, AllocError> {
         let object = Object::Role(name.copy()?);
@@ -90,7 +91,7 @@ impl<S: RowSource> RowSource for Recording<S> {
 
     ghost stands = { λ s os. S.stands s.source os };
 
-    ghost after_none = { λ s i. record { source = S.after_none s.source i; footprint = append-nil s.footprint i } };
+    ghost after_none = { λ s i. record { source = S.after_none s.source i; footprint = s.footprint } };
 
-    ghost after_more = { λ s os more i. record { source = S.after_more s.source os more i; footprint = append_assoc s.footprint os more i } };
+    ghost after_more = { λ s os more i. record { source = S.after_more s.source os more i; footprint = with_reads_more s.footprint os more i } };
 }

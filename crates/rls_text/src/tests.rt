@@ -2,6 +2,7 @@
 
 use crate::parsing::parse;
 use crate::statement::Statement;
+use rls_expr::{Category, Expr, Node, Scope, check};
 use rls_value::{Limit, Refusal};
 use std::alloc::{AllocError, Global};
 use std::test::Fail;
@@ -54,6 +55,15 @@ fn keeps_limits(rt: HostRuntime) -> Result<(), Fail> {
         let text = repeated(rt.alloc(), count, part, end)?;
         assert!(rt; answers(rt.alloc(), text.as_str(), want), "{part}");
     }
+    Ok(())
+}
+
+/// Memory suffices to check an expression and to copy what was checked.
+#[test]
+fn checked_expression_is_copied(rt: HostRuntime) -> Result<(), Fail> {
+    let expr = Expr::new(Node::CurrentUser);
+    let typed = check(rt.alloc(), &expr, &Scope { tables: &[] })?.copy(rt.alloc())?;
+    assert_eq!(rt; typed.kind, Some(Category::Text));
     Ok(())
 }
 

@@ -5,4 +5,5 @@ pub mod Words
 pub mod Refusals
 pub mod Listing
 pub mod Objects
+pub mod ObjectOrder
 pub mod Giving

@@ -4,6 +4,9 @@ use Rattle.std.specs.Prelude.{ℕ, Bool, true, false, ◌&&◌, ◌||◌, not, n
 use Rattle.std.specs.List.{list_all}
 use Rattle.std.specs.Char.{to_ascii_lowercase}
 use Rattle.std.specs.Str.{bytes_eq}
+use Rattle.rls_value.specs.declared.refusal.Refusal.{Refusal}
+use Rattle.rls_value.specs.declared.refusal.Refusal.TheVariants.{NoMemory, Syntax, Limit}
+use Rattle.rls_value.specs.declared.refusal.Limit.TheVariants as limit
 
 -- in lower case
 abbrev pub folded : List ℕ → List ℕ
@@ -38,6 +41,13 @@ reserved = one_of (codes "all" ∷ codes "and" ∷ codes "as" ∷ codes "check" 
 -- a text that is a name once it is folded
 abbrev pub spells_name : List ℕ → Bool
 spells_name text = is_name_text text && not (reserved (folded text))
+
+-- what a text may be refused with where a name is wanted
+abbrev pub RefusesName : Refusal → Type 0
+RefusesName NoMemory = Unit {0}
+RefusesName Syntax = Unit {0}
+RefusesName (Limit limit.Name) = Unit {0}
+RefusesName _ = ⊥
 
 -- the role of the opening state
 abbrev pub postgres : List ℕ

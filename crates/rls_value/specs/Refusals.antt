@@ -13,7 +13,10 @@ use Rattle.rls_value.specs.declared.refusal.Why.{Why}
 use Rattle.rls_value.specs.declared.refusal.Why.TheVariants as w
 use Rattle.rls_value.specs.declared.refusal.GrantFault.{GrantFault}
 use Rattle.rls_value.specs.declared.refusal.GrantFault.TheVariants as g
+use Rattle.rls_value.specs.declared.refusal.Cause.{Cause}
+use Rattle.rls_value.specs.declared.refusal.Cause.TheVariants as c
 use Rattle.rls_value.specs.Words.{privilege_word, kind_word, tag_text}
+use Rattle.rls_value.specs.Objects.{object_text}
 
 -- a name that is too long has a code of its own
 abbrev pub limit_code : Limit → List ℕ
@@ -107,7 +110,12 @@ grant_fault_text (g.Cycle member role) = codes "role \"" ++ (member ++ (codes "\
 grant_fault_text g.PublicOption = codes "grant options cannot be granted to PUBLIC"
 grant_fault_text (g.Back grantee) = codes "grant options cannot be granted back to the grantor"
 
--- the text of a refusal, but for a serialization failure, which names objects
+-- who wrote what; of two rw-antidependencies, who read what and who wrote it
+abbrev pub cause_text : Cause → List ℕ
+cause_text (c.Written object other) = object_text object ++ (codes " was written by " ++ decimal other)
+cause_text (c.Structure first one pivot two last) = (decimal first ++ (codes " read " ++ (object_text one ++ (codes ", " ++ (decimal pivot ++ codes " wrote it; "))))) ++ (decimal pivot ++ (codes " read " ++ (object_text two ++ (codes ", " ++ (decimal last ++ codes " wrote it")))))
+
+-- the text of a refusal
 abbrev pub refusal_text : Refusal → Option (List ℕ)
 refusal_text r.NoMemory = Some (codes "out of memory")
 refusal_text r.Syntax = Some (codes "syntax error")
@@ -126,6 +134,6 @@ refusal_text (r.Dependent table) = Some (codes "dependent privileges exist")
 refusal_text (r.Range column) = Some (codes "value out of range for column \"" ++ (column ++ codes "\""))
 refusal_text (r.NotNull column) = Some (codes "null value in column \"" ++ (column ++ codes "\" violates not-null constraint"))
 refusal_text (r.Unique table) = Some (codes "duplicate key value violates the primary key of table \"" ++ (table ++ codes "\""))
-refusal_text (r.Serial cause) = None
+refusal_text (r.Serial cause) = Some (codes "could not serialize access: " ++ cause_text cause)
 refusal_text r.Foreign = Some (codes "not of this engine")
 refusal_text (r.BadAudit line) = Some (codes "bad audit line " ++ decimal line)

@@ -1,6 +1,8 @@
 -- Values: comparison with null, the listing order, the range of a column's type.
-use Rattle.std.specs.Prelude.{ℕ, ℤ, pos, negsuc, ◌-◌, ◌^◌, List, Bool, true, false, ◌&&◌, ◌||◌, not, slice_get, unwrap_or}
-use Rattle.std.specs.Str.{bytes_eq}
+use Rattle.std.specs.Prelude.{ℕ, ℤ, pos, negsuc, ◌-◌, ◌^◌, nat_eq, List, [], ◌∷◌, ◌++◌, codes, Bool, true, false, ◌&&◌, ◌||◌, not, if◌then◌else◌, slice_get, unwrap_or, encode_utf8}
+use Rattle.std.specs.Str.{bytes_eq, chars}
+use Rattle.std.specs.List.{flat_map}
+use Rattle.std.specs.Fmt.{signed_decimal}
 use Rattle.std.specs.Int.Signed.{lt_z}
 use Rattle.std.specs.Cmp.Lexicographic.{slice_cmp}
 use Rattle.std.specs.Ordering.{int_eq, int_cmp, nat_cmp, is_lt}
@@ -78,7 +80,7 @@ listed x y = nat_cmp (rank_of x) (rank_of y)
 abbrev pub fits_type : Value → ColType → Bool
 fits_type Null column = true
 fits_type (Int n) Integer = not (lt_z n (negsuc (2 ^ 31 - 1))) && lt_z n (pos (2 ^ 31))
-fits_type (Int n) BigInt = true
+fits_type (Int n) BigInt = not (lt_z n (negsuc (2 ^ 63 - 1))) && lt_z n (pos (2 ^ 63))
 fits_type (Text t) Texts = true
 fits_type (Flag b) Boolean = true
 fits_type _ _ = false
@@ -86,3 +88,24 @@ fits_type _ _ = false
 -- the value of a column of a row; null where there is no such column
 abbrev pub value_at : List Value → ℕ → Value
 value_at row column = unwrap_or (slice_get row column) Null
+
+-- a character as it stands within a literal: a quote twice
+abbrev pub within_quotes : ℕ → List ℕ
+within_quotes c = if nat_eq c 39 then 39 ∷ 39 ∷ [] else encode_utf8 c
+
+-- a value as a literal (PostgreSQL manual, 4.1.2.1): a text between quotes
+abbrev pub literal_text : Value → List ℕ
+literal_text Null = codes "NULL"
+literal_text (Int n) = signed_decimal n
+literal_text (Text t) = 39 ∷ flat_map within_quotes (chars t) ++ 39 ∷ []
+literal_text (Flag true) = codes "TRUE"
+literal_text (Flag false) = codes "FALSE"
+
+-- values as literals, each behind a comma
+abbrev pub further_text : List Value → List ℕ
+further_text values = flat_map (λ value. codes ", " ++ literal_text value) values
+
+-- values as literals, with commas between them
+abbrev pub literals_text : List Value → List ℕ
+literals_text [] = []
+literals_text (value ∷ values) = literal_text value ++ further_text values

@@ -1,13 +1,13 @@
 //! Names of roles, tables, columns and policies.
 
-ghost use Rattle.std.specs.Prelude.{◌≡◌, ◌<◌, ◌↔◌, ◌||◌, true, false, map, length, IfOk, IsErrOf};
+ghost use Rattle.std.specs.Prelude.{◌≡◌, ◌<◌, ◌↔◌, ◌||◌, true, false, map, length, IfOk, IfErr, IsErrOf};
 ghost use Rattle.std.specs.Str.{bytes_eq};
 ghost use Rattle.std.specs.List.{list_all};
 ghost use Rattle.std.specs.String.{string_bytes};
 ghost use Rattle.std.specs.Cmp.Lexicographic.{slice_cmp};
 ghost use Rattle.std.specs.Ordering.{nat_cmp, as_partial_cmp};
 ghost use Rattle.rls_value.specs.Names as spec;
-ghost use Rattle.rls_value.specs.Names.{folded, spells_name, is_name_text, one_of, reserved};
+ghost use Rattle.rls_value.specs.Names.{folded, spells_name, is_name_text, one_of, reserved, RefusesName};
 
 use crate::refusal::{Limit, Refusal};
 use std::alloc::{AllocError, Global};
@@ -41,6 +41,7 @@ impl Name {
         ensures spelled { IfOk result (λ _. spells_name text.now ≡ true) }
         ensures too_long { IsErrOf result (Refusal.Limit Limit.Name) ↔ (MAX_NAME < length text.now) }
         ensures syntax { IsErrOf result Refusal.Syntax → spells_name text.now ≡ false }
+        ensures refused { IfErr result RefusesName }
     {
         if text.len() > MAX_NAME {
             return Err(Refusal::Limit(Limit::Name));

@@ -1,10 +1,13 @@
 //! What is versioned: the objects that statements read and changes write.
 
 ghost use Rattle.std.specs.Prelude.{◌≡◌, IfOk};
+ghost use Rattle.std.specs.Fmt.{WritesOnOk};
+ghost use Rattle.rls_value.specs.Values.{literals_text, further_text};
 ghost use Rattle.rls_value.specs.Objects as spec;
 
 use crate::name::Name;
 use crate::row::{Row, RowId, cmp_rows};
+use crate::value::Value;
 use std::alloc::{AllocError, Global};
 use std::cmp::Ordering;
 use std::fmt;
@@ -43,6 +46,67 @@ impl Object {
             Object::RowOf(table, id) => Ok(Object::RowOf(table.copy()?, *id)),
         }
     }
+}
+
+/// Objects are ordered as `cmp_objects` says.
+impl Ord for Object {
+    ghost use Rattle.std.proofs.Common.{rules};
+    ghost use Rattle.std.specs.Cmp.Rules.{comparing};
+    ghost use Rattle.rls_value.specs.Objects.{object_order};
+    ghost use Rattle.rls_value.specs.ObjectOrder.{objects_total};
+
+    ghost cmp = { object_order };
+
+    ghost total = { objects_total };
+
+    ghost matches_partial_cmp = { Prim.search (comparing, rules) };
+
+    ghost matches_eq = { Prim.search (comparing, rules) };
+
+    fn cmp(&self, other: &Object) -> Ordering {
+        cmp_objects(self, other)
+    }
+}
+
+impl PartialOrd for Object {
+    ghost use Rattle.std.specs.Ordering.{as_partial_cmp};
+    ghost use Rattle.std.proofs.Common.{rules};
+    ghost use Rattle.std.specs.Cmp.{partial_order_from_own_ties};
+    ghost use Rattle.std.specs.Cmp.Rules.{comparing};
+    ghost use Rattle.rls_value.specs.Objects.{object_order};
+    ghost use Rattle.rls_value.specs.ObjectOrder.{objects_total};
+
+    ghost partial_cmp = { as_partial_cmp object_order };
+
+    ghost laws = { partial_order_from_own_ties (Prim.search (comparing, rules, objects_total)) (Prim.search (comparing, rules)) };
+
+    fn partial_cmp(&self, other: &Object) -> Option<Ordering> {
+        Some(self.cmp(other))
+    }
+}
+
+impl PartialEq for Object {
+    ghost use Rattle.std.specs.Ordering.{eq_by_cmp};
+    ghost use Rattle.std.proofs.lemmas.Cmp.{eq_by_cmp_equiv};
+    ghost use Rattle.std.proofs.Common.{rules};
+    ghost use Rattle.std.specs.Cmp.Rules.{comparing};
+    ghost use Rattle.rls_value.specs.Objects.{object_order};
+    ghost use Rattle.rls_value.specs.ObjectOrder.{objects_total};
+
+    ghost eq = { eq_by_cmp object_order };
+
+    ghost laws = { Prim.search (comparing, rules, eq_by_cmp_equiv objects_total) };
+
+    fn eq(&self, other: &Object) -> bool {
+        cmp_objects(self, other) == Ordering::Equal
+    }
+}
+
+impl Eq for Object {
+    ghost use Rattle.std.proofs.lemmas.Cmp.{eq_by_cmp_equiv};
+    ghost use Rattle.rls_value.specs.ObjectOrder.{objects_total};
+
+    ghost laws = { eq_by_cmp_equiv objects_total };
 }
 
 /// The order of objects: by kind as they stand in `Object`, then by the name of the role or table, then by the values of
@@ -97,6 +161,11 @@ fn cmp_parts(left: &Object, right: &Object) -> Ordering
 
 /// As `grants on t` or `key ('a', 1) of t`.
 impl fmt::Display for Object {
+    ghost use Rattle.std.specs.Prelude.{Some};
+    ghost use Rattle.rls_value.specs.Objects.{object_text};
+
+    ghost output = { λ object. Some (object_text object) };
+
     fn fmt<W: fmt::Write>(&self, f: &mut fmt::Formatter<W>) -> fmt::Result {
         match self {
             Object::Role(role) => write!(f, "role {role}"),
@@ -107,7 +176,7 @@ impl fmt::Display for Object {
             Object::Rows(table) => write!(f, "rows of {table}"),
             Object::Key(table, key) => {
                 write!(f, "key (")?;
-                write_values(f, key)?;
+                write_values(f, key.as_slice())?;
                 write!(f, ") of {table}")
             }
             Object::RowOf(table, id) => write!(f, "row {id} of {table}"),
@@ -115,14 +184,23 @@ impl fmt::Display for Object {
     }
 }
 
-fn write_values<W: fmt::Write>(f: &mut fmt::Formatter<W>, row: &Row) -> fmt::Result {
-    let mut first = true;
-    for value in row.as_slice() {
-        if !first {
-            write!(f, ", ")?;
+fn write_values<W: fmt::Write>(f: &mut fmt::Formatter<W>, values: &[Value]) -> fmt::Result
+    ensures { WritesOnOk W.write_str_gives f.old result (literals_text values.now) f.new }
+{
+    match values {
+        [] => Ok(()),
+        [first, rest @ ..] => {
+            write!(f, "{first}")?;
+            write_further(f, rest)
         }
-        write!(f, "{value}")?;
-        first = false;
+    }
+}
+
+fn write_further<W: fmt::Write>(f: &mut fmt::Formatter<W>, values: &[Value]) -> fmt::Result
+    ensures { WritesOnOk W.write_str_gives f.old result (further_text values.now) f.new }
+{
+    for value in values {
+        write!(f, ", {value}")?;
     }
     Ok(())
 }

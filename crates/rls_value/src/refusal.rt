@@ -449,6 +449,11 @@ impl fmt::Display for GrantFault {
 }
 
 impl fmt::Display for Cause {
+    ghost use Rattle.std.specs.Prelude.{Some};
+    ghost use Rattle.rls_value.specs.Refusals.{cause_text};
+
+    ghost output = { λ cause. Some (cause_text cause) };
+
     fn fmt<W: fmt::Write>(&self, f: &mut fmt::Formatter<W>) -> fmt::Result {
         match self {
             Cause::Written(object, other) => write!(f, "{object} was written by {other}"),

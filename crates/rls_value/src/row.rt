@@ -186,10 +186,10 @@ pub struct RowId {
 
 /// As `17.0`.
 impl fmt::Display for RowId {
-    ghost use Rattle.std.specs.Prelude.{Some, ◌++◌, codes};
-    ghost use Rattle.std.specs.Fmt.{decimal};
+    ghost use Rattle.std.specs.Prelude.{Some};
+    ghost use Rattle.rls_value.specs.Objects.{row_id_text};
 
-    ghost output = { λ id. Some (decimal id.txn ++ codes "." ++ decimal id.n) };
+    ghost output = { λ id. Some (row_id_text id) };
 
     fn fmt<W: fmt::Write>(&self, f: &mut fmt::Formatter<W>) -> fmt::Result {
         let txn = self.txn;

@@ -1,6 +1,9 @@
 //! Values of columns: how they compare, in which order they are listed, which column types they fit.
 
-ghost use Rattle.std.specs.Prelude.{◌≡◌, IfOk};
+ghost use Rattle.std.specs.Prelude.{◌≡◌, IfOk, ◌∷◌, ◌++◌, []};
+ghost use Rattle.std.specs.Fmt.{WritesOnOk};
+ghost use Rattle.std.specs.List.{flat_map};
+ghost use Rattle.std.specs.Str.{chars};
 ghost use Rattle.std.specs.Cmp.{IsTotalOrder};
 ghost use Rattle.rls_value.specs.Values as spec;
 ghost use Rattle.rls_value.specs.Values.{listed, fits_type, equal_values, less_values, truth_in, value_of_truth};
@@ -132,7 +135,7 @@ pub fn fits(value: &Value, column: ColType) -> bool
     match (value, column) {
         (Value::Null, _) => true,
         (Value::Int(number), ColType::Integer) => -2147483648 <= *number && *number <= 2147483647,
-        (Value::Int(_), ColType::BigInt) => true,
+        (Value::Int(number), ColType::BigInt) => i64::MIN <= *number && *number <= i64::MAX,
         (Value::Text(_), ColType::Text) => true,
         (Value::Bool(_), ColType::Boolean) => true,
         (_, _) => false,
@@ -141,6 +144,11 @@ pub fn fits(value: &Value, column: ColType) -> bool
 
 /// As a literal of SQL: `NULL`, `-7`, `'it''s'`, `TRUE`.
 impl fmt::Display for Value {
+    ghost use Rattle.std.specs.Prelude.{Some};
+    ghost use Rattle.rls_value.specs.Values.{literal_text};
+
+    ghost output = { λ value. Some (literal_text value) };
+
     fn fmt<W: fmt::Write>(&self, f: &mut fmt::Formatter<W>) -> fmt::Result {
         match self {
             Value::Null => write!(f, "NULL"),
@@ -152,13 +160,29 @@ impl fmt::Display for Value {
     }
 }
 
-fn write_quoted<W: fmt::Write>(f: &mut fmt::Formatter<W>, text: &str) -> fmt::Result {
+fn write_quoted<W: fmt::Write>(f: &mut fmt::Formatter<W>, text: &str) -> fmt::Result
+    ensures { WritesOnOk W.write_str_gives f.old result (39 ∷ flat_map spec.within_quotes (chars text.now) ++ 39 ∷ []) f.new }
+{
     f.write_char('\'')?;
-    for c in text.chars() {
-        if c == '\'' {
-            f.write_char('\'')?;
-        }
-        f.write_char(c)?;
-    }
+    write_content(f, text)?;
     f.write_char('\'')
+}
+
+fn write_content<W: fmt::Write>(f: &mut fmt::Formatter<W>, text: &str) -> fmt::Result
+    ensures { WritesOnOk W.write_str_gives f.old result (flat_map spec.within_quotes (chars text.now)) f.new }
+{
+    for c in text.chars() {
+        write_within_quotes(f, c)?;
+    }
+    Ok(())
+}
+
+fn write_within_quotes<W: fmt::Write>(f: &mut fmt::Formatter<W>, c: char) -> fmt::Result
+    ensures { WritesOnOk W.write_str_gives f.old result (spec.within_quotes c) f.new }
+{
+    if c == '\'' {
+        f.write_str("''")
+    } else {
+        f.write_char(c)
+    }
 }

@@ -1,1 +1,4 @@
+pub mod Examples
 pub mod LineLemmas
+pub mod ScriptLemmas
+pub mod SessionLemmas

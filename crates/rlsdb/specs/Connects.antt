@@ -1,7 +1,11 @@
 -- `\connect ROLE`.
-use Rattle.std.specs.Prelude.{ℕ, Bool, true, false, cond, nat_eq, ◌&&◌, ◌||◌, ◌≡◌, ◌++◌, List, [], ◌∷◌, take, drop, codes}
+use Rattle.std.specs.Prelude.{ℕ, Bool, true, false, cond, nat_eq, nat_lt, ◌&&◌, ◌||◌, ◌≡◌, ◌++◌, List, [], ◌∷◌, length, take, drop, codes, Result, Ok, Err}
 use Rattle.std.specs.List.{prefix_len}
-use Rattle.rls_value.specs.Names.{is_between, is_letter_or_digit, spells_name}
+use Rattle.rls_value.specs.Giving.{and_then}
+use Rattle.rls_value.specs.declared.refusal.Refusal.{Refusal}
+use Rattle.rls_value.specs.declared.refusal.Refusal.TheVariants as r
+use Rattle.rls_value.specs.declared.refusal.Limit.TheVariants as l
+use Rattle.rls_value.specs.Names.{is_between, is_letter_or_digit, spells_name, folded}
 
 -- space, tab, LF or CR
 abbrev pub is_white : ℕ → Bool
@@ -39,6 +43,10 @@ is_comment (first ∷ second ∷ rest) = nat_eq first 45 && nat_eq second 45
 abbrev pub ends_with_role : List ℕ → Bool
 ends_with_role text = is_comment (without_white (drop (word_len (without_white text)) (without_white text)))
 
--- one name, and nothing behind it
-abbrev pub names_role : List ℕ → Bool
-names_role text = spells_name (role_word text) && ends_with_role text
+-- the name that a word spells; one of over 63 bytes is refused as such, whatever its bytes
+abbrev pub name_of : List ℕ → Result (List ℕ) Refusal
+name_of word = cond (nat_lt 63 (length word)) (Err (r.Limit l.Name)) (cond (spells_name word) (Ok (folded word)) (Err r.Syntax))
+
+-- the role that stands behind `\connect`: one name, and nothing behind it
+abbrev pub role_named : List ℕ → Result (List ℕ) Refusal
+role_named text = and_then (name_of (role_word text)) (λ role. cond (ends_with_role text) (Ok role) (Err r.Syntax))

@@ -1,4 +1,5 @@
-pub mod Connects
 pub mod Lines
-pub mod Rendering
+pub mod Connects
 pub mod Sessions
+pub mod Rendering
+pub mod Scripts

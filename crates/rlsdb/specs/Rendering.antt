@@ -58,7 +58,7 @@ abbrev pub counted_tag : Tag → ℕ → List ℕ
 counted_tag t.Insert count = codes "INSERT 0 " ++ decimal count
 counted_tag tag count = tag_text tag ++ (codes " " ++ decimal count)
 
--- a refusal's line; nothing is said of a serialization failure's
+-- a refusal's line
 abbrev pub refusal_line : List ℕ → Refusal → Option (List ℕ)
 refusal_line label refusal = option_map (λ text. line_of label (codes "ERROR " ++ (code_of refusal ++ (codes " " ++ text)))) (refusal_text refusal)
 

@@ -15,6 +15,13 @@ const FAULT: u8 = 1;
 
 const USAGE: u8 = 2;
 
+const AFTER_HELP: &str = "\
+A FILE has a command a line: `LABEL: \\connect ROLE` or `LABEL: STATEMENT`.
+A label is 1 to 63 lower case letters, digits or underscores; the file's first label has the session.
+Empty lines and lines that begin with `--` are skipped; every answer is written as `LABEL: TEXT`.
+
+Exit statuses: 0 done; 1 a read or write fault, or want of memory; 2 a usage fault.";
+
 /// Runs what the words of the command line ask for, and gives the exit status.
 pub fn run(rt: &HostRuntime) -> u8 {
     let Ok(words) = env::args(rt) else {
@@ -38,14 +45,16 @@ pub fn file_named<'a, T: AsStr>(
     alloc: Global,
     words: &'a [T],
 ) -> Result<Option<&'a str>, clap::Error> {
-    let file = Arg::new(alloc, "FILE").required(true).help(
-        "A script: lines `LABEL: COMMAND`, a command being `\\connect ROLE` or a statement",
-    );
+    let file = Arg::new(alloc, "FILE")
+        .required(true)
+        .help("The script to run");
     let run = Command::new(alloc, "run")
         .about("Runs a script on an empty database and writes each answer under its label")
+        .after_help(AFTER_HELP)
         .arg(file)?;
     let command = Command::new(alloc, "rlsdb")
         .about("A database with row-level security")
+        .after_help(AFTER_HELP)
         .subcommand_required(true)
         .subcommand(run)?;
     let matches = command.try_get_matches_from(words)?;

@@ -1,12 +1,13 @@
 //! `\connect ROLE`, which begins a label's session.
 
-ghost use Rattle.std.specs.Prelude.{◌≡◌, ◌<◌, ℕ, List, length, true, false, Ok, Err, IfOk, IsErrOf, IfSome, MatchOption, take, drop};
+ghost use Rattle.std.specs.Prelude.{◌≡◌, ℕ, List, MatchOption, take, drop};
 ghost use Rattle.std.specs.List.{prefix_len};
-ghost use Rattle.rls_value.specs.Names.{folded, is_letter_or_digit};
+ghost use Rattle.rls_value.specs.Giving.{Gives};
+ghost use Rattle.rls_value.specs.Names.{is_letter_or_digit};
 ghost use Rattle.rlsdb.specs.Connects as spec;
-ghost use Rattle.rlsdb.specs.Connects.{IsConnect, is_white, role_word, names_role};
+ghost use Rattle.rlsdb.specs.Connects.{IsConnect, is_white, name_of, role_named};
 
-use rls_value::{Limit, MAX_NAME, Name, Refusal};
+use rls_value::{Limit, Name, Refusal};
 use std::alloc::Global;
 
 /// What stands behind `\connect`; none where the command is no `\connect`, which is one only before white space
@@ -31,17 +32,26 @@ fn begins_white(bytes: &[u8]) -> bool
 
 /// The role that is named behind `\connect`: one name, and then nothing but a comment.
 pub fn role_in(alloc: Global, text: &str) -> Result<Name, Refusal>
-    ensures role { IfOk result (λ role. role ≡ folded (role_word text.now)) }
-    ensures named { IfOk result (λ _. names_role text.now ≡ true) }
-    ensures too_long { IsErrOf result (Refusal.Limit Limit.Name) → MAX_NAME < length (role_word text.now) }
-    ensures syntax { IsErrOf result Refusal.Syntax → names_role text.now ≡ false }
+    ensures { Gives result (role_named text.now) }
 {
     let (word, behind) = split_word(without_white(text));
-    let role = Name::new(alloc, word)?;
+    let role = named(alloc, word)?;
     if is_comment(without_white(behind).as_bytes()) {
         Ok(role)
     } else {
         Err(Refusal::Syntax)
+    }
+}
+
+// A word is refused for its length or as no name, and else for want of memory alone.
+fn named(alloc: Global, word: &str) -> Result<Name, Refusal>
+    ensures { Gives result (name_of word.now) }
+{
+    match Name::new(alloc, word) {
+        Ok(role) => Ok(role),
+        Err(Refusal::Limit(Limit::Name)) => Err(Refusal::Limit(Limit::Name)),
+        Err(Refusal::Syntax) => Err(Refusal::Syntax),
+        Err(_) => Err(Refusal::NoMemory),
     }
 }
 

@@ -1,28 +1,34 @@
 //! A file to read a script from, and a standard output to write to, both through buffers.
 
-ghost use Rattle.std.specs.Prelude.{◌≡◌, IfOk};
+ghost use Rattle.std.specs.Prelude.{◌≡◌, [], ◌∷◌, ◌++◌, ◌<◌, ◌≤◌, length, take, true, IsNone, IfSome, IfOk, OnOk, OnErr};
+ghost use Rattle.std.specs.Option.{option_to_list};
+ghost use Rattle.std.specs.Io.Buffered.{reader_remaining, writer_contents};
+ghost use Rattle.std.specs.Io.KnownBytes.{Consumes, Appends};
 
+use crate::passed::Passed;
 use crate::stream::{Failed, ScriptIn, ScriptOut};
 use std::alloc::Global;
 use std::io;
 use std::io::{BufReader, BufWriter, ErrorKind, Read, Write};
 
-/// A reader that counts its bytes and its failures.
+/// A reader that notes, for proofs, what its calls gave.
 #[derive(Drop)]
 pub struct DeviceIn<R: Read + Drop> {
     reader: BufReader<R>,
-    given: u64,
+    given: Passed,
+    ended: bool,
     failures: u32,
 }
 
 impl<R: Read + Drop> DeviceIn<R> {
     pub fn new(alloc: Global, reader: R) -> io::Result<DeviceIn<R>>
         ensures whole { IfOk result (λ device. device.failures ≡ 0) }
-        ensures fresh { IfOk result (λ device. device.given ≡ 0) }
+        ensures fresh { IfOk result (λ device. device.given.bytes ≡ []) }
     {
         Ok(DeviceIn {
             reader: BufReader::new(alloc, reader)?,
-            given: 0,
+            given: Passed::new(),
+            ended: false,
             failures: 0,
         })
     }
@@ -31,16 +37,31 @@ impl<R: Read + Drop> DeviceIn<R> {
 impl<R: Read + Drop> ScriptIn for DeviceIn<R> {
     ghost failures = { λ device. device.failures };
 
-    ghost given = { λ device. device.given };
+    ghost given = { λ device. device.given.bytes };
 
-    fn next_byte(&mut self) -> Result<Option<u8>, Failed> {
+    ghost ended = { λ device. device.ended };
+
+    fn next_byte(&mut self) -> Result<Option<u8>, Failed>
+        requires whole { self.old.failures ≡ 0 }
+        ensures byte { IfOk result (λ byte. self.new.given.bytes ≡ self.old.given.bytes ++ option_to_list byte) }
+        ensures end { IfOk result (λ byte. IsNone byte → self.new.ended ≡ true) }
+        ensures ok { OnOk result (self.new.failures ≡ 0) }
+        ensures err { OnErr result (self.new.failures ≡ 1) }
+        ensures none_given { OnErr result (self.new.given.bytes ≡ self.old.given.bytes) }
+
+        // Where the reader's bytes are known, it is the first of them.
+        ensures known { IfOk result (λ byte. IfSome byte (λ first. Consumes (reader_remaining R.remaining self.old.reader) (reader_remaining R.remaining self.new.reader) (first ∷ []))) }
+    {
         let mut byte = [0u8; 1];
         match self.reader.read_exact(&mut byte) {
             Ok(()) => {
-                self.given += 1;
+                self.given.add(&byte);
                 Ok(Some(byte[0]))
             }
-            Err(error) if error.kind() == ErrorKind::UnexpectedEof => Ok(None),
+            Err(error) if error.kind() == ErrorKind::UnexpectedEof => {
+                self.ended = true;
+                Ok(None)
+            }
             Err(_) => {
                 self.failures = 1;
                 Err(Failed)
@@ -49,19 +70,22 @@ impl<R: Read + Drop> ScriptIn for DeviceIn<R> {
     }
 }
 
-/// A writer that counts its failures. What it took stays in a buffer until `finish`.
+/// A writer that notes, for proofs, what its calls took, which stays in a buffer until `finish`.
 #[derive(Drop)]
 pub struct DeviceOut<W: Write + Drop> {
     writer: BufWriter<W>,
+    taken: Passed,
     failures: u32,
 }
 
 impl<W: Write + Drop> DeviceOut<W> {
     pub fn new(alloc: Global, writer: W) -> io::Result<DeviceOut<W>>
-        ensures { IfOk result (λ device. device.failures ≡ 0) }
+        ensures whole { IfOk result (λ device. device.failures ≡ 0) }
+        ensures fresh { IfOk result (λ device. device.taken.bytes ≡ []) }
     {
         Ok(DeviceOut {
             writer: BufWriter::new(alloc, writer)?,
+            taken: Passed::new(),
             failures: 0,
         })
     }
@@ -75,9 +99,24 @@ impl<W: Write + Drop> DeviceOut<W> {
 impl<W: Write + Drop> ScriptOut for DeviceOut<W> {
     ghost failures = { λ device. device.failures };
 
-    fn write_some(&mut self, bytes: &[u8]) -> Result<usize, Failed> {
+    ghost taken = { λ device. device.taken.bytes };
+
+    fn write_some(&mut self, bytes: &[u8]) -> Result<usize, Failed>
+        requires whole { self.old.failures ≡ 0 }
+        requires some { 0 < length bytes.now }
+        ensures count { IfOk result (λ count. (0 < count) × (count ≤ length bytes.now)) }
+        ensures bytes { IfOk result (λ count. self.new.taken.bytes ≡ self.old.taken.bytes ++ take count bytes.now) }
+        ensures ok { OnOk result (self.new.failures ≡ 0) }
+        ensures err { OnErr result (self.new.failures ≡ 1) }
+
+        // Where what the writer holds is known, they are behind it.
+        ensures known { IfOk result (λ count. Appends (writer_contents W.contents self.old.writer) (writer_contents W.contents self.new.writer) (take count bytes.now)) }
+    {
         match self.writer.write_all(bytes) {
-            Ok(()) => Ok(bytes.len()),
+            Ok(()) => {
+                self.taken.add(bytes);
+                Ok(bytes.len())
+            }
             Err(_) => {
                 self.failures = 1;
                 Err(Failed)

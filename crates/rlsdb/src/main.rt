@@ -7,6 +7,7 @@ mod connect;
 mod device;
 mod fault;
 mod line;
+mod passed;
 mod render;
 mod script;
 mod session;

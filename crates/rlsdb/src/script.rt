@@ -1,6 +1,8 @@
 //! A script, run line by line.
 
-ghost use Rattle.std.specs.Prelude.{◌≡◌, ◌⊎◌, ◌+◌, ◌<◌, ◌≤◌, length, OnOk, OnErr, IfOk, IsErrOf};
+ghost use Rattle.std.specs.Prelude.{◌≡◌, ◌⊎◌, ◌+◌, ◌<◌, ◌≤◌, ◌++◌, [], length, true, IfOk, OnOk, OnErr, IsErrOf};
+ghost use Rattle.std.specs.Option.{option_copied};
+ghost use Rattle.rlsdb.specs.Scripts.{AnswersIf, comes_first, GrewBy, IsWritten, IsScriptText, RunsRead};
 
 use crate::answer::Answer;
 use crate::fault::RunFault;
@@ -23,11 +25,17 @@ pub fn run_script<R: ScriptIn, W: ScriptOut>(
     output: &mut W,
 ) -> Result<Catalog, RunFault>
     requires input_whole { R.failures input.old ≡ 0 }
-    requires input_fresh { R.given input.old ≡ 0 }
+    requires input_fresh { R.given input.old ≡ [] }
     requires output_whole { W.failures output.old ≡ 0 }
-    ensures read { IsErrOf result RunFault.Read → (R.failures input.new ≡ 1) ⊎ (MAX_SCRIPT < R.given input.new) }
+    ensures text { IfOk result (λ catalog. GrewBy (W.taken output.old) (W.taken output.new) (λ written. IsScriptText (R.given input.new) written catalog)) }
+    ensures ended { OnOk result (R.ended input.new ≡ true) }
+    ensures fits { OnOk result (length (R.given input.new) ≤ MAX_SCRIPT) }
+    ensures read { IsErrOf result RunFault.Read → (R.failures input.new ≡ 1) ⊎ (MAX_SCRIPT < length (R.given input.new)) }
+    ensures read_failed { R.failures input.new ≡ 1 → IsErrOf result RunFault.Read }
+    ensures unwritten { IsErrOf result RunFault.Read → W.taken output.new ≡ W.taken output.old }
     ensures write { IsErrOf result RunFault.Write → W.failures output.new ≡ 1 }
-    ensures reads { R.given input.new ≤ MAX_SCRIPT + 1 }
+    ensures write_failed { W.failures output.new ≡ 1 → IsErrOf result RunFault.Write }
+    ensures reads { length (R.given input.new) ≤ MAX_SCRIPT + 1 }
     ensures ok { OnOk result (W.failures output.new ≡ 0) }
 {
     let script = read_script(alloc, input)?;
@@ -36,11 +44,14 @@ pub fn run_script<R: ScriptIn, W: ScriptOut>(
 
 fn read_script<R: ScriptIn>(alloc: Global, input: &mut R) -> Result<Vec<u8>, RunFault>
     requires input_whole { R.failures input.old ≡ 0 }
-    requires input_fresh { R.given input.old ≡ 0 }
-    ensures read { IsErrOf result RunFault.Read → (R.failures input.new ≡ 1) ⊎ (MAX_SCRIPT < R.given input.new) }
+    requires input_fresh { R.given input.old ≡ [] }
+    ensures read { IsErrOf result RunFault.Read → (R.failures input.new ≡ 1) ⊎ (MAX_SCRIPT < length (R.given input.new)) }
+    ensures read_failed { R.failures input.new ≡ 1 → IsErrOf result RunFault.Read }
     ensures write { ¬ IsErrOf result RunFault.Write }
-    ensures reads { R.given input.new ≤ MAX_SCRIPT + 1 }
-    ensures ok { IfOk result (λ script. length script.items ≡ R.given input.new) }
+    ensures reads { length (R.given input.new) ≤ MAX_SCRIPT + 1 }
+    ensures ok { IfOk result (λ script. script.items ≡ R.given input.new) }
+    ensures ended { OnOk result (R.ended input.new ≡ true) }
+    ensures fits { OnOk result (length (R.given input.new) ≤ MAX_SCRIPT) }
 {
     let mut script = Vec::new(alloc);
     for _ in 0..MAX_SCRIPT {
@@ -62,8 +73,10 @@ fn run_lines<W: ScriptOut>(
     output: &mut W,
 ) -> Result<Catalog, RunFault>
     requires output_whole { W.failures output.old ≡ 0 }
+    ensures text { IfOk result (λ catalog. GrewBy (W.taken output.old) (W.taken output.new) (λ written. IsScriptText script.now written catalog)) }
     ensures read { ¬ IsErrOf result RunFault.Read }
     ensures write { IsErrOf result RunFault.Write → W.failures output.new ≡ 1 }
+    ensures write_failed { W.failures output.new ≡ 1 → IsErrOf result RunFault.Write }
     ensures ok { OnOk result (W.failures output.new ≡ 0) }
 {
     let mut label = None;
@@ -85,8 +98,10 @@ fn run_line<'a, W: ScriptOut>(
     output: &mut W,
 ) -> Result<(), RunFault>
     requires output_whole { W.failures output.old ≡ 0 }
+    ensures text { OnOk result (GrewBy (W.taken output.old) (W.taken output.new) (λ written. RunsRead line.entry (record { first = option_copied first.old; session = session.old }) written (record { first = option_copied first.new; session = session.new }))) }
     ensures read { ¬ IsErrOf result RunFault.Read }
     ensures write { IsErrOf result RunFault.Write → W.failures output.new ≡ 1 }
+    ensures write_failed { W.failures output.new ≡ 1 → IsErrOf result RunFault.Write }
     ensures ok { OnOk result (W.failures output.new ≡ 0) }
 {
     match line {
@@ -106,11 +121,16 @@ fn answer_of<'a>(
     session: &mut Session,
     label: &'a str,
     command: &str,
-) -> Result<Answer, AllocError> {
-    if *first.get_or_insert(label) == label {
-        session.execute(alloc, command)
-    } else {
-        Answer::refused(Refusal::Limit(Limit::Sessions))
+) -> Result<Answer, AllocError>
+    ensures { IfOk result (λ answer. AnswersIf (comes_first (option_copied first.old) label.now) (record { first = option_copied first.old; session = session.old }) label.now command.now answer (record { first = option_copied first.new; session = session.new })) }
+{
+    let own = *first;
+    match own {
+        Some(own) if own != label => Answer::refused(Refusal::Limit(Limit::Sessions)),
+        _ => {
+            *first = Some(label);
+            session.execute(alloc, command)
+        }
     }
 }
 
@@ -121,8 +141,10 @@ fn write_answer<W: ScriptOut>(
     output: &mut W,
 ) -> Result<(), RunFault>
     requires output_whole { W.failures output.old ≡ 0 }
+    ensures text { OnOk result (GrewBy (W.taken output.old) (W.taken output.new) (IsWritten label.now answer.now)) }
     ensures read { ¬ IsErrOf result RunFault.Read }
     ensures write { IsErrOf result RunFault.Write → W.failures output.new ≡ 1 }
+    ensures write_failed { W.failures output.new ≡ 1 → IsErrOf result RunFault.Write }
     ensures ok { OnOk result (W.failures output.new ≡ 0) }
 {
     let bytes = render(alloc, label, answer)?;
@@ -134,6 +156,7 @@ fn write_answer<W: ScriptOut>(
 
 fn write_all<W: ScriptOut>(bytes: &[u8], output: &mut W) -> Result<(), Failed>
     requires output_whole { W.failures output.old ≡ 0 }
+    ensures taken { OnOk result (W.taken output.new ≡ W.taken output.old ++ bytes.now) }
     ensures ok { OnOk result (W.failures output.new ≡ 0) }
     ensures err { OnErr result (W.failures output.new ≡ 1) }
 {

@@ -1,7 +1,9 @@
 //! The session of a label: the state, who is connected, and the number of the next transaction.
 
-ghost use Rattle.std.specs.Prelude.{◌≡◌, ◌⊎◌, ◌≤◌, length, Some, None, OnOk, OnErr, IfOk, IfErr, IsErrOf, true};
-ghost use Rattle.rlsdb.specs.Sessions.{may_log_in, begin_fault, connect_answer, login_after, next_after};
+ghost use Rattle.std.specs.Prelude.{◌≡◌, Some, None, OnErr, IfOk};
+ghost use Rattle.rls_value.specs.Giving.{Gives, UnlessNoMemory};
+ghost use Rattle.rls_catalog.specs.Changed.{opening};
+ghost use Rattle.rlsdb.specs.Sessions.{begun_by, next_after, asker_of, Connects, Begins, RunsStatement, Runs, Executes};
 
 use crate::answer::Answer;
 use crate::connect::{behind_connect, role_in};
@@ -26,7 +28,9 @@ pub struct Session {
 
 impl Session {
     /// Nobody is connected, over the opening state.
-    pub fn new(alloc: Global) -> Result<Session, AllocError> {
+    pub fn new(alloc: Global) -> Result<Session, AllocError>
+        ensures { IfOk result (λ session. session ≡ record { catalog = opening; login = None; next = Some 1 }) }
+    {
         Ok(Session {
             catalog: Catalog::new(alloc)?,
             login: None,
@@ -35,7 +39,9 @@ impl Session {
     }
 
     /// The state that the commands have left.
-    pub fn into_catalog(self) -> Catalog {
+    pub fn into_catalog(self) -> Catalog
+        ensures { result ≡ self.catalog }
+    {
         let Session {
             catalog,
             login: _,
@@ -45,7 +51,9 @@ impl Session {
     }
 
     /// Runs one command: a `\connect` or a statement.
-    pub fn execute(&mut self, alloc: Global, command: &str) -> Result<Answer, AllocError> {
+    pub fn execute(&mut self, alloc: Global, command: &str) -> Result<Answer, AllocError>
+        ensures { IfOk result (λ answer. Executes self.old command.now answer self.new) }
+    {
         match behind_connect(command) {
             Some(behind) => match role_in(alloc, behind) {
                 Ok(role) => self.connect(role),
@@ -57,9 +65,7 @@ impl Session {
 
     // The old session ends first, also where the role is then refused.
     fn connect(&mut self, role: Name) -> Result<Answer, AllocError>
-        ensures answer { IfOk result (λ answer. answer ≡ connect_answer (begin_fault self.old.catalog self.old.next role)) }
-        ensures login { OnOk result (self.new.login ≡ login_after (begin_fault self.old.catalog self.old.next role) role) }
-        ensures kept { self.new.catalog ≡ self.old.catalog }
+        ensures { IfOk result (λ answer. Connects self.old role (begun_by self.old.catalog self.old.next role) answer self.new) }
     {
         self.login = None;
         match begin(&self.catalog, &mut self.next, &role) {
@@ -71,7 +77,9 @@ impl Session {
         }
     }
 
-    fn statement(&mut self, alloc: Global, command: &str) -> Result<Answer, AllocError> {
+    fn statement(&mut self, alloc: Global, command: &str) -> Result<Answer, AllocError>
+        ensures { IfOk result (λ answer. RunsStatement self.old command.now answer self.new) }
+    {
         match self.begun(alloc, command) {
             Ok((ctx, statement)) => self.run(alloc, &ctx, &statement),
             Err(refusal) => Answer::refused(refusal),
@@ -80,13 +88,8 @@ impl Session {
 
     // The statement and what it is run in. Nobody connected comes first, then the length, the grammar, the begin.
     fn begun(&mut self, alloc: Global, command: &str) -> Result<(Ctx, Statement), Refusal>
-        ensures login { IfOk result (λ begun. self.old.login ≡ Some begun.0.login) }
-        ensures role { IfOk result (λ begun. begun.0.role ≡ begun.0.login) }
-        ensures number { IfOk result (λ begun. self.old.next ≡ Some begun.0.txn) }
-        ensures allowed { IfOk result (λ begun. may_log_in self.old.catalog begun.0.login ≡ true) }
-        ensures not_connected { self.old.login ≡ None → IsErrOf result (Refusal.NoLogin None) }
-        ensures fits { OnOk result (length command.now ≤ MAX_COMMAND) }
-        ensures kept { (self.new.catalog ≡ self.old.catalog) × (self.new.login ≡ self.old.login) }
+        ensures begins { UnlessNoMemory result (Begins self.old (asker_of self.old.login command.now) command.now result) }
+        ensures ok { IfOk result (λ begun. self.new ≡ record { catalog = self.old.catalog; login = self.old.login; next = next_after begun.0.txn }) }
         ensures err { OnErr result (self.new ≡ self.old) }
     {
         let Some(login) = &self.login else {
@@ -110,12 +113,9 @@ impl Session {
     }
 
     // Runs the statement and puts its changes on.
-    fn run(
-        &mut self,
-        alloc: Global,
-        ctx: &Ctx,
-        statement: &Statement,
-    ) -> Result<Answer, AllocError> {
+    fn run(&mut self, alloc: Global, ctx: &Ctx, statement: &Statement) -> Result<Answer, AllocError>
+        ensures { IfOk result (λ answer. Runs self.old ctx.now statement.now answer self.new) }
+    {
         let outcome = run_statement(alloc, &mut Plain::new(&self.catalog), ctx, statement)?;
         self.catalog.apply(alloc, &outcome.delta)?;
         let Outcome {
@@ -131,8 +131,7 @@ impl Session {
 
 /// The number of a new transaction of a role that may log in. One that may not takes no number.
 fn begin(catalog: &Catalog, next: &mut Option<u64>, login: &Name) -> Result<u64, Refusal>
-    ensures ok { IfOk result (λ txn. (begin_fault catalog.now next.old login.now ≡ None) × (next.old ≡ Some txn)) }
-    ensures refused { IfErr result (λ refusal. (refusal ≡ Refusal.NoMemory) ⊎ (begin_fault catalog.now next.old login.now ≡ Some refusal)) }
+    ensures begun { Gives result (begun_by catalog.now next.old login.now) }
     ensures next { IfOk result (λ txn. next.new ≡ next_after txn) }
     ensures err { OnErr result (next.new ≡ next.old) }
 {

@@ -1,6 +1,6 @@
 //! Scripts over a reader and a writer in memory, and the texts of faults and usage.
 
-ghost use Rattle.std.specs.Prelude.{◌≡◌, ◌<◌, ◌≤◌, IfOk};
+ghost use Rattle.std.specs.Prelude.{◌≡◌, take};
 
 use crate::command_line::file_named;
 use crate::fault::RunFault;
@@ -12,21 +12,23 @@ use std::test::Fail;
 // A script in memory that fails before the byte of that number.
 #[derive(Drop)]
 struct TextIn<'a> {
-    bytes: &'a [u8],
-    fails_at: u64,
-    given: u64,
+    script: &'a [u8],
+    fails_at: usize,
+    given: usize,
+    ended: bool,
     failures: u32,
 }
 
 impl<'a> TextIn<'a> {
-    fn new(bytes: &'a [u8], fails_at: u64) -> TextIn<'a>
+    fn new(script: &'a [u8], fails_at: usize) -> TextIn<'a>
         ensures whole { result.failures ≡ 0 }
         ensures fresh { result.given ≡ 0 }
     {
         TextIn {
-            bytes,
+            script,
             fails_at,
             given: 0,
+            ended: false,
             failures: 0,
         }
     }
@@ -35,21 +37,22 @@ impl<'a> TextIn<'a> {
 impl ScriptIn for TextIn<'_> {
     ghost failures = { λ reader. reader.failures };
 
-    ghost given = { λ reader. reader.given };
+    ghost given = { λ reader. take reader.given reader.script.now };
+
+    ghost ended = { λ reader. reader.ended };
 
     fn next_byte(&mut self) -> Result<Option<u8>, Failed> {
         if self.given == self.fails_at {
             self.failures = 1;
             return Err(Failed);
         }
-        match self.bytes {
-            [] => Ok(None),
-            [first, rest @ ..] => {
-                self.bytes = rest;
-                self.given += 1;
-                Ok(Some(*first))
-            }
+        if self.given >= self.script.len() {
+            self.ended = true;
+            return Ok(None);
         }
+        let byte = self.script[self.given];
+        self.given += 1;
+        Ok(Some(byte))
     }
 }
 
@@ -77,6 +80,8 @@ impl TextOut {
 
 impl ScriptOut for TextOut {
     ghost failures = { λ writer. writer.failures };
+
+    ghost taken = { λ writer. writer.taken.items };
 
     fn write_some(&mut self, bytes: &[u8]) -> Result<usize, Failed> {
         let count = bytes.len().min(8);
@@ -124,27 +129,53 @@ fn lines_are_answered(rt: HostRuntime) {
     ];
     for (script, want) in rows {
         let mut output = TextOut::new(rt.alloc(), u64::MAX);
-        let ran = run_script(rt.alloc(), &mut TextIn::new(script, u64::MAX), &mut output);
+        let ran = run_script(
+            rt.alloc(),
+            &mut TextIn::new(script, usize::MAX),
+            &mut output,
+        );
         assert!(rt; ran.is_ok(), "{script:?}");
         assert_eq!(rt; output.taken.as_slice(), want, "{script:?}");
     }
 }
 
-const SCRIPT: &[u8] = b"p: \\connect postgres\np: \\connect nobody\n";
+// The stored run.
+const SCRIPT: &[u8] = b"\
+p: \\connect postgres
+p: CREATE ROLE r LOGIN
+p: CREATE TABLE t (a int)
+p: GRANT SELECT, INSERT ON t TO r
+p: ALTER TABLE t ENABLE ROW LEVEL SECURITY
+p: CREATE POLICY q ON t USING (a < 3)
+p: \\connect r
+p: INSERT INTO t VALUES (1), (2)
+p: INSERT INTO t VALUES (2), (5)
+p: SELECT * FROM t
+";
+
+// How many calls of eight bytes take its answers.
+const CALLS: u64 = 34;
 
 /// Wherever a read fails nothing is written; wherever a write fails the run stops.
 #[test]
 fn devices_that_fail_end_the_run(rt: HostRuntime) {
-    for place in 0..=SCRIPT.len() as u64 {
+    for place in 0..=SCRIPT.len() {
         let mut output = TextOut::new(rt.alloc(), u64::MAX);
         let ran = run_script(rt.alloc(), &mut TextIn::new(SCRIPT, place), &mut output);
         assert!(rt; matches!(ran, Err(RunFault::Read)), "{place}");
         assert!(rt; output.taken.is_empty(), "{place}");
     }
-    for place in 0..8 {
+    for place in 0..=CALLS {
         let mut output = TextOut::new(rt.alloc(), place);
-        let ran = run_script(rt.alloc(), &mut TextIn::new(SCRIPT, u64::MAX), &mut output);
-        assert!(rt; matches!(ran, Err(RunFault::Write)), "{place}");
+        let ran = run_script(
+            rt.alloc(),
+            &mut TextIn::new(SCRIPT, usize::MAX),
+            &mut output,
+        );
+        assert!(rt;
+            matches!(ran, Err(RunFault::Write)) == (place < CALLS),
+            "{place}"
+        );
     }
 }
 

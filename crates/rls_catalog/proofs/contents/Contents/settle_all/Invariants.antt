@@ -1,0 +1,7 @@
+use Rattle.std.proofs.Common.{◌≡◌}
+use Rattle.rls_catalog.specs.Kept.{state_of}
+use Rattle.rls_catalog.proofs.contents.Contents.settle_all.Given as goal
+
+-- the state stays
+abbrev pub invariant-loop-undo : goal.invariant-loop-undo
+invariant-loop-undo l = state_of l.self ≡ state_of l.fn.self

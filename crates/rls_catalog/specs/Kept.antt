@@ -1,0 +1,37 @@
+-- What a catalogue keeps, the state that it stands for, and what takes a change back.
+use Rattle.std.specs.Prelude.{ℕ, List, [], ◌∷◌, Option, Some, None, map}
+use Rattle.rls_value.specs.declared.row.RowId.{RowId}
+use Rattle.rls_expr.specs.declared.table.TableDef.{TableDef}
+use Rattle.rls_catalog.specs.declared.role.RoleDef.{RoleDef}
+use Rattle.rls_catalog.specs.declared.role.Membership.{Membership}
+use Rattle.rls_catalog.specs.declared.grant.Grant.{Grant}
+use Rattle.rls_catalog.specs.declared.policy.Policy.{Policy}
+use Rattle.rls_catalog.specs.declared.stored.Keyed.{Keyed}
+use Rattle.rls_catalog.specs.State.{State}
+
+-- as a state, but a row's place may stand empty
+pub record Kept : Type 0 where
+  pub roles : List (List ℕ × RoleDef)
+  pub members : List (List ℕ × List Membership)
+  pub tables : List (List ℕ × TableDef)
+  pub grants : List (List ℕ × List Grant)
+  pub policies : List (List ℕ × List Policy)
+  pub rows : List (List ℕ × List (RowId × Option Keyed))
+
+-- the row of a place, if there is one, before other rows
+abbrev pub shown : RowId → Option Keyed → List (RowId × Keyed) → List (RowId × Keyed)
+shown id (Some keyed) rows = (id, keyed) ∷ rows
+shown id None rows = rows
+
+-- the rows of the places
+abbrev pub present : List (RowId × Option Keyed) → List (RowId × Keyed)
+present [] = []
+present (slot ∷ slots) = shown slot.0 slot.1 (present slots)
+
+-- the rows of each table
+abbrev pub rows_listed : List (List ℕ × List (RowId × Option Keyed)) → List (List ℕ × List (RowId × Keyed))
+rows_listed tables = map (λ e. (e.0, present e.1)) tables
+
+-- the state that is kept
+abbrev pub state_of : Kept → State
+state_of k = record { roles = k.roles; members = k.members; tables = k.tables; grants = k.grants; policies = k.policies; rows = rows_listed k.rows }

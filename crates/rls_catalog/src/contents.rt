@@ -1,0 +1,279 @@
+//! What a catalogue keeps: changes are put on it, and taken back without memory.
+
+ghost use Rattle.std.specs.Prelude.{◌≡◌, [], None, IfOk, OnOk, OnErr};
+ghost use Rattle.rls_catalog.specs.Changed.{opening, changed, changed_all, rows_changed, with_first_row};
+ghost use Rattle.rls_catalog.specs.Kept.{rows_listed, state_of};
+ghost use Rattle.rls_catalog.specs.State.{at};
+ghost use Rattle.rls_catalog.specs.Undone.{undone, undone_all, rows_undone};
+
+use crate::change::{Change, RowChange};
+use crate::entries::{put, put_back};
+use crate::grant::Grant;
+use crate::policy::Policy;
+use crate::role::{Membership, RoleDef};
+use crate::slots::Slots;
+use crate::stored::Keyed;
+use crate::undo::{RowsUndo, Undo};
+use rls_expr::TableDef;
+use rls_value::{Items, Name, RowId};
+use std::alloc::{AllocError, Global};
+use std::collections::BTreeMap;
+use std::marker::Model;
+
+/// Every object and its content, seen as `Kept`.
+#[derive(Drop)]
+pub(crate) struct Contents {
+    pub(crate) roles: BTreeMap<Name, RoleDef>,
+    pub(crate) members: BTreeMap<Name, Items<Membership>>,
+    pub(crate) tables: BTreeMap<Name, TableDef>,
+    pub(crate) grants: BTreeMap<Name, Items<Grant>>,
+    pub(crate) policies: BTreeMap<Name, Items<Policy>>,
+    pub(crate) rows: BTreeMap<Name, Slots>,
+}
+
+impl Model for Contents {
+    ghost use Rattle.rls_catalog.specs.Kept.{Kept};
+    ghost use Rattle.rls_catalog.specs.KeptCode.{kept_code};
+
+    ghost Value = { Kept };
+
+    ghost coded = { kept_code };
+
+    ghost view = { λ c. record { roles = c.roles.entries; members = c.members.entries; tables = c.tables.entries; grants = c.grants.entries; policies = c.policies.entries; rows = c.rows.entries } };
+}
+
+impl Contents {
+    /// What the opening state has.
+    pub(crate) fn new(alloc: Global) -> Result<Contents, AllocError>
+        ensures { IfOk result (λ contents. state_of contents ≡ opening) }
+    {
+        let mut roles = BTreeMap::new(alloc);
+        let all = RoleDef {
+            superuser: true,
+            login: true,
+            bypass_rls: true,
+        };
+        roles.insert(Name::postgres(alloc)?, all)?;
+        Ok(Contents {
+            roles,
+            members: BTreeMap::new(alloc),
+            tables: BTreeMap::new(alloc),
+            grants: BTreeMap::new(alloc),
+            policies: BTreeMap::new(alloc),
+            rows: BTreeMap::new(alloc),
+        })
+    }
+
+    /// Puts the changes on, one after another, until one is refused memory; the log takes those back.
+    pub(crate) fn put_all(
+        &mut self,
+        alloc: Global,
+        changes: &[Change],
+        log: &mut Vec<Undo>,
+    ) -> Result<(), AllocError>
+        requires { log.old.items ≡ [] }
+        ensures ok { OnOk result (state_of self.new ≡ changed_all (state_of self.old) changes.now) }
+        ensures undo { undone_all log.new.items self.new ≡ self.old }
+    {
+        for change in changes {
+            let undo = self.put(alloc, change)?;
+            if let Err(refused) = log.push(undo) {
+                self.undo(refused.value);
+                return Err(AllocError);
+            }
+        }
+        Ok(())
+    }
+
+    /// Takes the logged changes back, the last one first.
+    #[tactic(auto, using(crate::proofs::Deltas::undone_all_more))]
+    pub(crate) fn undo_all(&mut self, mut log: Vec<Undo>)
+        ensures { self.new ≡ undone_all log.items self.old }
+    {
+        while let Some(undo) = log.pop() {
+            self.undo(undo);
+        }
+    }
+
+    /// Lets go what would take the changes back.
+    pub(crate) fn settle_all(&mut self, log: Vec<Undo>)
+        ensures { state_of self.new ≡ state_of self.old }
+    {
+        for undo in log {
+            self.settle(undo);
+        }
+    }
+
+    /// Takes out of the indices what changes put in that were taken back.
+    pub(crate) fn tidy_all(&mut self, changes: &[Change])
+        ensures { self.new ≡ self.old }
+    {
+        for change in changes {
+            self.tidy(change);
+        }
+    }
+
+    /// Puts a change on, and gives what takes it back.
+    fn put(&mut self, alloc: Global, change: &Change) -> Result<Undo, AllocError>
+        ensures ok { OnOk result (state_of self.new ≡ changed (state_of self.old) change.now) }
+        ensures undo { IfOk result (λ undo. undone undo self.new ≡ self.old) }
+        ensures err { OnErr result (self.new ≡ self.old) }
+    {
+        match change {
+            Change::Role(name, def) => {
+                let label = name.copy()?;
+                let before = put(&mut self.roles, name.copy()?, *def)?;
+                Ok(Undo::Role(label, before))
+            }
+            Change::Members(name, content) => {
+                let label = name.copy()?;
+                let copies = Membership::copy_all(alloc, content.as_slice())?;
+                let before = put(&mut self.members, name.copy()?, copies)?;
+                Ok(Undo::Members(label, before))
+            }
+            Change::Table(name, def) => {
+                let label = name.copy()?;
+                let copied = def.copy(alloc)?;
+                let before = put(&mut self.tables, name.copy()?, copied)?;
+                Ok(Undo::Table(label, before))
+            }
+            Change::Grants(name, content) => {
+                let label = name.copy()?;
+                let copies = Grant::copy_all(alloc, content.as_slice())?;
+                let before = put(&mut self.grants, name.copy()?, copies)?;
+                Ok(Undo::Grants(label, before))
+            }
+            Change::Policies(name, content) => {
+                let label = name.copy()?;
+                let copies = Policy::copy_all(alloc, content.as_slice())?;
+                let before = put(&mut self.policies, name.copy()?, copies)?;
+                Ok(Undo::Policies(label, before))
+            }
+            Change::Row(row) => Ok(Undo::Rows(put_row(&mut self.rows, alloc, row)?)),
+        }
+    }
+
+    /// Takes a change back. It needs no memory.
+    fn undo(&mut self, undo: Undo)
+        ensures { self.new ≡ undone undo self.old }
+    {
+        match undo {
+            Undo::Role(name, before) => {
+                let _ = put_back(&mut self.roles, &name, before);
+            }
+            Undo::Members(name, before) => {
+                let _ = put_back(&mut self.members, &name, before);
+            }
+            Undo::Table(name, before) => {
+                let _ = put_back(&mut self.tables, &name, before);
+            }
+            Undo::Grants(name, before) => {
+                let _ = put_back(&mut self.grants, &name, before);
+            }
+            Undo::Policies(name, before) => {
+                let _ = put_back(&mut self.policies, &name, before);
+            }
+            Undo::Rows(undo) => undo_row(&mut self.rows, undo),
+        }
+    }
+
+    /// Takes out of the index what the change put in, if it doesn't stand.
+    fn tidy(&mut self, change: &Change)
+        ensures { self.new ≡ self.old }
+    {
+        if let Change::Row(row) = change {
+            tidy_row(&mut self.rows, row);
+        }
+    }
+
+    /// Lets go what would take the change back.
+    fn settle(&mut self, undo: Undo)
+        ensures { state_of self.new ≡ state_of self.old }
+    {
+        if let Undo::Rows(RowsUndo::Place(table, id, before)) = undo {
+            settle_row(&mut self.rows, &table, id, before);
+        }
+    }
+}
+
+fn put_row(
+    tables: &mut BTreeMap<Name, Slots>,
+    alloc: Global,
+    change: &RowChange,
+) -> Result<RowsUndo, AllocError>
+    ensures ok { OnOk result (rows_listed tables.new.entries ≡ rows_changed (rows_listed tables.old.entries) change.now) }
+    ensures undo { IfOk result (λ undo. rows_undone undo tables.new.entries ≡ tables.old.entries) }
+    ensures err { OnErr result (tables.new.entries ≡ tables.old.entries) }
+{
+    let table = change.table.copy()?;
+    match tables.get_mut(&change.table) {
+        Some(slots) => match slots.set(alloc, change.id, &change.after) {
+            Ok(before) => Ok(RowsUndo::Place(table, change.id, before)),
+            Err(refused) => Err(refused),
+        },
+        None => match put_first_row(tables, alloc, table, change) {
+            Ok(undo) => Ok(undo),
+            Err(refused) => Err(refused),
+        },
+    }
+}
+
+#[tactic(auto, using(crate::proofs::RowsListed::rows_listed_insert))]
+fn put_first_row(
+    tables: &mut BTreeMap<Name, Slots>,
+    alloc: Global,
+    table: Name,
+    change: &RowChange,
+) -> Result<RowsUndo, AllocError>
+    requires absent { at change.now.table tables.old.entries ≡ None }
+    requires same { table ≡ change.now.table }
+    ensures ok { OnOk result (rows_listed tables.new.entries ≡ with_first_row change.now.table change.now.id change.now.after (rows_listed tables.old.entries)) }
+    ensures undo { IfOk result (λ undo. rows_undone undo tables.new.entries ≡ tables.old.entries) }
+    ensures err { OnErr result (tables.new.entries ≡ tables.old.entries) }
+{
+    let Some(_) = &change.after else {
+        return Ok(RowsUndo::Place(table, change.id, None));
+    };
+    let slots = Slots::of_one(alloc, change.id, &change.after)?;
+    put(tables, change.table.copy()?, slots)?;
+    Ok(RowsUndo::Table(table))
+}
+
+fn undo_row(tables: &mut BTreeMap<Name, Slots>, undo: RowsUndo)
+    ensures { tables.new.entries ≡ rows_undone undo tables.old.entries }
+{
+    match undo {
+        RowsUndo::Place(table, id, before) => {
+            match tables.get_mut(&table) {
+                Some(slots) => slots.put_back(id, before),
+                None => {}
+            }
+        }
+        RowsUndo::Table(table) => {
+            tables.remove(&table);
+        }
+    }
+}
+
+fn settle_row(
+    tables: &mut BTreeMap<Name, Slots>,
+    table: &Name,
+    id: RowId,
+    before: Option<Option<Keyed>>,
+)
+    ensures { rows_listed tables.new.entries ≡ rows_listed tables.old.entries }
+{
+    match tables.get_mut(table) {
+        Some(slots) => slots.settle(id, before),
+        None => {}
+    }
+}
+
+fn tidy_row(tables: &mut BTreeMap<Name, Slots>, change: &RowChange)
+    ensures { tables.new.entries ≡ tables.old.entries }
+{
+    match tables.get_mut(&change.table) {
+        Some(slots) => slots.tidy(change.id, &change.after),
+        None => {}
+    }
+}

@@ -1,0 +1,58 @@
+//! An entry of a map is put in so that it can be taken back without memory.
+
+ghost use Rattle.std.specs.Prelude.{◌≡◌, Some, IfOk, OnOk, OnErr};
+ghost use Rattle.std.specs.BTreeMap.{IsOrdered, Updates, get, insert_entry, is_at};
+ghost use Rattle.std.specs.Map.{set_value};
+ghost use Rattle.rls_catalog.specs.Undone as spec;
+
+use std::alloc::AllocError;
+use std::collections::BTreeMap;
+use std::mem::replace;
+
+/// Puts the content under the key, and gives what stood there.
+pub(crate) fn put<K: Ord + Drop, V: Drop>(
+    map: &mut BTreeMap<K, V>,
+    key: K,
+    content: V,
+) -> Result<Option<V>, AllocError>
+    ensures ok { OnOk result (map.new.entries ≡ insert_entry K.cmp map.old.entries key content) }
+    ensures updates { OnOk result (Updates K.cmp map.old map.new key (Some content)) }
+    ensures before { IfOk result (λ before. spec.put_back K.cmp key before map.new.entries ≡ map.old.entries) }
+    ensures stood { IfOk result (λ before. before ≡ get K.cmp map.old key) }
+    ensures err { OnErr result (map.new.entries ≡ map.old.entries) }
+    ensures ordered { IsOrdered K.cmp map.old }
+{
+    let before = map.insert(key, content)?;
+    Ok(before)
+}
+
+/// Exchanges the content under the key, if there is one, and gives what stood there. It needs no memory.
+#[tactic(auto, using(crate::proofs::Places::absent_set))]
+pub(crate) fn exchange<K: Ord + Drop, V: Drop>(
+    map: &mut BTreeMap<K, V>,
+    key: &K,
+    content: V,
+) -> Option<V>
+    ensures entries { map.new.entries ≡ set_value (is_at (K.cmp key.now)) map.old.entries content }
+    ensures stood { result ≡ get K.cmp map.old key.now }
+    ensures ordered { IsOrdered K.cmp map.old }
+{
+    let Some(place) = map.get_mut(key) else {
+        return None;
+    };
+    Some(replace(place, content))
+}
+
+/// Puts back what stood under the key, and gives what stood there since. It needs no memory.
+pub(crate) fn put_back<K: Ord + Drop, V: Drop>(
+    map: &mut BTreeMap<K, V>,
+    key: &K,
+    before: Option<V>,
+) -> Option<V>
+    ensures { map.new.entries ≡ spec.put_back K.cmp key.now before map.old.entries }
+{
+    match before {
+        Some(content) => exchange(map, key, content),
+        None => map.remove(key),
+    }
+}

@@ -1,0 +1,162 @@
+-- An object is in a footprint exactly where it was read, and it stands there once, in order.
+use Rattle.std.specs.Prelude.{◌≡◌, refl, List, [], ◌∷◌, ◌++◌, Bool, true, false, ◌||◌, ◌↔◌}
+use Rattle.std.specs.List.{AllByRecursion}
+use Rattle.std.specs.List.Sorted.{IsStrictlySortedBy}
+use Rattle.std.specs.Ordering.{is_eq, is_lt, match_ordering, ordering_reverse}
+use Rattle.std.specs.declared.cmp.Ordering.{Ordering}
+use Rattle.std.specs.declared.cmp.Ordering.TheVariants.{Less, Equal, Greater}
+use Rattle.std.proofs.Common.{ap, sym, ◌∙◌, subst, append-nil, append_assoc}
+use Rattle.std.proofs.lemmas.Bool.{true≢false}
+use Rattle.std.proofs.lemmas.Cmp.{tied_itself}
+use Rattle.rls_value.specs.declared.object.Object.{Object}
+use Rattle.rls_value.specs.Objects.{object_order}
+use Rattle.rls_value.specs.ObjectOrder.{objects_total, objects_same}
+use Rattle.rls_source.specs.Footprints.{with_object, with_reads, footprint_of, is_object, is_among, IsInOrder}
+
+-- ---- the same objects
+
+equal_if : (order : Ordering) → is_eq order ≡ true → order ≡ Equal
+equal_if Less is = absurd (true≢false (sym is))
+equal_if Equal is = refl
+equal_if Greater is = absurd (true≢false (sym is))
+
+-- the test is true of an object and itself, and of no others
+pub is_object_same : (object other : Object) → is_object object other ≡ true ↔ (object ≡ other)
+is_object_same object other = (
+  λ is. objects_same object other (equal_if (object_order object other) is),
+  λ same. ap (is_object object) (sym same) ∙ ap is_eq (tied_itself objects_total object),
+)
+
+-- ---- reads after reads
+
+-- reads after reads are the reads of both, in order
+pub with_reads_more : (objects reads more : List Object) → with_reads (with_reads objects reads) more ≡ with_reads objects (reads ++ more)
+with_reads_more objects [] more = refl
+with_reads_more objects (read ∷ reads) more = with_reads_more (with_object objects read) reads more
+
+-- ---- an object is in the footprint exactly where it was read
+
+or_swapped : (a b c : Bool) → (a || (b || c)) ≡ (b || (a || c))
+or_swapped true true c = refl
+or_swapped true false c = refl
+or_swapped false b c = refl
+
+or_same : (a c : Bool) → (a || c) ≡ (a || (a || c))
+or_same true c = refl
+or_same false c = refl
+
+among_if : (order : Ordering) (objects more : List Object) (x read object : Object) → object_order read x ≡ order
+    → is_among more object ≡ (is_object object read || is_among objects object)
+    → is_among (match_ordering order (read ∷ x ∷ objects) (x ∷ objects) (x ∷ more)) object ≡ (is_object object read || is_among (x ∷ objects) object)
+among_if Less objects more x read object is further = refl
+among_if Equal objects more x read object is further =
+    or_same (is_object object x) (is_among objects object) ∙ ap (λ y. is_object object y || is_among (x ∷ objects) object) (sym (objects_same read x is))
+among_if Greater objects more x read object is further =
+    ap (λ b. is_object object x || b) further ∙ or_swapped (is_object object x) (is_object object read) (is_among objects object)
+
+-- one object more is among them
+pub among_with_object : (objects : List Object) (read object : Object) → is_among (with_object objects read) object ≡ (is_object object read || is_among objects object)
+among_with_object [] read object = refl
+among_with_object (x ∷ objects) read object = among_if (object_order read x) objects (with_object objects read) x read object refl (among_with_object objects read object)
+
+or_turned : (a b c : Bool) → (a || (b || c)) ≡ ((b || a) || c)
+or_turned true true c = refl
+or_turned true false c = refl
+or_turned false true c = refl
+or_turned false false c = refl
+
+-- among the objects with the reads are the reads and the objects
+pub among_with_reads : (objects reads : List Object) (object : Object) → is_among (with_reads objects reads) object ≡ (is_among reads object || is_among objects object)
+among_with_reads objects [] object = refl
+among_with_reads objects (read ∷ reads) object =
+    among_with_reads (with_object objects read) reads object
+    ∙ ap (λ b. is_among reads object || b) (among_with_object objects read object)
+    ∙ or_turned (is_among reads object) (is_object object read) (is_among objects object)
+
+or_none : (a : Bool) → (a || false) ≡ a
+or_none true = refl
+or_none false = refl
+
+-- an object is in the footprint of reads exactly where it was read
+pub among_footprint : (reads : List Object) (object : Object) → is_among (footprint_of reads) object ≡ is_among reads object
+among_footprint reads object = among_with_reads [] reads object ∙ or_none (is_among reads object)
+
+-- ---- and it stands there once, in order
+
+above : (x read : Object) → object_order read x ≡ Greater → object_order x read ≡ Less
+above x read is = objects_total.antisymm x read ∙ ap ordering_reverse is
+
+below_all : (read x : Object) (objects : List Object) → object_order read x ≡ Less → AllByRecursion (λ y. object_order x y ≡ Less) objects → AllByRecursion (λ y. object_order read y ≡ Less) objects
+below_all read x [] is all = tt
+below_all read x (y ∷ objects) is all = (objects_total.trans read x y is all.0, below_all read x objects is all.1)
+
+still_if : (order : Ordering) (x y read : Object) (objects more : List Object) → object_order x read ≡ Less → AllByRecursion (λ z. object_order x z ≡ Less) (y ∷ objects)
+    → AllByRecursion (λ z. object_order x z ≡ Less) more
+    → AllByRecursion (λ z. object_order x z ≡ Less) (match_ordering order (read ∷ y ∷ objects) (y ∷ objects) (y ∷ more))
+still_if Less x y read objects more is all further = (is, all)
+still_if Equal x y read objects more is all further = all
+still_if Greater x y read objects more is all further = (all.0, further)
+
+still_above : (x read : Object) (objects : List Object) → object_order x read ≡ Less → AllByRecursion (λ z. object_order x z ≡ Less) objects
+    → AllByRecursion (λ z. object_order x z ≡ Less) (with_object objects read)
+still_above x read [] is all = (is, tt)
+still_above x read (y ∷ objects) is all = still_if (object_order read y) x y read objects (with_object objects read) is all (still_above x read objects is all.1)
+
+in_order_if : (order : Ordering) (x read : Object) (objects : List Object) → object_order read x ≡ order → IsInOrder (x ∷ objects) → IsInOrder (with_object objects read)
+    → IsInOrder (match_ordering order (read ∷ x ∷ objects) (x ∷ objects) (x ∷ with_object objects read))
+unfolding IsStrictlySortedBy
+in_order_if Less x read objects is ordered further = ((is, below_all read x objects is ordered.0), ordered)
+in_order_if Equal x read objects is ordered further = ordered
+in_order_if Greater x read objects is ordered further = (still_above x read objects (above x read is) ordered.0, further)
+
+-- one object more leaves them in order, each once
+pub with_object_in_order : (objects : List Object) (read : Object) → IsInOrder objects → IsInOrder (with_object objects read)
+unfolding IsStrictlySortedBy
+with_object_in_order [] read ordered = (tt, tt)
+with_object_in_order (x ∷ objects) read ordered = in_order_if (object_order read x) x read objects refl ordered (with_object_in_order objects read ordered.1)
+
+-- and so do reads
+pub with_reads_in_order : (objects reads : List Object) → IsInOrder objects → IsInOrder (with_reads objects reads)
+with_reads_in_order objects [] ordered = ordered
+with_reads_in_order objects (read ∷ reads) ordered = with_reads_in_order (with_object objects read) reads (with_object_in_order objects read ordered)
+
+-- in a footprint each object stands once, in order
+pub footprint_in_order : (reads : List Object) → IsInOrder (footprint_of reads)
+unfolding IsStrictlySortedBy
+footprint_in_order reads = with_reads_in_order [] reads tt
+
+-- ---- objects that stand in order, each once, are their own footprint
+
+last_if : (order : Ordering) (x read : Object) (objects more : List Object) → object_order read x ≡ order → object_order x read ≡ Less → more ≡ objects ++ read ∷ []
+    → match_ordering order (read ∷ x ∷ objects) (x ∷ objects) (x ∷ more) ≡ x ∷ objects ++ read ∷ []
+last_if Less x read objects more is before further = absurd (true≢false (ap is_lt (sym is ∙ objects_total.antisymm read x ∙ ap ordering_reverse before)))
+last_if Equal x read objects more is before further = absurd (true≢false (ap is_eq (sym is ∙ objects_total.antisymm read x ∙ ap ordering_reverse before)))
+last_if Greater x read objects more is before further = ap (λ rest. x ∷ rest) further
+
+-- each is below the object
+abbrev AllBelow : List Object → Object → Type 0
+AllBelow objects read = AllByRecursion (λ x. object_order x read ≡ Less) objects
+
+with_last : (objects : List Object) (read : Object) → AllBelow objects read → with_object objects read ≡ objects ++ read ∷ []
+with_last [] read below = refl
+with_last (x ∷ objects) read below = last_if (object_order read x) x read objects (with_object objects read) refl below.0 (with_last objects read below.1)
+
+among_all : (fact : Object → Type 0) (objects : List Object) (read : Object) (reads : List Object) → AllByRecursion fact (objects ++ read ∷ reads) → fact read
+among_all fact [] read reads all = all.0
+among_all fact (x ∷ objects) read reads all = among_all fact objects read reads all.1
+
+all_below : (objects : List Object) (read : Object) (reads : List Object) → IsInOrder (objects ++ read ∷ reads) → AllBelow objects read
+unfolding IsStrictlySortedBy
+all_below [] read reads ordered = tt
+all_below (x ∷ objects) read reads ordered = (among_all (λ y. object_order x y ≡ Less) objects read reads ordered.0, all_below objects read reads ordered.1)
+
+with_reads_ordered : (objects reads : List Object) → IsInOrder (objects ++ reads) → with_reads objects reads ≡ objects ++ reads
+with_reads_ordered objects [] ordered = sym (append-nil objects)
+with_reads_ordered objects (read ∷ reads) ordered =
+    ap (λ more. with_reads more reads) (with_last objects read (all_below objects read reads ordered))
+    ∙ with_reads_ordered (objects ++ read ∷ []) reads (subst IsInOrder (sym (append_assoc objects (read ∷ []) reads)) ordered)
+    ∙ append_assoc objects (read ∷ []) reads
+
+-- such objects are the footprint of themselves
+pub footprint_ordered : (objects : List Object) → IsInOrder objects → footprint_of objects ≡ objects
+footprint_ordered objects ordered = with_reads_ordered [] objects ordered

@@ -1,0 +1,89 @@
+-- A script's lines from its front, and what is written line by line.
+use Rattle.std.proofs.Common.{◌≡◌, ◌<◌, ◌≤◌, ℕ, ◌+◌, ◌-◌, Bool, true, false, cond, nat_lt, List, [], ◌∷◌, ◌++◌, length, refl, sym, ap, subst, ◌∙◌, Bor, append_assoc, arith, rules, Option, Result, Ok, Err, OnOk}
+use Rattle.std.specs.List.{All, slice_split, position_or_len, before_first, after_first}
+use Rattle.std.specs.Str.Lines.{lines, lines_of_parts}
+use Rattle.std.proofs.lemmas.List.Splits.{slice_split_first, slice_split_none, length-slice_split}
+use Rattle.std.proofs.lemmas.List.Sums.{fails_before_first}
+use Rattle.std.proofs.lemmas.Grind.{common_steps}
+use Rattle.std.proofs.lemmas.Bool.Decides.{nat_tests}
+use Rattle.rls_catalog.specs.State.{State}
+use Rattle.rlsdb.specs.Lines.{IsRead, ends_line, first_line_of, without_return}
+use Rattle.rlsdb.specs.Scripts.{Run, RunsLine, RunsLines, RunsRead, AnswersIf, comes_first, IsWritten, IsScriptText, GrewBy, opening_run}
+use Rattle.rlsdb.specs.Scripts.{none, next}
+use Rattle.rlsdb.specs.declared.answer.Answer.{Answer}
+use Rattle.rlsdb.specs.declared.line.Line.{Line}
+use Rattle.rlsdb.specs.declared.line.Line.TheVariants as l
+
+-- a part in front of others is a line of its own
+lines_of_more : (part : List ℕ) (parts : List (List ℕ)) → 0 < length parts → lines_of_parts (part ∷ parts) ≡ without_return part ∷ lines_of_parts parts
+lines_of_more part [] h = absurd (omega arith)
+lines_of_more part (behind ∷ parts) h = refl
+
+-- a script with an LF
+lines_cut : (script : List ℕ) → position_or_len ends_line script < length script → lines script ≡ without_return (before_first ends_line script) ∷ lines (after_first ends_line script)
+lines_cut script h =
+    let cut : slice_split ends_line script ≡ before_first ends_line script ∷ slice_split ends_line (after_first ends_line script) = slice_split_first ends_line script 0 h in
+    let some : 0 < length (slice_split ends_line (after_first ends_line script)) = omega (arith, length-slice_split ends_line (after_first ends_line script)) in
+    ap lines_of_parts cut ∙ lines_of_more (before_first ends_line script) (slice_split ends_line (after_first ends_line script)) some
+
+-- one part that isn't empty
+lines_of_one : (part : List ℕ) → 0 < length part → lines_of_parts (part ∷ []) ≡ part ∷ []
+lines_of_one [] h = absurd (omega arith)
+lines_of_one (byte ∷ bytes) h = grind (arith, common_steps)
+
+-- a script without an LF
+lines_whole : (script : List ℕ) → 0 < length script → length script ≤ position_or_len ends_line script → lines script ≡ script ∷ []
+lines_whole script some h =
+    let none : All (λ byte. ends_line byte ≡ false) script = λ k e m. let k' = fails_before_first ends_line script k e (grind (arith, common_steps)) in grind (arith, common_steps) in
+    ap lines_of_parts (slice_split_none ends_line script none) ∙ lines_of_one script some
+
+-- the same, with what stands behind it
+lines_last : (script : List ℕ) → 0 < length script → length script ≤ position_or_len ends_line script → lines script ≡ script ∷ lines (after_first ends_line script)
+lines_last script some h =
+    let behind : after_first ends_line script ≡ [] = grind (arith, common_steps) in
+    rw behind (lines_whole script some h)
+
+-- the same, by whether there is an LF
+lines_first_if : (script : List ℕ) (cut : Bool) → nat_lt (position_or_len ends_line script) (length script) ≡ cut → 0 < length script → lines script ≡ cond cut (without_return (before_first ends_line script)) script ∷ lines (after_first ends_line script)
+lines_first_if script true e some = lines_cut script (grind (arith, nat_tests))
+lines_first_if script false e some = lines_last script some (grind (arith, nat_tests))
+
+-- a script that isn't empty begins with its first line
+pub lines_first : (script : List ℕ) → 0 < length script → lines script ≡ first_line_of script ∷ lines (after_first ends_line script)
+lines_first script some = lines_first_if script (nat_lt (position_or_len ends_line script) (length script)) refl some
+
+-- a command's line: its answer, and what is written for it
+pub said : (before now : List ℕ) (line : Line) (label command : Bor (List ℕ)) (answer : Answer) (run after : Run) {E : Type 0} (r : Result (Unit {0}) E) → line ≡ l.Command label command → AnswersIf (comes_first run.first label.now) run label.now command.now answer after → OnOk r (GrewBy before now (IsWritten label.now answer)) → OnOk r (GrewBy before now (λ written. RunsRead line run written after))
+said before now line label command answer run after (Ok x) is answers shown =
+    let fact : RunsRead (l.Command label command) run shown.more after = record { answer = answer; answers = answers; shown = shown.fact } in
+    record { more = shown.more; grew = shown.grew; fact = subst (λ it. RunsRead it run shown.more after) (sym is) fact }
+said before now line label command answer run after (Err e) is answers shown = tt
+
+-- a line's bytes, and then those of the lines behind it
+pub grew_more : {before middle now line : List ℕ} {lines : List (List ℕ)} {run middle_run after : Run} → GrewBy before middle (λ written. RunsLine line run written middle_run) → GrewBy middle now (λ written. RunsLines lines middle_run written after) → GrewBy before now (λ written. RunsLines (line ∷ lines) run written after)
+grew_more first rest = record { more = first.more ++ rest.more; grew = rest.grew ∙ ap (λ m. m ++ rest.more) first.grew ∙ append_assoc _ first.more rest.more; fact = next first.fact rest.fact }
+
+-- behind the last line
+pub grew_none : (now : List ℕ) (run : Run) → GrewBy now now (λ written. RunsLines [] run written run)
+grew_none now run = record { more = []; grew = grind (arith, common_steps); fact = none }
+
+-- the lines make the script's text
+pub grew_script : {before now : List ℕ} {script : List ℕ} {after : Run} {state : State} → state ≡ after.session.catalog → GrewBy before now (λ written. RunsLines (lines script) opening_run written after) → GrewBy before now (λ written. IsScriptText script written state)
+grew_script left grew = record { more = grew.more; grew = grew.grew; fact = record { after = _; runs = grew.fact; left = left } }
+
+-- what holds while lines are run: what the lines of the rest will write, and leave, makes the whole script's
+abbrev pub MakesWhole : List ℕ → List ℕ → List ℕ → List ℕ → Run → Type 0
+MakesWhole start before script rest run = (now : List ℕ) (after : Run) → GrewBy before now (λ written. RunsLines (lines rest) run written after) → GrewBy start now (λ written. RunsLines (lines script) opening_run written after)
+
+-- it holds behind the first line of the rest too
+pub passed_line : (start before middle script rest line behind : List ℕ) (read : Line) (run further : Run) → 0 < length rest → line ≡ first_line_of rest → behind ≡ after_first ends_line rest → IsRead line read → GrewBy before middle (λ written. RunsRead read run written further) → MakesWhole start before script rest run → MakesWhole start middle script behind further
+passed_line start before middle script rest line behind read run further some is_line is_behind is_read grew makes now after more =
+    let fact : RunsLine line run grew.more further = record { read = read; is_read = is_read; runs = grew.fact } in
+    let both : GrewBy before now (λ written. RunsLines (line ∷ lines behind) run written after) = grew_more (record { more = grew.more; grew = grew.grew; fact = fact }) more in
+    let split : lines rest ≡ line ∷ lines behind = rw (is_line, is_behind) (lines_first rest some) in
+    makes now after (subst (λ ls. GrewBy before now (λ written. RunsLines ls run written after)) (sym split) both)
+
+-- behind the last line the script's text is whole
+pub finished : (start now script rest : List ℕ) (run : Run) (state : State) → length rest ≡ 0 → MakesWhole start now script rest run → state ≡ run.session.catalog → GrewBy start now (λ written. IsScriptText script written state)
+finished start now script [] run state none_left makes left = grew_script left (makes now run (grew_none now run))
+finished start now script (byte ∷ bytes) run state none_left makes left = absurd (omega arith)
