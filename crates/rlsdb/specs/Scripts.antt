@@ -34,7 +34,7 @@ abbrev pub AnswersIf : Bool → Run → List ℕ → List ℕ → Answer → Run
 AnswersIf true run label command answer after = (after.first ≡ Some label) × Executes run.session command answer after.session
 AnswersIf false run label command answer after = (answer ≡ a.Refused (r.Limit m.Sessions)) × (after ≡ run)
 
--- the bytes of an answer; nothing is said of a serialization failure's
+-- the bytes of an answer; each answer has a text
 abbrev pub IsWritten : List ℕ → Answer → List ℕ → Type 0
 IsWritten label answer written = IfSome (answer_text label answer) (λ text. written ≡ text)
 
