@@ -1,4 +1,1 @@
-pub mod DoubleLemmas
-pub mod EachLemmas
-pub mod HolderLemmas
 pub mod StandingLaws

@@ -3,14 +3,14 @@ use Rattle.std.specs.Prelude.{◌≡◌, refl, ℕ, List, Bool, ◌||◌}
 use Rattle.rls_value.specs.declared.verb.Privilege.{Privilege}
 use Rattle.rls_value.specs.declared.verb.Kind.{Kind}
 use Rattle.rls_expr.specs.declared.table.TableDef.{TableDef}
-use Rattle.rls_catalog.specs.declared.policy.Side.{Side}
+use Rattle.rls_catalog.specs.declared.verdict.Side.{Side}
 use Rattle.rls_catalog.specs.State.{State, grants_of, policies_of}
 use Rattle.rls_catalog.specs.Membership.{attributes_of, walked_by, has_privileges_of}
 use Rattle.rls_catalog.specs.Privileges.{holds}
 use Rattle.rls_catalog.specs.Verdict.{exempts, is_exempt, chosen, applying_of}
 use Rattle.rls_catalog.specs.GrantOptions.{grantor_of}
-use Rattle.rls_access.specs.Standings.{standing_in, has_owner, is_granted}
-use Rattle.rls_access.specs.Granting.{grantor_by}
+use Rattle.rls_guard.specs.Standings.{standing_in, has_owner, is_granted}
+use Rattle.rls_ddl.specs.Granting.{grantor_by}
 
 -- the owner's privileges
 has_owner_is : (s : State) (role : List ℕ) (table : TableDef) → has_owner (standing_in s role) table ≡ has_privileges_of s role table.owner

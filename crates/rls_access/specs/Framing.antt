@@ -17,11 +17,11 @@ use Rattle.rls_expr.specs.declared.table.Column.{Column}
 use Rattle.rls_expr.specs.declared.table.TableDef.{TableDef}
 use Rattle.rls_catalog.specs.declared.change.Change.{Change}
 use Rattle.rls_catalog.specs.declared.change.Change.TheVariants as change
-use Rattle.rls_catalog.specs.declared.grant.Grantee.{Grantee}
-use Rattle.rls_catalog.specs.declared.grant.Grantee.TheVariants.{Public, Role}
-use Rattle.rls_catalog.specs.declared.policy.Policy.{Policy}
-use Rattle.rls_catalog.specs.declared.policy.Side.{Side}
-use Rattle.rls_catalog.specs.declared.policy.Side.TheVariants as side
+use Rattle.rls_expr.specs.declared.policy.Grantee.{Grantee}
+use Rattle.rls_expr.specs.declared.policy.Grantee.TheVariants.{Public, Role}
+use Rattle.rls_expr.specs.declared.policy.Policy.{Policy}
+use Rattle.rls_catalog.specs.declared.verdict.Side.{Side}
+use Rattle.rls_catalog.specs.declared.verdict.Side.TheVariants as side
 use Rattle.rls_catalog.specs.declared.stored.Stored.{Stored}
 use Rattle.rls_catalog.specs.State.{State, AgreesAt, AgreesOn, agrees-append}
 use Rattle.rls_catalog.specs.Membership.{attributes_in}
@@ -40,27 +40,27 @@ use Rattle.rls_text.specs.declared.statement.GrantPrivileges.{GrantPrivileges}
 use Rattle.rls_text.specs.declared.statement.Insert.{Insert}
 use Rattle.rls_text.specs.declared.statement.Select.{Select}
 use Rattle.rls_text.specs.Tags.{tag_of}
-use Rattle.rls_access.specs.declared.context.Ctx.{Ctx}
-use Rattle.rls_access.specs.declared.standing.Standing.{Standing}
-use Rattle.rls_access.specs.declared.guard.Guard.{Guard}
-use Rattle.rls_access.specs.declared.guard.Guard.TheVariants.{Exempt}
-use Rattle.rls_access.specs.declared.outcome.Decision.{Decision}
-use Rattle.rls_access.specs.declared.selecting.Query.{Query}
-use Rattle.rls_access.specs.Readings.{Reading, known, told, next_reads, followed_by, settled}
-use Rattle.rls_access.specs.Sequences.{each_or_refused}
-use Rattle.rls_access.specs.Asked.{asked_role, asked_table, asked_grants, asked_policies, asked_rows, asked_key}
-use Rattle.rls_access.specs.Checks.{found_or, table_or_undefined, role_or_undefined, grantees_or_undefined, superuser_or_denied}
-use Rattle.rls_access.specs.Standings.{standing_of, has_owner, is_granted, privilege_or_denied, owner_or_denied}
-use Rattle.rls_access.specs.Guards.{guard_by, guard_for}
-use Rattle.rls_access.specs.Listings.{decision_by}
-use Rattle.rls_access.specs.Effects.{Exactly, writes}
-use Rattle.rls_access.specs.CreatingRoles.{role_with, create_role}
-use Rattle.rls_access.specs.CreatingTables.{table_with, own_grants, create_table}
-use Rattle.rls_access.specs.AlteringTables.{altered, alter_table}
-use Rattle.rls_access.specs.CreatingPolicies.{create_policy, policy_added, policy_made, policy_or_refused, both_conditions, names_known, with_policy}
-use Rattle.rls_access.specs.Granting.{grant, grant_on, grants_made, with_grants}
-use Rattle.rls_access.specs.Inserting.{insert, insert_into, insert_guarded, insert_rows, inserted, new_rows, numbered, row_in_range, rows_or_refused, constraints_or_refused, stored_has_values, allowed_or_denied, keys_of, unique_or_refused, keys_taken, is_any, has_doubles}
-use Rattle.rls_access.specs.Selecting.{select, select_from, listed_for, listed_by, query_of}
+use Rattle.rls_guard.specs.declared.context.Ctx.{Ctx}
+use Rattle.rls_guard.specs.declared.standing.Standing.{Standing}
+use Rattle.rls_guard.specs.declared.guard.Guard.{Guard}
+use Rattle.rls_guard.specs.declared.guard.Guard.TheVariants.{Exempt}
+use Rattle.rls_guard.specs.declared.reply.Decision.{Decision}
+use Rattle.rls_dml.specs.declared.selecting.Query.{Query}
+use Rattle.rls_guard.specs.Readings.{Reading, known, told, next_reads, followed_by, settled}
+use Rattle.rls_guard.specs.Sequences.{each_or_refused}
+use Rattle.rls_guard.specs.Asked.{asked_role, asked_table, asked_grants, asked_policies, asked_rows, asked_key}
+use Rattle.rls_guard.specs.Checks.{found_or, table_or_undefined, role_or_undefined, grantees_or_undefined, superuser_or_denied}
+use Rattle.rls_guard.specs.Standings.{standing_of, has_owner, is_granted, privilege_or_denied, owner_or_denied}
+use Rattle.rls_guard.specs.Guards.{guard_by, guard_for}
+use Rattle.rls_dml.specs.Listings.{decision_by}
+use Rattle.rls_guard.specs.Effects.{Exactly, writes}
+use Rattle.rls_ddl.specs.CreatingRoles.{role_with, create_role}
+use Rattle.rls_ddl.specs.CreatingTables.{table_with, own_grants, create_table}
+use Rattle.rls_ddl.specs.AlteringTables.{altered, alter_table}
+use Rattle.rls_ddl.specs.CreatingPolicies.{create_policy, policy_added, policy_made, policy_or_refused, both_conditions, names_known, with_policy}
+use Rattle.rls_ddl.specs.Granting.{grant, grant_on, grants_made, with_grants}
+use Rattle.rls_dml.specs.Inserting.{insert, insert_into, insert_guarded, insert_rows, inserted, new_rows, numbered, row_in_range, rows_or_refused, constraints_or_refused, stored_has_values, allowed_or_denied, keys_of, unique_or_refused, keys_taken, is_any, has_doubles}
+use Rattle.rls_dml.specs.Selecting.{select, select_from, listed_for, listed_by, query_of}
 use Rattle.rls_access.specs.Statements.{mode_or_refused, done_by, step}
 
 -- it is the same in every state that agrees on what it reads

@@ -11,7 +11,7 @@ use Rattle.rls_value.specs.declared.verb.Privilege.TheVariants as privilege
 use Rattle.rls_expr.specs.declared.table.TableDef.{TableDef}
 use Rattle.rls_catalog.specs.declared.change.Change.{Change}
 use Rattle.rls_catalog.specs.declared.change.Change.TheVariants as change
-use Rattle.rls_catalog.specs.declared.policy.Side.TheVariants as side
+use Rattle.rls_catalog.specs.declared.verdict.Side.TheVariants as side
 use Rattle.rls_catalog.specs.declared.grant.Grant.{Grant}
 use Rattle.rls_catalog.specs.declared.stored.Stored.{Stored}
 use Rattle.rls_catalog.specs.State.{State}
@@ -19,34 +19,34 @@ use Rattle.rls_text.specs.declared.statement.Statement.{Statement}
 use Rattle.rls_text.specs.declared.statement.Statement.TheVariants as statement
 use Rattle.rls_text.specs.declared.statement.GrantPrivileges.{GrantPrivileges}
 use Rattle.rls_text.specs.Tags.{tag_of}
-use Rattle.rls_access.specs.declared.context.Ctx.{Ctx}
-use Rattle.rls_access.specs.declared.effect.Effect.{Effect}
-use Rattle.rls_access.specs.declared.standing.Standing.{Standing}
-use Rattle.rls_access.specs.declared.granting.Grantor.{Grantor}
-use Rattle.rls_access.specs.declared.guard.Guard.{Guard}
-use Rattle.rls_access.specs.declared.selecting.Query.{Query}
-use Rattle.rls_access.specs.declared.outcome.Decision.{Decision}
-use Rattle.rls_access.specs.Readings.{Reading, known, followed_by, settled}
+use Rattle.rls_guard.specs.declared.context.Ctx.{Ctx}
+use Rattle.rls_guard.specs.declared.effect.Effect.{Effect}
+use Rattle.rls_guard.specs.declared.standing.Standing.{Standing}
+use Rattle.rls_ddl.specs.declared.granting.Grantor.{Grantor}
+use Rattle.rls_guard.specs.declared.guard.Guard.{Guard}
+use Rattle.rls_dml.specs.declared.selecting.Query.{Query}
+use Rattle.rls_guard.specs.declared.reply.Decision.{Decision}
+use Rattle.rls_guard.specs.Readings.{Reading, known, followed_by, settled}
 use Rattle.rls_value.specs.Giving.{and_then}
-use Rattle.rls_access.specs.Sequences.{each_of, each_or_refused}
-use Rattle.rls_access.specs.Asked.{asked_role, asked_table, asked_grants, asked_policies, asked_rows}
-use Rattle.rls_access.specs.Checks.{table_or_undefined, grantees_or_undefined, superuser_or_denied}
-use Rattle.rls_access.specs.Standings.{standing_of, privilege_or_denied, owner_or_denied}
-use Rattle.rls_access.specs.Guards.{guard_for}
-use Rattle.rls_access.specs.Listings.{decision_by}
-use Rattle.rls_access.specs.Effects.{Meaning, Exactly, Listing, Shows, ChangesUnlessRefused, writes}
-use Rattle.rls_access.specs.CreatingRoles.{role_with}
-use Rattle.rls_access.specs.CreatingTables.{table_with, own_grants}
-use Rattle.rls_access.specs.AlteringTables.{altered}
-use Rattle.rls_access.specs.CreatingPolicies.{policy_or_refused, both_conditions, names_known, with_policy}
-use Rattle.rls_access.specs.Granting.{grants_made, grants_by, granted_by, is_named, all_privileges, with_grants}
-use Rattle.rls_access.specs.Inserting.{insert_rows, inserted, new_rows, numbered, row_in_range, rows_or_refused}
-use Rattle.rls_access.specs.Selecting.{listed_by, query_of}
+use Rattle.rls_guard.specs.Sequences.{each_of, each_or_refused}
+use Rattle.rls_guard.specs.Asked.{asked_role, asked_table, asked_grants, asked_policies, asked_rows}
+use Rattle.rls_guard.specs.Checks.{table_or_undefined, grantees_or_undefined, superuser_or_denied}
+use Rattle.rls_guard.specs.Standings.{standing_of, privilege_or_denied, owner_or_denied}
+use Rattle.rls_guard.specs.Guards.{guard_for}
+use Rattle.rls_dml.specs.Listings.{decision_by}
+use Rattle.rls_guard.specs.Effects.{Meaning, Exactly, Listing, Shows, UnchangedIfRefused, writes}
+use Rattle.rls_ddl.specs.CreatingRoles.{role_with}
+use Rattle.rls_ddl.specs.CreatingTables.{table_with, own_grants}
+use Rattle.rls_ddl.specs.AlteringTables.{altered}
+use Rattle.rls_ddl.specs.CreatingPolicies.{policy_or_refused, both_conditions, names_known, with_policy}
+use Rattle.rls_ddl.specs.Granting.{grants_made, grants_by, granted_by, is_named, all_privileges, with_grants}
+use Rattle.rls_dml.specs.Inserting.{insert_rows, inserted, new_rows, numbered, row_in_range, rows_or_refused}
+use Rattle.rls_dml.specs.Selecting.{listed_by, query_of}
 use Rattle.rls_access.specs.Statements.{mode_or_refused, done_by, step, IsMeant}
 
 -- where it is a refusal it changes nothing
 abbrev Keeps : Result Meaning Refusal → Type 0
-Keeps (Ok (Exactly effect)) = ChangesUnlessRefused effect.reply effect.delta
+Keeps (Ok (Exactly effect)) = UnchangedIfRefused effect.reply effect.delta
 Keeps (Ok (Listing rows decisions)) = Unit {0}
 Keeps (Err refusal) = Unit {0}
 
@@ -117,8 +117,8 @@ keeps_done s ctx (statement.Select asked) = keeps_then (table_or_undefined s ask
     keeps_then (standing_of s ctx.role) _ (λ standing. keeps_then (guard_for s standing asked.table table command.Select side.Old) _ (λ guard.
     keeps_then (privilege_or_denied s standing privilege.Select asked.table) _ (λ _. keeps_then (asked_rows s asked.table) _ (λ candidates. keeps_listing guard query ctx.role candidates))))))
 
-shown_keeps : (effect : Effect) (given : Result Meaning Refusal) → Keeps given → Shows effect given → ChangesUnlessRefused effect.reply effect.delta
-shown_keeps effect (Ok (Exactly meant)) keeps shown = subst (λ e. ChangesUnlessRefused e.reply e.delta) (sym shown) keeps
+shown_keeps : (effect : Effect) (given : Result Meaning Refusal) → Keeps given → Shows effect given → UnchangedIfRefused effect.reply effect.delta
+shown_keeps effect (Ok (Exactly meant)) keeps shown = subst (λ e. UnchangedIfRefused e.reply e.delta) (sym shown) keeps
 shown_keeps effect (Ok (Listing rows decisions)) keeps shown = λ is. shown.delta
 shown_keeps effect (Err refusal) keeps shown = λ is. ap (λ e. e.delta) shown
 
@@ -126,5 +126,5 @@ keeps_step : (s : State) (ctx : Ctx) (asked : Statement) → IsKeeping (step s c
 keeps_step s ctx asked = keeps_then (known (mode_or_refused ctx.mode (tag_of asked))) _ (λ _. keeps_done s ctx asked)
 
 -- a refused statement changes nothing
-pub refused_keeps : (s : State) (ctx : Ctx) (asked : Statement) (effect : Effect) → IsMeant s ctx asked effect → ChangesUnlessRefused effect.reply effect.delta
+pub refused_keeps : (s : State) (ctx : Ctx) (asked : Statement) (effect : Effect) → IsMeant s ctx asked effect → UnchangedIfRefused effect.reply effect.delta
 refused_keeps s ctx asked effect meant = shown_keeps effect (step s ctx asked).gives (keeps_step s ctx asked).keeps meant

@@ -10,20 +10,20 @@ use Rattle.rls_catalog.specs.State.{State}
 use Rattle.rls_text.specs.declared.statement.Statement.{Statement}
 use Rattle.rls_text.specs.declared.statement.Statement.TheVariants as statement
 use Rattle.rls_text.specs.Tags.{tag_of}
-use Rattle.rls_access.specs.declared.context.Ctx.{Ctx}
-use Rattle.rls_access.specs.declared.context.Mode.{Mode}
-use Rattle.rls_access.specs.declared.context.Mode.TheVariants.{Write, Read}
-use Rattle.rls_access.specs.declared.effect.Effect.{Effect}
+use Rattle.rls_guard.specs.declared.context.Ctx.{Ctx}
+use Rattle.rls_guard.specs.declared.context.Mode.{Mode}
+use Rattle.rls_guard.specs.declared.context.Mode.TheVariants.{Write, Read}
+use Rattle.rls_guard.specs.declared.effect.Effect.{Effect}
 use Rattle.rls_access.specs.declared.outcome.Outcome.{Outcome}
-use Rattle.rls_access.specs.Readings.{Reading, known, followed_by}
-use Rattle.rls_access.specs.Effects.{Meaning, Shows}
-use Rattle.rls_access.specs.CreatingRoles.{create_role}
-use Rattle.rls_access.specs.CreatingTables.{create_table}
-use Rattle.rls_access.specs.AlteringTables.{alter_table}
-use Rattle.rls_access.specs.CreatingPolicies.{create_policy}
-use Rattle.rls_access.specs.Granting.{grant}
-use Rattle.rls_access.specs.Inserting.{insert}
-use Rattle.rls_access.specs.Selecting.{select}
+use Rattle.rls_guard.specs.Readings.{Reading, known, followed_by}
+use Rattle.rls_guard.specs.Effects.{Meaning, Shows}
+use Rattle.rls_ddl.specs.CreatingRoles.{create_role}
+use Rattle.rls_ddl.specs.CreatingTables.{create_table}
+use Rattle.rls_ddl.specs.AlteringTables.{alter_table}
+use Rattle.rls_ddl.specs.CreatingPolicies.{create_policy}
+use Rattle.rls_ddl.specs.Granting.{grant}
+use Rattle.rls_dml.specs.Inserting.{insert}
+use Rattle.rls_dml.specs.Selecting.{select}
 
 -- a transaction that only reads takes SELECT, SET ROLE and RESET ROLE alone
 abbrev pub mode_or_refused : Mode → Tag → Result (Unit {0}) Refusal

@@ -1,32 +1,11 @@
 //! What a statement gives.
 
-ghost use Rattle.std.specs.Prelude.{◌≡◌, IfOk};
+ghost use Rattle.std.specs.Prelude.{◌≡◌};
 
-use rls_catalog::{Delta, Side, Verdict};
+use rls_catalog::Delta;
+use rls_guard::{Decision, Reply};
 use rls_source::Footprint;
-use rls_value::{Items, Kind, Name, Refusal, Row, RowId};
-use std::alloc::{AllocError, Global};
-
-/// What a statement answers.
-#[derive(Debug, Drop)]
-pub enum Reply {
-    /// The rows, in listing order.
-    Rows(Items<Row>),
-    /// How many rows were written.
-    Count(u64),
-    Done,
-    Refused(Refusal),
-}
-
-/// What row security said of one row for one type of command.
-#[derive(Debug, Drop)]
-pub struct Decision {
-    pub id: RowId,
-    /// Whether the row was there before, or is to be written.
-    pub side: Side,
-    pub kind: Kind,
-    pub verdict: Verdict,
-}
+use rls_value::{Items, Name};
 
 /// What a statement gives; where it is refused it changes nothing.
 #[derive(Drop)]
@@ -41,38 +20,18 @@ pub struct Outcome {
     pub role: Name,
 }
 
-impl Reply {
-    pub fn copy(&self, alloc: Global) -> Result<Reply, AllocError>
-        ensures { IfOk result (λ reply. reply ≡ self.now) }
+impl Outcome {
+    /// The reply alone.
+    pub fn into_reply(self) -> Reply
+        ensures { result ≡ self.reply }
     {
-        match self {
-            Reply::Rows(rows) => Ok(Reply::Rows(copy_rows(alloc, rows.as_slice())?)),
-            Reply::Count(count) => Ok(Reply::Count(*count)),
-            Reply::Done => Ok(Reply::Done),
-            Reply::Refused(refusal) => Ok(Reply::Refused(refusal.copy(alloc)?)),
-        }
-    }
-}
-
-fn copy_rows(alloc: Global, rows: &[Row]) -> Result<Items<Row>, AllocError>
-    ensures { IfOk result (λ copies. copies ≡ rows.now) }
-{
-    let mut copies = Vec::with_capacity(alloc, rows.len())?;
-    for row in rows {
-        copies.push(row.copy(alloc)?)?;
-    }
-    Ok(Items::from_vec(copies))
-}
-
-impl Decision {
-    pub fn copy(&self) -> Result<Decision, AllocError>
-        ensures { IfOk result (λ decision. decision ≡ self.now) }
-    {
-        Ok(Decision {
-            id: self.id,
-            side: self.side,
-            kind: self.kind,
-            verdict: self.verdict.copy()?,
-        })
+        let Outcome {
+            reply,
+            decisions: _,
+            footprint: _,
+            delta: _,
+            role: _,
+        } = self;
+        reply
     }
 }

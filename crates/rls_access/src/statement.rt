@@ -4,22 +4,17 @@ ghost use Rattle.std.specs.Prelude.{◌≡◌, ◌++◌, IfOk, OnOk};
 ghost use Rattle.rls_value.specs.Giving.{Gives, UnlessNoMemory};
 ghost use Rattle.rls_catalog.specs.State.{State, AgreesOn};
 ghost use Rattle.rls_source.specs.Footprints.{footprint_of};
-ghost use Rattle.rls_access.specs.Effects.{GivesEffect, ChangesUnlessRefused};
+ghost use Rattle.rls_guard.specs.Effects.{GivesEffect, UnchangedIfRefused};
 ghost use Rattle.rls_access.specs.Statements as spec;
 ghost use Rattle.rls_access.specs.Statements.{IsMeant, step, mode_or_refused};
 
-use crate::context::{Ctx, Mode};
-use crate::creating_policies::run_create_policy;
-use crate::creating_roles::run_create_role;
-use crate::creating_tables::{run_alter_table, run_create_table};
-use crate::effect::Effect;
-use crate::granting::run_grant;
-use crate::inserting::run_insert;
 use crate::outcome::Outcome;
-use crate::selecting::run_select;
+use rls_ddl::{run_alter_table, run_create_policy, run_create_role, run_create_table, run_grant};
+use rls_dml::{run_insert, run_select};
+use rls_guard::{Ctx, Effect, Mode};
 use rls_source::{Footprint, Reads, RowSource};
 use rls_text::Statement;
-use rls_value::{Refusal, Tag, TxnState};
+use rls_value::{Name, Refusal, Tag, TxnState};
 use std::alloc::{AllocError, Global};
 
 /// Runs the statement over the source: its reply, the decisions on rows, what it read, and its changes, which the
@@ -33,24 +28,39 @@ pub fn run_statement<S: RowSource>(
     ensures meant { IfOk result (λ outcome. IsMeant (S.state source.old) ctx.now statement.now (spec.effect_of outcome)) }
     ensures footprint { IfOk result (λ outcome. outcome.footprint ≡ footprint_of (step (S.state source.old) ctx.now statement.now).reads) }
     ensures frame { IfOk result (λ outcome. (other : State) → AgreesOn (S.state source.old) other outcome.footprint → step other ctx.now statement.now ≡ step (S.state source.old) ctx.now statement.now) }
-    ensures unchanged { IfOk result (λ outcome. ChangesUnlessRefused outcome.reply outcome.delta) }
+    ensures unchanged { IfOk result (λ outcome. UnchangedIfRefused outcome.reply outcome.delta) }
     ensures role { IfOk result (λ outcome. outcome.role ≡ ctx.now.role) }
     ensures state { S.state source.new ≡ S.state source.old }
 {
+    let role = ctx.role.copy()?;
     let mut reads = Reads::new(alloc);
     let effect = effect_of(alloc, source, &mut reads, ctx, statement)?;
+    match Footprint::from_reads(alloc, reads) {
+        Ok(footprint) => Ok(outcome_of(effect, footprint, role)),
+        Err(refused) => {
+            drop(effect);
+            Err(refused)
+        }
+    }
+}
+
+fn outcome_of(effect: Effect, footprint: Footprint, role: Name) -> Outcome
+    ensures effect { spec.effect_of result ≡ effect }
+    ensures footprint { result.footprint ≡ footprint }
+    ensures role { result.role ≡ role }
+{
     let Effect {
         reply,
         decisions,
         delta,
     } = effect;
-    Ok(Outcome {
+    Outcome {
         reply,
         decisions,
-        footprint: Footprint::from_reads(alloc, reads)?,
+        footprint,
         delta,
-        role: ctx.role.copy()?,
-    })
+        role,
+    }
 }
 
 /// What the statement comes to, a refusal as a reply.

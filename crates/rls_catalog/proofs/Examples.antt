@@ -20,14 +20,14 @@ use Rattle.rls_expr.specs.Terms.{Term, Literal}
 use Rattle.rls_catalog.specs.declared.role.RoleDef.{RoleDef}
 use Rattle.rls_catalog.specs.declared.role.Membership.{Membership}
 use Rattle.rls_catalog.specs.declared.grant.Grant.{Grant}
-use Rattle.rls_catalog.specs.declared.grant.Grantee.TheVariants as g
+use Rattle.rls_expr.specs.declared.policy.Grantee.TheVariants as g
 use Rattle.rls_catalog.specs.declared.stored.Keyed.{Keyed}
 use Rattle.rls_catalog.specs.declared.stored.Stored.{Stored}
 use Rattle.rls_catalog.specs.declared.change.Change.{Change}
 use Rattle.rls_catalog.specs.declared.change.Change.TheVariants as change
-use Rattle.rls_catalog.specs.declared.policy.Policy.{Policy}
-use Rattle.rls_catalog.specs.declared.policy.Side.TheVariants as side
-use Rattle.rls_catalog.specs.declared.policy.Verdict.TheVariants as verdict
+use Rattle.rls_expr.specs.declared.policy.Policy.{Policy}
+use Rattle.rls_catalog.specs.declared.verdict.Side.TheVariants as side
+use Rattle.rls_catalog.specs.declared.verdict.Verdict.TheVariants as verdict
 use Rattle.rls_catalog.specs.State.{State, role_of, rows_of, AgreesAt, AgreesOn}
 use Rattle.rls_catalog.specs.Changed.{opening, changed_all}
 use Rattle.rls_catalog.specs.Membership.{reached_of, has_privileges_of}

@@ -13,9 +13,9 @@ use Rattle.rls_value.specs.Names.{one_of}
 use Rattle.rls_value.specs.declared.truth.Truth.{Truth}
 use Rattle.rls_value.specs.Truths.{is_true}
 use Rattle.rls_value.specs.Values.{same_flag}
-use Rattle.rls_catalog.specs.declared.policy.Policy.{Policy}
-use Rattle.rls_catalog.specs.declared.policy.Verdict.{Verdict}
-use Rattle.rls_catalog.specs.declared.policy.Verdict.TheVariants as v
+use Rattle.rls_expr.specs.declared.policy.Policy.{Policy}
+use Rattle.rls_catalog.specs.declared.verdict.Verdict.{Verdict}
+use Rattle.rls_catalog.specs.declared.verdict.Verdict.TheVariants as v
 use Rattle.rls_catalog.specs.State.{State, name_order}
 use Rattle.rls_catalog.specs.Walks.{bytes_same, bytes_own}
 use Rattle.rls_catalog.specs.Membership.{Inherits, Itself, Through, attributes_of, inherited_by, reached_of, has_privileges_of}

@@ -11,10 +11,10 @@ use Rattle.rls_value.specs.declared.object.Object.{Object}
 use Rattle.rls_value.specs.declared.object.Object.TheVariants as o
 use Rattle.rls_expr.specs.declared.table.TableDef.{TableDef}
 use Rattle.rls_catalog.specs.declared.role.RoleDef.{RoleDef}
-use Rattle.rls_catalog.specs.declared.grant.Grantee.{Grantee}
-use Rattle.rls_catalog.specs.declared.grant.Grantee.TheVariants.{Public, Role}
-use Rattle.rls_catalog.specs.declared.policy.Policy.{Policy}
-use Rattle.rls_catalog.specs.declared.policy.Side.{Side}
+use Rattle.rls_expr.specs.declared.policy.Grantee.{Grantee}
+use Rattle.rls_expr.specs.declared.policy.Grantee.TheVariants.{Public, Role}
+use Rattle.rls_expr.specs.declared.policy.Policy.{Policy}
+use Rattle.rls_catalog.specs.declared.verdict.Side.{Side}
 use Rattle.rls_catalog.specs.State.{State, role_of, members_of, grants_of, policies_of, AgreesOn, agrees-append}
 use Rattle.rls_catalog.specs.Membership.{attributes_in, attributes_of, inherited_if, inherited_by, fresh, walk, granted_roles, reached_of, walk_reads, walked_by, has_privileges_of, reach_reads}
 use Rattle.rls_catalog.specs.Privileges.{includes, concerns, is_same_privilege, holds, holds_reads}

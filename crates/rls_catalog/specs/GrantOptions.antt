@@ -7,8 +7,8 @@ use Rattle.std.proofs.Common.{◌⊎◌}
 use Rattle.rls_value.specs.Names.{one_of}
 use Rattle.rls_value.specs.declared.verb.Privilege.{Privilege}
 use Rattle.rls_catalog.specs.declared.grant.Grant.{Grant}
-use Rattle.rls_catalog.specs.declared.grant.Grantee.{Grantee}
-use Rattle.rls_catalog.specs.declared.grant.Grantee.TheVariants as g
+use Rattle.rls_expr.specs.declared.policy.Grantee.{Grantee}
+use Rattle.rls_expr.specs.declared.policy.Grantee.TheVariants as g
 use Rattle.rls_catalog.specs.State.{State}
 use Rattle.rls_catalog.specs.Membership.{has_privileges_of, walked_by}
 use Rattle.rls_catalog.specs.Privileges.{is_same_privilege, Options}

@@ -8,12 +8,12 @@ use Rattle.rls_expr.specs.contracts.table.TableDef as table
 use Rattle.rls_catalog.specs.declared.role.RoleDef.{RoleDef}
 use Rattle.rls_catalog.specs.declared.role.Membership.{Membership}
 use Rattle.rls_catalog.specs.declared.grant.Grant.{Grant}
-use Rattle.rls_catalog.specs.declared.policy.Policy.{Policy}
+use Rattle.rls_expr.specs.declared.policy.Policy.{Policy}
 use Rattle.rls_catalog.specs.declared.stored.Keyed.{Keyed}
 use Rattle.rls_catalog.specs.contracts.role.RoleDef as role
 use Rattle.rls_catalog.specs.contracts.role.Membership as membership
 use Rattle.rls_catalog.specs.contracts.grant.Grant as grant
-use Rattle.rls_catalog.specs.contracts.policy.Policy as policy
+use Rattle.rls_expr.specs.contracts.policy.Policy as policy
 use Rattle.rls_catalog.specs.contracts.stored.Keyed as keyed
 use Rattle.rls_catalog.specs.StateCode.{under_names}
 use Rattle.rls_catalog.specs.Kept.{Kept}

@@ -8,8 +8,8 @@ use Rattle.rls_value.specs.declared.verb.Privilege.TheVariants as p
 use Rattle.rls_value.specs.declared.object.Object.{Object}
 use Rattle.rls_value.specs.declared.object.Object.TheVariants as o
 use Rattle.rls_catalog.specs.declared.grant.Grant.{Grant}
-use Rattle.rls_catalog.specs.declared.grant.Grantee.{Grantee}
-use Rattle.rls_catalog.specs.declared.grant.Grantee.TheVariants as g
+use Rattle.rls_expr.specs.declared.policy.Grantee.{Grantee}
+use Rattle.rls_expr.specs.declared.policy.Grantee.TheVariants as g
 use Rattle.rls_catalog.specs.State.{State, grants_of}
 use Rattle.rls_catalog.specs.Membership.{attributes_of, walked_by, reach_reads}
 

@@ -15,13 +15,13 @@ use Rattle.rls_value.specs.declared.object.Object.TheVariants as o
 use Rattle.rls_expr.specs.declared.table.TableDef.{TableDef}
 use Rattle.rls_expr.specs.Terms.{Term}
 use Rattle.rls_catalog.specs.declared.role.RoleDef.{RoleDef}
-use Rattle.rls_catalog.specs.declared.grant.Grantee.{Grantee}
-use Rattle.rls_catalog.specs.declared.grant.Grantee.TheVariants as g
-use Rattle.rls_catalog.specs.declared.policy.Policy.{Policy}
-use Rattle.rls_catalog.specs.declared.policy.Side.{Side}
-use Rattle.rls_catalog.specs.declared.policy.Side.TheVariants as side
-use Rattle.rls_catalog.specs.declared.policy.Verdict.{Verdict}
-use Rattle.rls_catalog.specs.declared.policy.Verdict.TheVariants as v
+use Rattle.rls_expr.specs.declared.policy.Grantee.{Grantee}
+use Rattle.rls_expr.specs.declared.policy.Grantee.TheVariants as g
+use Rattle.rls_expr.specs.declared.policy.Policy.{Policy}
+use Rattle.rls_catalog.specs.declared.verdict.Side.{Side}
+use Rattle.rls_catalog.specs.declared.verdict.Side.TheVariants as side
+use Rattle.rls_catalog.specs.declared.verdict.Verdict.{Verdict}
+use Rattle.rls_catalog.specs.declared.verdict.Verdict.TheVariants as v
 use Rattle.rls_catalog.specs.State.{State, policies_of, name_order}
 use Rattle.rls_catalog.specs.Membership.{attributes_of, has_privileges_of, reach_reads}
 use Rattle.rls_catalog.specs.Privileges.{includes, concerns}

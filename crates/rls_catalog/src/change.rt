@@ -3,10 +3,9 @@
 ghost use Rattle.std.specs.Prelude.{◌≡◌, [], ◌∷◌, ◌++◌, IfOk, OnOk, OnErr};
 
 use crate::grant::Grant;
-use crate::policy::Policy;
 use crate::role::{Membership, RoleDef};
 use crate::stored::Keyed;
-use rls_expr::TableDef;
+use rls_expr::{Policy, TableDef};
 use rls_value::{Items, Name, RowId};
 use std::alloc::{AllocError, Global};
 use std::marker::Model;

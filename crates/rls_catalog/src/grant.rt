@@ -2,16 +2,9 @@
 
 ghost use Rattle.std.specs.Prelude.{◌≡◌, IfOk};
 
+use rls_expr::Grantee;
 use rls_value::{Items, Name, Privilege};
 use std::alloc::{AllocError, Global};
-
-/// Whom a grant or a policy is for.
-#[derive(Debug, Drop)]
-pub enum Grantee {
-    /// Every role.
-    Public,
-    Role(Name),
-}
 
 /// A grant on a table (PostgreSQL manual, GRANT).
 #[derive(Debug, Drop)]
@@ -21,28 +14,6 @@ pub struct Grant {
     pub grantor: Name,
     /// Whether the grantee may grant it further.
     pub option: bool,
-}
-
-impl Grantee {
-    pub fn copy(&self) -> Result<Grantee, AllocError>
-        ensures { IfOk result (λ grantee. grantee ≡ self.now) }
-    {
-        match self {
-            Grantee::Public => Ok(Grantee::Public),
-            Grantee::Role(role) => Ok(Grantee::Role(role.copy()?)),
-        }
-    }
-
-    /// A copy of the list.
-    pub fn copy_all(alloc: Global, grantees: &[Grantee]) -> Result<Items<Grantee>, AllocError>
-        ensures { IfOk result (λ copies. copies ≡ grantees.now) }
-    {
-        let mut copies = Vec::with_capacity(alloc, grantees.len())?;
-        for grantee in grantees {
-            copies.push(grantee.copy()?)?;
-        }
-        Ok(Items::from_vec(copies))
-    }
 }
 
 impl Grant {

@@ -1,6 +1,7 @@
 //! Roles and their memberships.
 
 ghost use Rattle.std.specs.Prelude.{◌≡◌, IfOk};
+ghost use Rattle.rls_catalog.specs.Membership.{attributes_in};
 
 use rls_value::{Items, Name};
 use std::alloc::{AllocError, Global};
@@ -11,6 +12,22 @@ pub struct RoleDef {
     pub superuser: bool,
     pub login: bool,
     pub bypass_rls: bool,
+}
+
+impl RoleDef {
+    /// The attributes of what was looked up under a role's name; a role that isn't there has none.
+    pub fn known(def: Option<RoleDef>) -> RoleDef
+        ensures { result ≡ attributes_in def }
+    {
+        match def {
+            Some(def) => def,
+            None => RoleDef {
+                superuser: false,
+                login: false,
+                bypass_rls: false,
+            },
+        }
+    }
 }
 
 /// A membership that a role has, with its options (PostgreSQL manual, 22.3, "Role Membership").

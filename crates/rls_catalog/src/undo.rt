@@ -1,10 +1,9 @@
 //! What takes a change of a catalogue back.
 
 use crate::grant::Grant;
-use crate::policy::Policy;
 use crate::role::{Membership, RoleDef};
 use crate::stored::Keyed;
-use rls_expr::TableDef;
+use rls_expr::{Policy, TableDef};
 use rls_value::{Items, Name, RowId};
 
 /// What stood where a change was put on; none where nothing stood.

@@ -1,8 +1,9 @@
-//! Table definitions, expressions, and the typing of expressions.
+//! Definitions of tables and policies, expressions, and the typing of expressions.
 #![tactic(auto)]
 
 mod expr;
 mod placing;
+mod policy;
 mod resolving;
 mod scope;
 mod table;
@@ -10,6 +11,7 @@ mod typing;
 
 pub use expr::{Comparison, Expr, Node};
 pub use placing::place_columns;
+pub use policy::{Grantee, Policy};
 pub use resolving::resolve;
 pub use scope::{FromTable, Scope};
 pub use table::{Column, TableDef};

@@ -37,6 +37,17 @@ impl Column {
             not_null: self.not_null,
         })
     }
+
+    /// A copy of the list.
+    pub fn copy_all(alloc: Global, columns: &[Column]) -> Result<Items<Column>, AllocError>
+        ensures { IfOk result (λ copies. copies ≡ columns.now) }
+    {
+        let mut copies = Vec::with_capacity(alloc, columns.len())?;
+        for column in columns {
+            copies.push(column.copy()?)?;
+        }
+        Ok(Items::from_vec(copies))
+    }
 }
 
 impl TableDef {
@@ -54,7 +65,7 @@ impl TableDef {
             owner: self.owner.copy()?,
             enabled: self.enabled,
             forced: self.forced,
-            columns: Items::from_vec(copy_columns(alloc, self.columns.as_slice())?),
+            columns: Column::copy_all(alloc, self.columns.as_slice())?,
             key: Items::from_vec(copy_places(alloc, self.key.as_slice())?),
         })
     }
@@ -64,16 +75,6 @@ fn place_of(columns: &[Column], name: &Name) -> Option<usize>
     ensures { result ≡ column_named columns.now name.now }
 {
     columns.iter().position(|column| column.name.is(name))
-}
-
-fn copy_columns(alloc: Global, columns: &[Column]) -> Result<Vec<Column>, AllocError>
-    ensures { IfOk result (λ copies. copies.items ≡ columns.now) }
-{
-    let mut copies = Vec::with_capacity(alloc, columns.len())?;
-    for column in columns {
-        copies.push(column.copy()?)?;
-    }
-    Ok(copies)
 }
 
 fn copy_places(alloc: Global, places: &[usize]) -> Result<Vec<usize>, AllocError>

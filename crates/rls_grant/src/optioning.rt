@@ -7,7 +7,8 @@ ghost use Rattle.rls_catalog.specs.Privileges as spec;
 ghost use Rattle.rls_catalog.specs.Privileges.{roles_in, optioned_by, AreOptions};
 
 use crate::holding::is_same_privilege;
-use rls_catalog::{Grant, Grantee};
+use rls_catalog::Grant;
+use rls_expr::Grantee;
 use rls_role::is_among;
 use rls_value::{Items, Name, Privilege};
 use std::alloc::{AllocError, Global};

@@ -3,9 +3,9 @@ use Rattle.std.specs.Prelude.{◌≡◌, refl, ℕ, List, [], ◌∷◌, Bool, t
 use Rattle.std.specs.List.{list_any, list_all}
 use Rattle.std.proofs.Common.{ap, sym}
 use Rattle.std.proofs.lemmas.Bool.{true≢false}
-use Rattle.rls_catalog.specs.declared.grant.Grantee.{Grantee}
-use Rattle.rls_catalog.specs.declared.grant.Grantee.TheVariants.{Public, Role}
-use Rattle.rls_catalog.specs.declared.policy.Policy.{Policy}
+use Rattle.rls_expr.specs.declared.policy.Grantee.{Grantee}
+use Rattle.rls_expr.specs.declared.policy.Grantee.TheVariants.{Public, Role}
+use Rattle.rls_expr.specs.declared.policy.Policy.{Policy}
 use Rattle.rls_catalog.specs.State.{State}
 use Rattle.rls_catalog.specs.Privileges.{concerns}
 use Rattle.rls_catalog.specs.Verdict.{is_everyone, is_to_everyone, is_to}

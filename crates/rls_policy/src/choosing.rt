@@ -6,8 +6,8 @@ ghost use Rattle.std.specs.List.{list_any, list_all};
 ghost use Rattle.rls_catalog.specs.Privileges.{includes};
 ghost use Rattle.rls_catalog.specs.Verdict as spec;
 
-use rls_catalog::{Grantee, Policy, Side};
-use rls_expr::Expr;
+use rls_catalog::Side;
+use rls_expr::{Expr, Grantee, Policy};
 use rls_role::{Reach, reach_of};
 use rls_source::RowSource;
 use rls_value::{Items, Kind, Name, PolicyKind};

@@ -4,7 +4,8 @@ ghost use Rattle.std.specs.Prelude.{◌≡◌, None, IfOk};
 ghost use Rattle.std.specs.Option.{option_copied, option_map};
 ghost use Rattle.rls_catalog.specs.Verdict.{judged, verdict_of, names_where, least, lesser};
 
-use rls_catalog::{Policy, Verdict};
+use rls_catalog::Verdict;
+use rls_expr::Policy;
 use rls_value::{Name, Truth};
 use std::alloc::AllocError;
 
@@ -47,7 +48,8 @@ fn first_name<'a>(
     best
 }
 
-fn lesser_name<'a>(best: Option<&'a Name>, name: &'a Name) -> &'a Name
+/// The name, unless the best one so far is before it.
+pub fn lesser_name<'a>(best: Option<&'a Name>, name: &'a Name) -> &'a Name
     ensures { result.now ≡ lesser (option_copied best.entry) name.now }
 {
     match best {

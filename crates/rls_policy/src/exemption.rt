@@ -1,7 +1,6 @@
 //! Who is exempt from row security.
 
 ghost use Rattle.std.specs.Prelude.{◌≡◌, IfOk, OnOk};
-ghost use Rattle.rls_catalog.specs.Membership.{attributes_in};
 ghost use Rattle.rls_catalog.specs.Verdict as spec;
 ghost use Rattle.rls_catalog.specs.Verdict.{exempts, exempt_reads};
 
@@ -35,7 +34,7 @@ pub fn is_exempt<S: RowSource>(
     if !table.enabled {
         return Ok(true);
     }
-    let def = attributes(source.role(alloc, role)?);
+    let def = RoleDef::known(source.role(alloc, role)?);
     if def.superuser || def.bypass_rls {
         return Ok(true);
     }
@@ -44,17 +43,4 @@ pub fn is_exempt<S: RowSource>(
     }
     let has_owner = has(alloc, source, role, &table.owner)?;
     Ok(has_owner)
-}
-
-fn attributes(def: Option<RoleDef>) -> RoleDef
-    ensures { result ≡ attributes_in def }
-{
-    match def {
-        Some(def) => def,
-        None => RoleDef {
-            superuser: false,
-            login: false,
-            bypass_rls: false,
-        },
-    }
 }

@@ -4,10 +4,9 @@
 mod choosing;
 mod combining;
 mod exemption;
-#[cfg(test)]
-mod tests;
 
 pub use choosing::{applying, chosen, expression_of};
-pub use combining::combine;
+pub use combining::{combine, lesser_name};
 pub use exemption::{exempt, is_exempt};
-pub use rls_catalog::{Policy, Side, Verdict};
+pub use rls_catalog::{Side, Verdict};
+pub use rls_expr::Policy;

@@ -2,11 +2,12 @@
 
 ghost use Rattle.std.specs.Prelude.{◌≡◌, ◌||◌, if◌then◌else◌, [], IfOk, OnOk, OnErr};
 ghost use Rattle.rls_value.specs.Names.{one_of};
-ghost use Rattle.rls_catalog.specs.Membership.{attributes_in, attributes_of, walked_by, walk_reads, reached_of, reach_reads, has_privileges_of};
+ghost use Rattle.rls_catalog.specs.Membership.{attributes_of, walked_by, walk_reads, reached_of, reach_reads, has_privileges_of};
 ghost use Rattle.rls_catalog.specs.Privileges.{includes};
 
 use crate::walking::{is_among, reached};
-use rls_catalog::{Grantee, RoleDef};
+use rls_catalog::RoleDef;
+use rls_expr::Grantee;
 use rls_source::RowSource;
 use rls_value::{Items, Name};
 use std::alloc::{AllocError, Global};
@@ -50,18 +51,9 @@ pub fn reach_of<S: RowSource>(
     ensures read { OnOk result (source.new ≡ S.after source.old (reach_reads (S.state source.old) role.now)) }
     ensures state { S.state source.new ≡ S.state source.old }
 {
-    let superuser = is_superuser(source.role(alloc, role)?);
+    let superuser = RoleDef::known(source.role(alloc, role)?).superuser;
     let names = walked(alloc, source, role, superuser)?;
     Ok(Reach { superuser, names })
-}
-
-fn is_superuser(def: Option<RoleDef>) -> bool
-    ensures { result ≡ (attributes_in def).superuser }
-{
-    match def {
-        Some(def) => def.superuser,
-        None => false,
-    }
 }
 
 fn walked<S: RowSource>(

@@ -3,8 +3,8 @@
 ghost use Rattle.std.specs.Prelude.{◌≡◌, refl, IfOk};
 
 use crate::source::RowSource;
-use rls_catalog::{Catalog, Grant, Membership, Policy, RoleDef, Stored};
-use rls_expr::TableDef;
+use rls_catalog::{Catalog, Grant, Membership, RoleDef, Stored};
+use rls_expr::{Policy, TableDef};
 use rls_value::{Items, Name, Row};
 use std::alloc::{AllocError, Global};
 

@@ -6,8 +6,8 @@ ghost use Rattle.rls_source.specs.FootprintLaws.{with_reads_more};
 
 use crate::footprint::Footprint;
 use crate::source::RowSource;
-use rls_catalog::{Grant, Membership, Policy, RoleDef, Stored};
-use rls_expr::TableDef;
+use rls_catalog::{Grant, Membership, RoleDef, Stored};
+use rls_expr::{Policy, TableDef};
 use rls_value::{Items, Name, Object, Row};
 use std::alloc::{AllocError, Global};
 

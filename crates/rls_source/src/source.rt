@@ -4,8 +4,8 @@ ghost use Rattle.std.specs.Prelude.{◌≡◌, List, [], ◌∷◌, ◌++◌, If
 ghost use Rattle.rls_catalog.specs.State.{State, role_of, members_of, table_of, grants_of, policies_of, rows_of, rows_with_key};
 ghost use Rattle.rls_value.specs.declared.object.Object.{Object as Read};
 
-use rls_catalog::{Grant, Membership, Policy, RoleDef, Stored};
-use rls_expr::TableDef;
+use rls_catalog::{Grant, Membership, RoleDef, Stored};
+use rls_expr::{Policy, TableDef};
 use rls_value::{Items, Name, Object, Row};
 use std::alloc::{AllocError, Global};
 

@@ -7,7 +7,7 @@ use Rattle.rls_value.specs.declared.value.ColType.TheVariants as k
 use Rattle.rls_value.specs.declared.verb.Privilege.TheVariants as p
 use Rattle.rls_expr.specs.Terms as e
 use Rattle.rls_expr.specs.declared.expr.Comparison.TheVariants as c
-use Rattle.rls_catalog.specs.declared.grant.Grantee.TheVariants as to
+use Rattle.rls_expr.specs.declared.policy.Grantee.TheVariants as to
 use Rattle.rls_text.specs.declared.token.Symbol.{Symbol}
 use Rattle.rls_text.specs.declared.token.Symbol.TheVariants as s
 use Rattle.rls_text.specs.declared.token.Token.{Token}

@@ -14,8 +14,7 @@ use crate::reading::{name, past_symbol, past_word, sees_symbol, sees_word, word}
 use crate::statement::{AlterTable, CreatePolicy, CreateRole, CreateTable, RowSecurity, Statement};
 use crate::token::{Symbol, Token};
 use crate::tree::{Draft, Tree, parted};
-use rls_catalog::{Grantee, Policy};
-use rls_expr::Column;
+use rls_expr::{Column, Grantee, Policy};
 use rls_value::{ColType, Items, PolicyKind};
 use std::alloc::{AllocError, Global};
 use std::collections::BTreeSet;

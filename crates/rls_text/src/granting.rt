@@ -10,7 +10,7 @@ use crate::fault::Fault;
 use crate::reading::{name, past_symbol, past_word, sees_symbol, word};
 use crate::statement::{GrantPrivileges, Privileges, Statement};
 use crate::token::{Symbol, Token};
-use rls_catalog::Grantee;
+use rls_expr::Grantee;
 use rls_value::{Items, Name, Privilege};
 use std::alloc::Global;
 

@@ -20,6 +20,3 @@ pub use statement::{
     AlterTable, Attributes, CreatePolicy, CreateRole, CreateTable, GrantPrivileges, Insert,
     Privileges, RowSecurity, Select, Selected, Statement,
 };
-
-#[cfg(test)]
-mod tests;

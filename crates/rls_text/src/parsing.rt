@@ -57,8 +57,10 @@ fn limited(draft: Draft) -> Result<Statement, Refusal>
 {
     let (statement, depth) = draft;
     if column_count(&statement) > MAX_COLUMNS {
+        drop(statement);
         Err(Refusal::Limit(Limit::Columns))
     } else if depth > MAX_DEPTH {
+        drop(statement);
         Err(Refusal::Limit(Limit::Nesting))
     } else {
         Ok(statement)
@@ -83,7 +85,10 @@ fn whole(alloc: Global, tokens: &[Token]) -> Result<Draft, Fault>
     let (statement, rest) = statement(alloc, tokens.len() + 1, tokens)?;
     match rest {
         [] => Ok(statement),
-        [_, ..] => Err(Fault::Syntax),
+        [_, ..] => {
+            drop(statement);
+            Err(Fault::Syntax)
+        }
     }
 }
 

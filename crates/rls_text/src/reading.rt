@@ -113,7 +113,13 @@ fn named(alloc: Global, letters: &str) -> Result<Name, Fault>
 {
     match Name::new(alloc, letters) {
         Ok(name) => Ok(name),
-        Err(Refusal::Syntax | Refusal::Limit(Limit::Name)) => Err(Fault::Syntax),
-        Err(_) => Err(Fault::NoMemory),
+        Err(refusal) => {
+            let fault = match &refusal {
+                Refusal::Syntax | Refusal::Limit(Limit::Name) => Fault::Syntax,
+                _ => Fault::NoMemory,
+            };
+            drop(refusal);
+            Err(fault)
+        }
     }
 }

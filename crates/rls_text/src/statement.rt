@@ -3,8 +3,7 @@
 ghost use Rattle.std.specs.Prelude.{◌≡◌, IfOk};
 ghost use Rattle.rls_text.specs.Tags.{tag_of};
 
-use rls_catalog::{Grantee, Policy};
-use rls_expr::{Column, Expr};
+use rls_expr::{Column, Expr, Grantee, Policy};
 use rls_value::{Items, Name, Tag};
 use std::alloc::{AllocError, Global};
 
@@ -145,7 +144,7 @@ impl CreateTable {
     {
         Ok(CreateTable {
             name: self.name.copy()?,
-            columns: Items::from_vec(copy_columns(alloc, self.columns.as_slice())?),
+            columns: Column::copy_all(alloc, self.columns.as_slice())?,
         })
     }
 }
@@ -179,7 +178,7 @@ impl GrantPrivileges {
         Ok(GrantPrivileges {
             privileges: self.privileges,
             table: self.table.copy()?,
-            to: Items::from_vec(copy_grantees(alloc, self.to.as_slice())?),
+            to: Grantee::copy_all(alloc, self.to.as_slice())?,
         })
     }
 }
@@ -223,26 +222,6 @@ impl Selected {
             )?))),
         }
     }
-}
-
-fn copy_columns(alloc: Global, columns: &[Column]) -> Result<Vec<Column>, AllocError>
-    ensures { IfOk result (λ copies. copies.items ≡ columns.now) }
-{
-    let mut copies = Vec::with_capacity(alloc, columns.len())?;
-    for column in columns {
-        copies.push(column.copy()?)?;
-    }
-    Ok(copies)
-}
-
-fn copy_grantees(alloc: Global, grantees: &[Grantee]) -> Result<Vec<Grantee>, AllocError>
-    ensures { IfOk result (λ copies. copies.items ≡ grantees.now) }
-{
-    let mut copies = Vec::with_capacity(alloc, grantees.len())?;
-    for grantee in grantees {
-        copies.push(grantee.copy()?)?;
-    }
-    Ok(copies)
 }
 
 fn copy_tuples(alloc: Global, tuples: &[Items<Expr>]) -> Result<Vec<Items<Expr>>, AllocError>

@@ -116,24 +116,24 @@ cause_text (c.Written object other) = object_text object ++ (codes " was written
 cause_text (c.Structure first one pivot two last) = (decimal first ++ (codes " read " ++ (object_text one ++ (codes ", " ++ (decimal pivot ++ codes " wrote it; "))))) ++ (decimal pivot ++ (codes " read " ++ (object_text two ++ (codes ", " ++ (decimal last ++ codes " wrote it")))))
 
 -- the text of a refusal
-abbrev pub refusal_text : Refusal → Option (List ℕ)
-refusal_text r.NoMemory = Some (codes "out of memory")
-refusal_text r.Syntax = Some (codes "syntax error")
-refusal_text (r.Limit limit) = Some (limit_text limit)
-refusal_text (r.TxnState state) = Some (txn_text state)
-refusal_text (r.NoLogin None) = Some (codes "not connected")
-refusal_text (r.NoLogin (Some role)) = Some (codes "role \"" ++ (role ++ codes "\" may not log in"))
-refusal_text (r.Undefined kind name) = Some (name_kind_text kind ++ (codes " \"" ++ (name ++ codes "\" does not exist")))
-refusal_text (r.Duplicate kind name) = Some (name_kind_text kind ++ (codes " \"" ++ (name ++ codes "\" already exists")))
-refusal_text r.TypeFault = Some (codes "types do not match")
-refusal_text r.Unsupported = Some (codes "not supported")
-refusal_text (r.Recursion table) = Some (codes "infinite recursion detected in policy for relation \"" ++ (table ++ codes "\""))
-refusal_text (r.Denied why) = Some (why_text why)
-refusal_text (r.GrantOp fault) = Some (grant_fault_text fault)
-refusal_text (r.Dependent table) = Some (codes "dependent privileges exist")
-refusal_text (r.Range column) = Some (codes "value out of range for column \"" ++ (column ++ codes "\""))
-refusal_text (r.NotNull column) = Some (codes "null value in column \"" ++ (column ++ codes "\" violates not-null constraint"))
-refusal_text (r.Unique table) = Some (codes "duplicate key value violates the primary key of table \"" ++ (table ++ codes "\""))
-refusal_text (r.Serial cause) = Some (codes "could not serialize access: " ++ cause_text cause)
-refusal_text r.Foreign = Some (codes "not of this engine")
-refusal_text (r.BadAudit line) = Some (codes "bad audit line " ++ decimal line)
+abbrev pub refusal_text : Refusal → List ℕ
+refusal_text r.NoMemory = codes "out of memory"
+refusal_text r.Syntax = codes "syntax error"
+refusal_text (r.Limit limit) = limit_text limit
+refusal_text (r.TxnState state) = txn_text state
+refusal_text (r.NoLogin None) = codes "not connected"
+refusal_text (r.NoLogin (Some role)) = codes "role \"" ++ (role ++ codes "\" may not log in")
+refusal_text (r.Undefined kind name) = name_kind_text kind ++ (codes " \"" ++ (name ++ codes "\" does not exist"))
+refusal_text (r.Duplicate kind name) = name_kind_text kind ++ (codes " \"" ++ (name ++ codes "\" already exists"))
+refusal_text r.TypeFault = codes "types do not match"
+refusal_text r.Unsupported = codes "not supported"
+refusal_text (r.Recursion table) = codes "infinite recursion detected in policy for relation \"" ++ (table ++ codes "\"")
+refusal_text (r.Denied why) = why_text why
+refusal_text (r.GrantOp fault) = grant_fault_text fault
+refusal_text (r.Dependent table) = codes "dependent privileges exist"
+refusal_text (r.Range column) = codes "value out of range for column \"" ++ (column ++ codes "\"")
+refusal_text (r.NotNull column) = codes "null value in column \"" ++ (column ++ codes "\" violates not-null constraint")
+refusal_text (r.Unique table) = codes "duplicate key value violates the primary key of table \"" ++ (table ++ codes "\"")
+refusal_text (r.Serial cause) = codes "could not serialize access: " ++ cause_text cause
+refusal_text r.Foreign = codes "not of this engine"
+refusal_text (r.BadAudit line) = codes "bad audit line " ++ decimal line

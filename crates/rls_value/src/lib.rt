@@ -22,6 +22,3 @@ pub use text::Text;
 pub use truth::Truth;
 pub use value::{ColType, Value, cmp_values, fits};
 pub use verb::{Kind, PolicyKind, Privilege};
-
-#[cfg(test)]
-mod tests;

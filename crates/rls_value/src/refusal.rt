@@ -291,9 +291,10 @@ impl Cause {
 
 /// The text that is printed behind the code.
 impl fmt::Display for Refusal {
+    ghost use Rattle.std.specs.Prelude.{Some};
     ghost use Rattle.rls_value.specs.Refusals.{refusal_text};
 
-    ghost output = { refusal_text };
+    ghost output = { λ refusal. Some (refusal_text refusal) };
 
     fn fmt<W: fmt::Write>(&self, f: &mut fmt::Formatter<W>) -> fmt::Result {
         match self {

@@ -1,4 +1,1 @@
-pub mod Examples
-pub mod LineLemmas
 pub mod ScriptLemmas
-pub mod SessionLemmas

@@ -7,12 +7,14 @@ use Rattle.std.proofs.lemmas.List.Sums.{fails_before_first}
 use Rattle.std.proofs.lemmas.Grind.{common_steps}
 use Rattle.std.proofs.lemmas.Bool.Decides.{nat_tests}
 use Rattle.rls_catalog.specs.State.{State}
-use Rattle.rlsdb.specs.Lines.{IsRead, ends_line, first_line_of, without_return}
-use Rattle.rlsdb.specs.Scripts.{Run, RunsLine, RunsLines, RunsRead, AnswersIf, comes_first, IsWritten, IsScriptText, GrewBy, opening_run}
+use Rattle.rls_session.specs.Lines.{IsRead, ends_line, first_line_of, without_return}
+use Rattle.rls_session.specs.Rendering.{answer_text}
+use Rattle.rls_session.specs.Sessions.{state_left}
+use Rattle.rlsdb.specs.Scripts.{Run, RunsLine, RunsLines, RunsRead, AnswersIf, comes_first, IsScriptText, GrewBy, opening_run}
 use Rattle.rlsdb.specs.Scripts.{none, next}
-use Rattle.rlsdb.specs.declared.answer.Answer.{Answer}
-use Rattle.rlsdb.specs.declared.line.Line.{Line}
-use Rattle.rlsdb.specs.declared.line.Line.TheVariants as l
+use Rattle.rls_session.specs.declared.answer.Answer.{Answer}
+use Rattle.rls_session.specs.declared.line.Line.{Line}
+use Rattle.rls_session.specs.declared.line.Line.TheVariants as l
 
 -- a part in front of others is a line of its own
 lines_of_more : (part : List ℕ) (parts : List (List ℕ)) → 0 < length parts → lines_of_parts (part ∷ parts) ≡ without_return part ∷ lines_of_parts parts
@@ -53,7 +55,7 @@ pub lines_first : (script : List ℕ) → 0 < length script → lines script ≡
 lines_first script some = lines_first_if script (nat_lt (position_or_len ends_line script) (length script)) refl some
 
 -- a command's line: its answer, and what is written for it
-pub said : (before now : List ℕ) (line : Line) (label command : Bor (List ℕ)) (answer : Answer) (run after : Run) {E : Type 0} (r : Result (Unit {0}) E) → line ≡ l.Command label command → AnswersIf (comes_first run.first label.now) run label.now command.now answer after → OnOk r (GrewBy before now (IsWritten label.now answer)) → OnOk r (GrewBy before now (λ written. RunsRead line run written after))
+pub said : (before now : List ℕ) (line : Line) (label command : Bor (List ℕ)) (answer : Answer) (run after : Run) {E : Type 0} (r : Result (Unit {0}) E) → line ≡ l.Command label command → AnswersIf (comes_first run.first label.now) run label.now command.now answer after → OnOk r (GrewBy before now (λ written. written ≡ answer_text label.now answer)) → OnOk r (GrewBy before now (λ written. RunsRead line run written after))
 said before now line label command answer run after (Ok x) is answers shown =
     let fact : RunsRead (l.Command label command) run shown.more after = record { answer = answer; answers = answers; shown = shown.fact } in
     record { more = shown.more; grew = shown.grew; fact = subst (λ it. RunsRead it run shown.more after) (sym is) fact }
@@ -68,7 +70,7 @@ pub grew_none : (now : List ℕ) (run : Run) → GrewBy now now (λ written. Run
 grew_none now run = record { more = []; grew = grind (arith, common_steps); fact = none }
 
 -- the lines make the script's text
-pub grew_script : {before now : List ℕ} {script : List ℕ} {after : Run} {state : State} → state ≡ after.session.catalog → GrewBy before now (λ written. RunsLines (lines script) opening_run written after) → GrewBy before now (λ written. IsScriptText script written state)
+pub grew_script : {before now : List ℕ} {script : List ℕ} {after : Run} {state : State} → state ≡ state_left after.session → GrewBy before now (λ written. RunsLines (lines script) opening_run written after) → GrewBy before now (λ written. IsScriptText script written state)
 grew_script left grew = record { more = grew.more; grew = grew.grew; fact = record { after = _; runs = grew.fact; left = left } }
 
 -- what holds while lines are run: what the lines of the rest will write, and leave, makes the whole script's
@@ -84,6 +86,6 @@ passed_line start before middle script rest line behind read run further some is
     makes now after (subst (λ ls. GrewBy before now (λ written. RunsLines ls run written after)) (sym split) both)
 
 -- behind the last line the script's text is whole
-pub finished : (start now script rest : List ℕ) (run : Run) (state : State) → length rest ≡ 0 → MakesWhole start now script rest run → state ≡ run.session.catalog → GrewBy start now (λ written. IsScriptText script written state)
+pub finished : (start now script rest : List ℕ) (run : Run) (state : State) → length rest ≡ 0 → MakesWhole start now script rest run → state ≡ state_left run.session → GrewBy start now (λ written. IsScriptText script written state)
 finished start now script [] run state none_left makes left = grew_script left (makes now run (grew_none now run))
 finished start now script (byte ∷ bytes) run state none_left makes left = absurd (omega arith)

@@ -1,5 +1,1 @@
-pub mod Lines
-pub mod Connects
-pub mod Sessions
-pub mod Rendering
 pub mod Scripts

@@ -1,19 +1,18 @@
 -- What a script means: the bytes that are written for it, and the state that it leaves.
-use Rattle.std.specs.Prelude.{◌≡◌, ℕ, Bool, true, false, List, [], ◌∷◌, ◌++◌, codes, Option, Some, None, IfSome}
+use Rattle.std.specs.Prelude.{◌≡◌, ℕ, Bool, true, false, List, [], ◌∷◌, ◌++◌, codes, Option, Some, None}
 use Rattle.std.specs.Str.{bytes_eq}
 use Rattle.std.specs.Str.Lines.{lines}
 use Rattle.rls_value.specs.declared.refusal.Refusal.TheVariants as r
 use Rattle.rls_value.specs.declared.refusal.Limit.TheVariants as m
 use Rattle.rls_catalog.specs.State.{State}
-use Rattle.rls_catalog.specs.Changed.{opening}
-use Rattle.rlsdb.specs.Lines.{IsRead}
-use Rattle.rlsdb.specs.Rendering.{answer_text}
-use Rattle.rlsdb.specs.Sessions.{Executes}
-use Rattle.rlsdb.specs.declared.answer.Answer.{Answer}
-use Rattle.rlsdb.specs.declared.answer.Answer.TheVariants as a
-use Rattle.rlsdb.specs.declared.line.Line.{Line}
-use Rattle.rlsdb.specs.declared.line.Line.TheVariants as l
-use Rattle.rlsdb.specs.declared.session.Session.{Session}
+use Rattle.rls_session.specs.Lines.{IsRead}
+use Rattle.rls_session.specs.Rendering.{answer_text}
+use Rattle.rls_session.specs.Sessions.{opening_session, state_left, Executes}
+use Rattle.rls_session.specs.declared.answer.Answer.{Answer}
+use Rattle.rls_session.specs.declared.answer.Answer.TheVariants as a
+use Rattle.rls_session.specs.declared.line.Line.{Line}
+use Rattle.rls_session.specs.declared.line.Line.TheVariants as l
+use Rattle.rls_session.specs.declared.session.Session.{Session}
 
 -- a run so far: the label that came first, which has the session, and its session
 pub record Run : Type 0 where
@@ -22,7 +21,7 @@ pub record Run : Type 0 where
 
 -- before the first line no label has come, and nobody is connected
 abbrev pub opening_run : Run
-opening_run = record { first = None; session = record { catalog = opening; login = None; next = Some 1 } }
+opening_run = record { first = None; session = opening_session }
 
 -- the label came first, or is the first to come
 abbrev pub comes_first : Option (List ℕ) → List ℕ → Bool
@@ -34,22 +33,18 @@ abbrev pub AnswersIf : Bool → Run → List ℕ → List ℕ → Answer → Run
 AnswersIf true run label command answer after = (after.first ≡ Some label) × Executes run.session command answer after.session
 AnswersIf false run label command answer after = (answer ≡ a.Refused (r.Limit m.Sessions)) × (after ≡ run)
 
--- the bytes of an answer; each answer has a text
-abbrev pub IsWritten : List ℕ → Answer → List ℕ → Type 0
-IsWritten label answer written = IfSome (answer_text label answer) (λ text. written ≡ text)
-
 -- a command under its label
 pub record RunsCommand (run : Run) (label command written : List ℕ) (after : Run) : Type 0 where
   pub answer : Answer
   pub answers : AnswersIf (comes_first run.first label) run label command answer after
-  pub shown : IsWritten label answer written
+  pub shown : written ≡ answer_text label answer
 
 -- what is written for a line, and the run behind it; one without a label is answered under `?`
 abbrev pub RunsRead : Line → Run → List ℕ → Run → Type 0
 RunsRead l.Skipped run written after = (written ≡ []) × (after ≡ run)
 RunsRead l.Phase run written after = (written ≡ []) × (after ≡ run)
 RunsRead (l.Command label command) run written after = RunsCommand run label.now command.now written after
-RunsRead l.Unlabelled run written after = IsWritten (codes "?") (a.Refused r.Syntax) written × (after ≡ run)
+RunsRead l.Unlabelled run written after = (written ≡ answer_text (codes "?") (a.Refused r.Syntax)) × (after ≡ run)
 
 -- the same from the line's bytes
 pub record RunsLine (line : List ℕ) (run : Run) (written : List ℕ) (after : Run) : Type 0 where
@@ -66,7 +61,7 @@ pub data RunsLines : List (List ℕ) → Run → List ℕ → Run → Type 0 whe
 pub record IsScriptText (script written : List ℕ) (state : State) : Type 0 where
   pub after : Run
   pub runs : RunsLines (lines script) opening_run written after
-  pub left : state ≡ after.session.catalog
+  pub left : state ≡ state_left after.session
 
 -- a list grew by one of which the fact holds
 pub record GrewBy (before now : List ℕ) (Fact : List ℕ → Type 0) : Type 0 where

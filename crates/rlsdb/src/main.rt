@@ -1,16 +1,11 @@
 //! The program: runs a script of statements and writes the answers.
 #![tactic(auto)]
 
-mod answer;
 mod command_line;
-mod connect;
 mod device;
 mod fault;
-mod line;
 mod passed;
-mod render;
 mod script;
-mod session;
 mod stream;
 #[cfg(test)]
 mod tests;

@@ -2,15 +2,13 @@
 
 ghost use Rattle.std.specs.Prelude.{◌≡◌, ◌⊎◌, ◌+◌, ◌<◌, ◌≤◌, ◌++◌, [], length, true, IfOk, OnOk, OnErr, IsErrOf};
 ghost use Rattle.std.specs.Option.{option_copied};
-ghost use Rattle.rlsdb.specs.Scripts.{AnswersIf, comes_first, GrewBy, IsWritten, IsScriptText, RunsRead};
+ghost use Rattle.rls_session.specs.Rendering.{answer_text};
+ghost use Rattle.rlsdb.specs.Scripts.{AnswersIf, comes_first, GrewBy, IsScriptText, RunsRead};
 
-use crate::answer::Answer;
 use crate::fault::RunFault;
-use crate::line::{Line, first_line, read_line};
-use crate::render::render;
-use crate::session::Session;
 use crate::stream::{Failed, ScriptIn, ScriptOut};
 use rls_catalog::Catalog;
+use rls_session::{Answer, Line, Session, first_line, read_line, render};
 use rls_value::{Limit, Refusal};
 use std::alloc::{AllocError, Global};
 
@@ -108,9 +106,9 @@ fn run_line<'a, W: ScriptOut>(
         Line::Skipped | Line::Phase => Ok(()),
         Line::Command { label, command } => {
             let answer = answer_of(alloc, first, session, label, command)?;
-            write_answer(alloc, label, &answer, output)
+            write_answer(alloc, label, answer, output)
         }
-        Line::Unlabelled => write_answer(alloc, "?", &Answer::Refused(Refusal::Syntax), output),
+        Line::Unlabelled => write_answer(alloc, "?", Answer::Refused(Refusal::Syntax), output),
     }
 }
 
@@ -137,17 +135,19 @@ fn answer_of<'a>(
 fn write_answer<W: ScriptOut>(
     alloc: Global,
     label: &str,
-    answer: &Answer,
+    answer: Answer,
     output: &mut W,
 ) -> Result<(), RunFault>
     requires output_whole { W.failures output.old ≡ 0 }
-    ensures text { OnOk result (GrewBy (W.taken output.old) (W.taken output.new) (IsWritten label.now answer.now)) }
+    ensures text { OnOk result (GrewBy (W.taken output.old) (W.taken output.new) (λ written. written ≡ answer_text label.now answer)) }
     ensures read { ¬ IsErrOf result RunFault.Read }
     ensures write { IsErrOf result RunFault.Write → W.failures output.new ≡ 1 }
     ensures write_failed { W.failures output.new ≡ 1 → IsErrOf result RunFault.Write }
     ensures ok { OnOk result (W.failures output.new ≡ 0) }
 {
-    let bytes = render(alloc, label, answer)?;
+    let rendered = render(alloc, label, &answer);
+    drop(answer);
+    let bytes = rendered?;
     match write_all(bytes.as_slice(), output) {
         Ok(()) => Ok(()),
         Err(Failed) => Err(RunFault::Write),

@@ -2,6 +2,10 @@
 
 ghost use Rattle.std.specs.Prelude.{◌≡◌, take};
 
+mod policies;
+mod texts;
+mod values;
+
 use crate::command_line::file_named;
 use crate::fault::RunFault;
 use crate::script::run_script;

@@ -1,6 +1,0 @@
-use Rattle.std.proofs.Common.{◌≡◌, take}
-use Rattle.rls_catalog.proofs.grant.Grantee.copy_all.Given as goal
-
--- the first are copied
-abbrev pub invariant-loop-grantee : goal.invariant-loop-grantee
-invariant-loop-grantee l = l.copies.items ≡ take l.grantee-index l.grantees

@@ -1,0 +1,79 @@
+-- CREATE POLICY (PostgreSQL manual, CREATE POLICY): names, then that none of the name is there, then types, then how many
+-- there are, then that the role is one that owns the table.
+use Rattle.std.specs.Prelude.{ℕ, List, [], ◌∷◌, Option, Some, None, Bool, nat_lt, Result, Ok, Err, length, if◌then◌else◌}
+use Rattle.std.specs.List.{list_any}
+use Rattle.std.specs.Str.{bytes_eq}
+use Rattle.std.specs.Ordering.{is_lt}
+use Rattle.rls_value.specs.declared.refusal.Refusal.{Refusal}
+use Rattle.rls_value.specs.declared.refusal.Refusal.TheVariants.{Undefined, Duplicate, Limit}
+use Rattle.rls_value.specs.declared.refusal.NameKind.TheVariants as kind
+use Rattle.rls_value.specs.declared.refusal.Limit.TheVariants as limit
+use Rattle.rls_value.specs.Giving.{and_then}
+use Rattle.rls_expr.specs.declared.table.TableDef.{TableDef}
+use Rattle.rls_expr.specs.Terms.{Term}
+use Rattle.rls_expr.specs.Resolving.{resolved}
+use Rattle.rls_expr.specs.Typing.{condition_checked}
+use Rattle.rls_expr.specs.declared.policy.Policy.{Policy}
+use Rattle.rls_catalog.specs.declared.change.Change.TheVariants as change
+use Rattle.rls_catalog.specs.State.{State, name_order}
+use Rattle.rls_text.specs.declared.statement.CreatePolicy.{CreatePolicy}
+use Rattle.rls_guard.specs.declared.context.Ctx.{Ctx}
+use Rattle.rls_guard.specs.Readings.{Reading, known, followed_by}
+use Rattle.rls_guard.specs.Sequences.{put_before}
+use Rattle.rls_guard.specs.Asked.{asked_policies}
+use Rattle.rls_guard.specs.Checks.{table_or_undefined, grantees_or_undefined, known_or_undefined}
+use Rattle.rls_guard.specs.Standings.{standing_of, owner_or_denied}
+use Rattle.rls_guard.specs.Effects.{Meaning, Exactly, writes}
+
+-- its columns have to be known, if there is one
+abbrev pub names_known : List TableDef → Option Term → Result (Unit {0}) Refusal
+names_known tables None = Ok tt
+names_known tables (Some term) = and_then (known_or_undefined (resolved term tables)) (λ _. Ok tt)
+
+-- it has to be a boolean, if there is one
+abbrev pub condition_fits : List TableDef → Option Term → Result (Unit {0}) Refusal
+condition_fits tables None = Ok tt
+condition_fits tables (Some term) = and_then (condition_checked term tables) (λ _. Ok tt)
+
+-- USING, then WITH CHECK
+abbrev pub both_conditions : (Option Term → Result (Unit {0}) Refusal) → Policy → Result (Unit {0}) Refusal
+both_conditions test policy = and_then (test policy.using) (λ _. test policy.check)
+
+-- whether a policy of that name is there
+abbrev pub has_policy : List Policy → List ℕ → Bool
+has_policy policies name = list_any (λ policy. bytes_eq policy.name name) policies
+
+-- a policy of the name may not be there
+abbrev pub new_or_duplicate : List Policy → List ℕ → Result (Unit {0}) Refusal
+new_or_duplicate policies name = if has_policy policies name then Err (Duplicate kind.Policy name) else Ok tt
+
+-- a table has 64 policies at most
+abbrev pub room_for_policy : List Policy → Result (Unit {0}) Refusal
+room_for_policy policies = if nat_lt (length policies) 64 then Ok tt else Err (Limit limit.Policies)
+
+-- the policy in its place, by the bytes of its name
+abbrev pub with_policy : List Policy → Policy → List Policy
+with_policy policies policy = put_before (λ other. is_lt (name_order policy.name other.name)) policy policies
+
+-- the policy has to be right over its table, beside those that are there
+abbrev pub policy_or_refused : TableDef → List Policy → Policy → Result (Unit {0}) Refusal
+policy_or_refused table policies policy =
+    and_then (new_or_duplicate policies policy.name) (λ _.
+    and_then (both_conditions (condition_fits (table ∷ [])) policy) (λ _. room_for_policy policies))
+
+-- the policy is made where the role has the privileges of the table's owner
+abbrev pub policy_made : State → List ℕ → List ℕ → TableDef → List Policy → Policy → Reading Meaning
+policy_made s role name table policies policy = followed_by (standing_of s role) (λ standing.
+    followed_by (known (owner_or_denied standing name table)) (λ _.
+    known (Ok (Exactly (writes (change.Policies name (with_policy policies policy) ∷ []))))))
+
+-- the policies that are there, and then the new one beside them
+abbrev pub policy_added : State → List ℕ → List ℕ → TableDef → Policy → Reading Meaning
+policy_added s role name table policy = followed_by (asked_policies s name) (λ policies.
+    followed_by (known (policy_or_refused table policies policy)) (λ _. policy_made s role name table policies policy))
+
+-- the table and the roles have to be there, and the columns to be known
+abbrev pub create_policy : State → Ctx → CreatePolicy → Reading Meaning
+create_policy s ctx create = followed_by (table_or_undefined s create.table) (λ table.
+    followed_by (grantees_or_undefined s create.policy.to) (λ _.
+    followed_by (known (both_conditions (names_known (table ∷ [])) create.policy)) (λ _. policy_added s ctx.role create.table table create.policy)))

@@ -1,0 +1,42 @@
+-- The rows that a SELECT lists, and the decisions on the way.
+use Rattle.std.specs.Prelude.{ℕ, List, [], ◌∷◌, Bool, true, false, ◌&&◌, Option, Some, None, map, filter}
+use Rattle.rls_value.specs.declared.value.Value.{Value}
+use Rattle.rls_value.specs.declared.verb.Kind.{Kind}
+use Rattle.rls_value.specs.declared.verb.Kind.TheVariants as kind
+use Rattle.rls_value.specs.Truths.{is_true}
+use Rattle.rls_expr.specs.Terms.{Term}
+use Rattle.rls_catalog.specs.declared.verdict.Side.{Side}
+use Rattle.rls_catalog.specs.declared.verdict.Side.TheVariants as side
+use Rattle.rls_catalog.specs.declared.verdict.Verdict.{Verdict}
+use Rattle.rls_catalog.specs.declared.stored.Stored.{Stored}
+use Rattle.rls_guard.specs.declared.guard.Guard.{Guard}
+use Rattle.rls_guard.specs.declared.reply.Decision.{Decision}
+use Rattle.rls_dml.specs.declared.selecting.Query.{Query}
+use Rattle.rls_guard.specs.Eval.{value_of, over}
+use Rattle.rls_guard.specs.Guards.{truth_on, verdict_on, allows}
+
+-- WHERE holds of the row, if there is one
+abbrev pub meets : Option Term → List ℕ → List Value → Bool
+meets None user row = true
+meets (Some condition) user row = is_true (truth_on user row condition)
+
+-- the items' values for the row, or all of it
+abbrev pub selected : Option (List Term) → List ℕ → List Value → List Value
+selected None user row = row
+selected (Some items) user row = map (λ item. value_of item (over user row)) items
+
+-- the row may be seen, and WHERE holds of it
+abbrev pub is_hit : Guard → Option Term → List ℕ → List Value → Bool
+is_hit guard condition user row = allows (verdict_on guard user row) && meets condition user row
+
+-- what row security says of a row, before or after, for a type of command
+abbrev pub decision_by : Side → Kind → Guard → List ℕ → Stored → Decision
+decision_by which command guard user stored = record { id = stored.id; side = which; kind = command; verdict = verdict_on guard user stored.row }
+
+-- of a row that is there, for a SELECT
+abbrev pub decision_on : Guard → List ℕ → Stored → Decision
+decision_on = decision_by side.Old kind.Select
+
+-- the values selected of the rows that are hit, in the rows' own order
+abbrev pub hits : Guard → Query → List ℕ → List Stored → List (List Value)
+hits guard query user candidates = map (λ stored. selected query.items user stored.row) (filter (λ stored. is_hit guard query.condition user stored.row) candidates)

@@ -1,0 +1,66 @@
+-- SELECT (PostgreSQL manual, SELECT, and 5.9): names, then types, then the privilege; then the rows that row security
+-- shows and that WHERE holds of.
+use Rattle.std.specs.Prelude.{ℕ, List, [], ◌∷◌, Option, Some, None, Result, Ok, Err, map}
+use Rattle.rls_value.specs.declared.refusal.Refusal.{Refusal}
+use Rattle.rls_value.specs.declared.verb.Privilege.TheVariants as privilege
+use Rattle.rls_value.specs.declared.verb.Kind.TheVariants as kind
+use Rattle.rls_value.specs.Giving.{and_then}
+use Rattle.rls_expr.specs.declared.table.TableDef.{TableDef}
+use Rattle.rls_expr.specs.Terms.{Term}
+use Rattle.rls_expr.specs.Typing.{checked, condition_checked}
+use Rattle.rls_catalog.specs.declared.verdict.Side.TheVariants as side
+use Rattle.rls_catalog.specs.declared.stored.Stored.{Stored}
+use Rattle.rls_catalog.specs.State.{State}
+use Rattle.rls_text.specs.declared.statement.Select.{Select}
+use Rattle.rls_text.specs.declared.statement.Selected.{Selected}
+use Rattle.rls_text.specs.declared.statement.Selected.TheVariants as selected
+use Rattle.rls_guard.specs.declared.context.Ctx.{Ctx}
+use Rattle.rls_guard.specs.declared.standing.Standing.{Standing}
+use Rattle.rls_guard.specs.declared.guard.Guard.{Guard}
+use Rattle.rls_dml.specs.declared.selecting.Query.{Query}
+use Rattle.rls_guard.specs.Readings.{Reading, known, followed_by}
+use Rattle.rls_guard.specs.Sequences.{each_of}
+use Rattle.rls_guard.specs.Asked.{asked_rows}
+use Rattle.rls_guard.specs.Checks.{table_or_undefined}
+use Rattle.rls_guard.specs.Standings.{standing_of, privilege_or_denied}
+use Rattle.rls_guard.specs.Guards.{guard_for}
+use Rattle.rls_dml.specs.Listings.{hits, decision_on}
+use Rattle.rls_guard.specs.Effects.{Meaning, Listing}
+
+-- an item, once it is checked
+abbrev pub item_of : List TableDef → Term → Result Term Refusal
+item_of tables item = and_then (checked item tables) (λ typed. Ok typed.expr)
+
+-- `*` stands for the whole row
+abbrev pub selection_of : Selected → List TableDef → Result (Option (List Term)) Refusal
+selection_of selected.All tables = Ok None
+selection_of (selected.Items items) tables = and_then (each_of (item_of tables) items) (λ found. Ok (Some found))
+
+-- the condition, if there is one
+abbrev pub where_of : Option Term → List TableDef → Result (Option Term) Refusal
+where_of None tables = Ok None
+where_of (Some condition) tables = and_then (condition_checked condition tables) (λ found. Ok (Some found))
+
+-- the items, and then the condition
+abbrev pub query_of : Select → TableDef → Result Query Refusal
+query_of select table = and_then (selection_of select.items (table ∷ [])) (λ items.
+    and_then (where_of select.condition (table ∷ [])) (λ condition. Ok (record { items = items; condition = condition })))
+
+-- the rows that are allowed and meet the condition, and the decision on each row
+abbrev pub listed_by : Guard → Query → List ℕ → List Stored → Meaning
+listed_by guard query role candidates = Listing (hits guard query role candidates) (map (decision_on guard role) candidates)
+
+-- the rows, where the role may read the table
+abbrev pub listed_for : State → Standing → Guard → Query → List ℕ → List ℕ → Reading Meaning
+listed_for s standing guard query role name = followed_by (privilege_or_denied s standing privilege.Select name) (λ _.
+    followed_by (asked_rows s name) (λ candidates. known (Ok (listed_by guard query role candidates))))
+
+-- who the role is, what guards the rows from it, and the rows
+abbrev pub select_from : State → List ℕ → List ℕ → TableDef → Query → Reading Meaning
+select_from s role name table query = followed_by (standing_of s role) (λ standing.
+    followed_by (guard_for s standing name table kind.Select side.Old) (λ guard. listed_for s standing guard query role name))
+
+-- the table has to be there, the query's names and types to be right
+abbrev pub select : State → Ctx → Select → Reading Meaning
+select s ctx asked = followed_by (table_or_undefined s asked.table) (λ table.
+    followed_by (known (query_of asked table)) (λ query. select_from s ctx.role asked.table table query))

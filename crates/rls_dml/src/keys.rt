@@ -1,0 +1,118 @@
+//! The primary keys of new rows.
+
+ghost use Rattle.std.specs.Prelude.{◌≡◌, ◌++◌, Ok, map, IfOk, OnOk};
+ghost use Rattle.std.specs.List.{list_any};
+ghost use Rattle.rls_value.specs.Values.{is_null};
+ghost use Rattle.rls_value.specs.Giving.{Gives, UnlessNoMemory};
+ghost use Rattle.rls_dml.specs.Inserting as spec;
+ghost use Rattle.rls_dml.specs.Inserting.{unique_or_refused, keys_taken, has_doubles};
+
+use rls_catalog::Stored;
+use rls_guard::noted_key;
+use rls_source::{Reads, RowSource};
+use rls_value::{Name, Refusal, Row, Value};
+use std::alloc::{AllocError, Global};
+use std::collections::BTreeSet;
+
+/// The values of the row at the places of a key; no places give the empty key.
+pub fn key_at(alloc: Global, places: &[usize], row: &Row) -> Result<Row, AllocError>
+    ensures { IfOk result (λ key. key ≡ spec.key_at places.now row.now) }
+{
+    let mut values = Vec::with_capacity(alloc, places.len())?;
+    for place in places {
+        values.push(row.value(*place)?)?;
+    }
+    Ok(Row::new(values))
+}
+
+/// Refused where a key is that of a row that is there, or of two new rows. A key with a null is nobody's.
+pub fn require_unique<S: RowSource>(
+    alloc: Global,
+    source: &mut S,
+    notes: &mut Reads,
+    name: &Name,
+    rows: &[Stored],
+) -> Result<(), Refusal>
+    ensures given { Gives result (unique_or_refused (S.state source.old) name.now (spec.keys_of rows.now)).gives }
+    ensures noted { UnlessNoMemory result (notes.new ≡ notes.old ++ (unique_or_refused (S.state source.old) name.now (spec.keys_of rows.now)).reads) }
+    ensures state { S.state source.new ≡ S.state source.old }
+{
+    let keys = whole_keys(alloc, rows)?;
+    let taken = are_taken(alloc, source, notes, name, &keys)?;
+    if taken || have_doubles(alloc, &keys)? {
+        return Err(Refusal::Unique(name.copy()?));
+    }
+    Ok(())
+}
+
+/// The keys that have no null, of a table that has a key.
+fn whole_keys(alloc: Global, rows: &[Stored]) -> Result<Vec<Row>, AllocError>
+    ensures { IfOk result (λ keys. keys.items ≡ spec.keys_of rows.now) }
+{
+    let mut keys = Vec::new(alloc);
+    for stored in rows {
+        if is_whole(stored.key.as_slice()) {
+            keys.push(stored.key.copy(alloc)?)?;
+        }
+    }
+    Ok(keys)
+}
+
+/// Whether it is the key of a keyed table, and has no null.
+fn is_whole(key: &[Value]) -> bool
+    ensures { result ≡ spec.is_whole key.now }
+{
+    match key {
+        [] => false,
+        [value, values @ ..] => !(value.is_null() || have_null(values)),
+    }
+}
+
+fn have_null(values: &[Value]) -> bool
+    ensures { result ≡ list_any is_null values.now }
+{
+    values.iter().any(|value| value.is_null())
+}
+
+/// Whether a row of the table has one of the keys. All are looked up.
+fn are_taken<S: RowSource>(
+    alloc: Global,
+    source: &mut S,
+    notes: &mut Reads,
+    name: &Name,
+    keys: &[Row],
+) -> Result<bool, AllocError>
+    ensures given { IfOk result (λ taken. (keys_taken (S.state source.old) name.now keys.now).gives ≡ Ok taken) }
+    ensures noted { OnOk result (notes.new ≡ notes.old ++ (keys_taken (S.state source.old) name.now keys.now).reads) }
+    ensures state { S.state source.new ≡ S.state source.old }
+{
+    let mut taken = false;
+    for key in keys {
+        let found = noted_key(alloc, source, notes, name, key)?;
+        taken = taken || is_any(found.as_slice());
+    }
+    Ok(taken)
+}
+
+fn is_any(rows: &[Stored]) -> bool
+    ensures { result ≡ spec.is_any rows.now }
+{
+    match rows {
+        [] => false,
+        _ => true,
+    }
+}
+
+/// Whether two keys are the same.
+fn have_doubles(alloc: Global, mut keys: &[Row]) -> Result<bool, AllocError>
+    ensures { IfOk result (λ doubles. doubles ≡ has_doubles keys.entry.now) }
+{
+    let mut seen = BTreeSet::new(alloc);
+    while let [key, rest @ ..] = keys {
+        if !seen.insert(key)? {
+            return Ok(true);
+        }
+        keys = rest;
+    }
+    Ok(false)
+}

@@ -1,0 +1,238 @@
+//! SELECT.
+
+ghost use Rattle.std.specs.Prelude.{◌≡◌, ◌&&◌, ◌++◌, map, IfOk};
+ghost use Rattle.rls_value.specs.Giving.{Gives, UnlessNoMemory};
+ghost use Rattle.rls_expr.specs.Scopes.{tables_in};
+ghost use Rattle.rls_guard.specs.Eval.{value_of, over};
+ghost use Rattle.rls_guard.specs.Guards as guards;
+ghost use Rattle.rls_dml.specs.Listings as listings;
+ghost use Rattle.rls_dml.specs.Listings.{hits, meets, decision_on};
+ghost use Rattle.rls_guard.specs.Effects.{GivesEffect, IsListed};
+ghost use Rattle.rls_guard.specs.Sequences.{each_of};
+ghost use Rattle.rls_dml.specs.Selecting as spec;
+ghost use Rattle.rls_dml.specs.Selecting.{selection_of, where_of, query_of};
+
+use crate::listing::listing_of;
+use rls_catalog::{Side, Stored, Verdict};
+use rls_expr::{Expr, FromTable, Scope, check, check_condition};
+use rls_guard::{
+    Ctx, Decision, Effect, Guard, Reply, Standing, allows, guard_of, noted_scan, standing_of,
+    table_named, truth_over, value_over, verdict_on,
+};
+use rls_source::{Reads, RowSource};
+use rls_text::{Select, Selected};
+use rls_value::{Items, Kind, Name, Privilege, Refusal, Row, RowId};
+use std::alloc::{AllocError, Global};
+
+/// A SELECT whose names are resolved; no items stand for all columns, no condition for one that is true.
+#[derive(Drop)]
+pub struct Query {
+    pub items: Option<Items<Expr>>,
+    pub condition: Option<Expr>,
+}
+
+/// The rows that the role sees and that meet the condition, in listing order.
+pub fn run_select<S: RowSource>(
+    alloc: Global,
+    source: &mut S,
+    notes: &mut Reads,
+    ctx: &Ctx,
+    select: &Select,
+) -> Result<Effect, Refusal>
+    ensures effect { GivesEffect result (spec.select (S.state source.old) ctx.now select.now).gives }
+    ensures noted { UnlessNoMemory result (notes.new ≡ notes.old ++ (spec.select (S.state source.old) ctx.now select.now).reads) }
+    ensures state { S.state source.new ≡ S.state source.old }
+{
+    let table = table_named(alloc, source, notes, &select.table)?;
+    let from = FromTable {
+        name: &select.table,
+        table: &table,
+    };
+    let query = check_query(alloc, select, from)?;
+    select_from(alloc, source, notes, &ctx.role, from, &query)
+}
+
+/// The standing of the role, what guards the rows from it, and the rows.
+fn select_from<'x, S: RowSource>(
+    alloc: Global,
+    source: &mut S,
+    notes: &mut Reads,
+    role: &Name,
+    from: FromTable<'x>,
+    query: &Query,
+) -> Result<Effect, Refusal>
+    ensures effect { GivesEffect result (spec.select_from (S.state source.old) role.now from.entry.name.now from.entry.table.now query.now).gives }
+    ensures noted { UnlessNoMemory result (notes.new ≡ notes.old ++ (spec.select_from (S.state source.old) role.now from.entry.name.now from.entry.table.now query.now).reads) }
+    ensures state { S.state source.new ≡ S.state source.old }
+{
+    let standing = standing_of(alloc, source, notes, role)?;
+    let guard = guard_of(
+        alloc,
+        source,
+        notes,
+        &standing,
+        from,
+        Kind::Select,
+        Side::Old,
+    )?;
+    list_guarded(
+        alloc, source, notes, &standing, &guard, query, role, from.name,
+    )
+}
+
+/// The rows, where the role may read the table.
+fn list_guarded<S: RowSource>(
+    alloc: Global,
+    source: &mut S,
+    notes: &mut Reads,
+    standing: &Standing,
+    guard: &Guard,
+    query: &Query,
+    role: &Name,
+    name: &Name,
+) -> Result<Effect, Refusal>
+    ensures effect { GivesEffect result (spec.listed_for (S.state source.old) standing.now guard.now query.now role.now name.now).gives }
+    ensures noted { UnlessNoMemory result (notes.new ≡ notes.old ++ (spec.listed_for (S.state source.old) standing.now guard.now query.now role.now name.now).reads) }
+    ensures state { S.state source.new ≡ S.state source.old }
+{
+    standing.require_privilege(alloc, source, notes, Privilege::Select, name)?;
+    let candidates = noted_scan(alloc, source, notes, name)?;
+    Ok(list(alloc, query, guard, role, candidates.as_slice())?)
+}
+
+fn check_query(alloc: Global, select: &Select, from: FromTable) -> Result<Query, Refusal>
+    ensures { Gives result (query_of select.now from.entry.table.now) }
+{
+    let tables = [from];
+    let scope = Scope { tables: &tables };
+    let items = check_selection(alloc, &select.items, &scope)?;
+    let condition = check_where(alloc, &select.condition, &scope)?;
+    Ok(Query { items, condition })
+}
+
+fn check_selection(
+    alloc: Global,
+    selected: &Selected,
+    scope: &Scope,
+) -> Result<Option<Items<Expr>>, Refusal>
+    ensures { Gives result (selection_of selected.now (tables_in scope.now)) }
+{
+    match selected {
+        Selected::All => Ok(None),
+        Selected::Items(items) => {
+            let items = check_items(alloc, items.as_slice(), scope)?;
+            Ok(Some(items))
+        }
+    }
+}
+
+fn check_where(
+    alloc: Global,
+    condition: &Option<Expr>,
+    scope: &Scope,
+) -> Result<Option<Expr>, Refusal>
+    ensures { Gives result (where_of condition.now (tables_in scope.now)) }
+{
+    match condition {
+        None => Ok(None),
+        Some(condition) => {
+            let condition = check_condition(alloc, condition, scope)?;
+            Ok(Some(condition))
+        }
+    }
+}
+
+fn check_items(alloc: Global, items: &[Expr], scope: &Scope) -> Result<Items<Expr>, Refusal>
+    ensures { Gives result (each_of (spec.item_of (tables_in scope.now)) items.now) }
+{
+    let mut done = Items::new(alloc);
+    for item in items {
+        let found = check_item(alloc, item, scope)?;
+        done.push(found)?;
+    }
+    Ok(done)
+}
+
+fn check_item(alloc: Global, item: &Expr, scope: &Scope) -> Result<Expr, Refusal>
+    ensures { Gives result (spec.item_of (tables_in scope.now) item.now) }
+{
+    let typed = check(alloc, item, scope)?;
+    Ok(typed.expr)
+}
+
+/// Judges each candidate, and lists those that are allowed and meet the condition.
+fn list(
+    alloc: Global,
+    query: &Query,
+    guard: &Guard,
+    role: &Name,
+    candidates: &[Stored],
+) -> Result<Effect, AllocError>
+    ensures { IfOk result (IsListed (hits guard.now query.now role.now candidates.now) (map (decision_on guard.now role.now) candidates.now)) }
+{
+    let mut decisions = Items::new(alloc);
+    let mut rows = Vec::new(alloc);
+    for stored in candidates {
+        let verdict = verdict_on(alloc, guard, role, &stored.row)?;
+        if is_hit(alloc, query, &verdict, role, &stored.row)? {
+            rows.push(selected(alloc, query, role, &stored.row)?)?;
+        }
+        decisions.push(decision(stored.id, verdict))?;
+    }
+    let listing = listing_of(rows)?;
+    Ok(Effect::judged(alloc, Reply::Rows(listing), decisions))
+}
+
+fn decision(id: RowId, verdict: Verdict) -> Decision
+    ensures { result ≡ record { id = id; side = Side.Old; kind = Kind.Select; verdict = verdict } }
+{
+    Decision {
+        id,
+        side: Side::Old,
+        kind: Kind::Select,
+        verdict,
+    }
+}
+
+fn is_hit(
+    alloc: Global,
+    query: &Query,
+    verdict: &Verdict,
+    role: &Name,
+    row: &Row,
+) -> Result<bool, AllocError>
+    ensures { IfOk result (λ hit. hit ≡ (guards.allows verdict.now && meets query.now.condition role.now row.now)) }
+{
+    if !allows(verdict) {
+        return Ok(false);
+    }
+    match &query.condition {
+        None => Ok(true),
+        Some(condition) => {
+            let truth = truth_over(alloc, condition, role, row)?;
+            Ok(truth.is_true())
+        }
+    }
+}
+
+fn selected(alloc: Global, query: &Query, role: &Name, row: &Row) -> Result<Row, AllocError>
+    ensures { IfOk result (λ values. values ≡ listings.selected query.now.items role.now row.now) }
+{
+    match &query.items {
+        None => {
+            let copy = row.copy(alloc)?;
+            Ok(copy)
+        }
+        Some(items) => values_over(alloc, items.as_slice(), role, row),
+    }
+}
+
+fn values_over(alloc: Global, items: &[Expr], role: &Name, row: &Row) -> Result<Row, AllocError>
+    ensures { IfOk result (λ values. values ≡ map (λ item. value_of item (over role.now row.now)) items.now) }
+{
+    let mut values = Vec::with_capacity(alloc, items.len())?;
+    for item in items {
+        values.push(value_over(alloc, item, role, row)?)?;
+    }
+    Ok(Row::new(values))
+}

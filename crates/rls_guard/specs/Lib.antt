@@ -1,0 +1,9 @@
+pub mod Eval
+pub mod Envs
+pub mod Readings
+pub mod Sequences
+pub mod Asked
+pub mod Checks
+pub mod Standings
+pub mod Guards
+pub mod Effects

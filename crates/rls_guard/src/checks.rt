@@ -1,0 +1,91 @@
+//! What a statement asks before it looks at rows: names, privileges, owners.
+
+ghost use Rattle.std.specs.Prelude.{◌≡◌, ◌++◌};
+ghost use Rattle.rls_value.specs.Giving.{Gives, UnlessNoMemory};
+ghost use Rattle.rls_expr.specs.Resolving.{resolved};
+ghost use Rattle.rls_expr.specs.Scopes.{tables_in};
+ghost use Rattle.rls_guard.specs.Checks.{table_or_undefined, role_or_undefined, grantees_or_undefined, superuser_or_denied, known_or_undefined};
+
+use crate::noted::{noted_role, noted_table};
+use rls_catalog::RoleDef;
+use rls_expr::{Expr, Grantee, Scope, TableDef, resolve};
+use rls_source::{Reads, RowSource};
+use rls_value::{Name, NameKind, Refusal, Why};
+use std::alloc::Global;
+
+/// The table of that name; undefined where there is none.
+pub fn table_named<S: RowSource>(
+    alloc: Global,
+    source: &mut S,
+    notes: &mut Reads,
+    name: &Name,
+) -> Result<TableDef, Refusal>
+    ensures given { Gives result (table_or_undefined (S.state source.old) name.now).gives }
+    ensures noted { UnlessNoMemory result (notes.new ≡ notes.old ++ (table_or_undefined (S.state source.old) name.now).reads) }
+    ensures state { S.state source.new ≡ S.state source.old }
+{
+    match noted_table(alloc, source, notes, name)? {
+        Some(table) => Ok(table),
+        None => Err(Refusal::Undefined(NameKind::Relation, name.copy()?)),
+    }
+}
+
+/// The first role among the grantees that isn't there is undefined.
+pub fn require_roles<S: RowSource>(
+    alloc: Global,
+    source: &mut S,
+    notes: &mut Reads,
+    grantees: &[Grantee],
+) -> Result<(), Refusal>
+    ensures given { Gives result (grantees_or_undefined (S.state source.old) grantees.now).gives }
+    ensures noted { UnlessNoMemory result (notes.new ≡ notes.old ++ (grantees_or_undefined (S.state source.old) grantees.now).reads) }
+    ensures state { S.state source.new ≡ S.state source.old }
+{
+    for grantee in grantees {
+        if let Grantee::Role(name) = grantee {
+            require_role(alloc, source, notes, name)?;
+        }
+    }
+    Ok(())
+}
+
+fn require_role<S: RowSource>(
+    alloc: Global,
+    source: &mut S,
+    notes: &mut Reads,
+    name: &Name,
+) -> Result<RoleDef, Refusal>
+    ensures given { Gives result (role_or_undefined (S.state source.old) name.now).gives }
+    ensures noted { UnlessNoMemory result (notes.new ≡ notes.old ++ (role_or_undefined (S.state source.old) name.now).reads) }
+    ensures state { S.state source.new ≡ S.state source.old }
+{
+    match noted_role(alloc, source, notes, name)? {
+        Some(role) => Ok(role),
+        None => Err(Refusal::Undefined(NameKind::Role, name.copy()?)),
+    }
+}
+
+/// Denied where the role is no superuser.
+pub fn require_superuser<S: RowSource>(
+    alloc: Global,
+    source: &mut S,
+    notes: &mut Reads,
+    role: &Name,
+    managed: &Name,
+) -> Result<(), Refusal>
+    ensures given { Gives result (superuser_or_denied (S.state source.old) role.now managed.now).gives }
+    ensures noted { UnlessNoMemory result (notes.new ≡ notes.old ++ (superuser_or_denied (S.state source.old) role.now managed.now).reads) }
+    ensures state { S.state source.new ≡ S.state source.old }
+{
+    match noted_role(alloc, source, notes, role)? {
+        Some(def) if def.superuser => Ok(()),
+        _ => Err(Refusal::Denied(Why::Admin(managed.copy()?))),
+    }
+}
+
+/// The expression with its columns by their places, which have to be known.
+pub fn known_term(alloc: Global, expr: &Expr, scope: &Scope) -> Result<Expr, Refusal>
+    ensures { Gives result (known_or_undefined (resolved expr.now (tables_in scope.now))) }
+{
+    resolve(alloc, expr, scope)
+}

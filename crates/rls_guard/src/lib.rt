@@ -1,0 +1,21 @@
+//! Who asks and what they may: the context of a statement, look-ups that are noted, the role's standing, who guards rows
+//! from it, the value of an expression on a row; and what a statement comes to.
+#![tactic(auto)]
+
+mod checks;
+mod context;
+mod effect;
+mod evaluation;
+mod guard;
+mod noted;
+mod reply;
+mod standing;
+
+pub use checks::{known_term, require_roles, require_superuser, table_named};
+pub use context::{Ctx, Mode};
+pub use effect::Effect;
+pub use evaluation::{truth_over, value_alone, value_over};
+pub use guard::{Guard, allows, guard_of, verdict_on};
+pub use noted::{noted_grants, noted_key, noted_policies, noted_role, noted_scan, noted_table};
+pub use reply::{Decision, Reply};
+pub use standing::{Standing, standing_of};

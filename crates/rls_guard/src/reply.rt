@@ -1,0 +1,64 @@
+//! What a statement answers, and what row security said of each row.
+
+ghost use Rattle.std.specs.Prelude.{◌≡◌, IfOk};
+
+use rls_catalog::{Side, Verdict};
+use rls_value::{Items, Kind, Name, Refusal, Row, RowId};
+use std::alloc::{AllocError, Global};
+
+/// What a statement answers.
+#[derive(Debug, Drop)]
+pub enum Reply {
+    /// The rows, in listing order.
+    Rows(Items<Row>),
+    /// How many rows were written.
+    Count(u64),
+    Done,
+    Refused(Refusal),
+}
+
+/// What row security said of one row for one type of command.
+#[derive(Debug, Drop)]
+pub struct Decision {
+    pub id: RowId,
+    /// Whether the row was there before, or is to be written.
+    pub side: Side,
+    pub kind: Kind,
+    pub verdict: Verdict,
+}
+
+impl Reply {
+    pub fn copy(&self, alloc: Global) -> Result<Reply, AllocError>
+        ensures { IfOk result (λ reply. reply ≡ self.now) }
+    {
+        match self {
+            Reply::Rows(rows) => Ok(Reply::Rows(copy_rows(alloc, rows.as_slice())?)),
+            Reply::Count(count) => Ok(Reply::Count(*count)),
+            Reply::Done => Ok(Reply::Done),
+            Reply::Refused(refusal) => Ok(Reply::Refused(refusal.copy(alloc)?)),
+        }
+    }
+}
+
+fn copy_rows(alloc: Global, rows: &[Row]) -> Result<Items<Row>, AllocError>
+    ensures { IfOk result (λ copies. copies ≡ rows.now) }
+{
+    let mut copies = Vec::with_capacity(alloc, rows.len())?;
+    for row in rows {
+        copies.push(row.copy(alloc)?)?;
+    }
+    Ok(Items::from_vec(copies))
+}
+
+impl Decision {
+    pub fn copy(&self) -> Result<Decision, AllocError>
+        ensures { IfOk result (λ decision. decision ≡ self.now) }
+    {
+        Ok(Decision {
+            id: self.id,
+            side: self.side,
+            kind: self.kind,
+            verdict: self.verdict.copy()?,
+        })
+    }
+}

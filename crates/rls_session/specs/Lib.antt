@@ -1,0 +1,4 @@
+pub mod Lines
+pub mod Connects
+pub mod Sessions
+pub mod Rendering
