@@ -9,6 +9,7 @@ use rls_source::{Reads, RowSource};
 use rls_value::{Items, Name, Object, Row};
 use std::alloc::{AllocError, Global};
 
+/// The role's attributes, none where it isn't there, with a note of the role.
 pub fn noted_role<S: RowSource>(
     alloc: Global,
     source: &mut S,
@@ -26,6 +27,7 @@ pub fn noted_role<S: RowSource>(
     Ok(found)
 }
 
+/// The table's definition, none where it isn't there, with a note of the table.
 pub fn noted_table<S: RowSource>(
     alloc: Global,
     source: &mut S,
@@ -43,6 +45,7 @@ pub fn noted_table<S: RowSource>(
     Ok(found)
 }
 
+/// The grants on the table, with a note of them.
 pub fn noted_grants<S: RowSource>(
     alloc: Global,
     source: &mut S,
@@ -60,6 +63,7 @@ pub fn noted_grants<S: RowSource>(
     Ok(found)
 }
 
+/// The table's policies, with a note of them.
 pub fn noted_policies<S: RowSource>(
     alloc: Global,
     source: &mut S,
@@ -77,6 +81,7 @@ pub fn noted_policies<S: RowSource>(
     Ok(found)
 }
 
+/// The table's rows in the order of their numbers, with a note of them all.
 pub fn noted_scan<S: RowSource>(
     alloc: Global,
     source: &mut S,
@@ -94,6 +99,7 @@ pub fn noted_scan<S: RowSource>(
     Ok(found)
 }
 
+/// The rows with the key, with a note of the key.
 pub fn noted_key<S: RowSource>(
     alloc: Global,
     source: &mut S,
