@@ -5,7 +5,7 @@ use Rattle.std.specs.List.{list_any}
 use Rattle.std.specs.Str.{bytes_eq}
 use Rattle.std.specs.Ordering.{is_lt}
 use Rattle.rls_value.specs.declared.refusal.Refusal.{Refusal}
-use Rattle.rls_value.specs.declared.refusal.Refusal.TheVariants.{Undefined, Duplicate, Limit}
+use Rattle.rls_value.specs.declared.refusal.Refusal.TheVariants.{Duplicate, Limit}
 use Rattle.rls_value.specs.declared.refusal.NameKind.TheVariants as kind
 use Rattle.rls_value.specs.declared.refusal.Limit.TheVariants as limit
 use Rattle.rls_value.specs.Giving.{and_then}

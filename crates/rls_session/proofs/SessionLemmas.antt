@@ -1,5 +1,5 @@
 -- What is said of a statement whose transaction can't begin.
-use Rattle.std.proofs.Common.{◌≡◌, ℕ, List, Option, Result, Ok, Err, refl, sym, ap, subst}
+use Rattle.std.proofs.Common.{◌≡◌, ℕ, List, Result, Ok, Err, sym, ap, subst}
 use Rattle.rls_value.specs.Giving.{Gives, UnlessNoMemory, and_then}
 use Rattle.rls_value.specs.declared.refusal.Refusal.{Refusal}
 use Rattle.rls_value.specs.declared.refusal.Refusal.TheVariants.{NoMemory}
@@ -7,7 +7,7 @@ use Rattle.rls_text.specs.Answers.{Answers}
 use Rattle.rls_text.specs.Words.{words_of}
 use Rattle.rls_text.specs.declared.statement.Statement.{Statement}
 use Rattle.rls_guard.specs.declared.context.Ctx.{Ctx}
-use Rattle.rls_session.specs.Sessions.{Begins, BeginsAs, asker_of, ctx_begun, begun_with}
+use Rattle.rls_session.specs.Sessions.{Begins, BeginsAs, asker_of, ctx_begun}
 use Rattle.rls_session.specs.declared.session.Session.{Session}
 
 -- where somebody asks, it is said by what the command spells

@@ -1,4 +1,4 @@
-use Rattle.std.proofs.Common.{◌≡◌, rules, subst, sym}
+use Rattle.std.proofs.Common.{rules, subst, sym}
 use Rattle.rls_access.specs.Framing.{step_frame}
 use Rattle.rls_access.specs.Refusing.{refused_keeps}
 use Rattle.rls_access.specs.Statements.{IsMeant, effect_of}
