@@ -5,5 +5,5 @@ mod outcome;
 mod statement;
 
 pub use outcome::Outcome;
-pub use rls_guard::{Ctx, Decision, Mode, Reply};
+pub use rls_guard::{Ctx, Decision, Effect, Mode, Reply};
 pub use statement::run_statement;

@@ -2,36 +2,47 @@
 
 ghost use Rattle.std.specs.Prelude.{◌≡◌};
 
-use rls_catalog::Delta;
-use rls_guard::{Decision, Reply};
+use rls_guard::Effect;
 use rls_source::Footprint;
-use rls_value::{Items, Name};
+use rls_value::Name;
 
-/// What a statement gives; where it is refused it changes nothing.
+/// What a statement gives.
 #[derive(Drop)]
 pub struct Outcome {
-    pub reply: Reply,
-    /// One for each row that was looked at, then one for each new row; none where the statement was refused before.
-    pub decisions: Items<Decision>,
+    /// What it comes to, with a decision for each row that was looked at, then one for each new row.
+    pub effect: Effect,
     /// The objects that were read, each once, those of a refused statement included.
     pub footprint: Footprint,
-    pub delta: Delta,
     /// The current role afterwards.
     pub role: Name,
 }
 
 impl Outcome {
-    /// The reply alone.
-    pub fn into_reply(self) -> Reply
-        ensures { result ≡ self.reply }
+    /// What the statement comes to, and the role afterwards.
+    pub fn into_parts(self) -> (Effect, Name)
+        ensures effect { result.0 ≡ self.effect }
+        ensures role { result.1 ≡ self.role }
     {
         let Outcome {
-            reply,
-            decisions: _,
-            footprint: _,
-            delta: _,
-            role: _,
+            effect,
+            footprint,
+            role,
         } = self;
-        reply
+        drop(footprint);
+        (effect, role)
+    }
+
+    /// What it comes to, alone.
+    pub fn into_effect(self) -> Effect
+        ensures { result ≡ self.effect }
+    {
+        let Outcome {
+            effect,
+            footprint,
+            role,
+        } = self;
+        drop(footprint);
+        drop(role);
+        effect
     }
 }

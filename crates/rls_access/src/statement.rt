@@ -1,42 +1,49 @@
 //! One statement.
 
 ghost use Rattle.std.specs.Prelude.{◌≡◌, ◌++◌, IfOk, OnOk};
-ghost use Rattle.rls_value.specs.Giving.{Gives, UnlessNoMemory};
+ghost use Rattle.rls_value.specs.Giving.{Gives};
 ghost use Rattle.rls_catalog.specs.State.{State, AgreesOn};
 ghost use Rattle.rls_source.specs.Footprints.{footprint_of};
-ghost use Rattle.rls_guard.specs.Effects.{GivesEffect, UnchangedIfRefused};
+ghost use Rattle.rls_source.specs.Answering.{Answers};
 ghost use Rattle.rls_access.specs.Statements as spec;
-ghost use Rattle.rls_access.specs.Statements.{IsMeant, step, mode_or_refused};
+ghost use Rattle.rls_access.specs.Statements.{effect_in, step, mode_or_refused};
 
 use crate::outcome::Outcome;
-use rls_ddl::{run_alter_table, run_create_policy, run_create_role, run_create_table, run_grant};
+use rls_ddl::{
+    run_alter_role, run_alter_table, run_create_policy, run_create_role, run_create_table,
+    run_grant, run_grant_roles, run_revoke_roles, run_set_role,
+};
 use rls_dml::{run_insert, run_select};
 use rls_guard::{Ctx, Effect, Mode};
 use rls_source::{Footprint, Reads, RowSource};
-use rls_text::Statement;
+use rls_statement::Statement;
 use rls_value::{Name, Refusal, Tag, TxnState};
 use std::alloc::{AllocError, Global};
 
-/// Runs the statement over the source: its reply, the decisions on rows, what it read, and its changes, which the
-/// source doesn't get. All that it depends on is in the footprint.
-pub fn run_statement<S: RowSource>(
+/// Runs the statement over the source: what it comes to, with its changes, which the source doesn't get; what it read;
+/// and the role afterwards. All that it depends on is in the footprint, and a source that is lent has made just these
+/// reads.
+pub fn run_statement<'c, S: RowSource<'c>>(
     alloc: Global,
     source: &mut S,
     ctx: &Ctx,
     statement: &Statement,
 ) -> Result<Outcome, AllocError>
-    ensures meant { IfOk result (λ outcome. IsMeant (S.state source.old) ctx.now statement.now (spec.effect_of outcome)) }
-    ensures footprint { IfOk result (λ outcome. outcome.footprint ≡ footprint_of (step (S.state source.old) ctx.now statement.now).reads) }
-    ensures frame { IfOk result (λ outcome. (other : State) → AgreesOn (S.state source.old) other outcome.footprint → step other ctx.now statement.now ≡ step (S.state source.old) ctx.now statement.now) }
-    ensures unchanged { IfOk result (λ outcome. UnchangedIfRefused outcome.reply outcome.delta) }
-    ensures role { IfOk result (λ outcome. outcome.role ≡ ctx.now.role) }
+    ensures effect { IfOk result (λ outcome. outcome.effect ≡ effect_in (S.state source.old) ctx.now statement.now) }
+    ensures footprint { IfOk result (λ outcome. outcome.footprint ≡ footprint_of ((step ctx.now statement.now).in_state (S.state source.old)).reads) }
+    ensures frame { IfOk result (λ outcome. (other : State) → AgreesOn (S.state source.old) other outcome.footprint → (step ctx.now statement.now).in_state other ≡ (step ctx.now statement.now).in_state (S.state source.old)) }
+    ensures role { IfOk result (λ outcome. outcome.role ≡ spec.role_after ctx.now.role outcome.effect) }
+    ensures read { OnOk result (source.new ≡ S.after source.old ((step ctx.now statement.now).in_state (S.state source.old)).reads) }
     ensures state { S.state source.new ≡ S.state source.old }
 {
-    let role = ctx.role.copy()?;
     let mut reads = Reads::new(alloc);
     let effect = effect_of(alloc, source, &mut reads, ctx, statement)?;
-    match Footprint::from_reads(alloc, reads) {
-        Ok(footprint) => Ok(outcome_of(effect, footprint, role)),
+    match seen_of(alloc, reads, &ctx.role, &effect) {
+        Ok((footprint, role)) => Ok(Outcome {
+            effect,
+            footprint,
+            role,
+        }),
         Err(refused) => {
             drop(effect);
             Err(refused)
@@ -44,35 +51,46 @@ pub fn run_statement<S: RowSource>(
     }
 }
 
-fn outcome_of(effect: Effect, footprint: Footprint, role: Name) -> Outcome
-    ensures effect { spec.effect_of result ≡ effect }
-    ensures footprint { result.footprint ≡ footprint }
-    ensures role { result.role ≡ role }
+/// The footprint of the reads, and the role afterwards.
+fn seen_of(
+    alloc: Global,
+    reads: Reads,
+    role: &Name,
+    effect: &Effect,
+) -> Result<(Footprint, Name), AllocError>
+    ensures footprint { IfOk result (λ seen. seen.0 ≡ footprint_of reads) }
+    ensures role { IfOk result (λ seen. seen.1 ≡ spec.role_after role.now effect.now) }
 {
-    let Effect {
-        reply,
-        decisions,
-        delta,
-    } = effect;
-    Outcome {
-        reply,
-        decisions,
-        footprint,
-        delta,
-        role,
+    let footprint = Footprint::from_reads(alloc, reads)?;
+    match role_after(role, effect) {
+        Ok(role) => Ok((footprint, role)),
+        Err(refused) => {
+            drop(footprint);
+            Err(refused)
+        }
     }
 }
 
-/// What the statement comes to, a refusal as a reply.
-fn effect_of<S: RowSource>(
+fn role_after(role: &Name, effect: &Effect) -> Result<Name, AllocError>
+    ensures { IfOk result (λ after. after ≡ spec.role_after role.now effect.now) }
+{
+    match effect {
+        Effect::Done(_, _, _, Some(other)) => other.copy(),
+        Effect::Done(_, _, _, None) | Effect::Refused(_, _) => role.copy(),
+    }
+}
+
+/// What the statement comes to, a refusal as an effect.
+fn effect_of<'c, S: RowSource<'c>>(
     alloc: Global,
     source: &mut S,
     notes: &mut Reads,
     ctx: &Ctx,
     statement: &Statement,
 ) -> Result<Effect, AllocError>
-    ensures meant { IfOk result (IsMeant (S.state source.old) ctx.now statement.now) }
-    ensures noted { OnOk result (notes.new ≡ notes.old ++ (step (S.state source.old) ctx.now statement.now).reads) }
+    ensures effect { IfOk result (λ effect. effect ≡ effect_in (S.state source.old) ctx.now statement.now) }
+    ensures noted { OnOk result (notes.new ≡ notes.old ++ ((step ctx.now statement.now).in_state (S.state source.old)).reads) }
+    ensures read { OnOk result (source.new ≡ S.after source.old ((step ctx.now statement.now).in_state (S.state source.old)).reads) }
     ensures state { S.state source.new ≡ S.state source.old }
 {
     match run(alloc, source, notes, ctx, statement) {
@@ -82,38 +100,38 @@ fn effect_of<S: RowSource>(
     }
 }
 
-fn run<S: RowSource>(
+fn run<'c, S: RowSource<'c>>(
     alloc: Global,
     source: &mut S,
     notes: &mut Reads,
     ctx: &Ctx,
     statement: &Statement,
 ) -> Result<Effect, Refusal>
-    ensures effect { GivesEffect result (step (S.state source.old) ctx.now statement.now).gives }
-    ensures noted { UnlessNoMemory result (notes.new ≡ notes.old ++ (step (S.state source.old) ctx.now statement.now).reads) }
-    ensures state { S.state source.new ≡ S.state source.old }
+    ensures { Answers S.state S.after (step ctx.now statement.now) source.old source.new notes.old notes.new result }
 {
     require_mode(ctx.mode, statement.tag())?;
     done_by(alloc, source, notes, ctx, statement)
 }
 
-fn done_by<S: RowSource>(
+fn done_by<'c, S: RowSource<'c>>(
     alloc: Global,
     source: &mut S,
     notes: &mut Reads,
     ctx: &Ctx,
     statement: &Statement,
 ) -> Result<Effect, Refusal>
-    ensures effect { GivesEffect result (spec.done_by (S.state source.old) ctx.now statement.now).gives }
-    ensures noted { UnlessNoMemory result (notes.new ≡ notes.old ++ (spec.done_by (S.state source.old) ctx.now statement.now).reads) }
-    ensures state { S.state source.new ≡ S.state source.old }
+    ensures { Answers S.state S.after (spec.done_by ctx.now statement.now) source.old source.new notes.old notes.new result }
 {
     match statement {
         Statement::CreateRole(create) => run_create_role(alloc, source, notes, ctx, create),
+        Statement::AlterRole(alter) => run_alter_role(alloc, source, notes, ctx, alter),
         Statement::CreateTable(create) => run_create_table(alloc, source, notes, ctx, create),
         Statement::AlterTable(alter) => run_alter_table(alloc, source, notes, ctx, alter),
         Statement::CreatePolicy(create) => run_create_policy(alloc, source, notes, ctx, create),
         Statement::Grant(grant) => run_grant(alloc, source, notes, ctx, grant),
+        Statement::GrantRoles(grant) => run_grant_roles(alloc, source, notes, ctx, grant),
+        Statement::RevokeRoles(revoke) => run_revoke_roles(alloc, source, notes, ctx, revoke),
+        Statement::SetRole(set) => run_set_role(alloc, source, notes, ctx, set),
         Statement::Insert(insert) => run_insert(alloc, source, notes, ctx, insert),
         Statement::Select(select) => run_select(alloc, source, notes, ctx, select),
     }

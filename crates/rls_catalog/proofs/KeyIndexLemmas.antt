@@ -14,7 +14,7 @@ use Rattle.std.proofs.lemmas.Map.{lookup-set_value}
 use Rattle.rls_value.specs.declared.row.RowId.{RowId}
 use Rattle.rls_value.specs.declared.value.Value.{Value}
 use Rattle.rls_value.specs.declared.value.Value.TheVariants as v
-use Rattle.rls_value.specs.Listing.{rows_total}
+use Rattle.rls_value.specs.Listing.{rows_total, rows_same}
 use Rattle.rls_value.specs.Values.{listed, same_flag}
 use Rattle.rls_catalog.specs.declared.stored.Keyed.{Keyed}
 use Rattle.rls_catalog.specs.State.{id_order, is_same_row, is_same_value}
@@ -29,35 +29,8 @@ is_tie Less is = absurd (true≢false (sym is))
 is_tie Equal is = refl
 is_tie Greater is = absurd (true≢false (sym is))
 
-never : {A : Type 0} → Greater ≡ Equal → A
-never tie = absurd (true≢false (sym (ap is_eq tie)))
-
-never_less : {A : Type 0} → Less ≡ Equal → A
-never_less tie = absurd (true≢false (sym (ap is_eq tie)))
-
-same_value : IsAntisymmetric listed
-same_value (v.Int a) (v.Int b) tie = ap v.Int (int_cmp-IsAntisymmetric a b tie)
-same_value (v.Text a) (v.Text b) tie = ap v.Text (slice_cmp-IsAntisymmetric nat_cmp-IsAntisymmetric a b tie)
-same_value (v.Bool true) (v.Bool true) tie = refl
-same_value (v.Bool true) (v.Bool false) tie = never tie
-same_value (v.Bool false) (v.Bool true) tie = never_less tie
-same_value (v.Bool false) (v.Bool false) tie = refl
-same_value v.Null v.Null tie = refl
-same_value v.Null (v.Int b) tie = never tie
-same_value v.Null (v.Text b) tie = never tie
-same_value v.Null (v.Bool b) tie = never tie
-same_value (v.Int a) v.Null tie = never_less tie
-same_value (v.Int a) (v.Text b) tie = never_less tie
-same_value (v.Int a) (v.Bool b) tie = never_less tie
-same_value (v.Text a) v.Null tie = never_less tie
-same_value (v.Text a) (v.Int b) tie = never tie
-same_value (v.Text a) (v.Bool b) tie = never_less tie
-same_value (v.Bool a) v.Null tie = never_less tie
-same_value (v.Bool a) (v.Int b) tie = never tie
-same_value (v.Bool a) (v.Text b) tie = never tie
-
 pub same_key : (key other : List Value) → is_at (key_order key) other ≡ true → key ≡ other
-same_key key other is = slice_cmp-IsAntisymmetric same_value key other (is_tie (key_order key other) is)
+same_key key other is = rows_same key other (is_tie (key_order key other) is)
 
 pub own_key : (key : List Value) → is_at (key_order key) key ≡ true
 own_key key = ap is_eq (tied_itself rows_total key)

@@ -11,7 +11,8 @@ use Rattle.std.proofs.lemmas.Map.Steps.{set_value_same}
 use Rattle.rls_value.specs.declared.row.RowId.{RowId}
 use Rattle.rls_catalog.specs.declared.stored.Keyed.{Keyed}
 use Rattle.rls_catalog.specs.declared.undo.RowsUndo.TheVariants as r
-use Rattle.rls_catalog.specs.State.{at, name_order, id_order}
+use Rattle.rls_catalog.specs.State.{at, name_order, id_order, or_none}
+use Rattle.rls_catalog.specs.InOrder.{Ascend, rows_ascend}
 use Rattle.rls_catalog.specs.Kept.{present, rows_listed}
 use Rattle.rls_catalog.specs.Changed.{with_row, with_first_row, with_row_in}
 use Rattle.rls_catalog.specs.Undone.{put_back, row_back, rows_undone}
@@ -93,3 +94,12 @@ place_back name id before tables after old rows found set back =
     ∙ set_twice (is_at (name_order name)) tables rows (put_back id_order id before rows)
     ∙ ap (set_value (is_at (name_order name)) tables) back
     ∙ set_value_same (is_at (name_order name)) tables old found
+
+-- ---- the rows of a table are in order where its places are
+
+pub some_in_order : (tables : List (List ℕ × List (RowId × Option Keyed))) (name : List ℕ) (slots : List (RowId × Option Keyed)) → at name tables ≡ Some slots → Ascend slots
+    → Ascend (or_none (at name (rows_listed tables)))
+some_in_order tables name slots found ascend = rows_ascend (at name (rows_listed tables)) (Some slots) (at_rows_listed name tables ∙ ap (option_map present) found) ascend
+
+pub none_in_order : (tables : List (List ℕ × List (RowId × Option Keyed))) (name : List ℕ) → at name tables ≡ None → Ascend (or_none (at name (rows_listed tables)))
+none_in_order tables name found = rows_ascend (at name (rows_listed tables)) None (at_rows_listed name tables ∙ ap (option_map present) found) tt

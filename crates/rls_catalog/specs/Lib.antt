@@ -2,6 +2,7 @@ pub mod State
 pub mod StateCode
 pub mod Changed
 pub mod Kept
+pub mod InOrder
 pub mod KeptCode
 pub mod Undone
 pub mod KeyIndex
@@ -12,6 +13,7 @@ pub mod Covering
 pub mod Membership
 pub mod Walks
 pub mod Inheriting
+pub mod HasPrivileges
 pub mod Paths
 pub mod Reaching
 pub mod Privileges
@@ -20,6 +22,7 @@ pub mod GrantOptions
 pub mod Revoking
 pub mod Frames
 pub mod PathFrames
+pub mod Applying
 pub use Rattle.rls_value.specs.Names
 pub use Rattle.rls_value.specs.Values
 pub use Rattle.rls_expr.specs.Terms

@@ -98,11 +98,6 @@ is_to_everyone policy = list_any is_everyone policy.to
 abbrev pub applying_reads : State → List ℕ → List ℕ → Kind → Side → List Object
 applying_reads s role table kind which = o.Policies table ∷ (if list_all is_to_everyone (asked_of s table kind which) then [] else reach_reads s role)
 
--- the policies with what each says of a row
-abbrev pub judged : List Policy → List Truth → List (Policy × Truth)
-judged (policy ∷ policies) (truth ∷ truths) = (policy, truth) ∷ judged policies truths
-judged _ _ = []
-
 abbrev pub is_such : Bool → Bool → Policy × Truth → Bool
 is_such permissive passes judgement = same_flag judgement.0.permissive permissive && same_flag (is_true judgement.1) passes
 

@@ -4,12 +4,13 @@ ghost use Rattle.std.specs.Prelude.{◌≡◌, IfOk, OnOk, OnErr};
 ghost use Rattle.std.specs.Option.{option_copied};
 ghost use Rattle.rls_catalog.specs.State.{role_of, members_of, table_of, grants_of, policies_of, rows_of, rows_with_key};
 ghost use Rattle.rls_catalog.specs.Changed.{opening, changed_all};
+ghost use Rattle.rls_catalog.specs.InOrder.{RowsInOrder};
 
 use crate::change::Delta;
 use crate::contents::Contents;
 use crate::grant::Grant;
+use crate::lent::Lent;
 use crate::role::{Membership, RoleDef};
-use crate::stored::Stored;
 use rls_expr::{Policy, TableDef};
 use rls_value::{Items, Name, Row};
 use std::alloc::{AllocError, Global};
@@ -91,19 +92,20 @@ impl Catalog {
         }
     }
 
-    /// Copies of the rows of the table, in order of their numbers.
+    /// The rows of the table, in order of their numbers.
     #[tactic(auto, using(crate::proofs::RowsListed::at_rows_listed))]
-    pub fn rows(&self, alloc: Global, table: &Name) -> Result<Items<Stored>, AllocError>
-        ensures { IfOk result (λ rows. rows ≡ rows_of self.now table.now) }
+    pub fn rows(&self, alloc: Global, table: &Name) -> Result<Items<Lent<'_>>, AllocError>
+        ensures rows { IfOk result (λ rows. rows ≡ rows_of self.now table.now) }
+        ensures ordered { RowsInOrder self.now table.now }
     {
         let contents = &self.contents;
         match contents.rows.get(table) {
-            Some(slots) => slots.copy_rows(alloc),
+            Some(slots) => slots.lend_rows(alloc),
             None => Ok(Items::new(alloc)),
         }
     }
 
-    /// Copies of the rows of the table that have the key, in order of their numbers. An index
+    /// The rows of the table that have the key, in order of their numbers. An index
     /// tells where they are; only for the empty key it looks at every row of the table.
     #[tactic(auto, using(crate::proofs::RowsListed::at_rows_listed))]
     pub fn rows_with_key(
@@ -111,12 +113,13 @@ impl Catalog {
         alloc: Global,
         table: &Name,
         key: &Row,
-    ) -> Result<Items<Stored>, AllocError>
-        ensures { IfOk result (λ rows. rows ≡ rows_with_key self.now table.now key.now) }
+    ) -> Result<Items<Lent<'_>>, AllocError>
+        ensures rows { IfOk result (λ rows. rows ≡ rows_with_key self.now table.now key.now) }
+        ensures ordered { RowsInOrder self.now table.now }
     {
         let contents = &self.contents;
         match contents.rows.get(table) {
-            Some(slots) => slots.copy_rows_with_key(alloc, key),
+            Some(slots) => slots.lend_rows_with_key(alloc, key),
             None => Ok(Items::new(alloc)),
         }
     }

@@ -23,7 +23,7 @@ pub enum Change {
 }
 
 /// A change of one row; none stands for its absence.
-#[derive(Debug, Drop)]
+#[derive(Drop)]
 pub struct RowChange {
     pub table: Name,
     pub id: RowId,

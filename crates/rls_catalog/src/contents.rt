@@ -119,37 +119,82 @@ impl Contents {
         ensures err { OnErr result (self.new ≡ self.old) }
     {
         match change {
-            Change::Role(name, def) => {
-                let label = name.copy()?;
-                let before = put(&mut self.roles, name.copy()?, *def)?;
-                Ok(Undo::Role(label, before))
-            }
-            Change::Members(name, content) => {
-                let label = name.copy()?;
-                let copies = Membership::copy_all(alloc, content.as_slice())?;
-                let before = put(&mut self.members, name.copy()?, copies)?;
-                Ok(Undo::Members(label, before))
-            }
-            Change::Table(name, def) => {
-                let label = name.copy()?;
-                let copied = def.copy(alloc)?;
-                let before = put(&mut self.tables, name.copy()?, copied)?;
-                Ok(Undo::Table(label, before))
-            }
-            Change::Grants(name, content) => {
-                let label = name.copy()?;
-                let copies = Grant::copy_all(alloc, content.as_slice())?;
-                let before = put(&mut self.grants, name.copy()?, copies)?;
-                Ok(Undo::Grants(label, before))
-            }
-            Change::Policies(name, content) => {
-                let label = name.copy()?;
-                let copies = Policy::copy_all(alloc, content.as_slice())?;
-                let before = put(&mut self.policies, name.copy()?, copies)?;
-                Ok(Undo::Policies(label, before))
-            }
+            Change::Role(name, def) => self.put_role(name, *def),
+            Change::Members(name, content) => self.put_members(alloc, name, content),
+            Change::Table(name, def) => self.put_table(alloc, name, def),
+            Change::Grants(name, content) => self.put_grants(alloc, name, content),
+            Change::Policies(name, content) => self.put_policies(alloc, name, content),
             Change::Row(row) => Ok(Undo::Rows(put_row(&mut self.rows, alloc, row)?)),
         }
+    }
+
+    fn put_role(&mut self, name: &Name, def: RoleDef) -> Result<Undo, AllocError>
+        ensures ok { OnOk result (state_of self.new ≡ changed (state_of self.old) (Change.Role name.now def)) }
+        ensures undo { IfOk result (λ undo. undone undo self.new ≡ self.old) }
+        ensures err { OnErr result (self.new ≡ self.old) }
+    {
+        let label = name.copy()?;
+        let before = put(&mut self.roles, name.copy()?, def)?;
+        Ok(Undo::Role(label, before))
+    }
+
+    fn put_members(
+        &mut self,
+        alloc: Global,
+        name: &Name,
+        content: &Items<Membership>,
+    ) -> Result<Undo, AllocError>
+        ensures ok { OnOk result (state_of self.new ≡ changed (state_of self.old) (Change.Members name.now content.now)) }
+        ensures undo { IfOk result (λ undo. undone undo self.new ≡ self.old) }
+        ensures err { OnErr result (self.new ≡ self.old) }
+    {
+        let label = name.copy()?;
+        let copies = Membership::copy_all(alloc, content.as_slice())?;
+        let before = put(&mut self.members, name.copy()?, copies)?;
+        Ok(Undo::Members(label, before))
+    }
+
+    fn put_table(&mut self, alloc: Global, name: &Name, def: &TableDef) -> Result<Undo, AllocError>
+        ensures ok { OnOk result (state_of self.new ≡ changed (state_of self.old) (Change.Table name.now def.now)) }
+        ensures undo { IfOk result (λ undo. undone undo self.new ≡ self.old) }
+        ensures err { OnErr result (self.new ≡ self.old) }
+    {
+        let label = name.copy()?;
+        let copied = def.copy(alloc)?;
+        let before = put(&mut self.tables, name.copy()?, copied)?;
+        Ok(Undo::Table(label, before))
+    }
+
+    fn put_grants(
+        &mut self,
+        alloc: Global,
+        name: &Name,
+        content: &Items<Grant>,
+    ) -> Result<Undo, AllocError>
+        ensures ok { OnOk result (state_of self.new ≡ changed (state_of self.old) (Change.Grants name.now content.now)) }
+        ensures undo { IfOk result (λ undo. undone undo self.new ≡ self.old) }
+        ensures err { OnErr result (self.new ≡ self.old) }
+    {
+        let label = name.copy()?;
+        let copies = Grant::copy_all(alloc, content.as_slice())?;
+        let before = put(&mut self.grants, name.copy()?, copies)?;
+        Ok(Undo::Grants(label, before))
+    }
+
+    fn put_policies(
+        &mut self,
+        alloc: Global,
+        name: &Name,
+        content: &Items<Policy>,
+    ) -> Result<Undo, AllocError>
+        ensures ok { OnOk result (state_of self.new ≡ changed (state_of self.old) (Change.Policies name.now content.now)) }
+        ensures undo { IfOk result (λ undo. undone undo self.new ≡ self.old) }
+        ensures err { OnErr result (self.new ≡ self.old) }
+    {
+        let label = name.copy()?;
+        let copies = Policy::copy_all(alloc, content.as_slice())?;
+        let before = put(&mut self.policies, name.copy()?, copies)?;
+        Ok(Undo::Policies(label, before))
     }
 
     /// Takes a change back. It needs no memory.

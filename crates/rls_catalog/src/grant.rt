@@ -7,7 +7,7 @@ use rls_value::{Items, Name, Privilege};
 use std::alloc::{AllocError, Global};
 
 /// A grant on a table (PostgreSQL manual, GRANT).
-#[derive(Debug, Drop)]
+#[derive(Drop)]
 pub struct Grant {
     pub privilege: Privilege,
     pub grantee: Grantee,

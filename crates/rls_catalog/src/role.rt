@@ -1,13 +1,14 @@
 //! Roles and their memberships.
 
 ghost use Rattle.std.specs.Prelude.{◌≡◌, IfOk};
+ghost use Rattle.std.specs.Option.{option_copied};
 ghost use Rattle.rls_catalog.specs.Membership.{attributes_in};
 
 use rls_value::{Items, Name};
 use std::alloc::{AllocError, Global};
 
 /// The attributes of a role (PostgreSQL manual, 22.2, "Role Attributes"). None of them is inherited.
-#[derive(Clone, Copy, Debug, PartialEq, Eq)]
+#[derive(Clone, Copy, PartialEq, Eq)]
 pub struct RoleDef {
     pub superuser: bool,
     pub login: bool,
@@ -16,11 +17,11 @@ pub struct RoleDef {
 
 impl RoleDef {
     /// The attributes of what was looked up under a role's name; a role that isn't there has none.
-    pub fn known(def: Option<RoleDef>) -> RoleDef
-        ensures { result ≡ attributes_in def }
+    pub fn known(def: Option<&RoleDef>) -> RoleDef
+        ensures { result ≡ attributes_in (option_copied def.entry) }
     {
         match def {
-            Some(def) => def,
+            Some(def) => *def,
             None => RoleDef {
                 superuser: false,
                 login: false,
@@ -31,7 +32,7 @@ impl RoleDef {
 }
 
 /// A membership that a role has, with its options (PostgreSQL manual, 22.3, "Role Membership").
-#[derive(Debug, Drop)]
+#[derive(Drop)]
 pub struct Membership {
     /// The role that was granted.
     pub role: Name,

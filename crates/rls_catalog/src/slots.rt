@@ -5,12 +5,14 @@ ghost use Rattle.std.specs.BTreeMap.{IsOrdered, is_at};
 ghost use Rattle.std.specs.Map.{lookup, remove_entry, set_value};
 ghost use Rattle.rls_catalog.specs.Changed.{with_row};
 ghost use Rattle.rls_catalog.specs.KeyIndex.{knows, picked, stands_at};
+ghost use Rattle.rls_catalog.specs.InOrder.{Ascend};
 ghost use Rattle.rls_catalog.specs.Kept.{present};
 ghost use Rattle.rls_catalog.specs.State.{id_order, stored_of, with_key};
 ghost use Rattle.rls_catalog.specs.Undone as undone;
 
+use crate::lent::Lent;
 use crate::same::is_same_row;
-use crate::stored::{Keyed, Stored};
+use crate::stored::Keyed;
 use crate::{entries, key_index};
 use rls_value::{Items, Row, RowId};
 use std::alloc::{AllocError, Global};
@@ -172,31 +174,33 @@ impl Slots {
         }
     }
 
-    /// Copies of the rows, in order of their numbers.
-    pub(crate) fn copy_rows(&self, alloc: Global) -> Result<Items<Stored>, AllocError>
-        ensures { IfOk result (λ copies. copies ≡ map stored_of (present self.now)) }
+    /// The rows, in order of their numbers.
+    pub(crate) fn lend_rows(&self, alloc: Global) -> Result<Items<Lent<'_>>, AllocError>
+        ensures rows { IfOk result (λ rows. rows ≡ map stored_of (present self.now)) }
+        ensures ordered { Ascend self.now }
     {
-        let mut listed = Vec::new(alloc);
+        let mut listed = Vec::with_capacity(alloc, self.slots.len())?;
         for (id, slot) in &self.slots {
             if let Some(keyed) = slot {
-                listed.push(copy_stored(alloc, id, keyed)?)?;
+                listed.push(Lent::new(*id, keyed))?;
             }
         }
         Ok(Items::from_vec(listed))
     }
 
-    /// Copies of the rows that have the key, in order of their numbers. The index tells where they are; only rows with the empty key are sought everywhere.
-    pub(crate) fn copy_rows_with_key(
+    /// The rows that have the key, in order of their numbers. The index tells where they are; only rows with the empty key are sought everywhere.
+    pub(crate) fn lend_rows_with_key(
         &self,
         alloc: Global,
         key: &Row,
-    ) -> Result<Items<Stored>, AllocError>
-        ensures { IfOk result (λ copies. copies ≡ with_key key.now (map stored_of (present self.now))) }
+    ) -> Result<Items<Lent<'_>>, AllocError>
+        ensures rows { IfOk result (λ rows. rows ≡ with_key key.now (map stored_of (present self.now))) }
+        ensures ordered { Ascend self.now }
     {
+        let most = self.slots.len();
         if !self.complete || key_index::is_empty(key) {
             return seek(alloc, &self.slots, key);
         }
-        let most = self.slots.len();
         match self.index.get(key) {
             Some(ids) => pick(alloc, &self.slots, ids, key, most),
             None => Ok(Items::new(alloc)),
@@ -225,53 +229,43 @@ fn stands(slots: &BTreeMap<RowId, Option<Keyed>>, id: RowId, key: &Row) -> bool
     }
 }
 
-/// Copies of the rows that have the key. It looks at each.
-fn seek(
+/// The rows that have the key. It looks at each.
+fn seek<'c>(
     alloc: Global,
-    slots: &BTreeMap<RowId, Option<Keyed>>,
+    slots: &'c BTreeMap<RowId, Option<Keyed>>,
     key: &Row,
-) -> Result<Items<Stored>, AllocError>
-    ensures { IfOk result (λ copies. copies ≡ with_key key.now (map stored_of (present slots.now.entries))) }
+) -> Result<Items<Lent<'c>>, AllocError>
+    ensures { IfOk result (λ rows. rows ≡ with_key key.now (map stored_of (present slots.now.entries))) }
 {
-    let mut copies = Vec::new(alloc);
+    let mut rows = Vec::new(alloc);
     for (id, slot) in slots {
         if let Some(keyed) = slot {
             if is_same_row(&keyed.key, key) {
-                copies.push(copy_stored(alloc, id, keyed)?)?;
+                rows.push(Lent::new(*id, keyed))?;
             }
         }
     }
-    Ok(Items::from_vec(copies))
+    Ok(Items::from_vec(rows))
 }
 
-/// Copies of the rows that have the key, among those of the numbers; there are no more than `most` rows.
-fn pick(
+/// The rows that have the key, among those of the numbers; there are no more than `most` rows.
+fn pick<'c>(
     alloc: Global,
-    slots: &BTreeMap<RowId, Option<Keyed>>,
+    slots: &'c BTreeMap<RowId, Option<Keyed>>,
     ids: &BTreeMap<RowId, ()>,
     key: &Row,
     most: usize,
-) -> Result<Items<Stored>, AllocError>
-    ensures picked { IfOk result (λ copies. copies ≡ picked key.now slots.now.entries ids.now.entries) }
+) -> Result<Items<Lent<'c>>, AllocError>
+    ensures picked { IfOk result (λ rows. rows ≡ picked key.now slots.now.entries ids.now.entries) }
     ensures ordered { IsOrdered id_order ids.now }
 {
-    let mut copies = Vec::with_capacity(alloc, min(most, ids.len()))?;
+    let mut rows = Vec::with_capacity(alloc, min(most, ids.len()))?;
     for (id, _) in ids {
         if let Some(Some(keyed)) = slots.get(id) {
             if is_same_row(&keyed.key, key) {
-                copies.push(copy_stored(alloc, id, keyed)?)?;
+                rows.push(Lent::new(*id, keyed))?;
             }
         }
     }
-    Ok(Items::from_vec(copies))
-}
-
-fn copy_stored(alloc: Global, id: &RowId, keyed: &Keyed) -> Result<Stored, AllocError>
-    ensures { IfOk result (λ stored. stored ≡ stored_of (id.now, keyed.now)) }
-{
-    Ok(Stored {
-        id: *id,
-        key: keyed.key.copy(alloc)?,
-        row: keyed.row.copy(alloc)?,
-    })
+    Ok(Items::from_vec(rows))
 }

@@ -6,14 +6,14 @@ use rls_value::{Items, Row, RowId};
 use std::alloc::{AllocError, Global};
 
 /// A row with the values of its primary key, in the key's order; empty where there is none.
-#[derive(Debug, Drop)]
+#[derive(Drop)]
 pub struct Keyed {
     pub key: Row,
     pub row: Row,
 }
 
 /// A row of a table: its number, the values of its key and its values.
-#[derive(Debug, Drop)]
+#[derive(Drop)]
 pub struct Stored {
     pub id: RowId,
     pub key: Row,

@@ -6,14 +6,14 @@ use rls_value::Name;
 use std::alloc::AllocError;
 
 /// Which row is judged: the one that was there, or the one that a command makes.
-#[derive(Clone, Copy, Debug, PartialEq, Eq, PartialOrd, Ord)]
+#[derive(Clone, Copy, PartialEq, Eq)]
 pub enum Side {
     Old,
     New,
 }
 
 /// What row security says of a row.
-#[derive(Debug, Drop)]
+#[derive(Drop)]
 pub enum Verdict {
     /// Row security doesn't apply.
     Exempt,

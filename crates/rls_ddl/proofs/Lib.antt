@@ -1,1 +1,3 @@
 pub mod HolderLemmas
+pub mod GrantorLaws
+pub mod MembershipLaws

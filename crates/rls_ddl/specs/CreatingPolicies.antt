@@ -6,7 +6,7 @@ use Rattle.std.specs.Str.{bytes_eq}
 use Rattle.std.specs.Ordering.{is_lt}
 use Rattle.rls_value.specs.declared.refusal.Refusal.{Refusal}
 use Rattle.rls_value.specs.declared.refusal.Refusal.TheVariants.{Duplicate, Limit}
-use Rattle.rls_value.specs.declared.refusal.NameKind.TheVariants as kind
+use Rattle.rls_value.specs.declared.refusal.DefinedKind.TheVariants as kind
 use Rattle.rls_value.specs.declared.refusal.Limit.TheVariants as limit
 use Rattle.rls_value.specs.Giving.{and_then}
 use Rattle.rls_expr.specs.declared.table.TableDef.{TableDef}
@@ -15,15 +15,16 @@ use Rattle.rls_expr.specs.Resolving.{resolved}
 use Rattle.rls_expr.specs.Typing.{condition_checked}
 use Rattle.rls_expr.specs.declared.policy.Policy.{Policy}
 use Rattle.rls_catalog.specs.declared.change.Change.TheVariants as change
-use Rattle.rls_catalog.specs.State.{State, name_order}
-use Rattle.rls_text.specs.declared.statement.CreatePolicy.{CreatePolicy}
+use Rattle.rls_catalog.specs.State.{name_order}
+use Rattle.rls_statement.specs.declared.statement.CreatePolicy.{CreatePolicy}
 use Rattle.rls_guard.specs.declared.context.Ctx.{Ctx}
-use Rattle.rls_guard.specs.Readings.{Reading, known, followed_by}
+use Rattle.rls_source.specs.Askings.{Asking, known, followed_by}
 use Rattle.rls_guard.specs.Sequences.{put_before}
-use Rattle.rls_guard.specs.Asked.{asked_policies}
+use Rattle.rls_source.specs.Asked.{asked_policies}
 use Rattle.rls_guard.specs.Checks.{table_or_undefined, grantees_or_undefined, known_or_undefined}
-use Rattle.rls_guard.specs.Standings.{standing_of, owner_or_denied}
-use Rattle.rls_guard.specs.Effects.{Meaning, Exactly, writes}
+use Rattle.rls_guard.specs.Standings.{ownership}
+use Rattle.rls_guard.specs.declared.effect.Effect.{Effect}
+use Rattle.rls_guard.specs.Effects.{writes}
 
 -- its columns have to be known, if there is one
 abbrev pub names_known : List TableDef → Option Term → Result (Unit {0}) Refusal
@@ -62,18 +63,20 @@ policy_or_refused table policies policy =
     and_then (both_conditions (condition_fits (table ∷ [])) policy) (λ _. room_for_policy policies))
 
 -- the policy is made where the role has the privileges of the table's owner
-abbrev pub policy_made : State → List ℕ → List ℕ → TableDef → List Policy → Policy → Reading Meaning
-policy_made s role name table policies policy = followed_by (standing_of s role) (λ standing.
-    followed_by (known (owner_or_denied standing name table)) (λ _.
-    known (Ok (Exactly (writes (change.Policies name (with_policy policies policy) ∷ []))))))
+unfoldable pub policy_made : List ℕ → List ℕ → TableDef → List Policy → Policy → Asking Effect
+policy_made role name table policies policy = followed_by (ownership role name table) (λ _.
+    known (Ok (writes (change.Policies name (with_policy policies policy) ∷ []))))
 
 -- the policies that are there, and then the new one beside them
-abbrev pub policy_added : State → List ℕ → List ℕ → TableDef → Policy → Reading Meaning
-policy_added s role name table policy = followed_by (asked_policies s name) (λ policies.
-    followed_by (known (policy_or_refused table policies policy)) (λ _. policy_made s role name table policies policy))
+unfoldable pub policy_added : List ℕ → List ℕ → TableDef → Policy → Asking Effect
+policy_added role name table policy = followed_by (asked_policies name) (λ policies.
+    followed_by (known (policy_or_refused table policies policy)) (λ _. policy_made role name table policies policy))
 
--- the table and the roles have to be there, and the columns to be known
-abbrev pub create_policy : State → Ctx → CreatePolicy → Reading Meaning
-create_policy s ctx create = followed_by (table_or_undefined s create.table) (λ table.
-    followed_by (grantees_or_undefined s create.policy.to) (λ _.
-    followed_by (known (both_conditions (names_known (table ∷ [])) create.policy)) (λ _. policy_added s ctx.role create.table table create.policy)))
+-- the roles have to be there, and the columns to be known
+unfoldable pub policy_on : List ℕ → List ℕ → TableDef → Policy → Asking Effect
+policy_on role name table policy = followed_by (grantees_or_undefined policy.to) (λ _.
+    followed_by (known (both_conditions (names_known (table ∷ [])) policy)) (λ _. policy_added role name table policy))
+
+-- the table has to be there
+abbrev pub create_policy : Ctx → CreatePolicy → Asking Effect
+create_policy ctx create = followed_by (table_or_undefined create.table) (λ table. policy_on ctx.role create.table table create.policy)

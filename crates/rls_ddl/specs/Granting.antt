@@ -17,19 +17,20 @@ use Rattle.rls_catalog.specs.declared.grant.Grant.{Grant}
 use Rattle.rls_expr.specs.declared.policy.Grantee.{Grantee}
 use Rattle.rls_expr.specs.declared.policy.Grantee.TheVariants as g
 use Rattle.rls_catalog.specs.declared.change.Change.TheVariants as change
-use Rattle.rls_catalog.specs.State.{State, name_order}
+use Rattle.rls_catalog.specs.State.{name_order}
 use Rattle.rls_catalog.specs.Verdict.{least}
-use Rattle.rls_text.specs.declared.statement.Privileges.{Privileges}
-use Rattle.rls_text.specs.declared.statement.GrantPrivileges.{GrantPrivileges}
+use Rattle.rls_statement.specs.declared.statement.Privileges.{Privileges}
+use Rattle.rls_statement.specs.declared.statement.GrantPrivileges.{GrantPrivileges}
 use Rattle.rls_guard.specs.declared.context.Ctx.{Ctx}
 use Rattle.rls_guard.specs.declared.standing.Standing.{Standing}
 use Rattle.rls_ddl.specs.declared.granting.Grantor.{Grantor}
-use Rattle.rls_guard.specs.Readings.{Reading, known, followed_by}
+use Rattle.rls_source.specs.Askings.{Asking, known, followed_by}
 use Rattle.rls_guard.specs.Sequences.{each_of, put_before}
-use Rattle.rls_guard.specs.Asked.{asked_grants}
+use Rattle.rls_source.specs.Asked.{asked_grants}
 use Rattle.rls_guard.specs.Checks.{table_or_undefined, grantees_or_undefined}
 use Rattle.rls_guard.specs.Standings.{standing_of, has_owner}
-use Rattle.rls_guard.specs.Effects.{Meaning, Exactly, writes}
+use Rattle.rls_guard.specs.declared.effect.Effect.{Effect}
+use Rattle.rls_guard.specs.Effects.{writes}
 use Rattle.rls_ddl.specs.Holders.{holders_of}
 
 -- in this order they are granted, and refused
@@ -107,17 +108,17 @@ abbrev pub grants_by : List Grantee → Grantor → List Grant
 grants_by grantees grantor = map (λ grantee. plain_grant grantor.privilege grantee grantor.name) grantees
 
 -- each privilege that is named to each grantee, or the first that nobody grants
-abbrev pub grants_made : Standing → List ℕ → TableDef → List Grant → GrantPrivileges → Result Meaning Refusal
+unfoldable pub grants_made : Standing → List ℕ → TableDef → List Grant → GrantPrivileges → Result Effect Refusal
 grants_made standing role table grants asked =
     and_then (each_of (granted_by standing role asked.table table grants) (filter (is_named asked.privileges) all_privileges)) (λ grantors.
-    Ok (Exactly (writes (change.Grants asked.table (with_grants grants (flat_map (grants_by asked.to) grantors)) ∷ []))))
+    Ok (writes (change.Grants asked.table (with_grants grants (flat_map (grants_by asked.to) grantors)) ∷ [])))
 
 -- the grants that are there, and who the role is
-abbrev pub grant_on : State → List ℕ → TableDef → GrantPrivileges → Reading Meaning
-grant_on s role table asked = followed_by (asked_grants s asked.table) (λ grants.
-    followed_by (standing_of s role) (λ standing. known (grants_made standing role table grants asked)))
+unfoldable pub grant_on : List ℕ → TableDef → GrantPrivileges → Asking Effect
+grant_on role table asked = followed_by (asked_grants asked.table) (λ grants.
+    followed_by (standing_of role) (λ standing. known (grants_made standing role table grants asked)))
 
 -- the table and the grantees have to be there
-abbrev pub grant : State → Ctx → GrantPrivileges → Reading Meaning
-grant s ctx asked = followed_by (table_or_undefined s asked.table) (λ table.
-    followed_by (grantees_or_undefined s asked.to) (λ _. grant_on s ctx.role table asked))
+abbrev pub grant : Ctx → GrantPrivileges → Asking Effect
+grant ctx asked = followed_by (table_or_undefined asked.table) (λ table.
+    followed_by (grantees_or_undefined asked.to) (λ _. grant_on ctx.role table asked))

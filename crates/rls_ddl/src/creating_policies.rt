@@ -1,50 +1,47 @@
 //! CREATE POLICY.
 
-ghost use Rattle.std.specs.Prelude.{◌≡◌, ◌≤◌, ◌∷◌, [], ◌++◌, length, IfOk};
+ghost use Rattle.std.specs.Prelude.{◌≡◌, ◌≤◌, ◌∷◌, [], length, IfOk};
 ghost use Rattle.std.specs.List.{position_or_len};
 ghost use Rattle.std.specs.Ordering.{is_lt};
-ghost use Rattle.rls_value.specs.Giving.{Gives, UnlessNoMemory};
+ghost use Rattle.rls_value.specs.Giving.{Gives};
+ghost use Rattle.rls_expr.specs.Scopes.{tables_in};
 ghost use Rattle.rls_catalog.specs.State.{name_order};
-ghost use Rattle.rls_guard.specs.Effects.{GivesEffect};
+ghost use Rattle.rls_source.specs.Answering.{Answers};
+ghost use Rattle.rls_guard.specs.Effects.{writes};
 ghost use Rattle.rls_ddl.specs.CreatingPolicies as spec;
 ghost use Rattle.rls_ddl.specs.CreatingPolicies.{create_policy, policy_added, policy_made, policy_or_refused, both_conditions, names_known, condition_fits};
-ghost use Rattle.rls_expr.specs.Scopes.{tables_in};
 
 use rls_catalog::Change;
 use rls_expr::{Expr, FromTable, Policy, Scope, check_condition};
-use rls_guard::{Ctx, Effect, known_term, noted_policies, require_roles, standing_of, table_named};
-use rls_source::{Reads, RowSource};
-use rls_text::CreatePolicy;
-use rls_value::{Items, Limit, Name, NameKind, Refusal};
+use rls_guard::{Ctx, Effect, known_term, require_ownership, require_roles, table_named};
+use rls_source::{Reads, RowSource, noted_policies};
+use rls_statement::CreatePolicy;
+use rls_value::{DefinedKind, Items, Limit, Name, Refusal};
 use std::alloc::{AllocError, Global};
 
 /// The most policies that a table has.
 const MAX_POLICIES: usize = 64;
 
 /// Adds a policy of the table.
-pub fn run_create_policy<S: RowSource>(
+pub fn run_create_policy<'c, S: RowSource<'c>>(
     alloc: Global,
     source: &mut S,
     notes: &mut Reads,
     ctx: &Ctx,
     create: &CreatePolicy,
 ) -> Result<Effect, Refusal>
-    ensures effect { GivesEffect result (create_policy (S.state source.old) ctx.now create.now).gives }
-    ensures noted { UnlessNoMemory result (notes.new ≡ notes.old ++ (create_policy (S.state source.old) ctx.now create.now).reads) }
-    ensures state { S.state source.new ≡ S.state source.old }
+    ensures { Answers S.state S.after (create_policy ctx.now create.now) source.old source.new notes.old notes.new result }
 {
     let table = table_named(alloc, source, notes, &create.table)?;
-    require_roles(alloc, source, notes, create.policy.to.as_slice())?;
     let from = FromTable {
         name: &create.table,
-        table: &table,
+        table,
     };
-    require_names(alloc, &create.policy, from)?;
-    add_policy(alloc, source, notes, &ctx.role, from, &create.policy)
+    policy_on(alloc, source, notes, &ctx.role, from, &create.policy)
 }
 
-/// Adds the policy where it is right beside those that are there.
-fn add_policy<'x, S: RowSource>(
+#[tactic(auto, unfolding(crate::specs::CreatingPolicies::policy_on))]
+fn policy_on<'c, 'x, S: RowSource<'c>>(
     alloc: Global,
     source: &mut S,
     notes: &mut Reads,
@@ -52,33 +49,58 @@ fn add_policy<'x, S: RowSource>(
     from: FromTable<'x>,
     policy: &Policy,
 ) -> Result<Effect, Refusal>
-    ensures effect { GivesEffect result (policy_added (S.state source.old) role.now from.entry.name.now from.entry.table.now policy.now).gives }
-    ensures noted { UnlessNoMemory result (notes.new ≡ notes.old ++ (policy_added (S.state source.old) role.now from.entry.name.now from.entry.table.now policy.now).reads) }
-    ensures state { S.state source.new ≡ S.state source.old }
+    ensures { Answers S.state S.after (spec.policy_on role.now from.entry.name.now from.entry.table.now policy.now) source.old source.new notes.old notes.new result }
+{
+    require_roles(alloc, source, notes, policy.to.as_slice())?;
+    require_names(alloc, policy, from)?;
+    add_policy(alloc, source, notes, role, from, policy)
+}
+
+/// Adds the policy where it is right beside those that are there.
+#[tactic(auto, unfolding(crate::specs::CreatingPolicies::policy_added))]
+fn add_policy<'c, 'x, S: RowSource<'c>>(
+    alloc: Global,
+    source: &mut S,
+    notes: &mut Reads,
+    role: &Name,
+    from: FromTable<'x>,
+    policy: &Policy,
+) -> Result<Effect, Refusal>
+    ensures { Answers S.state S.after (policy_added role.now from.entry.name.now from.entry.table.now policy.now) source.old source.new notes.old notes.new result }
 {
     let policies = noted_policies(alloc, source, notes, from.name)?;
-    require_policy(alloc, policies.as_slice(), from, policy)?;
+    require_policy(alloc, policies, from, policy)?;
     make_policy(alloc, source, notes, role, from, policies, policy)
 }
 
 /// Adds the policy where the role has the privileges of the table's owner.
-fn make_policy<'x, S: RowSource>(
+#[tactic(auto, unfolding(crate::specs::CreatingPolicies::policy_made))]
+fn make_policy<'c, 'x, S: RowSource<'c>>(
     alloc: Global,
     source: &mut S,
     notes: &mut Reads,
     role: &Name,
     from: FromTable<'x>,
-    policies: Items<Policy>,
+    policies: &[Policy],
     policy: &Policy,
 ) -> Result<Effect, Refusal>
-    ensures effect { GivesEffect result (policy_made (S.state source.old) role.now from.entry.name.now from.entry.table.now policies policy.now).gives }
-    ensures noted { UnlessNoMemory result (notes.new ≡ notes.old ++ (policy_made (S.state source.old) role.now from.entry.name.now from.entry.table.now policies policy.now).reads) }
-    ensures state { S.state source.new ≡ S.state source.old }
+    ensures { Answers S.state S.after (policy_made role.now from.entry.name.now from.entry.table.now policies.now policy.now) source.old source.new notes.old notes.new result }
 {
-    let standing = standing_of(alloc, source, notes, role)?;
-    standing.require_owner(from.name, from.table)?;
+    require_ownership(alloc, source, notes, role, from.name, from.table)?;
+    Ok(policies_changed(alloc, from.name, policies, policy)?)
+}
+
+fn policies_changed(
+    alloc: Global,
+    table: &Name,
+    policies: &[Policy],
+    policy: &Policy,
+) -> Result<Effect, AllocError>
+    ensures { IfOk result (λ effect. effect ≡ writes (Change.Policies table.now (spec.with_policy policies.now policy.now) ∷ [])) }
+{
+    let policies = Policy::copy_all(alloc, policies)?;
     let policies = with_policy(policies, policy.copy(alloc)?)?;
-    Ok(Effect::changed(alloc, Change::Policies(from.name.copy()?, policies))?)
+    Effect::changed(alloc, Change::Policies(table.copy()?, policies))
 }
 
 /// The first unknown column of USING, then of WITH CHECK, is undefined.
@@ -110,7 +132,7 @@ fn require_policy(
     ensures { Gives result (policy_or_refused from.entry.table.now policies.now policy.now) }
 {
     if has_policy(policies, &policy.name) {
-        return Err(Refusal::Duplicate(NameKind::Policy, policy.name.copy()?));
+        return Err(Refusal::Duplicate(DefinedKind::Policy, policy.name.copy()?));
     }
     require_conditions(alloc, policy, from)?;
     if policies.len() >= MAX_POLICIES {

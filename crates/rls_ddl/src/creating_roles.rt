@@ -1,37 +1,54 @@
 //! CREATE ROLE.
 
-ghost use Rattle.std.specs.Prelude.{◌≡◌, ◌++◌};
-ghost use Rattle.rls_value.specs.Giving.{UnlessNoMemory};
-ghost use Rattle.rls_guard.specs.Effects.{GivesEffect};
-ghost use Rattle.rls_ddl.specs.CreatingRoles.{create_role};
+ghost use Rattle.std.specs.Prelude.{◌≡◌, [], ◌∷◌, IfOk};
+ghost use Rattle.rls_source.specs.Answering.{Answers};
+ghost use Rattle.rls_guard.specs.Effects.{writes};
+ghost use Rattle.rls_ddl.specs.CreatingRoles.{create_role, role_made, role_with};
 
 use rls_catalog::{Change, RoleDef};
-use rls_guard::{Ctx, Effect, noted_role, require_superuser};
-use rls_source::{Reads, RowSource};
-use rls_text::CreateRole;
-use rls_value::{NameKind, Refusal};
-use std::alloc::Global;
+use rls_guard::{Ctx, Effect, require_superuser};
+use rls_source::{Reads, RowSource, noted_role};
+use rls_statement::CreateRole;
+use rls_value::{DefinedKind, Name, Refusal};
+use std::alloc::{AllocError, Global};
 
 /// Adds a role; an attribute that isn't written is not given.
-pub fn run_create_role<S: RowSource>(
+pub fn run_create_role<'c, S: RowSource<'c>>(
     alloc: Global,
     source: &mut S,
     notes: &mut Reads,
     ctx: &Ctx,
     create: &CreateRole,
 ) -> Result<Effect, Refusal>
-    ensures effect { GivesEffect result (create_role (S.state source.old) ctx.now create.now).gives }
-    ensures noted { UnlessNoMemory result (notes.new ≡ notes.old ++ (create_role (S.state source.old) ctx.now create.now).reads) }
-    ensures state { S.state source.new ≡ S.state source.old }
+    ensures { Answers S.state S.after (create_role ctx.now create.now) source.old source.new notes.old notes.new result }
 {
     if noted_role(alloc, source, notes, &create.name)?.is_some() {
-        return Err(Refusal::Duplicate(NameKind::Role, create.name.copy()?));
+        return Err(Refusal::Duplicate(DefinedKind::Role, create.name.copy()?));
     }
-    require_superuser(alloc, source, notes, &ctx.role, &create.name)?;
+    make_role(alloc, source, notes, &ctx.role, create)
+}
+
+#[tactic(auto, unfolding(crate::specs::CreatingRoles::role_made))]
+fn make_role<'c, S: RowSource<'c>>(
+    alloc: Global,
+    source: &mut S,
+    notes: &mut Reads,
+    role: &Name,
+    create: &CreateRole,
+) -> Result<Effect, Refusal>
+    ensures { Answers S.state S.after (role_made role.now create.now) source.old source.new notes.old notes.new result }
+{
+    require_superuser(alloc, source, notes, role, &create.name)?;
+    Ok(made(alloc, create)?)
+}
+
+fn made(alloc: Global, create: &CreateRole) -> Result<Effect, AllocError>
+    ensures { IfOk result (λ effect. effect ≡ writes (Change.Role create.now.name (role_with create.now.attributes) ∷ [])) }
+{
     let role = RoleDef {
         superuser: create.attributes.superuser.unwrap_or(false),
         login: create.attributes.login.unwrap_or(false),
         bypass_rls: create.attributes.bypass_rls.unwrap_or(false),
     };
-    Ok(Effect::changed(alloc, Change::Role(create.name.copy()?, role))?)
+    Effect::changed(alloc, Change::Role(create.name.copy()?, role))
 }

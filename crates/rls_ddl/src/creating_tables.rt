@@ -1,9 +1,9 @@
-//! CREATE TABLE, ALTER TABLE.
+//! CREATE TABLE and ALTER TABLE.
 
-ghost use Rattle.std.specs.Prelude.{◌≡◌, [], ◌∷◌, ◌++◌, IfOk};
-ghost use Rattle.rls_value.specs.Giving.{UnlessNoMemory};
-ghost use Rattle.rls_guard.specs.Effects.{GivesEffect, writes};
-ghost use Rattle.rls_ddl.specs.AlteringTables.{alter_table};
+ghost use Rattle.std.specs.Prelude.{◌≡◌, [], ◌∷◌, IfOk};
+ghost use Rattle.rls_source.specs.Answering.{Answers};
+ghost use Rattle.rls_guard.specs.Effects.{writes};
+ghost use Rattle.rls_ddl.specs.AlteringTables.{altered, alter_table};
 ghost use Rattle.rls_ddl.specs.CreatingTables as spec;
 ghost use Rattle.rls_ddl.specs.CreatingTables.{table_with};
 ghost use Rattle.rls_ddl.specs.Granting as granted;
@@ -12,45 +12,82 @@ ghost use Rattle.rls_ddl.specs.Granting.{with_grants};
 use crate::granting::{plain_grant, put_grants};
 use rls_catalog::{Change, Delta, Grant};
 use rls_expr::{Column, Grantee, TableDef};
-use rls_guard::{Ctx, Effect, noted_grants, noted_table, standing_of, table_named};
-use rls_source::{Reads, RowSource};
-use rls_text::{AlterTable, CreateTable, RowSecurity};
-use rls_value::{Items, Name, NameKind, Privilege, Refusal};
+use rls_guard::{Ctx, Effect, require_ownership, table_named};
+use rls_source::{Reads, RowSource, noted_grants, noted_table};
+use rls_statement::{AlterTable, CreateTable, RowSecurity};
+use rls_value::{DefinedKind, Items, Name, Privilege, Refusal};
 use std::alloc::{AllocError, Global};
 
 /// Adds a table, owned by the current role, which gets every privilege on it.
-pub fn run_create_table<S: RowSource>(
+pub fn run_create_table<'c, S: RowSource<'c>>(
     alloc: Global,
     source: &mut S,
     notes: &mut Reads,
     ctx: &Ctx,
     create: &CreateTable,
 ) -> Result<Effect, Refusal>
-    ensures effect { GivesEffect result (spec.create_table (S.state source.old) ctx.now create.now).gives }
-    ensures noted { UnlessNoMemory result (notes.new ≡ notes.old ++ (spec.create_table (S.state source.old) ctx.now create.now).reads) }
-    ensures state { S.state source.new ≡ S.state source.old }
+    ensures { Answers S.state S.after (spec.create_table ctx.now create.now) source.old source.new notes.old notes.new result }
 {
     if noted_table(alloc, source, notes, &create.name)?.is_some() {
-        return Err(Refusal::Duplicate(NameKind::Relation, create.name.copy()?));
+        return Err(Refusal::Duplicate(DefinedKind::Relation, create.name.copy()?));
     }
-    let grants = noted_grants(alloc, source, notes, &create.name)?;
-    let grants = put_grants(grants, own_grants(alloc, &ctx.role)?)?;
-    let table = new_table(alloc, &ctx.role, create)?;
-    Ok(created(alloc, &create.name, table, grants)?)
+    make_table(alloc, source, notes, ctx, create)
 }
 
-fn created(
+#[tactic(auto, unfolding(crate::specs::CreatingTables::table_made))]
+fn make_table<'c, S: RowSource<'c>>(
     alloc: Global,
-    name: &Name,
-    table: TableDef,
-    grants: Items<Grant>,
+    source: &mut S,
+    notes: &mut Reads,
+    ctx: &Ctx,
+    create: &CreateTable,
+) -> Result<Effect, Refusal>
+    ensures { Answers S.state S.after (spec.table_made ctx.now create.now) source.old source.new notes.old notes.new result }
+{
+    let grants = noted_grants(alloc, source, notes, &create.name)?;
+    Ok(made(alloc, &ctx.role, create, grants)?)
+}
+
+fn made(
+    alloc: Global,
+    owner: &Name,
+    create: &CreateTable,
+    grants: &[Grant],
 ) -> Result<Effect, AllocError>
-    ensures { IfOk result (λ effect. effect ≡ writes (Change.Table name.now table ∷ Change.Grants name.now grants ∷ [])) }
+    ensures { IfOk result (λ effect. effect ≡ writes (Change.Table create.now.name (table_with owner.now create.now.columns) ∷ Change.Grants create.now.name (with_grants grants.now (spec.own_grants owner.now)) ∷ [])) }
 {
     let mut delta = Delta::new(alloc);
-    delta.push(Change::Table(name.copy()?, table))?;
-    delta.push(Change::Grants(name.copy()?, grants))?;
+    delta.push(table_change(alloc, owner, create)?)?;
+    delta.push(grants_change(alloc, owner, create, grants)?)?;
     Ok(Effect::done(alloc, delta))
+}
+
+fn table_change(alloc: Global, owner: &Name, create: &CreateTable) -> Result<Change, AllocError>
+    ensures { IfOk result (λ change. change ≡ Change.Table create.now.name (table_with owner.now create.now.columns)) }
+{
+    let name = create.name.copy()?;
+    match new_table(alloc, owner, create) {
+        Ok(table) => Ok(Change::Table(name, table)),
+        Err(refused) => Err(refused),
+    }
+}
+
+fn grants_change(
+    alloc: Global,
+    owner: &Name,
+    create: &CreateTable,
+    grants: &[Grant],
+) -> Result<Change, AllocError>
+    ensures { IfOk result (λ change. change ≡ Change.Grants create.now.name (with_grants grants.now (spec.own_grants owner.now))) }
+{
+    let grants = put_grants(Grant::copy_all(alloc, grants)?, own_grants(alloc, owner)?)?;
+    match create.name.copy() {
+        Ok(name) => Ok(Change::Grants(name, grants)),
+        Err(refused) => {
+            drop(grants);
+            Err(refused)
+        }
+    }
 }
 
 fn new_table(alloc: Global, owner: &Name, create: &CreateTable) -> Result<TableDef, AllocError>
@@ -84,22 +121,27 @@ fn own_grant(privilege: Privilege, owner: &Name) -> Result<Grant, AllocError>
 }
 
 /// Turns row security on.
-pub fn run_alter_table<S: RowSource>(
+pub fn run_alter_table<'c, S: RowSource<'c>>(
     alloc: Global,
     source: &mut S,
     notes: &mut Reads,
     ctx: &Ctx,
     alter: &AlterTable,
 ) -> Result<Effect, Refusal>
-    ensures effect { GivesEffect result (alter_table (S.state source.old) ctx.now alter.now).gives }
-    ensures noted { UnlessNoMemory result (notes.new ≡ notes.old ++ (alter_table (S.state source.old) ctx.now alter.now).reads) }
-    ensures state { S.state source.new ≡ S.state source.old }
+    ensures { Answers S.state S.after (alter_table ctx.now alter.now) source.old source.new notes.old notes.new result }
 {
-    let mut table = table_named(alloc, source, notes, &alter.table)?;
-    let standing = standing_of(alloc, source, notes, &ctx.role)?;
-    standing.require_owner(&alter.table, &table)?;
+    let table = table_named(alloc, source, notes, &alter.table)?;
+    require_ownership(alloc, source, notes, &ctx.role, &alter.table, table)?;
+    Ok(table_changed(alloc, alter, table)?)
+}
+
+fn table_changed(alloc: Global, alter: &AlterTable, table: &TableDef) -> Result<Effect, AllocError>
+    ensures { IfOk result (λ effect. effect ≡ writes (Change.Table alter.now.table (altered alter.now.change table.now) ∷ [])) }
+{
+    let name = alter.table.copy()?;
+    let mut table = table.copy(alloc)?;
     match alter.change {
         RowSecurity::Enable => table.enabled = true,
     }
-    Ok(Effect::changed(alloc, Change::Table(alter.table.copy()?, table))?)
+    Effect::changed(alloc, Change::Table(name, table))
 }

@@ -1,13 +1,14 @@
 //! GRANT of table privileges.
 
-ghost use Rattle.std.specs.Prelude.{◌≡◌, ◌≤◌, ◌++◌, length, map, filter, IfOk, OnOk};
+ghost use Rattle.std.specs.Prelude.{◌≡◌, ◌≤◌, ◌++◌, ◌∷◌, [], length, map, filter, IfOk, OnOk};
 ghost use Rattle.std.specs.List.{position_or_len, flat_map};
 ghost use Rattle.std.specs.Option.{option_copied};
 ghost use Rattle.std.specs.Ordering.{is_lt};
 ghost use Rattle.rls_value.specs.Names.{one_of};
-ghost use Rattle.rls_value.specs.Giving.{Gives, UnlessNoMemory};
+ghost use Rattle.rls_value.specs.Giving.{Gives};
 ghost use Rattle.rls_catalog.specs.Verdict.{least};
-ghost use Rattle.rls_guard.specs.Effects.{GivesEffect};
+ghost use Rattle.rls_source.specs.Answering.{Answers};
+ghost use Rattle.rls_guard.specs.Effects.{writes};
 ghost use Rattle.rls_guard.specs.Sequences.{each_of};
 ghost use Rattle.rls_ddl.specs.Holders.{holders_of};
 ghost use Rattle.rls_ddl.specs.Granting as spec;
@@ -16,11 +17,11 @@ ghost use Rattle.rls_ddl.specs.Granting.{with_grants, grants_by, grantor_by, gra
 use rls_catalog::{Change, Grant};
 use rls_expr::{Grantee, TableDef};
 use rls_grant::options;
-use rls_guard::{Ctx, Effect, Standing, noted_grants, require_roles, standing_of, table_named};
+use rls_guard::{Ctx, Effect, Standing, require_roles, standing_of, table_named};
 use rls_policy::lesser_name;
 use rls_role::is_among;
-use rls_source::{Reads, RowSource};
-use rls_text::{GrantPrivileges, Privileges};
+use rls_source::{Reads, RowSource, noted_grants};
+use rls_statement::{GrantPrivileges, Privileges};
 use rls_value::{Items, Name, Privilege, Refusal, Why};
 use std::alloc::{AllocError, Global};
 use std::cmp::Ordering;
@@ -33,23 +34,22 @@ pub struct Grantor {
 }
 
 /// Grants the privileges to each grantee. Each privilege has its own grantor; the first without one is refused.
-pub fn run_grant<S: RowSource>(
+pub fn run_grant<'c, S: RowSource<'c>>(
     alloc: Global,
     source: &mut S,
     notes: &mut Reads,
     ctx: &Ctx,
     grant: &GrantPrivileges,
 ) -> Result<Effect, Refusal>
-    ensures effect { GivesEffect result (spec.grant (S.state source.old) ctx.now grant.now).gives }
-    ensures noted { UnlessNoMemory result (notes.new ≡ notes.old ++ (spec.grant (S.state source.old) ctx.now grant.now).reads) }
-    ensures state { S.state source.new ≡ S.state source.old }
+    ensures { Answers S.state S.after (spec.grant ctx.now grant.now) source.old source.new notes.old notes.new result }
 {
     let table = table_named(alloc, source, notes, &grant.table)?;
     require_roles(alloc, source, notes, grant.to.as_slice())?;
-    run_grant_on(alloc, source, notes, &ctx.role, &table, grant)
+    run_grant_on(alloc, source, notes, &ctx.role, table, grant)
 }
 
-fn run_grant_on<S: RowSource>(
+#[tactic(auto, unfolding(crate::specs::Granting::grant_on))]
+fn run_grant_on<'c, S: RowSource<'c>>(
     alloc: Global,
     source: &mut S,
     notes: &mut Reads,
@@ -57,38 +57,43 @@ fn run_grant_on<S: RowSource>(
     table: &TableDef,
     grant: &GrantPrivileges,
 ) -> Result<Effect, Refusal>
-    ensures effect { GivesEffect result (grant_on (S.state source.old) role.now table.now grant.now).gives }
-    ensures noted { UnlessNoMemory result (notes.new ≡ notes.old ++ (grant_on (S.state source.old) role.now table.now grant.now).reads) }
-    ensures state { S.state source.new ≡ S.state source.old }
+    ensures { Answers S.state S.after (grant_on role.now table.now grant.now) source.old source.new notes.old notes.new result }
 {
     let grants = noted_grants(alloc, source, notes, &grant.table)?;
     let standing = standing_of(alloc, source, notes, role)?;
-    make_grants(alloc, &standing, role, table, grants, grant)
+    let made = make_grants(alloc, &standing, role, table, grants, grant);
+    drop(standing);
+    made
 }
 
+#[tactic(auto, unfolding(crate::specs::Granting::grants_made))]
 fn make_grants(
     alloc: Global,
     standing: &Standing,
     role: &Name,
     table: &TableDef,
-    grants: Items<Grant>,
+    grants: &[Grant],
     grant: &GrantPrivileges,
 ) -> Result<Effect, Refusal>
-    ensures { GivesEffect result (grants_made standing.now role.now table.now grants grant.now) }
+    ensures { Gives result (grants_made standing.now role.now table.now grants.now grant.now) }
 {
     let named = named_privileges(alloc, &grant.privileges)?;
-    let grantors = grantors_of(
-        alloc,
-        standing,
-        role,
-        &grant.table,
-        table,
-        grants.as_slice(),
-        &named,
-    )?;
-    let new = new_grants(alloc, grantors.as_slice(), grant.to.as_slice())?;
-    let grants = put_grants(grants, new)?;
-    Ok(Effect::changed(alloc, Change::Grants(grant.table.copy()?, grants))?)
+    let grantors = grantors_of(alloc, standing, role, &grant.table, table, grants, &named)?;
+    Ok(granted(alloc, grantors, grants, grant)?)
+}
+
+fn granted(
+    alloc: Global,
+    grantors: Items<Grantor>,
+    grants: &[Grant],
+    grant: &GrantPrivileges,
+) -> Result<Effect, AllocError>
+    ensures { IfOk result (λ effect. effect ≡ writes (Change.Grants grant.now.table (with_grants grants.now (flat_map (grants_by grant.now.to) grantors)) ∷ [])) }
+{
+    let new = new_grants(alloc, grantors.as_slice(), grant.to.as_slice());
+    drop(grantors);
+    let grants = put_grants(Grant::copy_all(alloc, grants)?, new?)?;
+    Effect::changed(alloc, Change::Grants(grant.table.copy()?, grants))
 }
 
 /// The privileges that are named, in the order in which they are granted.

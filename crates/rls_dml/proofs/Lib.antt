@@ -1,1 +1,3 @@
 pub mod DoubleLemmas
+pub mod ListingLemmas
+pub mod KeyLemmas

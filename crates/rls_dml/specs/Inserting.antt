@@ -27,23 +27,23 @@ use Rattle.rls_catalog.specs.declared.verdict.Verdict.TheVariants as verdict
 use Rattle.rls_catalog.specs.declared.stored.Stored.{Stored}
 use Rattle.rls_catalog.specs.declared.change.Change.{Change}
 use Rattle.rls_catalog.specs.declared.change.Change.TheVariants as change
-use Rattle.rls_catalog.specs.State.{State}
-use Rattle.rls_text.specs.declared.statement.Insert.{Insert}
+use Rattle.rls_statement.specs.declared.statement.Insert.{Insert}
 use Rattle.rls_guard.specs.declared.context.Ctx.{Ctx}
 use Rattle.rls_guard.specs.declared.standing.Standing.{Standing}
 use Rattle.rls_guard.specs.declared.guard.Guard.{Guard}
 use Rattle.rls_guard.specs.declared.reply.Decision.{Decision}
-use Rattle.rls_guard.specs.declared.reply.Reply.TheVariants.{Count, Refused}
-use Rattle.rls_guard.specs.Readings.{Reading, known, followed_by, settled}
+use Rattle.rls_guard.specs.declared.reply.Reply.TheVariants.{Count}
+use Rattle.rls_source.specs.Askings.{Asking, known, followed_by, settled}
 use Rattle.rls_guard.specs.Sequences.{each_of, each_or_refused}
-use Rattle.rls_guard.specs.Asked.{asked_key}
+use Rattle.rls_source.specs.Asked.{asked_key}
 use Rattle.rls_guard.specs.Checks.{table_or_undefined}
 use Rattle.rls_guard.specs.Standings.{standing_of, privilege_or_denied}
 use Rattle.rls_guard.specs.Guards.{guard_for}
 use Rattle.rls_dml.specs.Listings.{decision_by}
 use Rattle.rls_guard.specs.Eval.{value_of, alone}
 use Rattle.rls_guard.specs.Checks.{known_or_undefined}
-use Rattle.rls_guard.specs.Effects.{Meaning, Exactly}
+use Rattle.rls_guard.specs.declared.effect.Effect.{Effect}
+use Rattle.rls_guard.specs.declared.effect.Effect.TheVariants as effect
 
 -- ---- the tuples
 
@@ -133,13 +133,13 @@ is_any [] = false
 is_any (x ∷ xs) = true
 
 -- whether a row has one of the keys
-abbrev pub keys_taken : State → List ℕ → List (List Value) → Reading Bool
-keys_taken s table [] = known (Ok false)
-keys_taken s table (key ∷ keys) = followed_by (asked_key s table key) (λ rows. followed_by (keys_taken s table keys) (λ rest. known (Ok (is_any rows || rest))))
+abbrev pub keys_taken : List ℕ → List (List Value) → Asking Bool
+keys_taken table [] = known (Ok false)
+keys_taken table (key ∷ keys) = followed_by (asked_key table key) (λ rows. followed_by (keys_taken table keys) (λ rest. known (Ok (is_any rows || rest))))
 
 -- no key is that of a row that is there, or of two new ones
-abbrev pub unique_or_refused : State → List ℕ → List (List Value) → Reading (Unit {0})
-unique_or_refused s table keys = followed_by (keys_taken s table keys) (λ taken. known (if taken || has_doubles keys then Err (Unique table) else Ok tt))
+abbrev pub unique_or_refused : List ℕ → List (List Value) → Asking (Unit {0})
+unique_or_refused table keys = followed_by (keys_taken table keys) (λ taken. known (if taken || has_doubles keys then Err (Unique table) else Ok tt))
 
 -- the keys that have to be unique
 abbrev pub keys_of : List Stored → List (List Value)
@@ -150,12 +150,12 @@ abbrev pub stored_has_values : List Column → Stored → Result (Unit {0}) Refu
 stored_has_values columns stored = row_has_values columns stored.row
 
 -- NOT NULL, then the primary key
-abbrev pub constraints_or_refused : State → List ℕ → List Column → List Stored → Reading (Unit {0})
-constraints_or_refused s table columns rows = followed_by (known (each_or_refused (stored_has_values columns) rows)) (λ _. unique_or_refused s table (keys_of rows))
+unfoldable pub constraints_or_refused : List ℕ → List Column → List Stored → Asking (Unit {0})
+constraints_or_refused table columns rows = followed_by (known (each_or_refused (stored_has_values columns) rows)) (λ _. unique_or_refused table (keys_of rows))
 
 -- row security comes first
-abbrev pub rows_or_refused : State → List ℕ → List Column → List Decision → List Stored → Reading (Unit {0})
-rows_or_refused s table columns decisions rows = followed_by (known (each_or_refused (allowed_or_denied table) decisions)) (λ _. constraints_or_refused s table columns rows)
+unfoldable pub rows_or_refused : List ℕ → List Column → List Decision → List Stored → Asking (Unit {0})
+rows_or_refused table columns decisions rows = followed_by (known (each_or_refused (allowed_or_denied table) decisions)) (λ _. constraints_or_refused table columns rows)
 
 -- ---- the statement
 
@@ -164,28 +164,32 @@ abbrev pub inserted_row : List ℕ → Stored → Change
 inserted_row table stored = change.Row (record { table = table; id = stored.id; before = None; after = Some (record { key = stored.key; row = stored.row }) })
 
 -- the decisions stand also where the rows are refused
-abbrev pub inserted : List ℕ → List Decision → List Stored → Result (Unit {0}) Refusal → Meaning
-inserted table decisions rows (Ok _) = Exactly (record { reply = Count (length rows); decisions = decisions; delta = map (inserted_row table) rows })
-inserted table decisions rows (Err refusal) = Exactly (record { reply = Refused refusal; decisions = decisions; delta = [] })
+abbrev pub inserted : List ℕ → List Decision → List Stored → Result (Unit {0}) Refusal → Effect
+inserted table decisions rows (Ok _) = effect.Done (Count (length rows)) decisions (map (inserted_row table) rows) None
+inserted table decisions rows (Err refusal) = effect.Refused refusal decisions
 
 -- each new row is judged, and then all are put in or none
-abbrev pub insert_rows : State → List ℕ → List ℕ → TableDef → Guard → List Stored → Reading Meaning
-insert_rows s role name table guard rows =
+unfoldable pub insert_rows : List ℕ → List ℕ → TableDef → Guard → List Stored → Asking Effect
+insert_rows role name table guard rows =
     let decisions = map (decision_by side.New kind.Insert guard role) rows in
-    settled (rows_or_refused s name table.columns decisions rows) (inserted name decisions rows)
+    settled (rows_or_refused name table.columns decisions rows) (inserted name decisions rows)
 
 -- the privilege, then the ranges
-abbrev pub insert_guarded : State → Ctx → List ℕ → TableDef → Standing → Guard → List (List Value) → Reading Meaning
-insert_guarded s ctx name table standing guard rows = followed_by (privilege_or_denied s standing privilege.Insert name) (λ _.
+unfoldable pub insert_guarded : Ctx → List ℕ → TableDef → Standing → Guard → List (List Value) → Asking Effect
+insert_guarded ctx name table standing guard rows = followed_by (privilege_or_denied standing privilege.Insert name) (λ _.
     followed_by (known (each_or_refused (row_in_range table.columns) rows)) (λ _.
-    insert_rows s ctx.role name table guard (numbered table.key ctx.txn ctx.next rows)))
+    insert_rows ctx.role name table guard (numbered table.key ctx.txn ctx.next rows)))
 
--- who the role is, and what guards the new rows from it
-abbrev pub insert_into : State → Ctx → List ℕ → TableDef → List (List Value) → Reading Meaning
-insert_into s ctx name table rows = followed_by (standing_of s ctx.role) (λ standing.
-    followed_by (guard_for s standing name table kind.Insert side.New) (λ guard. insert_guarded s ctx name table standing guard rows))
+-- what guards the new rows from the role
+unfoldable pub insert_as : Ctx → List ℕ → TableDef → Standing → List (List Value) → Asking Effect
+insert_as ctx name table standing rows =
+    followed_by (guard_for standing name table kind.Insert side.New) (λ guard. insert_guarded ctx name table standing guard rows)
+
+-- who the role is
+unfoldable pub insert_into : Ctx → List ℕ → TableDef → List (List Value) → Asking Effect
+insert_into ctx name table rows = followed_by (standing_of ctx.role) (λ standing. insert_as ctx name table standing rows)
 
 -- the table has to be there, and its new rows to be right
-abbrev pub insert : State → Ctx → Insert → Reading Meaning
-insert s ctx asked = followed_by (table_or_undefined s asked.table) (λ table.
-    followed_by (known (new_rows ctx table.columns asked.tuples)) (λ rows. insert_into s ctx asked.table table rows))
+abbrev pub insert : Ctx → Insert → Asking Effect
+insert ctx asked = followed_by (table_or_undefined asked.table) (λ table.
+    followed_by (known (new_rows ctx table.columns asked.tuples)) (λ rows. insert_into ctx asked.table table rows))

@@ -1,9 +1,12 @@
 -- The rows that a SELECT lists, and the decisions on the way.
-use Rattle.std.specs.Prelude.{ℕ, List, Bool, true, ◌&&◌, Option, Some, None, map, filter}
+use Rattle.std.specs.Prelude.{ℕ, List, [], ◌∷◌, Bool, true, ◌&&◌, Option, Some, None, map, filter, if◌then◌else◌}
+use Rattle.std.specs.Cmp.Lexicographic.{slice_cmp}
+use Rattle.std.specs.Ordering.{is_lt}
 use Rattle.rls_value.specs.declared.value.Value.{Value}
 use Rattle.rls_value.specs.declared.verb.Kind.{Kind}
 use Rattle.rls_value.specs.declared.verb.Kind.TheVariants as kind
 use Rattle.rls_value.specs.Truths.{is_true}
+use Rattle.rls_value.specs.Values.{listed}
 use Rattle.rls_expr.specs.Terms.{Term}
 use Rattle.rls_catalog.specs.declared.verdict.Side.{Side}
 use Rattle.rls_catalog.specs.declared.verdict.Side.TheVariants as side
@@ -40,3 +43,13 @@ decision_on = decision_by side.Old kind.Select
 -- the values selected of the rows that are hit, in the rows' own order
 abbrev pub hits : Guard → Query → List ℕ → List Stored → List (List Value)
 hits guard query user candidates = map (λ stored. selected query.items user stored.row) (filter (λ stored. is_hit guard query.condition user stored.row) candidates)
+
+-- the row in its place among others that are in listing order
+abbrev pub put_listed : List Value → List (List Value) → List (List Value)
+put_listed row [] = row ∷ []
+put_listed row (other ∷ rows) = if is_lt (slice_cmp listed other row) then other ∷ put_listed row rows else row ∷ other ∷ rows
+
+-- the rows in listing order
+abbrev pub listing : List (List Value) → List (List Value)
+listing [] = []
+listing (row ∷ rows) = put_listed row (listing rows)

@@ -10,22 +10,23 @@ use Rattle.rls_expr.specs.Terms.{Term}
 use Rattle.rls_expr.specs.Typing.{checked, condition_checked}
 use Rattle.rls_catalog.specs.declared.verdict.Side.TheVariants as side
 use Rattle.rls_catalog.specs.declared.stored.Stored.{Stored}
-use Rattle.rls_catalog.specs.State.{State}
-use Rattle.rls_text.specs.declared.statement.Select.{Select}
-use Rattle.rls_text.specs.declared.statement.Selected.{Selected}
-use Rattle.rls_text.specs.declared.statement.Selected.TheVariants as selected
+use Rattle.rls_statement.specs.declared.statement.Select.{Select}
+use Rattle.rls_statement.specs.declared.statement.Selected.{Selected}
+use Rattle.rls_statement.specs.declared.statement.Selected.TheVariants as selected
 use Rattle.rls_guard.specs.declared.context.Ctx.{Ctx}
 use Rattle.rls_guard.specs.declared.standing.Standing.{Standing}
 use Rattle.rls_guard.specs.declared.guard.Guard.{Guard}
 use Rattle.rls_dml.specs.declared.selecting.Query.{Query}
-use Rattle.rls_guard.specs.Readings.{Reading, known, followed_by}
+use Rattle.rls_source.specs.Askings.{Asking, known, followed_by}
 use Rattle.rls_guard.specs.Sequences.{each_of}
-use Rattle.rls_guard.specs.Asked.{asked_rows}
+use Rattle.rls_source.specs.Asked.{asked_rows}
 use Rattle.rls_guard.specs.Checks.{table_or_undefined}
 use Rattle.rls_guard.specs.Standings.{standing_of, privilege_or_denied}
 use Rattle.rls_guard.specs.Guards.{guard_for}
-use Rattle.rls_dml.specs.Listings.{hits, decision_on}
-use Rattle.rls_guard.specs.Effects.{Meaning, Listing}
+use Rattle.rls_dml.specs.Listings.{hits, decision_on, listing}
+use Rattle.rls_guard.specs.declared.effect.Effect.{Effect}
+use Rattle.rls_guard.specs.declared.effect.Effect.TheVariants as effect
+use Rattle.rls_guard.specs.declared.reply.Reply.TheVariants.{Rows}
 
 -- an item, once it is checked
 abbrev pub item_of : List TableDef → Term → Result Term Refusal
@@ -47,20 +48,24 @@ query_of select table = and_then (selection_of select.items (table ∷ [])) (λ 
     and_then (where_of select.condition (table ∷ [])) (λ condition. Ok (record { items = items; condition = condition })))
 
 -- the rows that are allowed and meet the condition, and the decision on each row
-abbrev pub listed_by : Guard → Query → List ℕ → List Stored → Meaning
-listed_by guard query role candidates = Listing (hits guard query role candidates) (map (decision_on guard role) candidates)
+abbrev pub listed_by : Guard → Query → List ℕ → List Stored → Effect
+listed_by guard query role candidates = effect.Done (Rows (listing (hits guard query role candidates))) (map (decision_on guard role) candidates) [] None
 
 -- the rows, where the role may read the table
-abbrev pub listed_for : State → Standing → Guard → Query → List ℕ → List ℕ → Reading Meaning
-listed_for s standing guard query role name = followed_by (privilege_or_denied s standing privilege.Select name) (λ _.
-    followed_by (asked_rows s name) (λ candidates. known (Ok (listed_by guard query role candidates))))
+unfoldable pub listed_for : Standing → Guard → Query → List ℕ → List ℕ → Asking Effect
+listed_for standing guard query role name = followed_by (privilege_or_denied standing privilege.Select name) (λ _.
+    followed_by (asked_rows name) (λ candidates. known (Ok (listed_by guard query role candidates))))
 
--- who the role is, what guards the rows from it, and the rows
-abbrev pub select_from : State → List ℕ → List ℕ → TableDef → Query → Reading Meaning
-select_from s role name table query = followed_by (standing_of s role) (λ standing.
-    followed_by (guard_for s standing name table kind.Select side.Old) (λ guard. listed_for s standing guard query role name))
+-- what guards the rows from the role, and the rows
+unfoldable pub select_as : Standing → List ℕ → List ℕ → TableDef → Query → Asking Effect
+select_as standing role name table query =
+    followed_by (guard_for standing name table kind.Select side.Old) (λ guard. listed_for standing guard query role name)
+
+-- who the role is, and the rows
+unfoldable pub select_from : List ℕ → List ℕ → TableDef → Query → Asking Effect
+select_from role name table query = followed_by (standing_of role) (λ standing. select_as standing role name table query)
 
 -- the table has to be there, the query's names and types to be right
-abbrev pub select : State → Ctx → Select → Reading Meaning
-select s ctx asked = followed_by (table_or_undefined s asked.table) (λ table.
-    followed_by (known (query_of asked table)) (λ query. select_from s ctx.role asked.table table query))
+abbrev pub select : Ctx → Select → Asking Effect
+select ctx asked = followed_by (table_or_undefined asked.table) (λ table.
+    followed_by (known (query_of asked table)) (λ query. select_from ctx.role asked.table table query))

@@ -1,40 +1,39 @@
 //! INSERT.
 
-ghost use Rattle.std.specs.Prelude.{◌≡◌, ◌+◌, ◌≤◌, ◌++◌, length, map, IfOk, OnOk};
-ghost use Rattle.rls_value.specs.Giving.{Gives, UnlessNoMemory};
-ghost use Rattle.rls_guard.specs.Effects.{GivesEffect, Shows};
-ghost use Rattle.rls_dml.specs.Listings.{decision_by};
+ghost use Rattle.std.specs.Prelude.{◌≡◌, ◌+◌, ◌≤◌, None, length, map, IfOk, OnOk};
+ghost use Rattle.rls_value.specs.Giving.{Gives};
+ghost use Rattle.rls_source.specs.Answering.{Answers, Tells};
 ghost use Rattle.rls_guard.specs.Sequences.{each_or_refused};
 ghost use Rattle.rls_dml.specs.Inserting as spec;
+ghost use Rattle.rls_dml.specs.Listings.{decision_by};
 
 use crate::keys::{key_at, require_unique};
 use crate::tuples::{check_tuples, require_range, require_values, rows_of};
 use rls_catalog::{Change, Delta, Keyed, RowChange, Side, Stored, Verdict};
 use rls_expr::{Column, Expr, FromTable};
 use rls_guard::{
-    Ctx, Decision, Effect, Guard, Reply, Standing, guard_of, standing_of, table_named, verdict_on,
+    Ctx, Decision, Effect, Guard, Judgement, Reply, Standing, guard_of, standing_of, table_named,
+    verdict_on,
 };
 use rls_source::{Reads, RowSource};
-use rls_text::Insert;
+use rls_statement::Insert;
 use rls_value::{Items, Kind, Limit, Name, Privilege, Refusal, Row, RowId, Why};
 use std::alloc::{AllocError, Global};
 
 /// Adds the rows of the tuples.
-pub fn run_insert<S: RowSource>(
+pub fn run_insert<'c, S: RowSource<'c>>(
     alloc: Global,
     source: &mut S,
     notes: &mut Reads,
     ctx: &Ctx,
     insert: &Insert,
 ) -> Result<Effect, Refusal>
-    ensures effect { GivesEffect result (spec.insert (S.state source.old) ctx.now insert.now).gives }
-    ensures noted { UnlessNoMemory result (notes.new ≡ notes.old ++ (spec.insert (S.state source.old) ctx.now insert.now).reads) }
-    ensures state { S.state source.new ≡ S.state source.old }
+    ensures { Answers S.state S.after (spec.insert ctx.now insert.now) source.old source.new notes.old notes.new result }
 {
     let table = table_named(alloc, source, notes, &insert.table)?;
     let from = FromTable {
         name: &insert.table,
-        table: &table,
+        table,
     };
     let rows = new_rows(
         alloc,
@@ -72,7 +71,9 @@ fn require_room(next: u32, count: usize) -> Result<(), Refusal>
     }
 }
 
-fn insert_into<'x, S: RowSource>(
+/// Who the role is, and then the rows.
+#[tactic(auto, unfolding(crate::specs::Inserting::insert_into))]
+fn insert_into<'c, 'x, S: RowSource<'c>>(
     alloc: Global,
     source: &mut S,
     notes: &mut Reads,
@@ -81,43 +82,61 @@ fn insert_into<'x, S: RowSource>(
     rows: Vec<Row>,
 ) -> Result<Effect, Refusal>
     requires { ctx.now.next + length rows.items ≤ 4294967295 }
-    ensures effect { GivesEffect result (spec.insert_into (S.state source.old) ctx.now from.entry.name.now from.entry.table.now rows.items).gives }
-    ensures noted { UnlessNoMemory result (notes.new ≡ notes.old ++ (spec.insert_into (S.state source.old) ctx.now from.entry.name.now from.entry.table.now rows.items).reads) }
-    ensures state { S.state source.new ≡ S.state source.old }
+    ensures { Answers S.state S.after (spec.insert_into ctx.now from.entry.name.now from.entry.table.now rows.items) source.old source.new notes.old notes.new result }
 {
     let standing = standing_of(alloc, source, notes, &ctx.role)?;
-    let guard = guard_of(
-        alloc,
-        source,
-        notes,
-        &standing,
-        from,
-        Kind::Insert,
-        Side::New,
-    )?;
-    insert_guarded(alloc, source, notes, ctx, from, &standing, &guard, rows)
+    let inserted = insert_as(alloc, source, notes, ctx, from, &standing, rows);
+    drop(standing);
+    inserted
 }
 
-fn insert_guarded<'x, S: RowSource>(
+/// What guards the new rows from the role, and then the rows.
+#[tactic(auto, unfolding(crate::specs::Inserting::insert_as))]
+fn insert_as<'c, 'x, S: RowSource<'c>>(
     alloc: Global,
     source: &mut S,
     notes: &mut Reads,
     ctx: &Ctx,
     from: FromTable<'x>,
     standing: &Standing,
-    guard: &Guard,
     rows: Vec<Row>,
 ) -> Result<Effect, Refusal>
     requires { ctx.now.next + length rows.items ≤ 4294967295 }
-    ensures effect { GivesEffect result (spec.insert_guarded (S.state source.old) ctx.now from.entry.name.now from.entry.table.now standing.now guard.now rows.items).gives }
-    ensures noted { UnlessNoMemory result (notes.new ≡ notes.old ++ (spec.insert_guarded (S.state source.old) ctx.now from.entry.name.now from.entry.table.now standing.now guard.now rows.items).reads) }
-    ensures state { S.state source.new ≡ S.state source.old }
+    ensures { Answers S.state S.after (spec.insert_as ctx.now from.entry.name.now from.entry.table.now standing.now rows.items) source.old source.new notes.old notes.new result }
+{
+    let guard = guard_of(
+        alloc,
+        source,
+        notes,
+        standing,
+        from,
+        Kind::Insert,
+        Side::New,
+    )?;
+    let inserted = insert_guarded(alloc, source, notes, ctx, from, standing, &guard, rows);
+    drop(guard);
+    inserted
+}
+
+/// The privilege, the ranges, and then the rows.
+#[tactic(auto, unfolding(crate::specs::Inserting::insert_guarded))]
+fn insert_guarded<'c, 'x, S: RowSource<'c>>(
+    alloc: Global,
+    source: &mut S,
+    notes: &mut Reads,
+    ctx: &Ctx,
+    from: FromTable<'x>,
+    standing: &Standing,
+    guard: &Guard<'c>,
+    rows: Vec<Row>,
+) -> Result<Effect, Refusal>
+    requires { ctx.now.next + length rows.items ≤ 4294967295 }
+    ensures { Answers S.state S.after (spec.insert_guarded ctx.now from.entry.name.now from.entry.table.now standing.now guard.now rows.items) source.old source.new notes.old notes.new result }
 {
     standing.require_privilege(alloc, source, notes, Privilege::Insert, from.name)?;
     require_range(&rows, from.table.columns.as_slice())?;
     let rows = numbered(alloc, ctx, from.table.key.as_slice(), rows)?;
-    let effect = insert_rows(alloc, source, notes, &ctx.role, from, guard, rows)?;
-    Ok(effect)
+    Ok(insert_rows(alloc, source, notes, &ctx.role, from, guard, rows)?)
 }
 
 /// The rows with their keys, numbered on from the transaction's next.
@@ -142,18 +161,17 @@ fn numbered(
 }
 
 /// Each new row is judged, and then all are put in or none.
-fn insert_rows<'x, S: RowSource>(
+#[tactic(auto, unfolding(crate::specs::Inserting::insert_rows))]
+fn insert_rows<'c, 'x, S: RowSource<'c>>(
     alloc: Global,
     source: &mut S,
     notes: &mut Reads,
     role: &Name,
     from: FromTable<'x>,
-    guard: &Guard,
+    guard: &Guard<'c>,
     rows: Items<Stored>,
 ) -> Result<Effect, AllocError>
-    ensures effect { IfOk result (λ effect. Shows effect (spec.insert_rows (S.state source.old) role.now from.entry.name.now from.entry.table.now guard.now rows).gives) }
-    ensures noted { OnOk result (notes.new ≡ notes.old ++ (spec.insert_rows (S.state source.old) role.now from.entry.name.now from.entry.table.now guard.now rows).reads) }
-    ensures state { S.state source.new ≡ S.state source.old }
+    ensures { Tells S.state S.after (spec.insert_rows role.now from.entry.name.now from.entry.table.now guard.now rows) source.old source.new notes.old notes.new result }
 {
     let decisions = judge(alloc, guard, role, rows.as_slice())?;
     match require_rows(
@@ -164,30 +182,31 @@ fn insert_rows<'x, S: RowSource>(
         decisions.as_slice(),
         rows.as_slice(),
     ) {
-        Ok(()) => inserted(alloc, from.name, rows.as_slice(), decisions),
+        Ok(()) => inserted(alloc, from.name, rows, decisions),
         Err(Refusal::NoMemory) => Err(AllocError),
-        Err(refusal) => Ok(Effect::judged(alloc, Reply::Refused(refusal), decisions)),
+        Err(refusal) => Ok(Effect::Refused(refusal, decisions)),
     }
 }
 
-fn judge(
+fn judge<'c>(
     alloc: Global,
-    guard: &Guard,
+    guard: &Guard<'c>,
     role: &Name,
     rows: &[Stored],
 ) -> Result<Items<Decision>, AllocError>
     ensures { IfOk result (λ decisions. decisions ≡ map (decision_by Side.New Kind.Insert guard.now role.now) rows.now) }
 {
-    let mut decisions = Items::new(alloc);
+    let mut decisions = Vec::with_capacity(alloc, rows.len())?;
+    let mut judgements = Vec::new(alloc);
     for stored in rows {
-        decisions.push(decision_on(alloc, guard, role, stored)?)?;
+        decisions.push(decision_on(&mut judgements, guard, role, stored)?)?;
     }
-    Ok(decisions)
+    Ok(Items::from_vec(decisions))
 }
 
-fn decision_on(
-    alloc: Global,
-    guard: &Guard,
+fn decision_on<'c>(
+    judgements: &mut Vec<Judgement<'c>>,
+    guard: &Guard<'c>,
     role: &Name,
     stored: &Stored,
 ) -> Result<Decision, AllocError>
@@ -197,12 +216,13 @@ fn decision_on(
         id: stored.id,
         side: Side::New,
         kind: Kind::Insert,
-        verdict: verdict_on(alloc, guard, role, &stored.row)?,
+        verdict: verdict_on(judgements, guard, role, &stored.row)?,
     })
 }
 
 /// The first denied row, then the first null where none may be, then a key that is taken.
-fn require_rows<'x, S: RowSource>(
+#[tactic(auto, unfolding(crate::specs::Inserting::rows_or_refused))]
+fn require_rows<'c, 'x, S: RowSource<'c>>(
     alloc: Global,
     source: &mut S,
     notes: &mut Reads,
@@ -210,25 +230,22 @@ fn require_rows<'x, S: RowSource>(
     decisions: &[Decision],
     rows: &[Stored],
 ) -> Result<(), Refusal>
-    ensures given { Gives result (spec.rows_or_refused (S.state source.old) from.entry.name.now from.entry.table.now.columns decisions.now rows.now).gives }
-    ensures noted { UnlessNoMemory result (notes.new ≡ notes.old ++ (spec.rows_or_refused (S.state source.old) from.entry.name.now from.entry.table.now.columns decisions.now rows.now).reads) }
-    ensures state { S.state source.new ≡ S.state source.old }
+    ensures { Answers S.state S.after (spec.rows_or_refused from.entry.name.now from.entry.table.now.columns decisions.now rows.now) source.old source.new notes.old notes.new result }
 {
     require_allowed(from.name, decisions)?;
     require_constraints(alloc, source, notes, from, rows)
 }
 
 /// The first null where none may be, then a key that is taken.
-fn require_constraints<'x, S: RowSource>(
+#[tactic(auto, unfolding(crate::specs::Inserting::constraints_or_refused))]
+fn require_constraints<'c, 'x, S: RowSource<'c>>(
     alloc: Global,
     source: &mut S,
     notes: &mut Reads,
     from: FromTable<'x>,
     rows: &[Stored],
 ) -> Result<(), Refusal>
-    ensures given { Gives result (spec.constraints_or_refused (S.state source.old) from.entry.name.now from.entry.table.now.columns rows.now).gives }
-    ensures noted { UnlessNoMemory result (notes.new ≡ notes.old ++ (spec.constraints_or_refused (S.state source.old) from.entry.name.now from.entry.table.now.columns rows.now).reads) }
-    ensures state { S.state source.new ≡ S.state source.old }
+    ensures { Answers S.state S.after (spec.constraints_or_refused from.entry.name.now from.entry.table.now.columns rows.now) source.old source.new notes.old notes.new result }
 {
     require_values(rows, from.table.columns.as_slice())?;
     require_unique(alloc, source, notes, from.name, rows)
@@ -259,36 +276,50 @@ fn require_verdict(table: &Name, decision: &Decision) -> Result<(), Refusal>
     }
 }
 
+/// The new rows go over into the changes.
 fn inserted(
     alloc: Global,
     table: &Name,
-    rows: &[Stored],
+    rows: Items<Stored>,
     decisions: Items<Decision>,
 ) -> Result<Effect, AllocError>
-    ensures { IfOk result (λ effect. effect ≡ record { reply = Reply.Count (length rows.now); decisions = decisions; delta = map (spec.inserted_row table.now) rows.now }) }
+    ensures { IfOk result (λ effect. effect ≡ Effect.Done (Reply.Count (length rows)) decisions (map (spec.inserted_row table.now) rows) None) }
+{
+    let count = rows.len() as u64;
+    match put_in(alloc, table, rows.into_vec()) {
+        Ok(delta) => Ok(Effect::Done(Reply::Count(count), decisions, delta, None)),
+        Err(refused) => {
+            drop(decisions);
+            Err(refused)
+        }
+    }
+}
+
+fn put_in(alloc: Global, table: &Name, rows: Vec<Stored>) -> Result<Delta, AllocError>
+    ensures { IfOk result (λ delta. delta ≡ map (spec.inserted_row table.now) rows.items) }
 {
     let mut delta = Delta::new(alloc);
     for stored in rows {
-        delta.push(inserted_row(alloc, table, stored)?)?;
+        delta.push(inserted_row(table, stored)?)?;
     }
-    Ok(Effect {
-        reply: Reply::Count(rows.len() as u64),
-        decisions,
-        delta,
-    })
+    Ok(delta)
 }
 
-fn inserted_row(alloc: Global, table: &Name, stored: &Stored) -> Result<Change, AllocError>
-    ensures { IfOk result (λ change. change ≡ spec.inserted_row table.now stored.now) }
+fn inserted_row(table: &Name, stored: Stored) -> Result<Change, AllocError>
+    ensures { IfOk result (λ change. change ≡ spec.inserted_row table.now stored) }
 {
-    let after = Keyed {
-        key: stored.key.copy(alloc)?,
-        row: stored.row.copy(alloc)?,
-    };
-    Ok(Change::Row(RowChange {
-        table: table.copy()?,
-        id: stored.id,
-        before: None,
-        after: Some(after),
-    }))
+    let Stored { id, key, row } = stored;
+    let after = Keyed { key, row };
+    match table.copy() {
+        Ok(table) => Ok(Change::Row(RowChange {
+            table,
+            id,
+            before: None,
+            after: Some(after),
+        })),
+        Err(refused) => {
+            drop(after);
+            Err(refused)
+        }
+    }
 }

@@ -1,15 +1,14 @@
 //! The primary keys of new rows.
 
-ghost use Rattle.std.specs.Prelude.{◌≡◌, ◌++◌, Ok, map, IfOk, OnOk};
+ghost use Rattle.std.specs.Prelude.{◌≡◌, map, IfOk};
 ghost use Rattle.std.specs.List.{list_any};
 ghost use Rattle.rls_value.specs.Values.{is_null};
-ghost use Rattle.rls_value.specs.Giving.{Gives, UnlessNoMemory};
+ghost use Rattle.rls_source.specs.Answering.{Answers, Tells};
 ghost use Rattle.rls_dml.specs.Inserting as spec;
 ghost use Rattle.rls_dml.specs.Inserting.{unique_or_refused, keys_taken, has_doubles};
 
-use rls_catalog::Stored;
-use rls_guard::noted_key;
-use rls_source::{Reads, RowSource};
+use rls_catalog::{Lent, Stored};
+use rls_source::{Reads, RowSource, noted_key};
 use rls_value::{Name, Refusal, Row, Value};
 use std::alloc::{AllocError, Global};
 use std::collections::BTreeSet;
@@ -26,16 +25,14 @@ pub fn key_at(alloc: Global, places: &[usize], row: &Row) -> Result<Row, AllocEr
 }
 
 /// Refused where a key is that of a row that is there, or of two new rows. A key with a null is nobody's.
-pub fn require_unique<S: RowSource>(
+pub fn require_unique<'c, S: RowSource<'c>>(
     alloc: Global,
     source: &mut S,
     notes: &mut Reads,
     name: &Name,
     rows: &[Stored],
 ) -> Result<(), Refusal>
-    ensures given { Gives result (unique_or_refused (S.state source.old) name.now (spec.keys_of rows.now)).gives }
-    ensures noted { UnlessNoMemory result (notes.new ≡ notes.old ++ (unique_or_refused (S.state source.old) name.now (spec.keys_of rows.now)).reads) }
-    ensures state { S.state source.new ≡ S.state source.old }
+    ensures { Answers S.state S.after (unique_or_refused name.now (spec.keys_of rows.now)) source.old source.new notes.old notes.new result }
 {
     let keys = whole_keys(alloc, rows)?;
     let taken = are_taken(alloc, source, notes, name, &keys)?;
@@ -75,16 +72,14 @@ fn have_null(values: &[Value]) -> bool
 }
 
 /// Whether a row of the table has one of the keys. All are looked up.
-fn are_taken<S: RowSource>(
+fn are_taken<'c, S: RowSource<'c>>(
     alloc: Global,
     source: &mut S,
     notes: &mut Reads,
     name: &Name,
     keys: &[Row],
 ) -> Result<bool, AllocError>
-    ensures given { IfOk result (λ taken. (keys_taken (S.state source.old) name.now keys.now).gives ≡ Ok taken) }
-    ensures noted { OnOk result (notes.new ≡ notes.old ++ (keys_taken (S.state source.old) name.now keys.now).reads) }
-    ensures state { S.state source.new ≡ S.state source.old }
+    ensures { Tells S.state S.after (keys_taken name.now keys.now) source.old source.new notes.old notes.new result }
 {
     let mut taken = false;
     for key in keys {
@@ -94,7 +89,7 @@ fn are_taken<S: RowSource>(
     Ok(taken)
 }
 
-fn is_any(rows: &[Stored]) -> bool
+fn is_any(rows: &[Lent<'_>]) -> bool
     ensures { result ≡ spec.is_any rows.now }
 {
     match rows {

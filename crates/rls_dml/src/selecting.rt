@@ -1,26 +1,26 @@
 //! SELECT.
 
-ghost use Rattle.std.specs.Prelude.{◌≡◌, ◌&&◌, ◌++◌, map, IfOk};
-ghost use Rattle.rls_value.specs.Giving.{Gives, UnlessNoMemory};
+ghost use Rattle.std.specs.Prelude.{◌≡◌, ◌&&◌, [], None, map, IfOk};
+ghost use Rattle.rls_value.specs.Giving.{Gives};
 ghost use Rattle.rls_expr.specs.Scopes.{tables_in};
+ghost use Rattle.rls_source.specs.Answering.{Answers};
 ghost use Rattle.rls_guard.specs.Eval.{value_of, over};
 ghost use Rattle.rls_guard.specs.Guards as guards;
-ghost use Rattle.rls_dml.specs.Listings as listings;
-ghost use Rattle.rls_dml.specs.Listings.{hits, meets, decision_on};
-ghost use Rattle.rls_guard.specs.Effects.{GivesEffect, IsListed};
 ghost use Rattle.rls_guard.specs.Sequences.{each_of};
+ghost use Rattle.rls_dml.specs.Listings as listings;
+ghost use Rattle.rls_dml.specs.Listings.{meets};
 ghost use Rattle.rls_dml.specs.Selecting as spec;
 ghost use Rattle.rls_dml.specs.Selecting.{selection_of, where_of, query_of};
 
 use crate::listing::listing_of;
-use rls_catalog::{Side, Stored, Verdict};
+use rls_catalog::{Delta, Lent, Side, Verdict};
 use rls_expr::{Expr, FromTable, Scope, check, check_condition};
 use rls_guard::{
-    Ctx, Decision, Effect, Guard, Reply, Standing, allows, guard_of, noted_scan, standing_of,
-    table_named, truth_over, value_over, verdict_on,
+    Ctx, Decision, Effect, Guard, Reply, Standing, allows, guard_of, standing_of, table_named,
+    truth_over, value_over, verdict_on,
 };
-use rls_source::{Reads, RowSource};
-use rls_text::{Select, Selected};
+use rls_source::{Reads, RowSource, noted_scan};
+use rls_statement::{Select, Selected};
 use rls_value::{Items, Kind, Name, Privilege, Refusal, Row, RowId};
 use std::alloc::{AllocError, Global};
 
@@ -32,28 +32,29 @@ pub struct Query {
 }
 
 /// The rows that the role sees and that meet the condition, in listing order.
-pub fn run_select<S: RowSource>(
+pub fn run_select<'c, S: RowSource<'c>>(
     alloc: Global,
     source: &mut S,
     notes: &mut Reads,
     ctx: &Ctx,
     select: &Select,
 ) -> Result<Effect, Refusal>
-    ensures effect { GivesEffect result (spec.select (S.state source.old) ctx.now select.now).gives }
-    ensures noted { UnlessNoMemory result (notes.new ≡ notes.old ++ (spec.select (S.state source.old) ctx.now select.now).reads) }
-    ensures state { S.state source.new ≡ S.state source.old }
+    ensures { Answers S.state S.after (spec.select ctx.now select.now) source.old source.new notes.old notes.new result }
 {
     let table = table_named(alloc, source, notes, &select.table)?;
     let from = FromTable {
         name: &select.table,
-        table: &table,
+        table,
     };
     let query = check_query(alloc, select, from)?;
-    select_from(alloc, source, notes, &ctx.role, from, &query)
+    let listed = select_from(alloc, source, notes, &ctx.role, from, &query);
+    drop(query);
+    listed
 }
 
 /// The standing of the role, what guards the rows from it, and the rows.
-fn select_from<'x, S: RowSource>(
+#[tactic(auto, unfolding(crate::specs::Selecting::select_from))]
+fn select_from<'c, 'x, S: RowSource<'c>>(
     alloc: Global,
     source: &mut S,
     notes: &mut Reads,
@@ -61,39 +62,56 @@ fn select_from<'x, S: RowSource>(
     from: FromTable<'x>,
     query: &Query,
 ) -> Result<Effect, Refusal>
-    ensures effect { GivesEffect result (spec.select_from (S.state source.old) role.now from.entry.name.now from.entry.table.now query.now).gives }
-    ensures noted { UnlessNoMemory result (notes.new ≡ notes.old ++ (spec.select_from (S.state source.old) role.now from.entry.name.now from.entry.table.now query.now).reads) }
-    ensures state { S.state source.new ≡ S.state source.old }
+    ensures { Answers S.state S.after (spec.select_from role.now from.entry.name.now from.entry.table.now query.now) source.old source.new notes.old notes.new result }
 {
     let standing = standing_of(alloc, source, notes, role)?;
-    let guard = guard_of(
-        alloc,
-        source,
-        notes,
-        &standing,
-        from,
-        Kind::Select,
-        Side::Old,
-    )?;
-    list_guarded(
-        alloc, source, notes, &standing, &guard, query, role, from.name,
-    )
+    let listed = select_as(alloc, source, notes, &standing, role, from, query);
+    drop(standing);
+    listed
 }
 
-/// The rows, where the role may read the table.
-fn list_guarded<S: RowSource>(
+/// What guards the rows from the role, and the rows.
+#[tactic(auto, unfolding(crate::specs::Selecting::select_as))]
+fn select_as<'c, 'x, S: RowSource<'c>>(
     alloc: Global,
     source: &mut S,
     notes: &mut Reads,
     standing: &Standing,
-    guard: &Guard,
+    role: &Name,
+    from: FromTable<'x>,
+    query: &Query,
+) -> Result<Effect, Refusal>
+    ensures { Answers S.state S.after (spec.select_as standing.now role.now from.entry.name.now from.entry.table.now query.now) source.old source.new notes.old notes.new result }
+{
+    let guard = guard_of(
+        alloc,
+        source,
+        notes,
+        standing,
+        from,
+        Kind::Select,
+        Side::Old,
+    )?;
+    let listed = list_guarded(
+        alloc, source, notes, standing, &guard, query, role, from.name,
+    );
+    drop(guard);
+    listed
+}
+
+/// The rows, where the role may read the table.
+#[tactic(auto, unfolding(crate::specs::Selecting::listed_for))]
+fn list_guarded<'c, S: RowSource<'c>>(
+    alloc: Global,
+    source: &mut S,
+    notes: &mut Reads,
+    standing: &Standing,
+    guard: &Guard<'c>,
     query: &Query,
     role: &Name,
     name: &Name,
 ) -> Result<Effect, Refusal>
-    ensures effect { GivesEffect result (spec.listed_for (S.state source.old) standing.now guard.now query.now role.now name.now).gives }
-    ensures noted { UnlessNoMemory result (notes.new ≡ notes.old ++ (spec.listed_for (S.state source.old) standing.now guard.now query.now role.now name.now).reads) }
-    ensures state { S.state source.new ≡ S.state source.old }
+    ensures { Answers S.state S.after (spec.listed_for standing.now guard.now query.now role.now name.now) source.old source.new notes.old notes.new result }
 {
     standing.require_privilege(alloc, source, notes, Privilege::Select, name)?;
     let candidates = noted_scan(alloc, source, notes, name)?;
@@ -160,27 +178,47 @@ fn check_item(alloc: Global, item: &Expr, scope: &Scope) -> Result<Expr, Refusal
     Ok(typed.expr)
 }
 
-/// Judges each candidate, and lists those that are allowed and meet the condition.
-fn list(
+/// Judges each candidate, and lists those that are allowed and meet the condition. There is room for each decision
+/// beforehand, and the buffer of judgements serves all rows.
+fn list<'c>(
     alloc: Global,
     query: &Query,
-    guard: &Guard,
+    guard: &Guard<'c>,
     role: &Name,
-    candidates: &[Stored],
+    candidates: &[Lent<'_>],
 ) -> Result<Effect, AllocError>
-    ensures { IfOk result (IsListed (hits guard.now query.now role.now candidates.now) (map (decision_on guard.now role.now) candidates.now)) }
+    ensures { IfOk result (λ effect. effect ≡ spec.listed_by guard.now query.now role.now candidates.now) }
 {
-    let mut decisions = Items::new(alloc);
+    let mut decisions = Vec::with_capacity(alloc, candidates.len())?;
     let mut rows = Vec::new(alloc);
+    let mut judgements = Vec::new(alloc);
     for stored in candidates {
-        let verdict = verdict_on(alloc, guard, role, &stored.row)?;
-        if is_hit(alloc, query, &verdict, role, &stored.row)? {
-            rows.push(selected(alloc, query, role, &stored.row)?)?;
+        let row = stored.row();
+        let verdict = verdict_on(&mut judgements, guard, role, row)?;
+        if is_hit(query, &verdict, role, row) {
+            rows.push(selected(alloc, query, role, row)?)?;
         }
-        decisions.push(decision(stored.id, verdict))?;
+        decisions.push(decision(stored.id(), verdict))?;
     }
-    let listing = listing_of(rows)?;
-    Ok(Effect::judged(alloc, Reply::Rows(listing), decisions))
+    drop(judgements);
+    listed(alloc, rows, decisions)
+}
+
+fn listed(alloc: Global, rows: Vec<Row>, decisions: Vec<Decision>) -> Result<Effect, AllocError>
+    ensures { IfOk result (λ effect. effect ≡ Effect.Done (Reply.Rows (listings.listing rows.items)) decisions.items [] None) }
+{
+    match listing_of(rows) {
+        Ok(rows) => Ok(Effect::Done(
+            Reply::Rows(rows),
+            Items::from_vec(decisions),
+            Delta::new(alloc),
+            None,
+        )),
+        Err(refused) => {
+            drop(decisions);
+            Err(refused)
+        }
+    }
 }
 
 fn decision(id: RowId, verdict: Verdict) -> Decision
@@ -194,24 +232,15 @@ fn decision(id: RowId, verdict: Verdict) -> Decision
     }
 }
 
-fn is_hit(
-    alloc: Global,
-    query: &Query,
-    verdict: &Verdict,
-    role: &Name,
-    row: &Row,
-) -> Result<bool, AllocError>
-    ensures { IfOk result (λ hit. hit ≡ (guards.allows verdict.now && meets query.now.condition role.now row.now)) }
+fn is_hit(query: &Query, verdict: &Verdict, role: &Name, row: &Row) -> bool
+    ensures { result ≡ (guards.allows verdict.now && meets query.now.condition role.now row.now) }
 {
     if !allows(verdict) {
-        return Ok(false);
+        return false;
     }
     match &query.condition {
-        None => Ok(true),
-        Some(condition) => {
-            let truth = truth_over(alloc, condition, role, row)?;
-            Ok(truth.is_true())
-        }
+        None => true,
+        Some(condition) => truth_over(condition, role, row).is_true(),
     }
 }
 

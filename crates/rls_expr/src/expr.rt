@@ -33,7 +33,7 @@ pub enum Node {
 }
 
 /// A comparison operator (PostgreSQL manual, 9.2).
-#[derive(Clone, Copy, Debug, PartialEq, Eq)]
+#[derive(Clone, Copy, PartialEq, Eq)]
 pub enum Comparison {
     Equal,
     NotEqual,
@@ -87,8 +87,8 @@ impl Expr {
             Node::CurrentUser => Node::CurrentUser,
             Node::Compare(how, left, right) => Node::Compare(
                 *how,
-                Box::new(alloc, left.copy(alloc)?)?,
-                Box::new(alloc, right.copy(alloc)?)?,
+                boxed(alloc, left.copy(alloc)?)?,
+                boxed(alloc, right.copy(alloc)?)?,
             ),
             Node::And(parts) => {
                 let mut copies = Vec::with_capacity(alloc, parts.len())?;
@@ -104,10 +104,23 @@ impl Expr {
                 }
                 Node::Or(copies)
             }
-            Node::Not(operand) => Node::Not(Box::new(alloc, operand.copy(alloc)?)?),
-            Node::IsNull(operand) => Node::IsNull(Box::new(alloc, operand.copy(alloc)?)?),
-            Node::IsNotNull(operand) => Node::IsNotNull(Box::new(alloc, operand.copy(alloc)?)?),
+            Node::Not(operand) => Node::Not(boxed(alloc, operand.copy(alloc)?)?),
+            Node::IsNull(operand) => Node::IsNull(boxed(alloc, operand.copy(alloc)?)?),
+            Node::IsNotNull(operand) => Node::IsNotNull(boxed(alloc, operand.copy(alloc)?)?),
         };
         Ok(Expr { node })
+    }
+}
+
+/// The expression on the heap.
+pub(crate) fn boxed(alloc: Global, expr: Expr) -> Result<Box<Expr>, AllocError>
+    ensures { IfOk result (λ boxed. boxed.value ≡ expr) }
+{
+    match Box::new(alloc, expr) {
+        Ok(boxed) => Ok(boxed),
+        Err(refused) => {
+            drop(refused);
+            Err(AllocError)
+        }
     }
 }

@@ -6,7 +6,7 @@ ghost use Rattle.rls_expr.specs.Placing.{placed, placed_all, column_placed};
 ghost use Rattle.rls_expr.specs.Scopes.{tables_in, place_in};
 ghost use Rattle.rls_expr.specs.Terms.{terms_of};
 
-use crate::expr::{Expr, Node};
+use crate::expr::{Expr, Node, boxed};
 use crate::scope::Scope;
 use rls_value::{Items, Name};
 use std::alloc::{AllocError, Global};
@@ -23,18 +23,18 @@ pub fn place_columns(alloc: Global, expr: &Expr, scope: &Scope) -> Result<Expr, 
         Node::Place(out, column) => Node::Place(*out, *column),
         Node::CurrentUser => Node::CurrentUser,
         Node::Compare(how, left, right) => {
-            let left = place_columns(alloc, left, scope)?;
-            let right = place_columns(alloc, right, scope)?;
-            Node::Compare(*how, Box::new(alloc, left)?, Box::new(alloc, right)?)
+            let left = boxed(alloc, place_columns(alloc, left, scope)?)?;
+            let right = boxed(alloc, place_columns(alloc, right, scope)?)?;
+            Node::Compare(*how, left, right)
         }
         Node::And(parts) => Node::And(place_all(alloc, parts, scope)?.into_vec()),
         Node::Or(parts) => Node::Or(place_all(alloc, parts, scope)?.into_vec()),
-        Node::Not(operand) => Node::Not(Box::new(alloc, place_columns(alloc, operand, scope)?)?),
+        Node::Not(operand) => Node::Not(boxed(alloc, place_columns(alloc, operand, scope)?)?),
         Node::IsNull(operand) => {
-            Node::IsNull(Box::new(alloc, place_columns(alloc, operand, scope)?)?)
+            Node::IsNull(boxed(alloc, place_columns(alloc, operand, scope)?)?)
         }
         Node::IsNotNull(operand) => {
-            Node::IsNotNull(Box::new(alloc, place_columns(alloc, operand, scope)?)?)
+            Node::IsNotNull(boxed(alloc, place_columns(alloc, operand, scope)?)?)
         }
     };
     Ok(Expr::new(node))

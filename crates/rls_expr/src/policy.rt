@@ -7,7 +7,7 @@ use rls_value::{Items, Name, PolicyKind};
 use std::alloc::{AllocError, Global};
 
 /// Whom a grant or a policy is for.
-#[derive(Debug, Drop)]
+#[derive(Drop)]
 pub enum Grantee {
     /// Every role.
     Public,

@@ -5,7 +5,7 @@ ghost use Rattle.rls_expr.specs.Resolving.{resolved, resolved_all, ResolvesTo, R
 ghost use Rattle.rls_expr.specs.Scopes.{tables_in};
 ghost use Rattle.rls_expr.specs.Terms.{terms_of};
 
-use crate::expr::{Expr, Node};
+use crate::expr::{Expr, Node, boxed};
 use crate::scope::Scope;
 use rls_value::{Items, NameKind, Refusal};
 use std::alloc::Global;
@@ -24,18 +24,15 @@ pub fn resolve(alloc: Global, expr: &Expr, scope: &Scope) -> Result<Expr, Refusa
         Node::Place(out, column) => Node::Place(*out, *column),
         Node::CurrentUser => Node::CurrentUser,
         Node::Compare(how, left, right) => {
-            let left = resolve(alloc, left, scope)?;
-            let right = resolve(alloc, right, scope)?;
-            Node::Compare(*how, Box::new(alloc, left)?, Box::new(alloc, right)?)
+            let left = boxed(alloc, resolve(alloc, left, scope)?)?;
+            let right = boxed(alloc, resolve(alloc, right, scope)?)?;
+            Node::Compare(*how, left, right)
         }
         Node::And(parts) => Node::And(resolve_all(alloc, parts, scope)?.into_vec()),
         Node::Or(parts) => Node::Or(resolve_all(alloc, parts, scope)?.into_vec()),
-        Node::Not(operand) => Node::Not(Box::new(alloc, resolve(alloc, operand, scope)?)?),
-        Node::IsNull(operand) => Node::IsNull(Box::new(alloc, resolve(alloc, operand, scope)?)?),
-        Node::IsNotNull(operand) => Node::IsNotNull(Box::new(
-            alloc,
-            resolve(alloc, operand, scope)?,
-        )?),
+        Node::Not(operand) => Node::Not(boxed(alloc, resolve(alloc, operand, scope)?)?),
+        Node::IsNull(operand) => Node::IsNull(boxed(alloc, resolve(alloc, operand, scope)?)?),
+        Node::IsNotNull(operand) => Node::IsNotNull(boxed(alloc, resolve(alloc, operand, scope)?)?),
     };
     Ok(Expr::new(node))
 }

@@ -7,7 +7,7 @@ use rls_value::{ColType, Items, Name};
 use std::alloc::{AllocError, Global};
 
 /// A column of a table.
-#[derive(Debug, Drop)]
+#[derive(Drop)]
 pub struct Column {
     pub name: Name,
     pub kind: ColType,
@@ -15,7 +15,7 @@ pub struct Column {
 }
 
 /// What a table is, but for its name.
-#[derive(Debug, Drop)]
+#[derive(Drop)]
 pub struct TableDef {
     pub owner: Name,
     /// Whether row security is on (PostgreSQL manual, ALTER TABLE, "ENABLE ROW LEVEL SECURITY").

@@ -4,6 +4,7 @@ ghost use Rattle.std.specs.Prelude.{◌≡◌, ◌&&◌, IfOk, OnOk};
 ghost use Rattle.std.specs.List.{list_any};
 ghost use Rattle.rls_catalog.specs.Privileges as spec;
 ghost use Rattle.rls_catalog.specs.Privileges.{holds_reads};
+ghost use Rattle.rls_catalog.specs.State.{State, AgreesOn};
 
 use rls_catalog::Grant;
 use rls_role::{Reach, reach_of};
@@ -13,8 +14,9 @@ use std::alloc::{AllocError, Global};
 
 /// Whether the role holds the privilege on the table: it is a superuser, or there is a grant of it to PUBLIC or to a
 /// role whose privileges it has. It reads the role and, unless that is a superuser, each role that it reaches, and the
-/// grants on the table.
-pub fn holds<S: RowSource>(
+/// grants on the table; in every state that agrees on them the answer is the same.
+#[tactic(auto, using(rls_catalog::specs::Frames::holds_frame))]
+pub fn holds<'c, S: RowSource<'c>>(
     alloc: Global,
     source: &mut S,
     role: &Name,
@@ -22,6 +24,7 @@ pub fn holds<S: RowSource>(
     table: &Name,
 ) -> Result<bool, AllocError>
     ensures holds { IfOk result (λ holds. holds ≡ spec.holds (S.state source.old) role.now privilege table.now) }
+    ensures frame { (other : State) → AgreesOn (S.state source.old) other (holds_reads (S.state source.old) role.now table.now) → spec.holds other role.now privilege table.now ≡ spec.holds (S.state source.old) role.now privilege table.now }
     ensures read { OnOk result (source.new ≡ S.after source.old (holds_reads (S.state source.old) role.now table.now)) }
     ensures state { S.state source.new ≡ S.state source.old }
 {
@@ -30,7 +33,7 @@ pub fn holds<S: RowSource>(
         return Ok(true);
     }
     let grants = source.grants(alloc, table)?;
-    Ok(is_granted(grants.as_slice(), privilege, &reach))
+    Ok(is_granted(grants, privilege, &reach))
 }
 
 /// Whether some of the grants is of the privilege and for the role.

@@ -1,8 +1,6 @@
 pub mod Eval
 pub mod Envs
-pub mod Readings
 pub mod Sequences
-pub mod Asked
 pub mod Checks
 pub mod Standings
 pub mod Guards

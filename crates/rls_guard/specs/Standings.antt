@@ -1,5 +1,5 @@
 -- What the current role may do with a table, by its attributes and whose privileges it has.
-use Rattle.std.specs.Prelude.{ℕ, List, [], ◌∷◌, Bool, ◌&&◌, ◌||◌, Result, Ok, Err, if◌then◌else◌}
+use Rattle.std.specs.Prelude.{ℕ, List, ◌∷◌, Bool, ◌&&◌, ◌||◌, Result, Ok, Err, if◌then◌else◌}
 use Rattle.std.specs.List.{list_any}
 use Rattle.rls_value.specs.Names.{one_of}
 use Rattle.rls_value.specs.declared.object.Object.{Object}
@@ -12,21 +12,33 @@ use Rattle.rls_expr.specs.declared.table.TableDef.{TableDef}
 use Rattle.rls_catalog.specs.declared.grant.Grant.{Grant}
 use Rattle.rls_catalog.specs.State.{State}
 use Rattle.rls_catalog.specs.Membership.{attributes_of, walked_by, reach_reads}
+use Rattle.rls_catalog.specs.Frames.{attributes_frame, walked_frame, reach_reads_frame}
 use Rattle.rls_catalog.specs.Privileges.{includes, is_same_privilege}
 use Rattle.rls_guard.specs.declared.standing.Standing.{Standing}
-use Rattle.rls_guard.specs.Readings.{Reading, known, followed_by}
-use Rattle.rls_guard.specs.Asked.{asked_grants}
+use Rattle.rls_source.specs.Askings.{Asking, IsFramed, known, asked_if, followed_by}
+use Rattle.rls_source.specs.Asked.{asked_grants}
 
 -- what tells a role's attributes and whose privileges it has
-abbrev pub standing_reads : State → List ℕ → List Object
+unfoldable pub standing_reads : State → List ℕ → List Object
 standing_reads s role = o.Role role ∷ reach_reads s role
 
 -- the role's attributes, and whose privileges it has
-abbrev pub standing_in : State → List ℕ → Standing
+unfoldable pub standing_in : State → List ℕ → Standing
 standing_in s role = record { attributes = attributes_of s role; reach = record { superuser = (attributes_of s role).superuser; names = walked_by s role } }
 
-abbrev pub standing_of : State → List ℕ → Reading Standing
-standing_of s role = record { gives = Ok (standing_in s role); reads = standing_reads s role }
+pub standing_framed : (role : List ℕ) → IsFramed (λ s. record { gives = Ok (standing_in s role); reads = standing_reads s role })
+unfolding standing_in standing_reads
+standing_framed role s other agrees i = record {
+  gives = Ok (record {
+    attributes = attributes_frame s other role agrees.0 i;
+    reach = record { superuser = (attributes_frame s other role agrees.0 i).superuser; names = walked_frame s other role agrees.1 i };
+  });
+  reads = o.Role role ∷ reach_reads_frame s other role agrees.1 i;
+}
+
+-- who the role is
+abbrev pub standing_of : List ℕ → Asking Standing
+standing_of role = record { in_state = λ s. record { gives = Ok (standing_in s role); reads = standing_reads s role }; framed = standing_framed role }
 
 -- the role has the privileges of the table's owner
 abbrev pub has_owner : Standing → TableDef → Bool
@@ -37,11 +49,15 @@ abbrev pub is_granted : Standing → Privilege → List Grant → Bool
 is_granted standing privilege grants = list_any (λ grant. is_same_privilege grant.privilege privilege && includes standing.reach.superuser standing.reach.names grant.grantee) grants
 
 -- the privilege has to be held: a superuser holds each, another role what is granted to it
-abbrev pub privilege_or_denied : State → Standing → Privilege → List ℕ → Reading (Unit {0})
-privilege_or_denied s standing privilege table =
-    if standing.reach.superuser then known (Ok tt)
-    else followed_by (asked_grants s table) (λ grants. known (if is_granted standing privilege grants then Ok tt else Err (Denied (why.Privilege privilege table))))
+abbrev pub privilege_or_denied : Standing → Privilege → List ℕ → Asking (Unit {0})
+privilege_or_denied standing privilege table =
+    asked_if standing.reach.superuser (known (Ok tt))
+    (followed_by (asked_grants table) (λ grants. known (if is_granted standing privilege grants then Ok tt else Err (Denied (why.Privilege privilege table)))))
 
 -- the role has to have the owner's privileges
 abbrev pub owner_or_denied : Standing → List ℕ → TableDef → Result (Unit {0}) Refusal
 owner_or_denied standing name table = if has_owner standing table then Ok tt else Err (Denied (why.Owner name))
+
+-- to change a table's definition the role has to have its owner's privileges
+unfoldable pub ownership : List ℕ → List ℕ → TableDef → Asking (Unit {0})
+ownership role name table = followed_by (standing_of role) (λ standing. known (owner_or_denied standing name table))

@@ -1,28 +1,25 @@
 //! What a statement asks before it looks at rows: names, privileges, owners.
 
-ghost use Rattle.std.specs.Prelude.{◌≡◌, ◌++◌};
-ghost use Rattle.rls_value.specs.Giving.{Gives, UnlessNoMemory};
+ghost use Rattle.rls_value.specs.Giving.{Gives, lent_now};
 ghost use Rattle.rls_expr.specs.Resolving.{resolved};
 ghost use Rattle.rls_expr.specs.Scopes.{tables_in};
+ghost use Rattle.rls_source.specs.Answering.{Answers};
 ghost use Rattle.rls_guard.specs.Checks.{table_or_undefined, role_or_undefined, grantees_or_undefined, superuser_or_denied, known_or_undefined};
 
-use crate::noted::{noted_role, noted_table};
 use rls_catalog::RoleDef;
 use rls_expr::{Expr, Grantee, Scope, TableDef, resolve};
-use rls_source::{Reads, RowSource};
+use rls_source::{Reads, RowSource, noted_role, noted_table};
 use rls_value::{Name, NameKind, Refusal, Why};
 use std::alloc::Global;
 
 /// The table of that name; undefined where there is none.
-pub fn table_named<S: RowSource>(
+pub fn table_named<'c, S: RowSource<'c>>(
     alloc: Global,
     source: &mut S,
     notes: &mut Reads,
     name: &Name,
-) -> Result<TableDef, Refusal>
-    ensures given { Gives result (table_or_undefined (S.state source.old) name.now).gives }
-    ensures noted { UnlessNoMemory result (notes.new ≡ notes.old ++ (table_or_undefined (S.state source.old) name.now).reads) }
-    ensures state { S.state source.new ≡ S.state source.old }
+) -> Result<&'c TableDef, Refusal>
+    ensures { Answers S.state S.after (table_or_undefined name.now) source.old source.new notes.old notes.new (lent_now result) }
 {
     match noted_table(alloc, source, notes, name)? {
         Some(table) => Ok(table),
@@ -31,15 +28,13 @@ pub fn table_named<S: RowSource>(
 }
 
 /// The first role among the grantees that isn't there is undefined.
-pub fn require_roles<S: RowSource>(
+pub fn require_roles<'c, S: RowSource<'c>>(
     alloc: Global,
     source: &mut S,
     notes: &mut Reads,
     grantees: &[Grantee],
 ) -> Result<(), Refusal>
-    ensures given { Gives result (grantees_or_undefined (S.state source.old) grantees.now).gives }
-    ensures noted { UnlessNoMemory result (notes.new ≡ notes.old ++ (grantees_or_undefined (S.state source.old) grantees.now).reads) }
-    ensures state { S.state source.new ≡ S.state source.old }
+    ensures { Answers S.state S.after (grantees_or_undefined grantees.now) source.old source.new notes.old notes.new result }
 {
     for grantee in grantees {
         if let Grantee::Role(name) = grantee {
@@ -49,15 +44,13 @@ pub fn require_roles<S: RowSource>(
     Ok(())
 }
 
-fn require_role<S: RowSource>(
+fn require_role<'c, S: RowSource<'c>>(
     alloc: Global,
     source: &mut S,
     notes: &mut Reads,
     name: &Name,
-) -> Result<RoleDef, Refusal>
-    ensures given { Gives result (role_or_undefined (S.state source.old) name.now).gives }
-    ensures noted { UnlessNoMemory result (notes.new ≡ notes.old ++ (role_or_undefined (S.state source.old) name.now).reads) }
-    ensures state { S.state source.new ≡ S.state source.old }
+) -> Result<&'c RoleDef, Refusal>
+    ensures { Answers S.state S.after (role_or_undefined name.now) source.old source.new notes.old notes.new (lent_now result) }
 {
     match noted_role(alloc, source, notes, name)? {
         Some(role) => Ok(role),
@@ -66,16 +59,14 @@ fn require_role<S: RowSource>(
 }
 
 /// Denied where the role is no superuser.
-pub fn require_superuser<S: RowSource>(
+pub fn require_superuser<'c, S: RowSource<'c>>(
     alloc: Global,
     source: &mut S,
     notes: &mut Reads,
     role: &Name,
     managed: &Name,
 ) -> Result<(), Refusal>
-    ensures given { Gives result (superuser_or_denied (S.state source.old) role.now managed.now).gives }
-    ensures noted { UnlessNoMemory result (notes.new ≡ notes.old ++ (superuser_or_denied (S.state source.old) role.now managed.now).reads) }
-    ensures state { S.state source.new ≡ S.state source.old }
+    ensures { Answers S.state S.after (superuser_or_denied role.now managed.now) source.old source.new notes.old notes.new result }
 {
     match noted_role(alloc, source, notes, role)? {
         Some(def) if def.superuser => Ok(()),

@@ -3,14 +3,14 @@
 use rls_value::Name;
 
 /// Whether a transaction may write (PostgreSQL manual, SET TRANSACTION).
-#[derive(Clone, Copy, Debug, PartialEq, Eq)]
+#[derive(Clone, Copy, PartialEq, Eq)]
 pub enum Mode {
     Write,
     Read,
 }
 
 /// What a statement is run in.
-#[derive(Debug, Drop)]
+#[derive(Drop)]
 pub struct Ctx {
     /// The transaction's number.
     pub txn: u64,

@@ -1,40 +1,28 @@
-//! What a statement does, before its reads are put beside it.
+//! What a statement comes to, before its reads are put beside it.
 
 ghost use Rattle.std.specs.Prelude.{◌≡◌, [], ◌∷◌, IfOk};
-ghost use Rattle.rls_guard.specs.Effects.{writes, refused_by};
+ghost use Rattle.rls_guard.specs.Effects.{writes};
 
 use crate::reply::{Decision, Reply};
 use rls_catalog::{Change, Delta};
-use rls_value::{Items, Refusal};
+use rls_value::{Items, Name, Refusal};
 use std::alloc::{AllocError, Global};
 
-/// Reply, decisions and changes of a statement.
+/// What a statement comes to.
 #[derive(Drop)]
-pub struct Effect {
-    pub reply: Reply,
-    pub decisions: Items<Decision>,
-    pub delta: Delta,
+pub enum Effect {
+    /// It is done: its reply, the decisions that led to it, its changes, and the role that it sets, if it sets one.
+    Done(Reply, Items<Decision>, Delta, Option<Name>),
+    /// It is refused, after these decisions; nothing changes.
+    Refused(Refusal, Items<Decision>),
 }
 
 impl Effect {
     /// A refusal before any row was judged.
     pub fn refused(alloc: Global, refusal: Refusal) -> Effect
-        ensures { result ≡ refused_by refusal }
+        ensures { result ≡ Effect.Refused refusal [] }
     {
-        Effect::judged(alloc, Reply::Refused(refusal), Items::new(alloc))
-    }
-
-    /// A reply with the decisions that led to it, and no change.
-    pub fn judged(alloc: Global, reply: Reply, decisions: Items<Decision>) -> Effect
-        ensures reply { result.reply ≡ reply }
-        ensures decisions { result.decisions ≡ decisions }
-        ensures delta { result.delta ≡ [] }
-    {
-        Effect {
-            reply,
-            decisions,
-            delta: Delta::new(alloc),
-        }
+        Effect::Refused(refusal, Items::new(alloc))
     }
 
     /// A statement that writes one object and no rows.
@@ -50,10 +38,6 @@ impl Effect {
     pub fn done(alloc: Global, delta: Delta) -> Effect
         ensures { result ≡ writes delta }
     {
-        Effect {
-            reply: Reply::Done,
-            decisions: Items::new(alloc),
-            delta,
-        }
+        Effect::Done(Reply::Done, Items::new(alloc), delta, None)
     }
 }

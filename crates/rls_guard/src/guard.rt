@@ -1,31 +1,31 @@
 //! Row security of one table for one type of command: which policies are asked, and what they say of a row.
 
-ghost use Rattle.std.specs.Prelude.{◌≡◌, [], ◌∷◌, ◌++◌, Ok, map, IfOk, OnOk};
+ghost use Rattle.std.specs.Prelude.{◌≡◌, [], ◌∷◌, map, IfOk, OnOk};
 ghost use Rattle.rls_expr.specs.Placing.{placed};
+ghost use Rattle.rls_source.specs.Answering.{Tells};
 ghost use Rattle.rls_guard.specs.Guards as spec;
 
 use crate::evaluation::truth_over;
-use crate::noted::noted_policies;
 use crate::standing::Standing;
 use rls_catalog::{Side, Verdict};
 use rls_expr::{Expr, FromTable, Policy, Scope, place_columns};
-use rls_policy::{chosen, combine, expression_of};
-use rls_source::{Reads, RowSource};
-use rls_value::{Items, Kind, Name, Row, Truth};
+use rls_policy::{Judgement, chosen, combine, expression_of};
+use rls_source::{Reads, RowSource, noted_policies};
+use rls_value::{Items, Kind, Loan, Name, Row};
 use std::alloc::{AllocError, Global};
 
 /// What guards the rows of a table.
 #[derive(Drop)]
-pub enum Guard {
+pub enum Guard<'c> {
     /// Row security doesn't apply.
     Exempt,
-    /// The policies that apply, and the resolved expression of each.
-    Policies(Items<Policy>, Items<Expr>),
+    /// The policies that apply, each with its condition: the expression that it is asked for, its columns by their places.
+    Policies(Items<(Loan<'c, Policy>, Expr)>),
 }
 
 /// The guard of the table for the role, the type of command and the side of a row. It reads the policies, unless the
 /// role is exempt.
-pub fn guard_of<'x, S: RowSource>(
+pub fn guard_of<'c, 'x, S: RowSource<'c>>(
     alloc: Global,
     source: &mut S,
     notes: &mut Reads,
@@ -33,33 +33,49 @@ pub fn guard_of<'x, S: RowSource>(
     from: FromTable<'x>,
     kind: Kind,
     side: Side,
-) -> Result<Guard, AllocError>
-    ensures given { IfOk result (λ guard. (spec.guard_for (S.state source.old) standing.now from.entry.name.now from.entry.table.now kind side).gives ≡ Ok guard) }
-    ensures noted { OnOk result (notes.new ≡ notes.old ++ (spec.guard_for (S.state source.old) standing.now from.entry.name.now from.entry.table.now kind side).reads) }
-    ensures state { S.state source.new ≡ S.state source.old }
+) -> Result<Guard<'c>, AllocError>
+    ensures { Tells S.state S.after (spec.guard_for standing.now from.entry.name.now from.entry.table.now kind side) source.old source.new notes.old notes.new result }
 {
     if standing.is_exempt(from.table) {
         return Ok(Guard::Exempt);
     }
     let policies = noted_policies(alloc, source, notes, from.name)?;
-    let policies = chosen(policies, &standing.reach, kind, side);
-    let conditions = conditions_of(alloc, policies.as_slice(), from, kind, side)?;
-    Ok(Guard::Policies(policies, conditions))
+    guard_by(alloc, standing, from, kind, side, policies)
 }
 
-fn conditions_of(
+fn guard_by<'c>(
     alloc: Global,
-    policies: &[Policy],
+    standing: &Standing,
     from: FromTable,
     kind: Kind,
     side: Side,
-) -> Result<Items<Expr>, AllocError>
+    policies: &'c [Policy],
+) -> Result<Guard<'c>, AllocError>
+    ensures { IfOk result (λ guard. guard ≡ spec.guard_by standing.now kind side from.entry.table.now policies.now) }
+{
+    let policies = chosen(alloc, policies, &standing.reach, kind, side)?;
+    let conditions = conditions_of(alloc, policies.as_slice(), from, kind, side);
+    drop(policies);
+    match conditions {
+        Ok(conditions) => Ok(Guard::Policies(conditions)),
+        Err(refused) => Err(refused),
+    }
+}
+
+fn conditions_of<'c>(
+    alloc: Global,
+    policies: &[Loan<'c, Policy>],
+    from: FromTable,
+    kind: Kind,
+    side: Side,
+) -> Result<Items<(Loan<'c, Policy>, Expr)>, AllocError>
     ensures { IfOk result (λ conditions. conditions ≡ spec.conditions_of kind side from.entry.table.now policies.now) }
 {
     let mut conditions = Items::new(alloc);
     for policy in policies {
+        let policy = policy.get();
         if let Some(expr) = expression_of(policy, kind, side) {
-            conditions.push(condition_of(alloc, expr, from)?)?;
+            conditions.push((Loan::new(policy), condition_of(alloc, expr, from)?))?;
         }
     }
     Ok(conditions)
@@ -70,14 +86,13 @@ fn condition_of(alloc: Global, expr: &Expr, from: FromTable) -> Result<Expr, All
     ensures { IfOk result (λ condition. condition ≡ placed expr.now (from.entry.table.now ∷ [])) }
 {
     let tables = [from];
-    let condition = place_columns(alloc, expr, &Scope { tables: &tables })?;
-    Ok(condition)
+    place_columns(alloc, expr, &Scope { tables: &tables })
 }
 
-/// What the guard says of the row.
-pub fn verdict_on(
-    alloc: Global,
-    guard: &Guard,
+/// What the guard says of the row. What its policies say is put into the buffer, whose memory serves the next row.
+pub fn verdict_on<'c>(
+    judgements: &mut Vec<Judgement<'c>>,
+    guard: &Guard<'c>,
     user: &Name,
     row: &Row,
 ) -> Result<Verdict, AllocError>
@@ -85,29 +100,27 @@ pub fn verdict_on(
 {
     match guard {
         Guard::Exempt => Ok(Verdict::Exempt),
-        Guard::Policies(policies, conditions) => {
-            let truths = truths_on(alloc, conditions.as_slice(), user, row)?;
-            let verdict = combine(policies.as_slice(), truths.as_slice())?;
-            Ok(verdict)
+        Guard::Policies(conditions) => {
+            put_judgements(judgements, conditions.as_slice(), user, row)?;
+            combine(judgements)
         }
     }
 }
 
-/// What each condition is for the row.
-fn truths_on(
-    alloc: Global,
-    conditions: &[Expr],
+/// What each policy says of the row.
+fn put_judgements<'c>(
+    judgements: &mut Vec<Judgement<'c>>,
+    conditions: &[(Loan<'c, Policy>, Expr)],
     user: &Name,
     row: &Row,
-) -> Result<Items<Truth>, AllocError>
-    ensures { IfOk result (λ truths. truths ≡ map (spec.truth_on user.now row.now) conditions.now) }
+) -> Result<(), AllocError>
+    ensures { OnOk result (judgements.new.items ≡ map (spec.judgement_on user.now row.now) conditions.now) }
 {
-    let mut truths = Items::new(alloc);
-    for condition in conditions {
-        let truth = truth_over(alloc, condition, user, row)?;
-        truths.push(truth)?;
+    judgements.clear();
+    for (policy, condition) in conditions {
+        judgements.push((Loan::new(policy.get()), truth_over(condition, user, row)))?;
     }
-    Ok(truths)
+    Ok(())
 }
 
 /// Whether the row may be seen or written.

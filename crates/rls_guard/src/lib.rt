@@ -7,7 +7,7 @@ mod context;
 mod effect;
 mod evaluation;
 mod guard;
-mod noted;
+mod laws;
 mod reply;
 mod standing;
 
@@ -16,6 +16,7 @@ pub use context::{Ctx, Mode};
 pub use effect::Effect;
 pub use evaluation::{truth_over, value_alone, value_over};
 pub use guard::{Guard, allows, guard_of, verdict_on};
-pub use noted::{noted_grants, noted_key, noted_policies, noted_role, noted_scan, noted_table};
+pub use laws::standing_means;
 pub use reply::{Decision, Reply};
-pub use standing::{Standing, standing_of};
+pub use rls_policy::Judgement;
+pub use standing::{Standing, require_ownership, standing_of};

@@ -3,22 +3,21 @@
 ghost use Rattle.std.specs.Prelude.{◌≡◌, IfOk};
 
 use rls_catalog::{Side, Verdict};
-use rls_value::{Items, Kind, Name, Refusal, Row, RowId};
+use rls_value::{Items, Kind, Row, RowId};
 use std::alloc::{AllocError, Global};
 
-/// What a statement answers.
-#[derive(Debug, Drop)]
+/// What a statement answers that isn't refused.
+#[derive(Drop)]
 pub enum Reply {
     /// The rows, in listing order.
     Rows(Items<Row>),
     /// How many rows were written.
     Count(u64),
     Done,
-    Refused(Refusal),
 }
 
 /// What row security said of one row for one type of command.
-#[derive(Debug, Drop)]
+#[derive(Drop)]
 pub struct Decision {
     pub id: RowId,
     /// Whether the row was there before, or is to be written.
@@ -35,7 +34,6 @@ impl Reply {
             Reply::Rows(rows) => Ok(Reply::Rows(copy_rows(alloc, rows.as_slice())?)),
             Reply::Count(count) => Ok(Reply::Count(*count)),
             Reply::Done => Ok(Reply::Done),
-            Reply::Refused(refusal) => Ok(Reply::Refused(refusal.copy(alloc)?)),
         }
     }
 }

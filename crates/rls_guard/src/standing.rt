@@ -1,18 +1,18 @@
 //! Who the current role is for a statement: its attributes, and whose privileges it has.
 
-ghost use Rattle.std.specs.Prelude.{◌≡◌, ◌++◌, IfOk, OnOk};
+ghost use Rattle.std.specs.Prelude.{◌≡◌, ◌++◌, OnOk};
+ghost use Rattle.rls_value.specs.Giving.{Gives};
 ghost use Rattle.rls_catalog.specs.Membership.{walk_reads};
 ghost use Rattle.rls_catalog.specs.Verdict.{exempts};
-ghost use Rattle.rls_value.specs.Giving.{Gives, UnlessNoMemory};
+ghost use Rattle.rls_source.specs.Answering.{Answers, Tells};
 ghost use Rattle.rls_guard.specs.Standings as spec;
 
-use crate::noted::{noted_grants, noted_role};
 use rls_catalog::RoleDef;
 use rls_expr::TableDef;
 use rls_grant::is_granted;
 use rls_policy::exempt;
 use rls_role::{Reach, reach_of};
-use rls_source::{Reads, RowSource};
+use rls_source::{Reads, RowSource, noted_grants, noted_role};
 use rls_value::{Name, Object, Privilege, Refusal, Why};
 use std::alloc::{AllocError, Global};
 
@@ -24,22 +24,25 @@ pub struct Standing {
 }
 
 /// The standing of the role. It reads the role and, unless that is a superuser, each role whose privileges it has.
-pub fn standing_of<S: RowSource>(
+#[tactic(auto, unfolding(rls_source::specs::Asked::role_at, crate::specs::Standings::standing_in, crate::specs::Standings::standing_reads))]
+pub fn standing_of<'c, S: RowSource<'c>>(
     alloc: Global,
     source: &mut S,
     notes: &mut Reads,
     role: &Name,
 ) -> Result<Standing, AllocError>
-    ensures given { IfOk result (λ standing. standing ≡ spec.standing_in (S.state source.old) role.now) }
-    ensures noted { OnOk result (notes.new ≡ notes.old ++ spec.standing_reads (S.state source.old) role.now) }
-    ensures state { S.state source.new ≡ S.state source.old }
+    ensures { Tells S.state S.after (spec.standing_of role.now) source.old source.new notes.old notes.new result }
 {
     let attributes = RoleDef::known(noted_role(alloc, source, notes, role)?);
-    let read = Object::Role(role.copy()?);
+    notes.note(Object::Role(role.copy()?))?;
     let reach = reach_of(alloc, source, role)?;
-    notes.note(read)?;
-    note_walk(notes, reach.names.as_slice())?;
-    Ok(Standing { attributes, reach })
+    match note_walk(notes, reach.names.as_slice()) {
+        Ok(()) => Ok(Standing { attributes, reach }),
+        Err(refused) => {
+            drop(reach);
+            Err(refused)
+        }
+    }
 }
 
 fn note_walk(notes: &mut Reads, names: &[Name]) -> Result<(), AllocError>
@@ -52,9 +55,27 @@ fn note_walk(notes: &mut Reads, names: &[Name]) -> Result<(), AllocError>
     Ok(())
 }
 
+/// Denied where the role hasn't the privileges of the table's owner.
+#[tactic(auto, unfolding(crate::specs::Standings::ownership))]
+pub fn require_ownership<'c, S: RowSource<'c>>(
+    alloc: Global,
+    source: &mut S,
+    notes: &mut Reads,
+    role: &Name,
+    name: &Name,
+    table: &TableDef,
+) -> Result<(), Refusal>
+    ensures { Answers S.state S.after (spec.ownership role.now name.now table.now) source.old source.new notes.old notes.new result }
+{
+    let standing = standing_of(alloc, source, notes, role)?;
+    let owned = standing.require_owner(name, table);
+    drop(standing);
+    owned
+}
+
 impl Standing {
     /// Denied where the role lacks the privilege on the table. It reads the grants, unless the role is a superuser.
-    pub fn require_privilege<S: RowSource>(
+    pub fn require_privilege<'c, S: RowSource<'c>>(
         &self,
         alloc: Global,
         source: &mut S,
@@ -62,15 +83,13 @@ impl Standing {
         privilege: Privilege,
         table: &Name,
     ) -> Result<(), Refusal>
-        ensures given { Gives result (spec.privilege_or_denied (S.state source.old) self.now privilege table.now).gives }
-        ensures noted { UnlessNoMemory result (notes.new ≡ notes.old ++ (spec.privilege_or_denied (S.state source.old) self.now privilege table.now).reads) }
-        ensures state { S.state source.new ≡ S.state source.old }
+        ensures { Answers S.state S.after (spec.privilege_or_denied self.now privilege table.now) source.old source.new notes.old notes.new result }
     {
         if self.reach.superuser {
             return Ok(());
         }
         let grants = noted_grants(alloc, source, notes, table)?;
-        if is_granted(grants.as_slice(), privilege, &self.reach) {
+        if is_granted(grants, privilege, &self.reach) {
             Ok(())
         } else {
             Err(Refusal::Denied(Why::Privilege(privilege, table.copy()?)))

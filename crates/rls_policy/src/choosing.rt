@@ -1,16 +1,19 @@
 //! Which policies apply.
 
-ghost use Rattle.std.specs.Prelude.{◌≡◌, filter, IfOk, OnOk};
+ghost use Rattle.std.specs.Prelude.{◌≡◌, Some, filter, IfOk, OnOk};
 ghost use Rattle.std.specs.Option.{option_copied};
 ghost use Rattle.std.specs.List.{list_any, list_all};
 ghost use Rattle.rls_catalog.specs.Privileges.{includes};
+ghost use Rattle.rls_catalog.specs.Applying.{applying_on, applying_to, applying_on_reads, applying_to_reads};
+ghost use Rattle.rls_catalog.specs.State.{State, AgreesOn};
 ghost use Rattle.rls_catalog.specs.Verdict as spec;
 
+use crate::exemption::is_exempt;
 use rls_catalog::Side;
-use rls_expr::{Expr, Grantee, Policy};
+use rls_expr::{Expr, Grantee, Policy, TableDef};
 use rls_role::{Reach, reach_of};
 use rls_source::RowSource;
-use rls_value::{Items, Kind, Name, PolicyKind};
+use rls_value::{Items, Kind, Loan, Name, PolicyKind};
 use std::alloc::{AllocError, Global};
 
 /// The expression that the policy is asked for: USING for SELECT, DELETE and the old row of UPDATE; else WITH CHECK or,
@@ -81,54 +84,114 @@ fn is_to(policy: &Policy, reach: &Reach) -> bool
         .any(|grantee| reach.includes(grantee))
 }
 
-/// The policies of the table that apply to a role that isn't exempt, for that type of command and that row: FOR ALL or
-/// that type, TO PUBLIC or a role whose privileges it has, with the expression asked for; in byte order of their names.
-/// It reads the policies and, unless all that it asks are TO PUBLIC, each role that the role reaches.
-pub fn applying<S: RowSource>(
+/// The policies of the table that apply to the role for that type of command and that row: none where row security
+/// doesn't apply to the role; else those FOR ALL or that type, TO PUBLIC or a role whose privileges it has, with the
+/// expression asked for; in byte order of their names (PostgreSQL manual, CREATE POLICY). It reads the table, what tells
+/// whether the role is exempt and, unless it is, the policies and, unless all that it asks are TO PUBLIC, each role that
+/// the role reaches; in every state that agrees on them the answer is the same.
+#[tactic(auto, using(rls_catalog::specs::Applying::applying_to_frame))]
+pub fn applying<'c, S: RowSource<'c>>(
     alloc: Global,
     source: &mut S,
     role: &Name,
     table: &Name,
     kind: Kind,
     side: Side,
-) -> Result<Items<Policy>, AllocError>
+) -> Result<Items<Loan<'c, Policy>>, AllocError>
+    ensures policies { IfOk result (λ policies. policies ≡ applying_to (S.state source.old) role.now table.now kind side) }
+    ensures frame { (other : State) → AgreesOn (S.state source.old) other (applying_to_reads (S.state source.old) role.now table.now kind side) → applying_to other role.now table.now kind side ≡ applying_to (S.state source.old) role.now table.now kind side }
+    ensures read { OnOk result (source.new ≡ S.after source.old (applying_to_reads (S.state source.old) role.now table.now kind side)) }
+    ensures state { S.state source.new ≡ S.state source.old }
+{
+    match source.table(alloc, table)? {
+        Some(def) => applying_on(alloc, source, role, table, def, kind, side),
+        None => Ok(Items::new(alloc)),
+    }
+}
+
+/// On a table of that definition.
+fn applying_on<'c, S: RowSource<'c>>(
+    alloc: Global,
+    source: &mut S,
+    role: &Name,
+    table: &Name,
+    def: &TableDef,
+    kind: Kind,
+    side: Side,
+) -> Result<Items<Loan<'c, Policy>>, AllocError>
+    ensures policies { IfOk result (λ policies. policies ≡ applying_on (Some def.now) (S.state source.old) role.now table.now kind side) }
+    ensures read { OnOk result (source.new ≡ S.after source.old (applying_on_reads (Some def.now) (S.state source.old) role.now table.now kind side)) }
+    ensures state { S.state source.new ≡ S.state source.old }
+{
+    if is_exempt(alloc, source, role, def)? {
+        return Ok(Items::new(alloc));
+    }
+    applying_unless_exempt(alloc, source, role, table, kind, side)
+}
+
+/// To a role that isn't exempt.
+fn applying_unless_exempt<'c, S: RowSource<'c>>(
+    alloc: Global,
+    source: &mut S,
+    role: &Name,
+    table: &Name,
+    kind: Kind,
+    side: Side,
+) -> Result<Items<Loan<'c, Policy>>, AllocError>
     ensures policies { IfOk result (λ policies. policies ≡ spec.applying_of (S.state source.old) role.now table.now kind side) }
     ensures read { OnOk result (source.new ≡ S.after source.old (spec.applying_reads (S.state source.old) role.now table.now kind side)) }
     ensures state { S.state source.new ≡ S.state source.old }
 {
-    let policies = asked(source.policies(alloc, table)?, kind, side);
-    if are_to_everyone(policies.as_slice()) {
-        return Ok(policies);
+    let policies = source.policies(alloc, table)?;
+    let kept = asked(alloc, policies, kind, side)?;
+    if are_to_everyone(kept.as_slice()) {
+        return Ok(kept);
     }
     let reach = reach_of(alloc, source, role)?;
-    Ok(concerned(policies, &reach))
+    Ok(concerned(kept, &reach))
 }
 
 /// Of the policies of a table those that apply to a role that isn't exempt, by whose privileges the role has.
-pub fn chosen(policies: Items<Policy>, reach: &Reach, kind: Kind, side: Side) -> Items<Policy>
-    ensures { result ≡ spec.chosen reach.now.superuser reach.now.names kind side policies }
+pub fn chosen<'c>(
+    alloc: Global,
+    policies: &'c [Policy],
+    reach: &Reach,
+    kind: Kind,
+    side: Side,
+) -> Result<Items<Loan<'c, Policy>>, AllocError>
+    ensures { IfOk result (λ chosen. chosen ≡ spec.chosen reach.now.superuser reach.now.names kind side policies.now) }
 {
-    concerned(asked(policies, kind, side), reach)
+    let asked = asked(alloc, policies, kind, side)?;
+    Ok(concerned(asked, reach))
 }
 
-fn asked(policies: Items<Policy>, kind: Kind, side: Side) -> Items<Policy>
-    ensures { result ≡ filter (spec.is_asked kind side) policies }
+fn asked<'c>(
+    alloc: Global,
+    policies: &'c [Policy],
+    kind: Kind,
+    side: Side,
+) -> Result<Items<Loan<'c, Policy>>, AllocError>
+    ensures { IfOk result (λ asked. asked ≡ filter (spec.is_asked kind side) policies.now) }
 {
-    let mut kept = policies.into_vec();
-    kept.retain(|policy| is_asked(policy, kind, side));
-    Items::from_vec(kept)
+    let mut kept = Vec::new(alloc);
+    for policy in policies {
+        if is_asked(policy, kind, side) {
+            kept.push(Loan::new(policy))?;
+        }
+    }
+    Ok(Items::from_vec(kept))
 }
 
-fn are_to_everyone(policies: &[Policy]) -> bool
+fn are_to_everyone(policies: &[Loan<'_, Policy>]) -> bool
     ensures { result ≡ list_all spec.is_to_everyone policies.now }
 {
-    policies.iter().all(|policy| is_to_everyone(policy))
+    policies.iter().all(|policy| is_to_everyone(policy.get()))
 }
 
-fn concerned(policies: Items<Policy>, reach: &Reach) -> Items<Policy>
-    ensures { result ≡ filter (λ policy. list_any (includes reach.now.superuser reach.now.names) policy.to) policies }
+fn concerned<'c>(policies: Items<Loan<'c, Policy>>, reach: &Reach) -> Items<Loan<'c, Policy>>
+    ensures { result ≡ filter (λ policy. list_any (includes reach.now.superuser reach.now.names) policy.to) policies.entry }
 {
     let mut kept = policies.into_vec();
-    kept.retain(|policy| is_to(policy, reach));
+    kept.retain(|policy| is_to(policy.get(), reach));
     Items::from_vec(kept)
 }

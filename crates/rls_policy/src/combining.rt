@@ -2,22 +2,25 @@
 
 ghost use Rattle.std.specs.Prelude.{◌≡◌, None, IfOk};
 ghost use Rattle.std.specs.Option.{option_copied, option_map};
-ghost use Rattle.rls_catalog.specs.Verdict.{judged, verdict_of, names_where, least, lesser};
+ghost use Rattle.rls_catalog.specs.Verdict.{verdict_of, names_where, least, lesser};
 
 use rls_catalog::Verdict;
 use rls_expr::Policy;
-use rls_value::{Name, Truth};
+use rls_value::{Loan, Name, Truth};
 use std::alloc::AllocError;
 
-/// What the policies say of a row, by what each of them, at its place in the lists, says: some permissive one must be
-/// true, and every restrictive one. False and null are not true.
-pub fn combine(policies: &[Policy], truths: &[Truth]) -> Result<Verdict, AllocError>
-    ensures { IfOk result (λ verdict. verdict ≡ verdict_of (judged policies.now truths.now)) }
+/// A policy, and what its condition says of a row.
+pub type Judgement<'c> = (Loan<'c, Policy>, Truth);
+
+/// What policies say of a row together, by what each of them says: some permissive one must be true, and every
+/// restrictive one (PostgreSQL manual, CREATE POLICY). False and null are not true.
+pub fn combine(judgements: &[Judgement<'_>]) -> Result<Verdict, AllocError>
+    ensures { IfOk result (λ verdict. verdict ≡ verdict_of judgements.now) }
 {
-    let Some(passing) = first_name(policies, truths, true, true) else {
+    let Some(passing) = first_name(judgements, true, true) else {
         return Ok(Verdict::NoPermissive);
     };
-    match first_name(policies, truths, false, false) {
+    match first_name(judgements, false, false) {
         Some(failing) => Ok(Verdict::Restrictive(failing.copy()?)),
         None => Ok(Verdict::By(passing.copy()?)),
     }
@@ -25,25 +28,19 @@ pub fn combine(policies: &[Policy], truths: &[Truth]) -> Result<Verdict, AllocEr
 
 /// The least name of the policies that are permissive, or restrictive, and are true, or aren't.
 fn first_name<'a>(
-    mut policies: &'a [Policy],
-    mut truths: &[Truth],
+    mut judgements: &[Judgement<'a>],
     permissive: bool,
     passes: bool,
 ) -> Option<&'a Name>
-    ensures { option_copied result ≡ least None (names_where permissive passes (judged policies.entry.now truths.entry.now)) }
+    ensures { option_copied result ≡ least None (names_where permissive passes judgements.entry.now) }
 {
     let mut best = None;
-    while let [policy, others @ ..] = policies {
-        match truths {
-            [truth, more @ ..] => {
-                if policy.permissive == permissive && truth.is_true() == passes {
-                    best = Some(lesser_name(best, &policy.name));
-                }
-                truths = more;
-            }
-            [] => return best,
+    while let [(policy, truth), others @ ..] = judgements {
+        let policy = policy.get();
+        if policy.permissive == permissive && truth.is_true() == passes {
+            best = Some(lesser_name(best, &policy.name));
         }
-        policies = others;
+        judgements = others;
     }
     best
 }

@@ -4,19 +4,29 @@ use Rattle.std.proofs.Common.{arith, ap, ◌∙◌, sym}
 use Rattle.rls_value.specs.declared.object.Object.{Object}
 use Rattle.rls_catalog.specs.State.{State}
 use Rattle.rls_catalog.specs.Membership.{fresh, inherited_by, walk, visit_reads, walk_reads}
+use Rattle.rls_catalog.specs.Paths.{granted_where, held_by, inheriting}
+use Rattle.rls_catalog.specs.Reaching.{inherited_marked}
+use Rattle.rls_role.specs.declared.walking.Step.{Step}
+use Rattle.rls_role.specs.declared.holding.Held.{Held}
+use Rattle.rls_role.specs.Holdings.{with_held}
+use Rattle.rls_role.specs.Steps.{takes}
 use Rattle.rls_catalog.specs.Walks.{leads_on, reads_on, reads_all}
 
 one_more : (next : ℕ) → next + 1 ≡ suc next
 one_more next = omega arith
 
-pub leads_next : (now s : State) (role : List ℕ) (names grown : List (List ℕ)) (next : ℕ) (name : List ℕ) → s ≡ now → slice_get names next ≡ Some name
-    → grown ≡ names ++ fresh names (inherited_by s name)
-    → ((n : ℕ) → walk n now names next ≡ walk (n + next) now (role ∷ []) 0)
-    → (n : ℕ) → walk n now grown (next + 1) ≡ walk (n + (next + 1)) now (role ∷ []) 0
-leads_next now s role names grown next name same found grows leads n =
-    (λ i. walk n now ((grows ∙ ap (λ t. names ++ fresh names (inherited_by t name)) same) i) (one_more next i))
-    ∙ leads_on now role names next name found leads n
-    ∙ (λ i. walk (n + sym (one_more next) i) now (role ∷ []) 0)
+pub leads_next : (step : Step) (held : List Held) (now s : State) (role : List ℕ) (names grown : List (List ℕ)) (next : ℕ) (name : List ℕ) → s ≡ now → slice_get names next ≡ Some name
+    → grown ≡ names ++ fresh names (granted_where (takes step) (held_by (with_held held s) name))
+    → ((n : ℕ) → walk n (inheriting (takes step) (with_held held now)) names next ≡ walk (n + next) (inheriting (takes step) (with_held held now)) (role ∷ []) 0)
+    → (n : ℕ) → walk n (inheriting (takes step) (with_held held now)) grown (next + 1) ≡ walk (n + (next + 1)) (inheriting (takes step) (with_held held now)) (role ∷ []) 0
+leads_next step held now s role names grown next name same found grows leads n =
+    let marked : State = inheriting (takes step) (with_held held now) in
+    let inherits : grown ≡ names ++ fresh names (inherited_by marked name) =
+    grows ∙ ap (λ t. names ++ fresh names (granted_where (takes step) (held_by (with_held held t) name))) same
+    ∙ ap (λ roles. names ++ fresh names roles) (sym (inherited_marked (takes step) (with_held held now) name)) in
+    (λ i. walk n marked (inherits i) (one_more next i))
+    ∙ leads_on marked role names next name found leads n
+    ∙ (λ i. walk (n + sym (one_more next) i) marked (role ∷ []) 0)
 
 pub reads_next : {A : Type 0} (after : A → List Object → A) → ((s : A) (os more : List Object) → after (after s os) more ≡ after s (os ++ more))
     → (start source new : A) (names grown more : List (List ℕ)) (next : ℕ) (name : List ℕ) → slice_get names next ≡ Some name → grown ≡ names ++ more

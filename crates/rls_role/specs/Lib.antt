@@ -1,1 +1,3 @@
+pub mod Holdings
 pub mod Seen
+pub mod Steps

@@ -1,11 +1,16 @@
 //! Whose privileges a role has.
 
-ghost use Rattle.std.specs.Prelude.{◌≡◌, ◌||◌, if◌then◌else◌, [], IfOk, OnOk, OnErr};
+ghost use Rattle.std.specs.Prelude.{◌≡◌, ◌↔◌, ◌||◌, if◌then◌else◌, [], true, IfOk, OnOk};
 ghost use Rattle.rls_value.specs.Names.{one_of};
-ghost use Rattle.rls_catalog.specs.Membership.{attributes_of, walked_by, walk_reads, reached_of, reach_reads, has_privileges_of};
+ghost use Rattle.rls_catalog.specs.Membership.{attributes_of, walked_by, walk_reads, reach_reads, has_privileges_of};
+ghost use Rattle.rls_catalog.specs.HasPrivileges.{HasPrivilegesOf};
 ghost use Rattle.rls_catalog.specs.Privileges.{includes};
+ghost use Rattle.rls_catalog.specs.Paths as paths;
+ghost use Rattle.rls_catalog.specs.Paths.{MaySet, can_set_reads, reached_where};
+ghost use Rattle.rls_catalog.specs.State.{State, AgreesOn};
+ghost use Rattle.rls_role.specs.Steps.{takes, walked_where, walked_reads};
 
-use crate::walking::{is_among, reached};
+use crate::walking::{Step, is_among, reached};
 use rls_catalog::RoleDef;
 use rls_expr::Grantee;
 use rls_source::RowSource;
@@ -41,7 +46,8 @@ impl Reach {
 }
 
 /// Whose privileges the role has. It reads the role and, unless that is a superuser, each role that it reaches.
-pub fn reach_of<S: RowSource>(
+#[tactic(auto, using(crate::specs::Steps::walked_inherit))]
+pub fn reach_of<'c, S: RowSource<'c>>(
     alloc: Global,
     source: &mut S,
     role: &Name,
@@ -51,40 +57,84 @@ pub fn reach_of<S: RowSource>(
     ensures read { OnOk result (source.new ≡ S.after source.old (reach_reads (S.state source.old) role.now)) }
     ensures state { S.state source.new ≡ S.state source.old }
 {
+    let reach = reach_by(alloc, source, role, Step::Inherit)?;
+    Ok(reach)
+}
+
+/// Which roles the role reaches over such memberships; a superuser's aren't asked. It reads the role and each that it
+/// reaches.
+pub fn reach_by<'c, S: RowSource<'c>>(
+    alloc: Global,
+    source: &mut S,
+    role: &Name,
+    step: Step,
+) -> Result<Reach, AllocError>
+    ensures superuser { IfOk result (λ reach. reach.superuser ≡ (attributes_of (S.state source.old) role.now).superuser) }
+    ensures names { IfOk result (λ reach. reach.names ≡ walked_where step (S.state source.old) role.now) }
+    ensures read { OnOk result (source.new ≡ S.after source.old (walked_reads step (S.state source.old) role.now)) }
+    ensures state { S.state source.new ≡ S.state source.old }
+{
     let superuser = RoleDef::known(source.role(alloc, role)?).superuser;
-    let names = walked(alloc, source, role, superuser)?;
+    let names = walked(alloc, source, role, superuser, step)?;
     Ok(Reach { superuser, names })
 }
 
-fn walked<S: RowSource>(
+fn walked<'c, S: RowSource<'c>>(
     alloc: Global,
     source: &mut S,
     role: &Name,
     superuser: bool,
+    step: Step,
 ) -> Result<Items<Name>, AllocError>
-    ensures names { IfOk result (λ names. names ≡ (if superuser then [] else reached_of (S.state source.old) role.now)) }
-    ensures read { OnOk result (source.new ≡ S.after source.old (walk_reads (if superuser then [] else reached_of (S.state source.old) role.now))) }
+    ensures names { IfOk result (λ names. names ≡ (if superuser then [] else reached_where (takes step) (S.state source.old) role.now)) }
+    ensures read { OnOk result (source.new ≡ S.after source.old (walk_reads (if superuser then [] else reached_where (takes step) (S.state source.old) role.now))) }
     ensures state { S.state source.new ≡ S.state source.old }
 {
     if superuser {
         return Ok(Items::new(alloc));
     }
-    let names = reached(alloc, source, role)?;
+    let names = reached(alloc, source, &[], role, step)?;
     Ok(names)
 }
 
-/// Whether the role has the privileges of the other: it is a superuser, or reaches it over memberships whose INHERIT
-/// option is true.
-pub fn has<S: RowSource>(
+/// Whether the role has the privileges of the other: it is a superuser itself, or reaches it over memberships whose
+/// INHERIT option is true (PostgreSQL manual, 22.3). In every state that agrees on what is read the answer is the same.
+#[tactic(auto, using(rls_catalog::specs::HasPrivileges::has_privileges_means, rls_catalog::specs::Frames::has_frame))]
+pub fn has<'c, S: RowSource<'c>>(
     alloc: Global,
     source: &mut S,
     role: &Name,
     of: &Name,
 ) -> Result<bool, AllocError>
     ensures has { IfOk result (λ has. has ≡ has_privileges_of (S.state source.old) role.now of.now) }
+    ensures means { (has_privileges_of (S.state source.old) role.now of.now ≡ true) ↔ HasPrivilegesOf (S.state source.old) role.now of.now }
+    ensures frame { (other : State) → AgreesOn (S.state source.old) other (reach_reads (S.state source.old) role.now) → has_privileges_of other role.now of.now ≡ has_privileges_of (S.state source.old) role.now of.now }
     ensures read { OnOk result (source.new ≡ S.after source.old (reach_reads (S.state source.old) role.now)) }
     ensures state { S.state source.new ≡ S.state source.old }
 {
     let reach = reach_of(alloc, source, role)?;
-    Ok(reach.has(of))
+    let has = reach.has(of);
+    drop(reach);
+    Ok(has)
+}
+
+/// Whether the login may set the role: it is a superuser, or reaches it over memberships whose SET option is true
+/// (PostgreSQL manual, SET ROLE). In every state that agrees on what is read the answer is the same.
+#[tactic(auto, using(rls_catalog::specs::Reaching::can_set_is, rls_catalog::specs::PathFrames::can_set_frame, crate::specs::Steps::can_set_walked, crate::specs::Steps::can_set_reads_walked))]
+pub fn can_set<'c, S: RowSource<'c>>(
+    alloc: Global,
+    source: &mut S,
+    login: &Name,
+    role: &Name,
+) -> Result<bool, AllocError>
+    ensures can { IfOk result (λ can. can ≡ paths.can_set (S.state source.old) login.now role.now) }
+    ensures means { (paths.can_set (S.state source.old) login.now role.now ≡ true) ↔ MaySet (S.state source.old) login.now role.now }
+    ensures frame { (other : State) → AgreesOn (S.state source.old) other (can_set_reads (S.state source.old) login.now) → paths.can_set other login.now role.now ≡ paths.can_set (S.state source.old) login.now role.now }
+    ensures read { OnOk result (source.new ≡ S.after source.old (can_set_reads (S.state source.old) login.now)) }
+    ensures state { S.state source.new ≡ S.state source.old }
+{
+    let reach = reach_by(alloc, source, login, Step::Set)?;
+    let can = reach.has(role);
+    drop(reach);
+    Ok(can)
 }

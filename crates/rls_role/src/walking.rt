@@ -1,25 +1,55 @@
-//! A walk over memberships whose INHERIT option is true.
+//! A walk over memberships: over those whose INHERIT or SET option is true, or over all.
 
 ghost use Rattle.std.specs.Prelude.{◌≡◌, [], ◌∷◌, ◌++◌, slice_get, IfOk, OnOk, OnErr};
 ghost use Rattle.std.specs.Option.{option_copied};
 ghost use Rattle.rls_value.specs.Names.{one_of};
-ghost use Rattle.rls_catalog.specs.Membership.{granted_inherited, fresh, inherited_by, visit_reads, walk_reads, reached_of};
+ghost use Rattle.rls_catalog.specs.Membership.{fresh, visit_reads, walk_reads};
+ghost use Rattle.rls_catalog.specs.Paths.{granted_where, held_by, reached_where};
+ghost use Rattle.rls_role.specs.Holdings.{with_held};
 ghost use Rattle.rls_role.specs.Seen.{IsSetOf};
+ghost use Rattle.rls_role.specs.Steps.{takes};
 
+use crate::holding::Held;
 use rls_catalog::Membership;
 use rls_source::RowSource;
 use rls_value::{Items, Name};
 use std::alloc::{AllocError, Global};
 use std::collections::BTreeSet;
 
-/// The role and those whose privileges it inherits, each once. It reads each of them, and its memberships.
-pub fn reached<S: RowSource>(
+/// Which memberships a walk takes.
+#[derive(Clone, Copy, PartialEq, Eq)]
+pub enum Step {
+    /// Those whose INHERIT option is true.
+    Inherit,
+    /// Those whose SET option is true.
+    Set,
+    /// All, whatever their options.
+    Any,
+}
+
+impl Step {
+    pub fn takes(self, membership: &Membership) -> bool
+        ensures { result ≡ takes self membership.now }
+    {
+        match self {
+            Step::Inherit => membership.inherit,
+            Step::Set => membership.set,
+            Step::Any => true,
+        }
+    }
+}
+
+/// The role and those that it reaches over such memberships, each once, where those listed stand in place of the source's.
+/// It reads each of them, and its memberships.
+pub fn reached<'c, S: RowSource<'c>>(
     alloc: Global,
     source: &mut S,
+    held: &[Held],
     role: &Name,
+    step: Step,
 ) -> Result<Items<Name>, AllocError>
-    ensures names { IfOk result (λ names. names ≡ reached_of (S.state source.old) role.now) }
-    ensures read { OnOk result (source.new ≡ S.after source.old (walk_reads (reached_of (S.state source.old) role.now))) }
+    ensures names { IfOk result (λ names. names ≡ reached_where (takes step) (with_held held.now (S.state source.old)) role.now) }
+    ensures read { OnOk result (source.new ≡ S.after source.old (walk_reads (reached_where (takes step) (with_held held.now (S.state source.old)) role.now))) }
     ensures state { S.state source.new ≡ S.state source.old }
 {
     let mut names = Vec::new(alloc);
@@ -28,7 +58,7 @@ pub fn reached<S: RowSource>(
     let mut next = 0;
     while let Some(name) = name_at(&names, next) {
         let name = name.copy()?;
-        visit(alloc, source, &mut names, &mut seen, &name)?;
+        visit(alloc, source, held, &mut names, &mut seen, &name, step)?;
         next += 1;
     }
     Ok(Items::from_vec(names))
@@ -40,39 +70,46 @@ fn name_at(names: &[Name], index: usize) -> Option<&Name>
     names.get(index)
 }
 
-/// Adds the roles that the role inherits and that aren't there yet.
-fn visit<S: RowSource>(
+/// Adds the roles that the role was granted by such memberships and that aren't there yet.
+#[tactic(auto, using(crate::specs::Holdings::members_held))]
+fn visit<'c, S: RowSource<'c>>(
     alloc: Global,
     source: &mut S,
+    held: &[Held],
     names: &mut Vec<Name>,
     seen: &mut BTreeSet<Name>,
     name: &Name,
+    step: Step,
 ) -> Result<(), AllocError>
     requires { IsSetOf seen.old names.old.items }
-    ensures names { OnOk result (names.new.items ≡ names.old.items ++ fresh names.old.items (inherited_by (S.state source.old) name.now)) }
+    ensures names { OnOk result (names.new.items ≡ names.old.items ++ fresh names.old.items (granted_where (takes step) (held_by (with_held held.now (S.state source.old)) name.now))) }
     ensures seen { OnOk result (IsSetOf seen.new names.new.items) }
     ensures read { OnOk result (source.new ≡ S.after source.old (visit_reads name.now)) }
     ensures err { OnErr result (S.state source.new ≡ S.state source.old) }
 {
     let def = source.role(alloc, name)?;
     let memberships = source.members(alloc, name)?;
-    if def.is_some() {
-        add_fresh(names, seen, memberships.as_slice())?;
+    if def.is_none() {
+        return Ok(());
     }
-    Ok(())
+    match Held::find(held, name) {
+        Some(held) => add_fresh(names, seen, held.memberships.as_slice(), step),
+        None => add_fresh(names, seen, memberships, step),
+    }
 }
 
 fn add_fresh(
     names: &mut Vec<Name>,
     seen: &mut BTreeSet<Name>,
     memberships: &[Membership],
+    step: Step,
 ) -> Result<(), AllocError>
     requires { IsSetOf seen.old names.old.items }
-    ensures names { OnOk result (names.new.items ≡ names.old.items ++ fresh names.old.items (granted_inherited memberships.now)) }
+    ensures names { OnOk result (names.new.items ≡ names.old.items ++ fresh names.old.items (granted_where (takes step) memberships.now)) }
     ensures seen { OnOk result (IsSetOf seen.new names.new.items) }
 {
     for membership in memberships {
-        if membership.inherit {
+        if step.takes(membership) {
             add_unseen(names, seen, &membership.role)?;
         }
     }

@@ -1,11 +1,14 @@
 -- `\connect ROLE`.
-use Rattle.std.specs.Prelude.{ℕ, Bool, true, false, cond, nat_eq, nat_lt, ◌&&◌, ◌||◌, ◌≡◌, ◌++◌, List, [], ◌∷◌, length, take, drop, codes, Result, Ok, Err}
+use Rattle.std.specs.Prelude.{ℕ, Bool, true, false, cond, nat_eq, nat_lt, ◌&&◌, ◌||◌, ◌≡◌, ◌<◌, ◌++◌, List, [], ◌∷◌, length, take, drop, codes, Option, Some, None, Result, Ok, Err}
 use Rattle.std.specs.List.{prefix_len}
 use Rattle.rls_value.specs.Giving.{and_then}
 use Rattle.rls_value.specs.declared.refusal.Refusal.{Refusal}
 use Rattle.rls_value.specs.declared.refusal.Refusal.TheVariants as r
+use Rattle.rls_value.specs.declared.refusal.Limit.{Limit}
 use Rattle.rls_value.specs.declared.refusal.Limit.TheVariants as l
 use Rattle.rls_value.specs.Names.{is_between, is_letter_or_digit, spells_name, folded}
+use Rattle.rls_text.specs.Words.{words_of}
+use Rattle.rls_text.specs.Answers.{first_limit}
 
 -- space, tab, LF or CR
 abbrev pub is_white : ℕ → Bool
@@ -33,6 +36,10 @@ word_len (byte ∷ bytes) = cond (is_between 48 57 byte) 0 (prefix_len is_letter
 abbrev pub role_word : List ℕ → List ℕ
 role_word text = take (word_len (without_white text)) (without_white text)
 
+-- that word is over the limit of a name
+abbrev pub is_long_name : List ℕ → Bool
+is_long_name text = nat_lt 63 (length (role_word text))
+
 -- nothing, or a comment
 abbrev pub is_comment : List ℕ → Bool
 is_comment [] = true
@@ -47,6 +54,28 @@ ends_with_role text = is_comment (without_white (drop (word_len (without_white t
 abbrev pub name_of : List ℕ → Result (List ℕ) Refusal
 name_of word = cond (nat_lt 63 (length word)) (Err (r.Limit l.Name)) (cond (spells_name word) (Ok (folded word)) (Err r.Syntax))
 
--- the role that stands behind `\connect`: one name, and nothing behind it
+-- one name, and nothing behind it
+abbrev pub one_name : List ℕ → Result (List ℕ) Refusal
+one_name text = and_then (name_of (role_word text)) (λ role. cond (ends_with_role text) (Ok role) (Err r.Syntax))
+
+-- a limit that is passed comes first
+abbrev pub unless_over : Option Limit → Result (List ℕ) Refusal → Result (List ℕ) Refusal
+unless_over (Some limit) read = Err (r.Limit limit)
+unless_over None read = read
+
+-- The role that stands behind `\connect`. What stands there is words of the grammar, whose limits come before
+-- anything else: first that of the name itself, then the first that the words pass from the left.
 abbrev pub role_named : List ℕ → Result (List ℕ) Refusal
-role_named text = and_then (name_of (role_word text)) (λ role. cond (ends_with_role text) (Ok role) (Err r.Syntax))
+role_named text = cond (is_long_name text) (Err (r.Limit l.Name)) (unless_over (first_limit (words_of text)) (one_name text))
+
+-- a `\connect` whose role's name is over its limit
+pub record ConnectsToLongName (command : List ℕ) : Type 0 where
+  pub behind : List ℕ
+  pub connect : IsConnect command behind
+  pub long : is_long_name behind ≡ true
+
+-- the limit, where it is one on words: those on columns and on nesting are on statements
+abbrev pub limit_on_words : Limit → Option Limit
+limit_on_words l.Columns = None
+limit_on_words l.Nesting = None
+limit_on_words limit = Some limit

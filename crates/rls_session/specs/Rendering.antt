@@ -1,5 +1,5 @@
 -- How answers are written.
-use Rattle.std.specs.Prelude.{ℕ, true, false, cond, nat_eq, List, [], ◌∷◌, ◌++◌, length, codes}
+use Rattle.std.specs.Prelude.{ℕ, Bool, true, false, not, ◌||◌, cond, nat_eq, List, [], ◌∷◌, ◌++◌, length, codes}
 use Rattle.std.specs.Fmt.{decimal, signed_decimal}
 use Rattle.rls_value.specs.declared.value.Value.{Value}
 use Rattle.rls_value.specs.declared.value.Value.TheVariants as v
@@ -16,6 +16,10 @@ use Rattle.rls_session.specs.declared.answer.Answer.TheVariants as a
 -- a byte of a text: the backslash, the bar, LF and CR get a backslash before them
 abbrev pub escaped_byte : ℕ → List ℕ
 escaped_byte byte = cond (nat_eq byte 92) (92 ∷ 92 ∷ []) (cond (nat_eq byte 124) (92 ∷ 124 ∷ []) (cond (nat_eq byte 10) (92 ∷ 110 ∷ []) (cond (nat_eq byte 13) (92 ∷ 114 ∷ []) (byte ∷ []))))
+
+-- any other byte stands for itself
+abbrev pub is_plain : ℕ → Bool
+is_plain byte = not (nat_eq byte 92 || nat_eq byte 124 || nat_eq byte 10 || nat_eq byte 13)
 
 -- a text, byte by byte
 abbrev pub escaped : List ℕ → List ℕ
@@ -67,7 +71,6 @@ abbrev pub reply_text : List ℕ → Tag → Reply → List ℕ
 reply_text label tag (r.Rows rows) = row_lines label rows ++ line_of label (counted_tag tag (length rows))
 reply_text label tag (r.Count count) = line_of label (counted_tag tag count)
 reply_text label tag r.Done = line_of label (tag_text tag)
-reply_text label tag (r.Refused refusal) = refusal_line label refusal
 
 -- what is written for an answer
 abbrev pub answer_text : List ℕ → Answer → List ℕ

@@ -7,11 +7,11 @@ use rls_value::{Refusal, Tag};
 use std::alloc::AllocError;
 
 /// The answer to a line.
-#[derive(Debug, Drop)]
+#[derive(Drop)]
 pub enum Answer {
     /// What became of its command, with the command's tag.
     Replied(Tag, Reply),
-    /// A refusal before any statement began.
+    /// A refusal, of the statement or before any began.
     Refused(Refusal),
 }
 

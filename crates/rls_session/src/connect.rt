@@ -1,14 +1,17 @@
 //! `\connect ROLE`, which begins a label's session.
 
-ghost use Rattle.std.specs.Prelude.{◌≡◌, ℕ, List, MatchOption, take, drop};
+ghost use Rattle.std.specs.Prelude.{◌≡◌, ℕ, true, List, MatchOption, Err, IfOk, take, drop};
 ghost use Rattle.std.specs.List.{prefix_len};
 ghost use Rattle.rls_value.specs.Giving.{Gives};
 ghost use Rattle.rls_value.specs.Names.{is_letter_or_digit};
+ghost use Rattle.rls_text.specs.Answers.{first_limit};
+ghost use Rattle.rls_text.specs.Words.{words_of};
 ghost use Rattle.rls_session.specs.Connects as spec;
-ghost use Rattle.rls_session.specs.Connects.{IsConnect, is_white, name_of, role_named};
+ghost use Rattle.rls_session.specs.Connects.{IsConnect, is_white, is_long_name, limit_on_words, name_of, role_named};
 
-use rls_value::{Limit, Name, Refusal};
-use std::alloc::Global;
+use rls_text::parse;
+use rls_value::{Limit, MAX_NAME, Name, Refusal};
+use std::alloc::{AllocError, Global};
 
 /// What stands behind `\connect`; none where the command is no `\connect`, which is one only before white space
 /// or at the command's end.
@@ -30,15 +33,66 @@ fn begins_white(bytes: &[u8]) -> bool
     }
 }
 
-/// The role that is named behind `\connect`: one name, and then nothing but a comment.
+/// The role that is named behind `\connect`: one name, and then nothing but a comment. The limits on words come first.
 pub fn role_in(alloc: Global, text: &str) -> Result<Name, Refusal>
-    ensures { Gives result (role_named text.now) }
+    ensures role { Gives result (role_named text.now) }
+
+    // A name over its limit is refused as such, and never as want of memory.
+    ensures long_name { is_long_name text.now ≡ true → result ≡ Err (Refusal.Limit Limit.Name) }
+{
+    if role_word(text).len() > MAX_NAME {
+        return Err(Refusal::Limit(Limit::Name));
+    }
+    match limit_passed(alloc, text)? {
+        Some(limit) => Err(Refusal::Limit(limit)),
+        None => one_name(alloc, text),
+    }
+}
+
+fn role_word(text: &str) -> &str
+    ensures { result.now ≡ spec.role_word text.now }
+{
+    let (word, _) = split_word(without_white(text));
+    word
+}
+
+/// The first limit that the words pass, from the left: the grammar's answer tells it, whatever else it is.
+fn limit_passed(alloc: Global, text: &str) -> Result<Option<Limit>, AllocError>
+    ensures { IfOk result (λ limit. limit ≡ first_limit (words_of text.now)) }
+{
+    match parse(alloc, text) {
+        Ok(statement) => {
+            drop(statement);
+            Ok(None)
+        }
+        Err(Refusal::NoMemory) => Err(AllocError),
+        Err(Refusal::Limit(limit)) => Ok(on_words(limit)),
+        Err(refusal) => {
+            drop(refusal);
+            Ok(None)
+        }
+    }
+}
+
+// The limit, where it is one on words and not on statements.
+fn on_words(limit: Limit) -> Option<Limit>
+    ensures { result ≡ limit_on_words limit }
+{
+    match limit {
+        Limit::Columns | Limit::Nesting => None,
+        limit => Some(limit),
+    }
+}
+
+fn one_name(alloc: Global, text: &str) -> Result<Name, Refusal>
+    ensures { Gives result (spec.one_name text.now) }
 {
     let (word, behind) = split_word(without_white(text));
     let role = named(alloc, word)?;
     if is_comment(without_white(behind).as_bytes()) {
         Ok(role)
     } else {
+        drop(role);
         Err(Refusal::Syntax)
     }
 }

@@ -8,7 +8,7 @@ ghost use Rattle.rls_session.specs.Lines.{IsRead, ends_line, first_line_of, is_s
 use std::str;
 
 /// A line of a script.
-#[derive(Clone, Copy, Debug)]
+#[derive(Clone, Copy)]
 pub enum Line<'a> {
     /// An empty line, or a comment.
     Skipped,

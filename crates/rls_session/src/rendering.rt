@@ -1,7 +1,8 @@
 //! Answers as they are written: rows, then the tag; or the refusal. Each line stands under its label.
 
-ghost use Rattle.std.specs.Prelude.{◌≡◌, ◌++◌, codes, OnOk, IfOk};
-ghost use Rattle.rls_session.specs.Rendering.{escaped_byte, escaped, field_text, more_fields, row_line, row_lines, line_of, counted_tag, refusal_line, reply_text, answer_text};
+ghost use Rattle.std.specs.Prelude.{◌≡◌, ◌≤◌, ◌++◌, codes, length, take, drop, OnOk, IfOk};
+ghost use Rattle.std.specs.List.{prefix_len};
+ghost use Rattle.rls_session.specs.Rendering.{escaped_byte, escaped, is_plain, field_text, more_fields, row_line, row_lines, line_of, counted_tag, refusal_line, reply_text, answer_text};
 
 use crate::answer::Answer;
 use rls_access::Reply;
@@ -36,7 +37,6 @@ fn push_reply(
         }
         Reply::Count(count) => push_counted(alloc, out, label, tag, *count),
         Reply::Done => push_line(out, label, tag.text()),
-        Reply::Refused(refusal) => push_refusal(alloc, out, label, refusal),
     }
 }
 
@@ -102,14 +102,54 @@ fn push_field(alloc: Global, out: &mut Vec<u8>, value: &Value) -> Result<(), All
     }
 }
 
-fn push_escaped(out: &mut Vec<u8>, mut bytes: &[u8]) -> Result<(), AllocError>
-    ensures { OnOk result (out.new.items ≡ out.old.items ++ escaped bytes.entry.now) }
+fn push_escaped(out: &mut Vec<u8>, bytes: &[u8]) -> Result<(), AllocError>
+    ensures { OnOk result (out.new.items ≡ out.old.items ++ escaped bytes.now) }
 {
-    while let [byte, rest @ ..] = bytes {
+    let mut rest = push_plain(out, bytes)?;
+    while let [byte, behind @ ..] = rest {
         push_escaped_byte(out, *byte)?;
-        bytes = rest;
+        rest = push_plain(out, behind)?;
     }
     Ok(())
+}
+
+// The plain bytes at the front at once; what is behind them is given back.
+fn push_plain<'a>(out: &mut Vec<u8>, bytes: &'a [u8]) -> Result<&'a [u8], AllocError>
+    ensures pushed { IfOk result (λ rest. out.new.items ++ escaped rest.now ≡ out.old.items ++ escaped bytes.now) }
+    ensures shorter { IfOk result (λ rest. length rest.now ≤ length bytes.now) }
+{
+    let (plain, behind) = split_plain(bytes);
+    out.extend_from_slice(plain)?;
+    Ok(behind)
+}
+
+fn split_plain(bytes: &[u8]) -> (&[u8], &[u8])
+    ensures plain { result.0.now ≡ take (prefix_len is_plain bytes.now) bytes.now }
+    ensures behind { result.1.now ≡ drop (prefix_len is_plain bytes.now) bytes.now }
+{
+    bytes.split_at(plain_len(bytes))
+}
+
+fn plain_len(bytes: &[u8]) -> usize
+    ensures value { result ≡ prefix_len is_plain bytes.now }
+    ensures within { result ≤ length bytes.now }
+{
+    let mut len = 0;
+    let mut rest = bytes;
+    while let [first, tail @ ..] = rest {
+        if !is_plain(*first) {
+            break;
+        }
+        len += 1;
+        rest = tail;
+    }
+    len
+}
+
+fn is_plain(byte: u8) -> bool
+    ensures { result ≡ Rattle.rls_session.specs.Rendering.is_plain byte }
+{
+    !matches!(byte, b'\\' | b'|' | b'\n' | b'\r')
 }
 
 fn push_escaped_byte(out: &mut Vec<u8>, byte: u8) -> Result<(), AllocError>

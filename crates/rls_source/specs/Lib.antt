@@ -1,5 +1,9 @@
 pub mod Footprints
 pub mod FootprintLaws
+pub mod Readings
+pub mod Askings
+pub mod Asked
+pub mod Answering
 pub use Rattle.rls_catalog.specs.State
 pub use Rattle.rls_catalog.specs.Changed
 pub use Rattle.rls_catalog.specs.Bases

@@ -1,8 +1,10 @@
-//! Sources of rows: who stands for a state, what was read of it, and what a change covers.
+//! Sources of rows: who stands for a state, look-ups that are noted, what was read, and what a change covers.
 #![tactic(auto)]
 
 mod covering;
 mod footprint;
+mod laws;
+mod noted;
 mod plain;
 mod reads;
 mod recording;
@@ -10,6 +12,10 @@ mod source;
 
 pub use covering::covers;
 pub use footprint::Footprint;
+pub use laws::uncovered_stays;
+pub use noted::{
+    noted_grants, noted_key, noted_members, noted_policies, noted_role, noted_scan, noted_table,
+};
 pub use plain::Plain;
 pub use reads::Reads;
 pub use recording::Recording;

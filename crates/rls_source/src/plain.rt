@@ -1,59 +1,53 @@
 //! A whole state as a source.
 
-ghost use Rattle.std.specs.Prelude.{◌≡◌, refl, IfOk};
+ghost use Rattle.std.specs.Prelude.{◌≡◌, refl};
 
 use crate::source::RowSource;
-use rls_catalog::{Catalog, Grant, Membership, RoleDef, Stored};
+use rls_catalog::{Catalog, Grant, Lent, Membership, RoleDef};
 use rls_expr::{Policy, TableDef};
 use rls_value::{Items, Name, Row};
 use std::alloc::{AllocError, Global};
 
 /// A catalogue that is lent, as a source that keeps no note of what is read.
 #[derive(Clone, Copy)]
-pub struct Plain<'a> {
-    pub catalog: &'a Catalog,
+pub struct Plain<'c> {
+    pub catalog: &'c Catalog,
 }
 
-impl<'a> Plain<'a> {
-    pub fn new(catalog: &'a Catalog) -> Plain<'a>
+impl<'c> Plain<'c> {
+    pub fn new(catalog: &'c Catalog) -> Plain<'c>
         ensures { result.catalog.now ≡ catalog.now }
     {
         Plain { catalog }
     }
 }
 
-impl RowSource for Plain<'_> {
+impl<'c> RowSource<'c> for Plain<'c> {
     ghost state = { λ s. s.catalog.now };
 
     ghost after = { λ s os. s };
 
-    fn role(&mut self, _: Global, name: &Name) -> Result<Option<RoleDef>, AllocError> {
-        match self.catalog.role(name) {
-            Some(def) => Ok(Some(*def)),
-            None => Ok(None),
-        }
+    fn role(&mut self, _: Global, name: &Name) -> Result<Option<&'c RoleDef>, AllocError> {
+        Ok(self.catalog.role(name))
     }
 
-    fn members(&mut self, alloc: Global, member: &Name) -> Result<Items<Membership>, AllocError> {
-        Membership::copy_all(alloc, self.catalog.members(member))
+    fn members(&mut self, _: Global, member: &Name) -> Result<&'c [Membership], AllocError> {
+        Ok(self.catalog.members(member))
     }
 
-    fn table(&mut self, alloc: Global, name: &Name) -> Result<Option<TableDef>, AllocError> {
-        match self.catalog.table(name) {
-            Some(def) => Ok(Some(def.copy(alloc)?)),
-            None => Ok(None),
-        }
+    fn table(&mut self, _: Global, name: &Name) -> Result<Option<&'c TableDef>, AllocError> {
+        Ok(self.catalog.table(name))
     }
 
-    fn grants(&mut self, alloc: Global, table: &Name) -> Result<Items<Grant>, AllocError> {
-        Grant::copy_all(alloc, self.catalog.grants(table))
+    fn grants(&mut self, _: Global, table: &Name) -> Result<&'c [Grant], AllocError> {
+        Ok(self.catalog.grants(table))
     }
 
-    fn policies(&mut self, alloc: Global, table: &Name) -> Result<Items<Policy>, AllocError> {
-        Policy::copy_all(alloc, self.catalog.policies(table))
+    fn policies(&mut self, _: Global, table: &Name) -> Result<&'c [Policy], AllocError> {
+        Ok(self.catalog.policies(table))
     }
 
-    fn scan(&mut self, alloc: Global, table: &Name) -> Result<Items<Stored>, AllocError> {
+    fn scan(&mut self, alloc: Global, table: &Name) -> Result<Items<Lent<'c>>, AllocError> {
         self.catalog.rows(alloc, table)
     }
 
@@ -62,7 +56,7 @@ impl RowSource for Plain<'_> {
         alloc: Global,
         table: &Name,
         key: &Row,
-    ) -> Result<Items<Stored>, AllocError> {
+    ) -> Result<Items<Lent<'c>>, AllocError> {
         self.catalog.rows_with_key(alloc, table, key)
     }
 

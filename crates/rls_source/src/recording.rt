@@ -6,7 +6,7 @@ ghost use Rattle.rls_source.specs.FootprintLaws.{with_reads_more};
 
 use crate::footprint::Footprint;
 use crate::source::RowSource;
-use rls_catalog::{Grant, Membership, RoleDef, Stored};
+use rls_catalog::{Grant, Lent, Membership, RoleDef};
 use rls_expr::{Policy, TableDef};
 use rls_value::{Items, Name, Object, Row};
 use std::alloc::{AllocError, Global};
@@ -18,7 +18,7 @@ pub struct Recording<S> {
     pub footprint: Footprint,
 }
 
-impl<S: RowSource> Recording<S> {
+impl<S> Recording<S> {
     pub fn new(alloc: Global, source: S) -> Recording<S>
         ensures source { result.source ≡ source }
         ensures footprint { result.footprint ≡ [] }
@@ -30,47 +30,47 @@ impl<S: RowSource> Recording<S> {
     }
 }
 
-impl<S: RowSource> RowSource for Recording<S> {
+impl<'c, S: RowSource<'c>> RowSource<'c> for Recording<S> {
     ghost state = { λ s. S.state s.source };
 
     ghost after = { λ s os. record { source = S.after s.source os; footprint = with_reads s.footprint os } };
 
-    fn role(&mut self, alloc: Global, name: &Name) -> Result<Option<RoleDef>, AllocError> {
+    fn role(&mut self, alloc: Global, name: &Name) -> Result<Option<&'c RoleDef>, AllocError> {
         let object = Object::Role(name.copy()?);
         let found = self.source.role(alloc, name)?;
         self.footprint.note(object)?;
         Ok(found)
     }
 
-    fn members(&mut self, alloc: Global, member: &Name) -> Result<Items<Membership>, AllocError> {
+    fn members(&mut self, alloc: Global, member: &Name) -> Result<&'c [Membership], AllocError> {
         let object = Object::Members(member.copy()?);
         let found = self.source.members(alloc, member)?;
         self.footprint.note(object)?;
         Ok(found)
     }
 
-    fn table(&mut self, alloc: Global, name: &Name) -> Result<Option<TableDef>, AllocError> {
+    fn table(&mut self, alloc: Global, name: &Name) -> Result<Option<&'c TableDef>, AllocError> {
         let object = Object::Table(name.copy()?);
         let found = self.source.table(alloc, name)?;
         self.footprint.note(object)?;
         Ok(found)
     }
 
-    fn grants(&mut self, alloc: Global, table: &Name) -> Result<Items<Grant>, AllocError> {
+    fn grants(&mut self, alloc: Global, table: &Name) -> Result<&'c [Grant], AllocError> {
         let object = Object::Grants(table.copy()?);
         let found = self.source.grants(alloc, table)?;
         self.footprint.note(object)?;
         Ok(found)
     }
 
-    fn policies(&mut self, alloc: Global, table: &Name) -> Result<Items<Policy>, AllocError> {
+    fn policies(&mut self, alloc: Global, table: &Name) -> Result<&'c [Policy], AllocError> {
         let object = Object::Policies(table.copy()?);
         let found = self.source.policies(alloc, table)?;
         self.footprint.note(object)?;
         Ok(found)
     }
 
-    fn scan(&mut self, alloc: Global, table: &Name) -> Result<Items<Stored>, AllocError> {
+    fn scan(&mut self, alloc: Global, table: &Name) -> Result<Items<Lent<'c>>, AllocError> {
         let object = Object::Rows(table.copy()?);
         let found = self.source.scan(alloc, table)?;
         self.footprint.note(object)?;
@@ -82,7 +82,7 @@ impl<S: RowSource> RowSource for Recording<S> {
         alloc: Global,
         table: &Name,
         key: &Row,
-    ) -> Result<Items<Stored>, AllocError> {
+    ) -> Result<Items<Lent<'c>>, AllocError> {
         let object = Object::Key(table.copy()?, key.copy(alloc)?);
         let found = self.source.by_key(alloc, table, key)?;
         self.footprint.note(object)?;

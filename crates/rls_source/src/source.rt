@@ -1,17 +1,19 @@
 //! Who stands for a state.
 
 ghost use Rattle.std.specs.Prelude.{◌≡◌, List, [], ◌∷◌, ◌++◌, IfOk, OnOk, OnErr};
+ghost use Rattle.std.specs.Option.{option_copied};
+ghost use Rattle.rls_catalog.specs.InOrder.{RowsInOrder};
 ghost use Rattle.rls_catalog.specs.State.{State, role_of, members_of, table_of, grants_of, policies_of, rows_of, rows_with_key};
 ghost use Rattle.rls_value.specs.declared.object.Object.{Object as Read};
 
-use rls_catalog::{Grant, Membership, RoleDef, Stored};
+use rls_catalog::{Grant, Lent, Membership, RoleDef};
 use rls_expr::{Policy, TableDef};
 use rls_value::{Items, Name, Object, Row};
 use std::alloc::{AllocError, Global};
 
-/// Stands for one state, which no read changes. What is found is copied. Each look-up is a read of one object; after
+/// Stands for one state, which no read changes. What is found is lent for the lifetime `'c`. Each look-up is a read of one object; after
 /// an `Err` the source still stands for its state.
-pub trait RowSource {
+pub trait RowSource<'c> {
     /// The state that it stands for.
     ghost state: { Self → State };
 
@@ -19,38 +21,39 @@ pub trait RowSource {
     ghost after: { Self → List Read → Self };
 
     /// The role, if there is one.
-    fn role(&mut self, alloc: Global, name: &Name) -> Result<Option<RoleDef>, AllocError>
-        ensures found { IfOk result (λ found. found ≡ role_of (state self.old) name.now) }
+    fn role(&mut self, alloc: Global, name: &Name) -> Result<Option<&'c RoleDef>, AllocError>
+        ensures found { IfOk result (λ found. option_copied found ≡ role_of (state self.old) name.now) }
         ensures read { OnOk result (self.new ≡ after self.old (Object.Role name.now ∷ [])) }
         ensures err { OnErr result (state self.new ≡ state self.old) };
 
     /// The memberships that the role has.
-    fn members(&mut self, alloc: Global, member: &Name) -> Result<Items<Membership>, AllocError>
-        ensures found { IfOk result (λ found. found ≡ members_of (state self.old) member.now) }
+    fn members(&mut self, alloc: Global, member: &Name) -> Result<&'c [Membership], AllocError>
+        ensures found { IfOk result (λ found. found.now ≡ members_of (state self.old) member.now) }
         ensures read { OnOk result (self.new ≡ after self.old (Object.Members member.now ∷ [])) }
         ensures err { OnErr result (state self.new ≡ state self.old) };
 
     /// The table, if there is one.
-    fn table(&mut self, alloc: Global, name: &Name) -> Result<Option<TableDef>, AllocError>
-        ensures found { IfOk result (λ found. found ≡ table_of (state self.old) name.now) }
+    fn table(&mut self, alloc: Global, name: &Name) -> Result<Option<&'c TableDef>, AllocError>
+        ensures found { IfOk result (λ found. option_copied found ≡ table_of (state self.old) name.now) }
         ensures read { OnOk result (self.new ≡ after self.old (Object.Table name.now ∷ [])) }
         ensures err { OnErr result (state self.new ≡ state self.old) };
 
     /// The grants on the table.
-    fn grants(&mut self, alloc: Global, table: &Name) -> Result<Items<Grant>, AllocError>
-        ensures found { IfOk result (λ found. found ≡ grants_of (state self.old) table.now) }
+    fn grants(&mut self, alloc: Global, table: &Name) -> Result<&'c [Grant], AllocError>
+        ensures found { IfOk result (λ found. found.now ≡ grants_of (state self.old) table.now) }
         ensures read { OnOk result (self.new ≡ after self.old (Object.Grants table.now ∷ [])) }
         ensures err { OnErr result (state self.new ≡ state self.old) };
 
     /// The policies of the table, in byte order of their names.
-    fn policies(&mut self, alloc: Global, table: &Name) -> Result<Items<Policy>, AllocError>
-        ensures found { IfOk result (λ found. found ≡ policies_of (state self.old) table.now) }
+    fn policies(&mut self, alloc: Global, table: &Name) -> Result<&'c [Policy], AllocError>
+        ensures found { IfOk result (λ found. found.now ≡ policies_of (state self.old) table.now) }
         ensures read { OnOk result (self.new ≡ after self.old (Object.Policies table.now ∷ [])) }
         ensures err { OnErr result (state self.new ≡ state self.old) };
 
     /// The rows of the table, in order of their numbers.
-    fn scan(&mut self, alloc: Global, table: &Name) -> Result<Items<Stored>, AllocError>
+    fn scan(&mut self, alloc: Global, table: &Name) -> Result<Items<Lent<'c>>, AllocError>
         ensures found { IfOk result (λ found. found ≡ rows_of (state self.old) table.now) }
+        ensures ordered { OnOk result (RowsInOrder (state self.old) table.now) }
         ensures read { OnOk result (self.new ≡ after self.old (Object.Rows table.now ∷ [])) }
         ensures err { OnErr result (state self.new ≡ state self.old) };
 
@@ -60,8 +63,9 @@ pub trait RowSource {
         alloc: Global,
         table: &Name,
         key: &Row,
-    ) -> Result<Items<Stored>, AllocError>
+    ) -> Result<Items<Lent<'c>>, AllocError>
         ensures found { IfOk result (λ found. found ≡ rows_with_key (state self.old) table.now key.now) }
+        ensures ordered { OnOk result (RowsInOrder (state self.old) table.now) }
         ensures read { OnOk result (self.new ≡ after self.old (Object.Key table.now key.now ∷ [])) }
         ensures err { OnErr result (state self.new ≡ state self.old) };
 

@@ -12,7 +12,7 @@ use Rattle.std.specs.BTreeSet.{insert_key}
 use Rattle.std.proofs.lemmas.Map.Text.{is_eq-slice_cmp}
 use Rattle.std.proofs.Math.Seq.{take-length}
 use Rattle.rls_expr.specs.declared.table.Column.{Column}
-use Rattle.rls_text.specs.Grammar as g
+use Rattle.rls_text.specs.Values as values
 
 -- the order of borrowed texts
 abbrev pub text_order : Bor (List ℕ) → Bor (List ℕ) → Ordering
@@ -68,12 +68,12 @@ seen_or seen key name h = any_inserted text_order (is_at (λ k. slice_cmp nat_cm
 
 -- one name more was seen
 new_after : (seen : List (Bor (List ℕ))) (key : Bor (List ℕ)) (columns : List Column) → was_seen seen key.now ≡ false
-    → are_new (insert_key text_order seen key) columns ≡ (not (g.has_column key.now columns) && are_new seen columns)
+    → are_new (insert_key text_order seen key) columns ≡ (not (values.has_column key.now columns) && are_new seen columns)
 unfolding are_new
 new_after seen key [] h = refl
 new_after seen key (column ∷ columns) h =
     rw (seen_or seen key column.name h, new_after seen key columns h)
-    (shuffled (bytes_eq column.name key.now) (was_seen seen column.name) (g.has_column key.now columns) (are_new seen columns))
+    (shuffled (bytes_eq column.name key.now) (was_seen seen column.name) (values.has_column key.now columns) (are_new seen columns))
 
 turned : (s n h d : Bool) → s ≡ false → ((not s && n) && (not h && d)) ≡ ((not h && n) && d)
 turned true n h d e = absurd (cc)
@@ -83,42 +83,42 @@ turned false false true d e = refl
 turned false false false d e = refl
 
 put_first : (whole : Bool) (seen after : List (Bor (List ℕ))) (key : Bor (List ℕ)) (column : Column) (columns : List Column)
-    → whole ≡ (are_new seen (column ∷ columns) && g.are_distinct (column ∷ columns)) → key.now ≡ column.name → was_seen seen key.now ≡ false
-    → after ≡ insert_key text_order seen key → whole ≡ (are_new after columns && g.are_distinct columns)
+    → whole ≡ (are_new seen (column ∷ columns) && values.are_distinct (column ∷ columns)) → key.now ≡ column.name → was_seen seen key.now ≡ false
+    → after ≡ insert_key text_order seen key → whole ≡ (are_new after columns && values.are_distinct columns)
 unfolding are_new
 put_first whole seen after key column columns h same absent put =
-    h ∙ turned (was_seen seen column.name) (are_new seen columns) (g.has_column column.name columns) (g.are_distinct columns) (ap (was_seen seen) (sym same) ∙ absent)
-    ∙ ap (λ name. (not (g.has_column name columns) && are_new seen columns) && g.are_distinct columns) (sym same)
-    ∙ ap (λ b. b && g.are_distinct columns) (sym (new_after seen key columns absent))
-    ∙ ap (λ keys. are_new keys columns && g.are_distinct columns) (sym put)
+    h ∙ turned (was_seen seen column.name) (are_new seen columns) (values.has_column column.name columns) (values.are_distinct columns) (ap (was_seen seen) (sym same) ∙ absent)
+    ∙ ap (λ name. (not (values.has_column name columns) && are_new seen columns) && values.are_distinct columns) (sym same)
+    ∙ ap (λ b. b && values.are_distinct columns) (sym (new_after seen key columns absent))
+    ∙ ap (λ keys. are_new keys columns && values.are_distinct columns) (sym put)
 
 -- the first name is new, and is among those seen from now on
 pub seen_more : (whole : Bool) (seen after : List (Bor (List ℕ))) (key : Bor (List ℕ)) (column : Column) (columns : List Column)
-    → whole ≡ (are_new seen columns && g.are_distinct columns) → columns ≡ column ∷ drop 1 columns → key.now ≡ column.name → was_seen seen key.now ≡ false
+    → whole ≡ (are_new seen columns && values.are_distinct columns) → columns ≡ column ∷ drop 1 columns → key.now ≡ column.name → was_seen seen key.now ≡ false
     → after ≡ insert_key text_order seen key
-    → whole ≡ (are_new after (take (length columns - 1) (drop 1 columns)) && g.are_distinct (take (length columns - 1) (drop 1 columns)))
+    → whole ≡ (are_new after (take (length columns - 1) (drop 1 columns)) && values.are_distinct (take (length columns - 1) (drop 1 columns)))
 seen_more whole seen after key column columns h first same absent put =
-    put_first whole seen after key column (drop 1 columns) (subst (λ all. whole ≡ (are_new seen all && g.are_distinct all)) first h) same absent put
-    ∙ ap (λ rest. are_new after rest && g.are_distinct rest) (sym (all_taken columns))
+    put_first whole seen after key column (drop 1 columns) (subst (λ all. whole ≡ (are_new seen all && values.are_distinct all)) first h) same absent put
+    ∙ ap (λ rest. are_new after rest && values.are_distinct rest) (sym (all_taken columns))
 
 twice : (whole s n d : Bool) → s ≡ true → whole ≡ ((not s && n) && d) → whole ≡ false
 twice whole true n d e h = h
 twice whole false n d e h = absurd (cc)
 
 twice_first : (whole : Bool) (seen : List (Bor (List ℕ))) (key : Bor (List ℕ)) (column : Column) (columns : List Column)
-    → whole ≡ (are_new seen (column ∷ columns) && g.are_distinct (column ∷ columns)) → key.now ≡ column.name → was_seen seen key.now ≡ true → whole ≡ false
+    → whole ≡ (are_new seen (column ∷ columns) && values.are_distinct (column ∷ columns)) → key.now ≡ column.name → was_seen seen key.now ≡ true → whole ≡ false
 unfolding are_new
 twice_first whole seen key column columns h same present =
-    twice whole (was_seen seen column.name) (are_new seen columns) (g.are_distinct (column ∷ columns)) (ap (was_seen seen) (sym same) ∙ present) h
+    twice whole (was_seen seen column.name) (are_new seen columns) (values.are_distinct (column ∷ columns)) (ap (was_seen seen) (sym same) ∙ present) h
 
 -- the first name was seen before
 pub seen_twice : (whole : Bool) (seen : List (Bor (List ℕ))) (key : Bor (List ℕ)) (column : Column) (columns : List Column)
-    → whole ≡ (are_new seen columns && g.are_distinct columns) → columns ≡ column ∷ drop 1 columns → key.now ≡ column.name → was_seen seen key.now ≡ true → whole ≡ false
+    → whole ≡ (are_new seen columns && values.are_distinct columns) → columns ≡ column ∷ drop 1 columns → key.now ≡ column.name → was_seen seen key.now ≡ true → whole ≡ false
 seen_twice whole seen key column columns h first same present =
-    twice_first whole seen key column (drop 1 columns) (subst (λ all. whole ≡ (are_new seen all && g.are_distinct all)) first h) same present
+    twice_first whole seen key column (drop 1 columns) (subst (λ all. whole ≡ (are_new seen all && values.are_distinct all)) first h) same present
 
 -- none is left
-pub none_left : (whole : Bool) (seen : List (Bor (List ℕ))) (columns : List Column) → whole ≡ (are_new seen columns && g.are_distinct columns) → length columns < 1 → whole ≡ true
+pub none_left : (whole : Bool) (seen : List (Bor (List ℕ))) (columns : List Column) → whole ≡ (are_new seen columns && values.are_distinct columns) → length columns < 1 → whole ≡ true
 unfolding are_new
 none_left whole seen [] h few = h
 none_left whole seen (column ∷ columns) h few = absurd (omega arith)

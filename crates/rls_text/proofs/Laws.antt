@@ -3,14 +3,20 @@ use Rattle.std.specs.Prelude.{◌≡◌, ℕ, zero, suc, ◌+◌, ◌≤◌, ◌
 use Rattle.std.proofs.Common.{arith, sym, ◌∙◌, ap, subst, inl, inr, length-append}
 use Rattle.rls_text.specs.declared.token.Token.{Token}
 use Rattle.rls_text.specs.Lang.{only, Both, Mapped, Either, Perhaps, Many, Checked, After, Before}
-use Rattle.rls_text.specs.Parses.{found}
-use Rattle.rls_text.specs.Trees.{Tree}
+use Rattle.std.proofs.lemmas.Bool.{ltb-true, ltb-false, lt-ltb, le-ltb}
+use Rattle.rls_text.specs.Parses.{found, and_then}
+use Rattle.rls_text.specs.Trees.{Draft}
+use Rattle.rls_text.specs.Heights.{height_of}
+use Rattle.rls_text.specs.Writes.{some_is}
+use Rattle.rls_text.specs.Cut.{Cut}
+use Rattle.rls_text.specs.Cut as cut
+use Rattle.rls_text.specs.Cutting.{tree_of, draft_of, draft_low, draft_high}
+use Rattle.rls_statement.specs.declared.statement.Statement.TheVariants as st
+use Rattle.rls_text.specs.FirstSets.{expr_heads, expr_more}
 use Rattle.rls_text.specs.Grammar as g
-use Rattle.rls_text.specs.Grammar.{Draft}
-use Rattle.rls_text.specs.Readers as r
-use Rattle.rls_text.specs.Gives.{finished, whole_of, answered, unless_over, answer_of}
+use Rattle.rls_text.specs.Gives.{finished, whole_of, within_limits, answered, unless_over, answer_of}
 use Rattle.rls_text.specs.Answers.{Answers, IsSpelled, first_limit, limited, columns_of}
-use Rattle.rls_text.specs.declared.statement.Statement.{Statement}
+use Rattle.rls_statement.specs.declared.statement.Statement.{Statement}
 use Rattle.rls_value.specs.declared.refusal.Limit.{Limit}
 use Rattle.rls_value.specs.declared.refusal.Limit.TheVariants as l
 use Rattle.rls_value.specs.declared.refusal.Refusal.{Refusal}
@@ -80,126 +86,183 @@ module _ {A : Type 0} (k : ℕ) (test : A → Bool) (p p' : List Token → A →
   checked_within : Within k p p' → Within k (Checked test p) (Checked test p')
   checked_within P = record { take = λ ts a h x. record { spelled = P.take ts a h x.spelled; passes = x.passes } }
 
-module _ (k : ℕ) (i i' : List Token → Tree → Type 0) (I : (j : ℕ) → j < k → Within j i i') where
-  pub prim_within : Within k (g.prim i) (g.prim i')
+module _ (k : ℕ) (i i' : Cut tree_of expr_heads expr_more false) (I : (j : ℕ) → j < k → Within j i.rule.spells i'.rule.spells) where
+  pub prim_within : Within k (g.prim i).rule.spells (g.prim i').rule.spells
+  unfolding g.prim
   prim_within = either_within k _ _ _ _ (same_lang k _) (either_within k _ _ _ _ (same_lang k _) (either_within k _ _ _ _ (same_lang k _) (shorter_within _ k _ _ (λ j h. mapped_within j _ _ _ (both_within j _ _ _ _ (I j h) (same_lang j _))))))
 
-  cmp_within : Within k (g.cmp i) (g.cmp i')
+  cmp_within : Within k (g.cmp i).rule.spells (g.cmp i').rule.spells
+  unfolding g.cmp
   cmp_within = mapped_within k _ _ _ (both_within k _ _ _ _ prim_within (perhaps_within k _ _ (both_within k _ _ _ _ (same_lang k _) prim_within)))
 
-  is_within : Within k (g.is i) (g.is i')
+  is_within : Within k (g.is i).rule.spells (g.is i').rule.spells
+  unfolding g.is
   is_within = mapped_within k _ _ _ (both_within k _ _ _ _ cmp_within (same_lang k _))
 
-  not_within : Within k (g.not_ i) (g.not_ i')
+  not_within : Within k (g.not_ i).rule.spells (g.not_ i').rule.spells
+  unfolding g.not_
   not_within = mapped_within k _ _ _ (both_within k _ _ _ _ (same_lang k _) is_within)
 
-  and_within : Within k (g.and i) (g.and i')
+  and_within : Within k (g.and i).rule.spells (g.and i').rule.spells
+  unfolding g.and g.and_next
   and_within = mapped_within k _ _ _ (both_within k _ _ _ _ not_within (many_within k _ _ (mapped_within k _ _ _ (both_within k _ _ _ _ (same_lang k _) not_within))))
 
-  pub or_within : Within k (g.or i) (g.or i')
+  pub or_within : Within k (g.or i).rule.spells (g.or i').rule.spells
+  unfolding g.or g.or_next
   or_within = mapped_within k _ _ _ (both_within k _ _ _ _ and_within (many_within k _ _ (mapped_within k _ _ _ (both_within k _ _ _ _ (same_lang k _) and_within))))
 
 -- Parentheses are no deeper than there are tokens.
-expr_within : (depth k : ℕ) → Within k (g.expr depth) (g.expr (suc k))
+expr_within : (depth k : ℕ) → Within k (g.expr depth).rule.spells (g.expr (suc k)).rule.spells
 unfolding g.expr
 expr_within zero k = record { take = λ ts a h x. absurd x }
 expr_within (suc depth) k = or_within k (g.expr depth) (g.expr k) (λ j h. go k j h (expr_within depth))
   where
-    go : (k j : ℕ) → j < k → ((m : ℕ) → Within m (g.expr depth) (g.expr (suc m))) → Within j (g.expr depth) (g.expr k)
+    go : (k j : ℕ) → j < k → ((m : ℕ) → Within m (g.expr depth).rule.spells (g.expr (suc m)).rule.spells) → Within j (g.expr depth).rule.spells (g.expr k).rule.spells
     go zero j h again = absurd (omega arith)
     go (suc n) j h again = record { take = λ ts a k x. (again n).take ts a (omega arith) x }
 
-module _ (k : ℕ) (i i' : List Token → Tree → Type 0) (I : Within k i i') where
-  parenthesized_within : Within k (g.parenthesized i) (g.parenthesized i')
+module _ (k : ℕ) (i i' : Cut tree_of expr_heads expr_more false) (I : Within k i.rule.spells i'.rule.spells) where
+  parenthesized_within : Within k (g.parenthesized i).rule.spells (g.parenthesized i').rule.spells
+  unfolding g.parenthesized
   parenthesized_within = after_within k _ _ _ (before_within k _ _ _ I)
 
-  select_within : Within k (g.select i) (g.select i')
+  select_within : Within k (g.select i).rule.spells (g.select i').rule.spells
+  unfolding g.select g.condition
   select_within = mapped_within k _ _ _ (after_within k _ _ _ (both_within k _ _ _ _ (same_lang k _) (after_within k _ _ _ (both_within k _ _ _ _ (same_lang k _) (perhaps_within k _ _ (after_within k _ _ _ I))))))
 
-  tuple_within : Within k (g.tuple i) (g.tuple i')
+  tuple_within : Within k (g.tuple i).rule.spells (g.tuple i').rule.spells
+  unfolding g.tuple g.parts cut.with_comma
   tuple_within = after_within k _ _ _ (before_within k _ _ _ (mapped_within k _ _ _ (both_within k _ _ _ _ I (many_within k _ _ (after_within k _ _ _ I)))))
 
-  tuples_within : Within k (g.tuples i) (g.tuples i')
+  tuples_within : Within k (g.even_tuples i).rule.spells (g.even_tuples i').rule.spells
+  unfolding g.even_tuples g.tuples cut.with_comma
   tuples_within = checked_within k _ _ _ (mapped_within k _ _ _ (both_within k _ _ _ _ tuple_within (many_within k _ _ (after_within k _ _ _ tuple_within))))
 
-  insert_within : Within k (g.insert i) (g.insert i')
+  insert_within : Within k (g.insert i).rule.spells (g.insert i').rule.spells
+  unfolding g.insert
   insert_within = mapped_within k _ _ _ (after_within k _ _ _ (after_within k _ _ _ (both_within k _ _ _ _ (same_lang k _) (after_within k _ _ _ tuples_within))))
 
-  using_within : Within k (g.using i) (g.using i')
+  using_within : Within k (g.using i).rule.spells (g.using i').rule.spells
+  unfolding g.using
   using_within = perhaps_within k _ _ (after_within k _ _ _ parenthesized_within)
 
-  check_within : Within k (g.check i) (g.check i')
+  check_within : Within k (g.check i).rule.spells (g.check i').rule.spells
+  unfolding g.check
   check_within = perhaps_within k _ _ (after_within k _ _ _ (after_within k _ _ _ parenthesized_within))
 
-  policy_within : Within k (g.policy i) (g.policy i')
+  policy_within : Within k (g.policy i).rule.spells (g.policy i').rule.spells
+  unfolding g.policy
   policy_within = mapped_within k _ _ _ (both_within k _ _ _ _ (same_lang k _) (after_within k _ _ _ (both_within k _ _ _ _ (same_lang k _) (both_within k _ _ _ _ (same_lang k _) (both_within k _ _ _ _ using_within check_within)))))
 
-  create_within : Within k (g.create i) (g.create i')
+  create_within : Within k (g.create i).rule.spells (g.create i').rule.spells
+  unfolding g.create g.role g.table
   create_within = after_within k _ _ _ (either_within k _ _ _ _ (same_lang k _) (either_within k _ _ _ _ (same_lang k _) (either_within k _ _ _ _ (same_lang k _) (after_within k _ _ _ policy_within))))
 
-  body_within : Within k (g.body i) (g.body i')
+  body_within : Within k (g.body i).rule.spells (g.body i').rule.spells
+  unfolding g.body
   body_within = either_within k _ _ _ _ select_within (either_within k _ _ _ _ insert_within (either_within k _ _ _ _ create_within (same_lang k _)))
 
-statement_within : (depth k : ℕ) → Within k (g.statement depth) (g.statement (suc k))
-statement_within depth k = before_within k _ _ _ (body_within k _ _ (expr_within depth k))
+statement_within : (depth k : ℕ) → Within k (g.statement depth).rule.spells (g.statement (suc k)).rule.spells
+unfolding g.statement
+statement_within depth k = before_within k _ _ _ (body_within k (g.expr depth) (g.expr (suc k)) (expr_within depth k))
 
 -- all of the tokens, read with enough depth
-abbrev pub reading : List Token → Option (Draft × List Token)
-reading ts = (r.statement (length ts + 1)).read ts
+abbrev pub reading : List Token → Option (Statement × List Token)
+reading ts = (g.statement (length ts + 1)).rule.parses.read ts
 
 append_end : (ts : List Token) → ts ++ [] ≡ ts
 append_end [] = refl
 append_end (t ∷ ts) = ap (λ x. t ∷ x) (append_end ts)
 
 -- What is read to the end is spelled.
-pub reading_sound : (ts : List Token) (x : Draft) → reading ts ≡ Some (x, []) → g.Spells ts x
+pub reading_sound : (ts : List Token) (x : Statement) → reading ts ≡ Some (x, []) → g.Spells ts x
 reading_sound ts x h =
-    let f = (r.statement (length ts + 1)).sound ts [] x h in
-    record { depth = length ts + 1; spelled = subst (λ z. g.statement (length ts + 1) z x) (sym (f.split ∙ append_end f.front)) f.spelled }
+    let f = (g.statement (length ts + 1)).rule.parses.sound ts [] x h in
+    record { depth = length ts + 1; spelled = subst (λ z. (g.statement (length ts + 1)).rule.spells z x) (sym (f.split ∙ append_end f.front)) f.spelled }
 
 -- What is spelled is read, to the end.
-pub reading_complete : (ts : List Token) (x : Draft) → g.Spells ts x → reading ts ≡ Some (x, [])
+pub reading_complete : (ts : List Token) (x : Statement) → g.Spells ts x → reading ts ≡ Some (x, [])
 reading_complete ts x h =
     let e : suc (length ts) ≡ length ts + 1 = omega arith in
-    let y = subst (λ d. g.statement d ts x) e ((statement_within h.depth (length ts)).take ts x (omega arith) h.spelled) in
-    ap (λ z. (r.statement (length ts + 1)).read z) (sym (append_end ts)) ∙ (r.statement (length ts + 1)).complete ts [] x y refl
+    let y = subst (λ d. (g.statement d).rule.spells ts x) e ((statement_within h.depth (length ts)).take ts x (omega arith) h.spelled) in
+    ap (λ z. (g.statement (length ts + 1)).rule.parses.read z) (sym (append_end ts)) ∙ (g.statement (length ts + 1)).rule.parses.complete ts [] x y refl
 
 -- The tokens spell one statement at most.
-pub one_statement : (ts : List Token) (x y : Draft) → g.Spells ts x → g.Spells ts y → x ≡ y
+pub one_statement : (ts : List Token) (x y : Statement) → g.Spells ts x → g.Spells ts y → x ≡ y
 one_statement ts x y a b = (found (x, []) (y, []) (sym (reading_complete ts x a) ∙ reading_complete ts y b)).0
 
-pub whole_found : (ts : List Token) (x : Draft) → whole_of ts ≡ Some x → g.Spells ts x
+-- the whole is what the rule finds, as it is kept
+abbrev pub finds : Option (Statement × List Token) → Option Draft
+finds o = finished (and_then o (λ x rest. Some (draft_of x, rest)))
+
+whole_is : (ts : List Token) → whole_of ts ≡ finds (reading ts)
 unfolding whole_of
-whole_found ts x h = reading_sound ts x (go (reading ts) h)
+whole_is ts = ap finished ((g.statement (length ts + 1)).same ts)
+
+-- the draft of a statement that is spelled
+pub record IsDraft (ts : List Token) (draft : Draft) : Type 0 where
+  pub source : Statement
+  pub spelled : g.Spells ts source
+  pub kept : draft ≡ draft_of source
+
+pub whole_found : (ts : List Token) (draft : Draft) → whole_of ts ≡ Some draft → IsDraft ts draft
+whole_found ts draft h = go (reading ts) refl (sym (whole_is ts) ∙ h)
   where
-    go : (o : Option (Draft × List Token)) → finished o ≡ Some x → o ≡ Some (x, [])
-    go None h = cc
-    go (Some (y, [])) h = let e : y ≡ x = cc in ap (λ z. Some (z, [])) e
-    go (Some (y, t ∷ ts)) h = cc
+    go : (o : Option (Statement × List Token)) → reading ts ≡ o → finds o ≡ Some draft → IsDraft ts draft
+    go None e h = cc
+    go (Some (x, [])) e h = record { source = x; spelled = reading_sound ts x e; kept = sym (some_is (draft_of x) draft h) }
+    go (Some (x, t ∷ rest)) e h = cc
 
-pub whole_spelled : (ts : List Token) (x : Draft) → g.Spells ts x → whole_of ts ≡ Some x
-unfolding whole_of
-whole_spelled ts x h = rw (reading_complete ts x h) refl
+pub whole_spelled : (ts : List Token) (x : Statement) → g.Spells ts x → whole_of ts ≡ Some (draft_of x)
+whole_spelled ts x h = whole_is ts ∙ ap finds (reading_complete ts x h)
 
-none_spelled : (ts : List Token) → whole_of ts ≡ None → (y : Draft) → g.Spells ts y → ⊥
-none_spelled ts h y s = let e = whole_spelled ts y s in cc
+columns_kept : (x : Statement) → columns_of (draft_of x).0 ≡ columns_of x
+columns_kept (st.Select x) = refl
+columns_kept (st.Insert x) = refl
+columns_kept (st.CreatePolicy x) = refl
+columns_kept (st.CreateRole x) = refl
+columns_kept (st.CreateTable x) = refl
+columns_kept (st.AlterTable x) = refl
+columns_kept (st.Grant x) = refl
+columns_kept (st.AlterRole x) = refl
+columns_kept (st.GrantRoles x) = refl
+columns_kept (st.RevokeRoles x) = refl
+columns_kept (st.SetRole x) = refl
+
+-- A draft is over the limits exactly where its statement is.
+pub limits_kept : (x : Statement) → within_limits (draft_of x) ≡ limited x
+limits_kept x = rw (columns_kept x) (go (nat_lt 64 (columns_of x)) (nat_lt 64 (draft_of x).1) refl)
+  where
+    go : (a b : Bool) → nat_lt 64 (draft_of x).1 ≡ b
+        → if◌then◌else◌ {A = Result Statement Refusal} a (Err (refusal.Limit l.Columns)) (if◌then◌else◌ {A = Result Statement Refusal} b (Err (refusal.Limit l.Nesting)) (Ok (draft_of x).0))
+        ≡ if◌then◌else◌ {A = Result Statement Refusal} a (Err (refusal.Limit l.Columns)) (if◌then◌else◌ {A = Result Statement Refusal} (nat_lt 64 (height_of x)) (Err (refusal.Limit l.Nesting)) (Ok x))
+    go true b e = refl
+    go false true e =
+        let over : nat_lt 64 (height_of x) ≡ true = lt-ltb 64 (height_of x) (draft_high x (ltb-true 64 (draft_of x).1 e)) in
+        rw over refl
+    go false false e =
+        let low : (draft_of x).1 ≤ 64 = ltb-false 64 (draft_of x).1 e in
+        let same = draft_low x low in
+        let under : nat_lt 64 (height_of x) ≡ false = le-ltb 64 (height_of x) (omega (arith, low, same.1)) in
+        rw (under, same.0) refl
 
 -- What is found is the answer.
 pub is_answer : (ts : List Token) → Answers ts (answer_of ts)
 is_answer ts = record {
   over = λ limit h. ap (λ z. unless_over z (answered (whole_of ts))) h;
-  spelled = λ draft h s. ap (λ z. unless_over z (answered (whole_of ts))) h ∙ ap answered (whole_spelled ts draft s);
+  spelled = λ x h s. ap (λ z. unless_over z (answered (whole_of ts))) h ∙ ap answered (whole_spelled ts x s) ∙ limits_kept x;
   unspelled = λ h none. ap (λ z. unless_over z (answered (whole_of ts))) h ∙ ap answered (never (whole_of ts) refl none);
 }
   where
-    never : (o : Option Draft) → whole_of ts ≡ o → ((draft : Draft) → g.Spells ts draft → ⊥) → o ≡ None
+    never : (o : Option Draft) → whole_of ts ≡ o → ((x : Statement) → g.Spells ts x → ⊥) → o ≡ None
     never None e none = refl
-    never (Some draft) e none = absurd (none draft (whole_found ts draft e))
+    never (Some draft) e none = let f = whole_found ts draft e in absurd (none f.source f.spelled)
 
-kept : (draft : Draft) (x : Statement) → limited draft ≡ Ok x → draft.0 ≡ x
-kept draft x h = go (nat_lt 64 (columns_of draft.0)) (nat_lt 64 draft.1) h
+-- what is limited is the statement itself
+kept : (x y : Statement) → limited x ≡ Ok y → x ≡ y
+kept x y h = go (nat_lt 64 (columns_of x)) (nat_lt 64 (height_of x)) h
   where
-    go : (a b : Bool) → (if◌then◌else◌ {A = Result Statement Refusal} a (Err (refusal.Limit l.Columns)) (if◌then◌else◌ {A = Result Statement Refusal} b (Err (refusal.Limit l.Nesting)) (Ok draft.0))) ≡ Ok x → draft.0 ≡ x
+    go : (a b : Bool) → (if◌then◌else◌ {A = Result Statement Refusal} a (Err (refusal.Limit l.Columns)) (if◌then◌else◌ {A = Result Statement Refusal} b (Err (refusal.Limit l.Nesting)) (Ok x))) ≡ Ok y → x ≡ y
     go true b h = cc
     go false true h = cc
     go false false h = cc
@@ -212,9 +275,25 @@ answer_spelled ts x h = go (first_limit ts) (whole_of ts) refl refl h
     go (Some limit) b p q h = absurd (cc)
     go None None p q h = absurd (cc)
     go None (Some draft) p q h =
-        let e : draft ≡ (x, draft.1) = ap (λ z. (z, draft.1)) (kept draft x h) in
-        record { depth = draft.1; spelled = subst (λ z. g.Spells ts z) e (whole_found ts draft q); words = p; within = subst (λ z. limited z ≡ Ok x) e h }
+        let f = whole_found ts draft q in
+        let e : limited f.source ≡ Ok x = sym (limits_kept f.source) ∙ ap within_limits (sym f.kept) ∙ h in
+        let s = kept f.source x e in
+        record { spelled = subst (λ z. g.Spells ts z) s f.spelled; words = p; within = subst (λ z. limited z ≡ Ok x) s e }
 
 pub ok_spelled : (r : Result Statement Refusal) (ts : List Token) → (¬ (r ≡ Err refusal.NoMemory) → r ≡ answer_of ts) → IfOk r (λ x. IsSpelled ts x)
 ok_spelled (Ok x) ts h = answer_spelled ts x (sym (h (λ e. absurd (cc))))
 ok_spelled (Err e) ts h = tt
+
+-- A statement that is within the limits is no higher than 64.
+pub spelled_low : (ts : List Token) (x : Statement) → IsSpelled ts x → height_of x ≤ 64
+spelled_low ts x h = go (nat_lt 64 (columns_of x)) (nat_lt 64 (height_of x)) refl h.within
+  where
+    go : (a b : Bool) → nat_lt 64 (height_of x) ≡ b
+        → if◌then◌else◌ {A = Result Statement Refusal} a (Err (refusal.Limit l.Columns)) (if◌then◌else◌ {A = Result Statement Refusal} b (Err (refusal.Limit l.Nesting)) (Ok x)) ≡ Ok x → height_of x ≤ 64
+    go true b p e = absurd (cc)
+    go false true p e = absurd (cc)
+    go false false p e = ltb-false 64 (height_of x) p
+
+pub ok_low : (r : Result Statement Refusal) (ts : List Token) → IfOk r (λ x. IsSpelled ts x) → IfOk r (λ x. height_of x ≤ 64)
+ok_low (Ok x) ts h = spelled_low ts x h
+ok_low (Err e) ts h = tt

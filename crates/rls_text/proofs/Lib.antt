@@ -1,5 +1,5 @@
 pub mod Loops
 pub mod Wording
 pub mod Laws
-pub mod Kept
 pub mod Columns
+pub mod Printed

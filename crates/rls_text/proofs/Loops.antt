@@ -1,14 +1,14 @@
 -- Loops that read any number of phrases.
 use Rattle.std.proofs.Common.{◌≡◌, ℕ, zero, suc, ◌+◌, ◌-◌, ◌<◌, ◌≤◌, Bool, ◌||◌, true, false, List, [], ◌∷◌, ◌++◌, length, Some, None, refl, arith, ap, sym, append_assoc}
 use Rattle.rls_text.specs.declared.token.Token.{Token}
-use Rattle.rls_text.specs.Heads.{Head, sees, fits, begins}
+use Rattle.rls_text.specs.Heads.{Head, sees, fits, begins, Keyword}
 use Rattle.rls_text.specs.Parses.{Outcome, and_then, read_many, read_token}
 use Rattle.rls_text.specs.declared.token.Token.TheVariants.{Word}
 use Rattle.std.specs.Prelude.{codes}
 use Rattle.rls_text.specs.Trees.{Tree, not_of}
 use Rattle.rls_text.specs.Gives.{with_front, counted, added, folded}
-use Rattle.rls_text.specs.Readers as r
 use Rattle.rls_text.specs.Grammar as g
+use Rattle.rls_text.specs.Trees as trees
 
 pub one_left : (turn end : ℕ) → turn < end → end - turn ≡ suc (end - (turn + 1))
 one_left turn end h = omega arith
@@ -73,20 +73,20 @@ module _ (heads : List Head) (p : List Token → Outcome (Unit {0})) where
       go (Some x) = ap (λ z. Some (z, x.1)) (omega arith)
 
 -- an expression at a depth that isn't 0 is a disjunction one deeper
-pub deeper : (depth : ℕ) (ts : List Token) → 0 < depth → (r.expr depth).read ts ≡ (r.or (g.expr (depth - 1)) (r.expr (depth - 1))).read ts
-unfolding r.expr g.expr
+pub deeper : (depth : ℕ) (ts : List Token) → 0 < depth → (g.expr depth).read ts ≡ (g.or (g.expr (depth - 1))).read ts
+unfolding g.expr
 deeper zero ts h = absurd (omega arith)
-deeper (suc n) ts h = let e : n ≡ suc n - 1 = omega arith in ap (λ d. (r.or (g.expr d) (r.expr d)).read ts) e
+deeper (suc n) ts h = let e : n ≡ suc n - 1 = omega arith in ap (λ d. (g.or (g.expr d)).read ts) e
 
-pub negated_on : (turn count : ℕ) (operand : Tree) → turn < count → g.negated (count - turn) operand ≡ g.negated (count - (turn + 1)) (not_of operand)
+pub negated_on : (turn count : ℕ) (operand : Tree) → turn < count → trees.negated (count - turn) operand ≡ trees.negated (count - (turn + 1)) (not_of operand)
 negated_on turn count operand h = rw (one_left turn count h) refl
 
-pub negated_done : (turn count : ℕ) (operand : Tree) → count ≤ turn → g.negated (count - turn) operand ≡ operand
+pub negated_done : (turn count : ℕ) (operand : Tree) → count ≤ turn → trees.negated (count - turn) operand ≡ operand
 negated_done turn count operand h = rw (none_left turn count h) refl
 
-pub nots_begin : (ts : List Token) → r.nots.read ts ≡ added 0 (counted (read_many (r.W (codes "not") ∷ []) (read_token (Word (codes "not"))) (length ts - 0) ts))
-unfolding r.nots counted added
-nots_begin ts = let e : length ts - 0 ≡ length ts = omega arith in rw e (go (read_many (r.W (codes "not") ∷ []) (read_token (Word (codes "not"))) (length ts) ts))
+pub nots_begin : (ts : List Token) → g.nots.parses.read ts ≡ added 0 (counted (read_many (Keyword (codes "not") ∷ []) (read_token (Word (codes "not"))) (length ts - 0) ts))
+unfolding g.nots counted added
+nots_begin ts = let e : length ts - 0 ≡ length ts = omega arith in rw e (go (read_many (Keyword (codes "not") ∷ []) (read_token (Word (codes "not"))) (length ts) ts))
   where
     go : (o : Outcome (List (Unit {0}))) → and_then o (λ xs rest. Some (length xs, rest)) ≡ added 0 (counted o)
     go None = refl

@@ -7,9 +7,10 @@ use Rattle.rls_value.specs.declared.refusal.Refusal.TheVariants as refusal
 use Rattle.rls_text.specs.declared.token.Symbol.TheVariants as s
 use Rattle.rls_text.specs.declared.token.Token.{Token}
 use Rattle.rls_text.specs.declared.token.Token.TheVariants as t
-use Rattle.rls_text.specs.declared.statement.Statement.{Statement}
-use Rattle.rls_text.specs.declared.statement.Statement.TheVariants as st
-use Rattle.rls_text.specs.Grammar.{Draft, Spells}
+use Rattle.rls_statement.specs.declared.statement.Statement.{Statement}
+use Rattle.rls_statement.specs.declared.statement.Statement.TheVariants as st
+use Rattle.rls_text.specs.Heights.{height_of}
+use Rattle.rls_text.specs.Grammar.{Spells}
 
 -- how many parentheses are open behind the token
 abbrev pub open_behind : ℕ → Token → ℕ
@@ -42,20 +43,19 @@ abbrev pub columns_of : Statement → ℕ
 columns_of (st.CreateTable table) = length table.columns
 columns_of _ = 0
 
--- over 64 columns or a depth of over 64 are refused, columns first
-abbrev pub limited : Draft → Result Statement Refusal
-limited draft = if nat_lt 64 (columns_of draft.0) then Err (refusal.Limit l.Columns) else (if nat_lt 64 draft.1 then Err (refusal.Limit l.Nesting) else Ok draft.0)
+-- over 64 columns or a height of over 64 are refused, columns first
+abbrev pub limited : Statement → Result Statement Refusal
+limited x = if nat_lt 64 (columns_of x) then Err (refusal.Limit l.Columns) else (if nat_lt 64 (height_of x) then Err (refusal.Limit l.Nesting) else Ok x)
 
 -- The tokens are answered with this: the limits on words come first, then what isn't in the grammar, then the limits
 -- on the statement.
 pub record Answers (tokens : List Token) (r : Result Statement Refusal) : Type 0 where
   pub over : (limit : Limit) → first_limit tokens ≡ Some limit → r ≡ Err (refusal.Limit limit)
-  pub spelled : (draft : Draft) → first_limit tokens ≡ None → Spells tokens draft → r ≡ limited draft
-  pub unspelled : first_limit tokens ≡ None → ((draft : Draft) → Spells tokens draft → ⊥) → r ≡ Err refusal.Syntax
+  pub spelled : (x : Statement) → first_limit tokens ≡ None → Spells tokens x → r ≡ limited x
+  pub unspelled : first_limit tokens ≡ None → ((x : Statement) → Spells tokens x → ⊥) → r ≡ Err refusal.Syntax
 
 -- The tokens spell the statement, and are within the limits.
-pub record IsSpelled (tokens : List Token) (statement : Statement) : Type 0 where
-  pub depth : ℕ
-  pub spelled : Spells tokens (statement, depth)
+pub record IsSpelled (tokens : List Token) (x : Statement) : Type 0 where
+  pub spelled : Spells tokens x
   pub words : first_limit tokens ≡ None
-  pub within : limited (statement, depth) ≡ Ok statement
+  pub within : limited x ≡ Ok x

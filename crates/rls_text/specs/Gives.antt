@@ -1,5 +1,5 @@
 -- What a function of the parser ensures: it gives what the reader gives, unless memory runs out.
-use Rattle.std.specs.Prelude.{◌≡◌, ℕ, ◌+◌, ◌++◌, length, List, [], ◌∷◌, Option, Some, None, Result, Ok, Err}
+use Rattle.std.specs.Prelude.{◌≡◌, ℕ, ◌+◌, nat_lt, if◌then◌else◌, ◌++◌, length, List, [], ◌∷◌, Option, Some, None, Result, Ok, Err}
 use Rattle.std.specs.Borrow.{Bor}
 use Rattle.rls_text.specs.declared.token.Token.{Token}
 use Rattle.rls_text.specs.declared.fault.Fault.{Fault}
@@ -7,12 +7,14 @@ use Rattle.rls_text.specs.declared.fault.Fault.TheVariants.{NoMemory, Syntax}
 use Rattle.rls_value.specs.declared.refusal.Limit.{Limit}
 use Rattle.rls_value.specs.declared.refusal.Refusal.{Refusal}
 use Rattle.rls_value.specs.declared.refusal.Refusal.TheVariants as refusal
-use Rattle.rls_text.specs.declared.statement.Statement.{Statement}
-use Rattle.rls_text.specs.Answers.{first_limit, limited}
+use Rattle.rls_statement.specs.declared.statement.Statement.{Statement}
+use Rattle.rls_text.specs.Answers.{first_limit, columns_of}
+use Rattle.rls_value.specs.declared.refusal.Limit.TheVariants as l
 use Rattle.rls_text.specs.Lang.{put_in}
 use Rattle.rls_text.specs.Parses.{Outcome, and_then}
-use Rattle.rls_text.specs.Grammar.{Draft, or_empty}
-use Rattle.rls_text.specs.Readers as r
+use Rattle.rls_text.specs.Trees.{Draft}
+use Rattle.rls_text.specs.Values.{or_empty}
+use Rattle.rls_text.specs.Grammar as g
 
 -- nothing is said where memory ran out; what isn't read is no phrase
 abbrev pub Fails : {A : Type 0} → Fault → Outcome A → Type 0
@@ -62,7 +64,7 @@ finished (Some (x, _ ∷ _)) = None
 
 -- the statement that takes up all of the tokens
 unfoldable pub whole_of : List Token → Option Draft
-whole_of ts = finished ((r.statement (length ts + 1)).read ts)
+whole_of ts = finished ((g.statement (length ts + 1)).read ts)
 
 -- what is given is what takes up all of them
 abbrev pub GivesWhole : Result Draft Fault → Option Draft → Type 0
@@ -76,10 +78,14 @@ GivesName (Ok name) given = given ≡ Some name
 GivesName (Err NoMemory) given = Unit {0}
 GivesName (Err Syntax) given = given ≡ None
 
+-- a draft over the limits is refused
+abbrev pub within_limits : Draft → Result Statement Refusal
+within_limits draft = if nat_lt 64 (columns_of draft.0) then Err (refusal.Limit l.Columns) else (if nat_lt 64 draft.1 then Err (refusal.Limit l.Nesting) else Ok draft.0)
+
 -- what the whole is answered with
 abbrev pub answered : Option Draft → Result Statement Refusal
 answered None = Err refusal.Syntax
-answered (Some draft) = limited draft
+answered (Some draft) = within_limits draft
 
 -- a limit on words comes first
 abbrev pub unless_over : Option Limit → Result Statement Refusal → Result Statement Refusal

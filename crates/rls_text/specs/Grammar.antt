@@ -1,15 +1,14 @@
--- The grammar: which lists of tokens spell which statements (PostgreSQL manual, part VI, of which this is a part).
-use Rattle.std.specs.Prelude.{ℕ, zero, suc, nat_le, nat_eq, max, pos, ◌-ℤ◌, ◌-◌, ◌^◌, Bool, true, false, not, ◌&&◌, if◌then◌else◌, List, [], ◌∷◌, length, Option, Some, None, codes}
-use Rattle.std.specs.List.{list_any}
-use Rattle.std.specs.Str.{bytes_eq}
-use Rattle.rls_value.specs.Names.{reserved, spells_name, folded}
+-- The grammar: which lists of tokens spell which statements, and how a statement is written (PostgreSQL manual, part VI,
+-- of which this is a part). Behind a rule's type stand the tokens by which its phrases begin, those that may not follow
+-- them, and whether one may be empty. What the parts stand for together is in `Values`, how it is taken apart to be
+-- written in `WaysBack`.
+use Rattle.std.specs.Prelude.{◌≡◌, ℕ, zero, suc, length, Bool, true, false, List, [], ◌∷◌, ◌++◌, Option, Some, None, codes, refl}
 use Rattle.rls_value.specs.declared.value.Value.{Value}
 use Rattle.rls_value.specs.declared.value.Value.TheVariants as v
 use Rattle.rls_value.specs.declared.value.ColType.{ColType}
 use Rattle.rls_value.specs.declared.value.ColType.TheVariants as k
 use Rattle.rls_value.specs.declared.verb.Privilege.{Privilege}
 use Rattle.rls_value.specs.declared.verb.Privilege.TheVariants as p
-use Rattle.rls_value.specs.declared.verb.PolicyKind.TheVariants as kind
 use Rattle.rls_expr.specs.Terms.{Term}
 use Rattle.rls_expr.specs.Terms as e
 use Rattle.rls_expr.specs.declared.table.Column.{Column}
@@ -17,386 +16,523 @@ use Rattle.rls_expr.specs.declared.expr.Comparison.{Comparison}
 use Rattle.rls_expr.specs.declared.expr.Comparison.TheVariants as c
 use Rattle.rls_expr.specs.declared.policy.Grantee.{Grantee}
 use Rattle.rls_expr.specs.declared.policy.Grantee.TheVariants as to
-use Rattle.rls_text.specs.declared.token.Symbol.{Symbol}
+use Rattle.rls_statement.specs.declared.statement.Attributes.{Attributes}
+use Rattle.rls_statement.specs.declared.statement.MembershipOption.{MembershipOption}
+use Rattle.rls_statement.specs.declared.statement.MembershipOption.TheVariants as m
+use Rattle.rls_statement.specs.declared.statement.MembershipOptions.{MembershipOptions}
+use Rattle.rls_statement.specs.declared.statement.Privileges.{Privileges}
+use Rattle.rls_statement.specs.declared.statement.Selected.{Selected}
+use Rattle.rls_statement.specs.declared.statement.Selected.TheVariants as selected
+use Rattle.rls_statement.specs.declared.statement.SetRole.{SetRole}
+use Rattle.rls_statement.specs.declared.statement.SetRole.TheVariants as sr
+use Rattle.rls_statement.specs.declared.statement.Statement.{Statement}
+use Rattle.rls_statement.specs.declared.statement.Statement.TheVariants as st
 use Rattle.rls_text.specs.declared.token.Symbol.TheVariants as s
 use Rattle.rls_text.specs.declared.token.Token.{Token}
-use Rattle.rls_text.specs.declared.token.Token.TheVariants.{Word, Number, Text, Bad}
-use Rattle.rls_text.specs.declared.token.Token.TheVariants as t
+use Rattle.rls_text.specs.declared.token.Token.TheVariants.{Word}
+use Rattle.rls_text.specs.declared.token.Token.TheVariants as tokens
 use Rattle.rls_text.specs.declared.attributes.RoleAttribute.{RoleAttribute}
 use Rattle.rls_text.specs.declared.attributes.RoleAttribute.TheVariants as a
-use Rattle.rls_text.specs.declared.statement.Attributes.{Attributes}
-use Rattle.rls_text.specs.declared.statement.Privileges.{Privileges}
-use Rattle.rls_text.specs.declared.statement.RowSecurity.TheVariants as change
-use Rattle.rls_text.specs.declared.statement.Selected.{Selected}
-use Rattle.rls_text.specs.declared.statement.Selected.TheVariants as selected
-use Rattle.rls_text.specs.declared.statement.Statement.{Statement}
-use Rattle.rls_text.specs.declared.statement.Statement.TheVariants as st
-use Rattle.rls_text.specs.Lang.{Lang, only, One, Both, Mapped, Either, Perhaps, Many, Checked, Never, After, Before, put_in}
-use Rattle.rls_text.specs.Trees.{Tree, Tuple, Tuples, leaf, not_of, null_test_of, compare_of, operands, and_of, or_of, tuple_of, tuples_of, parted}
+use Rattle.std.proofs.Common.{inl, inr}
+use Rattle.rls_text.specs.Heads.{Names, Numbers, Texts, Keyword, Sign, begins, sees}
+use Rattle.rls_text.specs.FirstSets.{constant_heads, literal_heads, prim_heads, comparison_heads, is_more, expr_heads, expr_more, condition_more, attribute_heads, role_more, policy_more, create_more, privilege_heads, option_heads, granted_more, revoked_more, flat_heads, flat_more, body_heads, body_more, literal_apart, name_apart, not_apart, public_apart, table_apart, none_apart, on_apart, to_apart}
+use Rattle.rls_text.specs.Ahead.{on_before_to, second_is, Skips, both_skips, mapped_skips, either_skips, perhaps_skips, many_skips, token_skips, one_skips, decided_behind, Alone, only_alone, mapped_alone, either_alone}
+use Rattle.rls_text.specs.Lang.{only, Both, Many, put_in}
+use Rattle.rls_text.specs.Trees as t
+use Rattle.rls_text.specs.Writes.{through, without_second, without_first}
+use Rattle.rls_text.specs.Rule.{Rule, word, sign, one, both, mapped, after_as, before_as, after, before, in_parentheses, either, either_by, perhaps, many, checked, widened, with_comma, as_list, list_law, listed, word_for, sign_for}
+use Rattle.rls_text.specs.Cut.{Cut, of_some}
+use Rattle.rls_text.specs.Cut as cut
+use Rattle.rls_text.specs.Cutting.{tree_of, tuple_kept, tuples_kept, draft_of, compared_kept, tested_kept, negated_kept, and_kept, or_kept, tuple_is_kept, tuples_are_kept, even_kept}
+use Rattle.rls_text.specs.Values as g
+use Rattle.rls_text.specs.WaysBack as back
 
--- ---- tokens
-
--- this keyword
-abbrev pub word : List ℕ → Lang (Unit {0})
-word w = only (Word w)
-
--- this sign
-abbrev pub symbol : Symbol → Lang (Unit {0})
-symbol x = only (t.Symbol x)
-
--- the name of a word, if it is one: in lower case, of 63 bytes at most
-abbrev pub named : List ℕ → Option (List ℕ)
-named w = if spells_name w && nat_le (length w) 63 then Some (folded w) else None
+-- ---- names and literals
 
 -- a word that isn't reserved, of 63 bytes at most
-abbrev pub name_of : Token → Option (List ℕ)
-name_of (Word w) = if reserved w then None else named w
-name_of _ = None
-
--- a name
-abbrev pub name : Lang (List ℕ)
-name = One name_of
-
--- what a text in quotes says
-abbrev pub text_of : Token → Option (List ℕ)
-text_of (Text x) = Some x
-text_of _ = None
-
--- a number without a sign
-abbrev pub number_of : Token → Option ℕ
-number_of (Number n) = Some n
-number_of _ = None
-
--- one or more, with commas between
-abbrev pub Listed : {A : Type 0} → Lang A → Lang (List A)
-Listed p = Mapped (λ r. r.0 ∷ r.1) (Both p (Many (After (symbol s.Comma) p)))
-
--- "(" p ")"
-abbrev pub parenthesized : {A : Type 0} → Lang A → Lang A
-parenthesized p = After (symbol s.LParen) (Before p (symbol s.RParen))
-
--- a token in place of a value
-abbrev pub stands_for : {A : Type 0} → Token → A → Lang A
-stands_for t a = Mapped (λ _. a) (only t)
-
--- ---- literals
+unfoldable pub name : Rule (List ℕ) (Names ∷ []) [] false
+name = one g.name_of back.name_begins back.as_name back.name_law
 
 -- TRUE | FALSE | NULL
-abbrev pub constant : Lang Value
-constant = Either (stands_for (Word (codes "true")) (v.Bool true)) (Either (stands_for (Word (codes "false")) (v.Bool false)) (stands_for (Word (codes "null")) v.Null))
+unfoldable pub constant : Rule Value constant_heads [] false
+constant = either (word_for back.constants (v.Bool true) (codes "true")) (either (word_for back.constants (v.Bool false) (codes "false")) (word_for back.constants v.Null (codes "null")) refl) refl
 
--- a number with its sign lies in the range of 64 bits
-abbrev pub in_range : Option (Unit {0}) × ℕ → Bool
-in_range (None, n) = nat_le n (2 ^ 63 - 1)
-in_range (Some _, n) = nat_le n (2 ^ 63)
+-- digits
+unfoldable pub digits : Rule ℕ (Numbers ∷ []) [] false
+digits = one g.number_of back.number_begins back.as_digits back.number_law
 
--- the number with its sign
-abbrev pub signed : Option (Unit {0}) × ℕ → Value
-signed (None, n) = v.Int (pos n)
-signed (Some _, n) = v.Int (pos 0 -ℤ pos n)
+-- a text in quotes
+unfoldable pub text : Rule Value (Texts ∷ []) [] false
+text = mapped v.Text back.as_text back.as_text_law (one g.text_of back.text_begins back.as_quoted back.text_law)
 
--- ["-"] number
-abbrev pub number : Lang Value
-number = Mapped signed (Checked in_range (Both (Perhaps (symbol s.Minus)) (One number_of)))
+-- ["-"] digits
+unfoldable pub number : Rule Value (Sign s.Minus ∷ Numbers ∷ []) [] false
+number = mapped g.signed back.as_signed back.signed_law (checked g.in_range (both (perhaps (sign s.Minus)) digits refl))
 
 -- constant | text | number
-abbrev pub literal : Lang Value
-literal = Either constant (Either (Mapped v.Text (One text_of)) number)
+unfoldable pub literal : Rule Value literal_heads [] false
+literal = either constant (either text number refl) refl
 
 -- ---- expressions
 
--- a literal, as an expression
-abbrev pub literal_leaf : Lang Tree
-literal_leaf = Mapped (λ value. leaf (e.Literal value)) literal
-
--- a column, as an expression
-abbrev pub column_leaf : Lang Tree
-column_leaf = Mapped (λ name. leaf (e.Column name)) name
-
--- CURRENT_USER
-abbrev pub current_user : Lang Tree
-current_user = stands_for (Word (codes "current_user")) (leaf e.CurrentUser)
-
--- literal | name | CURRENT_USER | "(" expr ")"
-abbrev pub prim : Lang Tree → Lang Tree
-prim inner = Either literal_leaf (Either column_leaf (Either current_user (parenthesized inner)))
-
 -- "=" | "<>" | "<" | "<=" | ">" | ">="
-abbrev pub comparison : Lang Comparison
-comparison = Either (stands_for (t.Symbol s.Equal) c.Equal) (Either (stands_for (t.Symbol s.NotEqual) c.NotEqual) (Either (stands_for (t.Symbol s.Less) c.Less)
-    (Either (stands_for (t.Symbol s.LessOrEqual) c.LessOrEqual) (Either (stands_for (t.Symbol s.Greater) c.Greater) (stands_for (t.Symbol s.GreaterOrEqual) c.GreaterOrEqual)))))
+unfoldable pub comparison : Rule Comparison comparison_heads [] false
+comparison = either (sign_for back.comparisons c.Equal s.Equal) (either (sign_for back.comparisons c.NotEqual s.NotEqual) (either (sign_for back.comparisons c.Less s.Less)
+    (either (sign_for back.comparisons c.LessOrEqual s.LessOrEqual) (either (sign_for back.comparisons c.Greater s.Greater) (sign_for back.comparisons c.GreaterOrEqual s.GreaterOrEqual) refl) refl) refl) refl) refl
 
--- a comparison, or its left side alone
-abbrev pub compared : Tree → Option (Comparison × Tree) → Tree
-compared left None = left
-compared left (Some r) = compare_of r.0 left r.1
+-- IS [NOT] NULL
+unfoldable pub null_test : Rule (Option (Unit {0})) (Keyword (codes "is") ∷ []) [] false
+null_test = after (word (codes "is")) (before (perhaps (word (codes "not"))) (word (codes "null")) refl) refl
 
--- prim [comparison prim]
-abbrev pub cmp : Lang Tree → Lang Tree
-cmp inner = Mapped (λ r. compared r.0 r.1) (Both (prim inner) (Perhaps (Both comparison (prim inner))))
+-- {NOT}
+unfoldable pub nots : Rule ℕ (Keyword (codes "not") ∷ []) (Keyword (codes "not") ∷ []) true
+nots = mapped length back.as_repeated back.repeated_law (many (word (codes "not")) refl)
 
--- IS NULL or IS NOT NULL
-abbrev pub null_test : Lang (Option (Unit {0}))
-null_test = After (word (codes "is")) (Before (Perhaps (word (codes "not"))) (word (codes "null")))
+-- An operand is written as a prim, in parentheses where it isn't one; so a prim is a phrase of each level.
+module _ (inner : Cut tree_of expr_heads expr_more false) where
+  -- "(" expr ")"
+  unfoldable pub parenthesized : Cut tree_of (Sign s.LParen ∷ []) [] false
+  parenthesized = cut.in_parentheses inner refl
 
--- cmp {IS [NOT] NULL}, the tests one upon another
-abbrev pub is : Lang Tree → Lang Tree
-is inner = Mapped (λ r. put_in null_test_of r.0 r.1) (Both (cmp inner) (Many null_test))
+  -- literal | name | CURRENT_USER | "(" expr ")"
+  unfoldable pub prim : Cut tree_of prim_heads [] false
+  prim = cut.either (cut.mapped tree_of e.Literal (λ x. t.leaf (e.Literal x)) (λ x. refl) back.as_literal back.literal_law (cut.plain literal))
+      (cut.either (cut.mapped tree_of e.Column (λ x. t.leaf (e.Column x)) (λ x. refl) back.as_column back.column_law (cut.plain name))
+      (cut.either (cut.mapped tree_of (λ _. e.CurrentUser) (λ _. t.leaf e.CurrentUser) (λ x. refl) back.as_user back.user_law (cut.plain (word (codes "current_user")))) (cut.in_parentheses inner refl) refl) name_apart) literal_apart
 
--- negated so many times
-abbrev pub negated : ℕ → Tree → Tree
-negated zero operand = operand
-negated (suc n) operand = negated n (not_of operand)
+  -- prim [comparison prim]
+  unfoldable pub cmp : Cut tree_of prim_heads comparison_heads false
+  cmp = cut.mapped tree_of (λ r. g.compared r.0 r.1) (λ r. t.compared r.0 r.1) compared_kept back.as_compared back.compared_law (cut.both prim (cut.perhaps (cut.both (cut.plain comparison) prim refl)) refl)
 
--- how many times NOT stands there
-abbrev pub nots : Lang ℕ
-nots = Mapped length (Many (word (codes "not")))
+  pub prim_cmp : (ts : List Token) (x : Term) → prim.rule.spells ts x → cmp.rule.spells ts x
+  unfolding cmp
+  prim_cmp = without_second (λ r. g.compared r.0 r.1) prim.rule.spells _ (λ x. x) None refl (λ x. refl)
 
--- {NOT} is
-abbrev pub not_ : Lang Tree → Lang Tree
-not_ inner = Mapped (λ r. negated r.0 r.1) (Both nots (is inner))
+  -- cmp {IS [NOT] NULL}, the tests one upon another
+  unfoldable pub is : Cut tree_of prim_heads is_more false
+  is = cut.chain (λ r. put_in g.null_test r.0 r.1) (λ r. put_in t.null_test_of r.0 r.1) tested_kept back.as_tested back.tested_law cmp (through prim.rule.prints prim_cmp) (cut.plain (many null_test refl)) refl (λ x. refl) refl
 
--- not {AND not}, one node with all its parts
-abbrev pub and : Lang Tree → Lang Tree
-and inner = Mapped (λ r. and_of (operands r.0 r.1)) (Both (not_ inner) (Many (After (word (codes "and")) (not_ inner))))
+  pub prim_is : (ts : List Token) (x : Term) → prim.rule.spells ts x → is.rule.spells ts x
+  unfolding is
+  prim_is ts x h = without_second (λ r. put_in g.null_test r.0 r.1) cmp.rule.spells (Many null_test.spells) (λ x. x) [] refl (λ x. refl) ts x (prim_cmp ts x h)
 
--- and {OR and}, one node with all its parts
-abbrev pub or : Lang Tree → Lang Tree
-or inner = Mapped (λ r. or_of (operands r.0 r.1)) (Both (and inner) (Many (After (word (codes "or")) (and inner))))
+  abbrev pub not_node : Cut tree_of expr_heads is_more false
+  not_node = cut.mapped tree_of (λ r. g.negated r.0 r.1) (λ r. t.negated r.0 r.1) negated_kept back.as_negated back.negated_law (cut.both (cut.plain nots) (cut.writing is (through prim.rule.prints prim_is)) not_apart)
 
--- with parentheses to this depth
-unfoldable pub expr : ℕ → Lang Tree
-expr zero = Never
+  pub is_not : (ts : List Token) (x : Term) → is.rule.spells ts x → not_node.rule.spells ts x
+  unfolding nots
+  is_not = without_first (λ r. g.negated r.0 r.1) nots.spells is.rule.spells (λ x. x) 0 (record { source = []; spelled = refl; value = refl }) (λ x. refl)
+
+  -- {NOT} is
+  unfoldable pub not_ : Cut tree_of expr_heads is_more false
+  not_ = cut.level not_node is.rule.prints is_not
+
+  pub prim_not : (ts : List Token) (x : Term) → prim.rule.spells ts x → not_.rule.spells ts x
+  unfolding not_
+  prim_not ts x h = is_not ts x (prim_is ts x h)
+
+  -- AND not
+  unfoldable pub and_next : Cut tree_of (Keyword (codes "and") ∷ []) is_more false
+  and_next = cut.after (word (codes "and")) (cut.writing not_ (through prim.rule.prints prim_not)) refl
+
+  -- not {AND not}, one node with all its operands
+  unfoldable pub and : Cut tree_of expr_heads (Keyword (codes "and") ∷ is_more) false
+  and = cut.widened (cut.chain (λ r. g.and_of r.0 r.1) (λ r. t.and_of (t.operands r.0 r.1)) and_kept back.as_and back.and_law not_ (through prim.rule.prints prim_not) (cut.many and_next refl) refl (λ x. refl) refl) refl refl
+
+  pub prim_and : (ts : List Token) (x : Term) → prim.rule.spells ts x → and.rule.spells ts x
+  unfolding and
+  prim_and ts x h = without_second (λ r. g.and_of r.0 r.1) not_.rule.spells (Many and_next.rule.spells) (λ x. x) [] refl (λ x. refl) ts x (prim_not ts x h)
+
+  -- OR and
+  unfoldable pub or_next : Cut tree_of (Keyword (codes "or") ∷ []) (Keyword (codes "and") ∷ is_more) false
+  or_next = cut.after (word (codes "or")) (cut.writing and (through prim.rule.prints prim_and)) refl
+
+  -- and {OR and}, one node with all its operands
+  unfoldable pub or : Cut tree_of expr_heads expr_more false
+  or = cut.widened (cut.chain (λ r. g.or_of r.0 r.1) (λ r. t.or_of (t.operands r.0 r.1)) or_kept back.as_or back.or_law and (through prim.rule.prints prim_and) (cut.many or_next refl) refl (λ x. refl) refl) refl refl
+
+-- or, with parentheses to this depth
+unfoldable pub expr : (depth : ℕ) → Cut tree_of expr_heads expr_more false
+expr zero = cut.never
 expr (suc depth) = or (expr depth)
 
--- ---- statements, each with the depth of its deepest expression
+-- ---- SELECT and INSERT
 
--- a statement, with the depth of its deepest expression; 0 where it has none
-abbrev pub Draft : Type 0
-Draft = Statement × ℕ
+-- a name, as an item
+unfoldable pub column : Rule Term (Names ∷ []) [] false
+column = mapped e.Column back.as_column back.column_law name
 
--- without an expression
-abbrev pub Flat : Lang Statement → Lang Draft
-Flat p = Mapped (λ statement. (statement, 0)) p
+-- column {"," column}
+unfoldable pub columns : Rule (List Term) (Names ∷ []) (Sign s.Comma ∷ []) false
+columns = listed column
 
--- a column that is selected
-abbrev pub column : Lang Term
-column = Mapped e.Column name
+-- "*" | columns
+unfoldable pub items : Rule Selected (Sign s.Star ∷ Names ∷ []) (Sign s.Comma ∷ []) false
+items = either (mapped (λ _. selected.All) back.as_all back.all_law (sign s.Star)) (mapped selected.Items back.as_items back.items_law columns) refl
 
--- "*" | name {"," name}
-abbrev pub items : Lang Selected
-items = Either (stands_for (t.Symbol s.Star) selected.All) (Mapped selected.Items (Listed column))
+module _ (inner : Cut tree_of expr_heads expr_more false) where
+  -- [WHERE expr]
+  unfoldable pub condition : Cut (of_some tree_of) (Keyword (codes "where") ∷ []) condition_more true
+  condition = cut.widened (cut.perhaps (cut.after (word (codes "where")) inner refl)) refl refl
 
--- [WHERE expr]
-abbrev pub condition : Lang Tree → Lang (Option Tree)
-condition expr = Perhaps (After (word (codes "where")) expr)
+  -- SELECT items FROM name [WHERE expr]
+  unfoldable pub select : Cut draft_of (Keyword (codes "select") ∷ []) condition_more false
+  select = cut.widened (cut.mapped draft_of g.select_of t.select_of (λ r. refl) back.as_select back.select_law
+      (cut.after (word (codes "select")) (cut.both (cut.plain items) (cut.after (word (codes "from")) (cut.both (cut.plain name) condition refl) refl) refl) refl)) refl refl
 
--- SELECT, of its parts
-abbrev pub select_of : Selected → List ℕ → Option Term × ℕ → Draft
-select_of items table condition = (st.Select record { items = items; table = table; condition = condition.0 }, condition.1)
+  -- expr {"," expr}
+  unfoldable pub parts : Cut tuple_kept expr_heads (Sign s.Comma ∷ expr_more) false
+  parts = cut.widened (cut.mapped tuple_kept (λ r. r.0 ∷ r.1) (λ r. t.tuple_of r.0 r.1) tuple_is_kept as_list list_law (cut.both inner (cut.many (cut.with_comma inner) refl) refl)) refl refl
 
--- SELECT items FROM name [WHERE expr]
-abbrev pub select : Lang Tree → Lang Draft
-select expr = Mapped (λ r. select_of r.0 r.1.0 (parted r.1.1))
-    (After (word (codes "select")) (Both items (After (word (codes "from")) (Both name (condition expr)))))
+  -- "(" expr {"," expr} ")"
+  unfoldable pub tuple : Cut tuple_kept (Sign s.LParen ∷ []) [] false
+  tuple = cut.in_parentheses parts refl
 
--- "(" expr {"," expr} ")"
-abbrev pub tuple : Lang Tree → Lang Tuple
-tuple expr = parenthesized (Mapped (λ r. tuple_of r.0 r.1) (Both expr (Many (After (symbol s.Comma) expr))))
+  -- tuple {"," tuple}
+  unfoldable pub tuples : Cut tuples_kept (Sign s.LParen ∷ []) (Sign s.Comma ∷ []) false
+  tuples = cut.mapped tuples_kept (λ r. r.0 ∷ r.1) (λ r. t.tuples_of r.0 r.1) tuples_are_kept as_list list_law (cut.both tuple (cut.many (cut.with_comma tuple) refl) refl)
 
--- each is of that length
-abbrev pub have_length : ℕ → List (List Term) → Bool
-have_length n [] = true
-have_length n (x ∷ xs) = nat_eq (length x) n && have_length n xs
+  -- tuple {"," tuple}, all of one length
+  unfoldable pub even_tuples : Cut tuples_kept (Sign s.LParen ∷ []) (Sign s.Comma ∷ []) false
+  even_tuples = cut.checked g.are_even (λ kept. g.are_even kept.0) even_kept tuples
 
--- tuples of one length
-abbrev pub are_even : List (List Term) → Bool
-are_even [] = true
-are_even (x ∷ xs) = have_length (length x) xs
+  -- INSERT INTO name VALUES tuples
+  unfoldable pub insert : Cut draft_of (Keyword (codes "insert") ∷ []) (Sign s.Comma ∷ []) false
+  insert = cut.mapped draft_of g.insert_of t.insert_of (λ r. refl) back.as_insert back.insert_law
+      (cut.after (word (codes "insert")) (cut.after (word (codes "into")) (cut.both (cut.plain name) (cut.after (word (codes "values")) even_tuples refl) refl) refl) refl)
 
--- tuple {"," tuple}, all of one length
-abbrev pub tuples : Lang Tree → Lang Tuples
-tuples expr = Checked (λ tuples. are_even tuples.0) (Mapped (λ r. tuples_of r.0 r.1) (Both (tuple expr) (Many (After (symbol s.Comma) (tuple expr)))))
-
--- INSERT, of its parts
-abbrev pub insert_of : List ℕ → Tuples → Draft
-insert_of table tuples = (st.Insert record { table = table; tuples = tuples.0 }, tuples.1)
-
--- INSERT INTO name VALUES tuples
-abbrev pub insert : Lang Tree → Lang Draft
-insert expr = Mapped (λ r. insert_of r.0 r.1) (After (word (codes "insert")) (After (word (codes "into")) (Both name (After (word (codes "values")) (tuples expr)))))
+-- ---- roles
 
 -- [NO]SUPERUSER | [NO]LOGIN | [NO]BYPASSRLS
-abbrev pub attribute : Lang RoleAttribute
-attribute = Either (stands_for (Word (codes "superuser")) (a.Superuser true)) (Either (stands_for (Word (codes "nosuperuser")) (a.Superuser false))
-    (Either (stands_for (Word (codes "login")) (a.Login true)) (Either (stands_for (Word (codes "nologin")) (a.Login false))
-    (Either (stands_for (Word (codes "bypassrls")) (a.BypassRls true)) (stands_for (Word (codes "nobypassrls")) (a.BypassRls false))))))
+unfoldable pub attribute : Rule RoleAttribute attribute_heads [] false
+attribute = either (word_for back.role_attributes (a.Superuser true) (codes "superuser")) (either (word_for back.role_attributes (a.Superuser false) (codes "nosuperuser"))
+    (either (word_for back.role_attributes (a.Login true) (codes "login")) (either (word_for back.role_attributes (a.Login false) (codes "nologin"))
+    (either (word_for back.role_attributes (a.BypassRls true) (codes "bypassrls")) (word_for back.role_attributes (a.BypassRls false) (codes "nobypassrls")) refl) refl) refl) refl) refl
 
--- two that say the same or the contrary
-abbrev pub are_one_kind : RoleAttribute → RoleAttribute → Bool
-are_one_kind (a.Superuser _) (a.Superuser _) = true
-are_one_kind (a.Login _) (a.Login _) = true
-are_one_kind (a.BypassRls _) (a.BypassRls _) = true
-are_one_kind _ _ = false
-
--- none of them is of its kind
-abbrev pub lacks : RoleAttribute → List RoleAttribute → Bool
-lacks x [] = true
-lacks x (y ∷ ys) = not (are_one_kind x y) && lacks x ys
-
--- no two are of one kind
-abbrev pub each_once : List RoleAttribute → Bool
-each_once [] = true
-each_once (x ∷ xs) = lacks x xs && each_once xs
+-- attribute {attribute}
+unfoldable pub first_and_more : Rule (List RoleAttribute) attribute_heads attribute_heads false
+first_and_more = widened (mapped (λ r. r.0 ∷ r.1) as_list list_law (both attribute (many attribute refl) refl)) refl refl
 
 -- attribute {attribute}, no two of one kind
-abbrev pub attributes : Lang (List RoleAttribute)
-attributes = Checked each_once (Mapped (λ r. r.0 ∷ r.1) (Both attribute (Many attribute)))
+unfoldable pub attributes : Rule (List RoleAttribute) attribute_heads attribute_heads false
+attributes = checked g.each_once first_and_more
 
--- where nothing is written; a user may log in
-abbrev pub opening : Bool → Attributes
-opening is_user = record { superuser = None; login = (if is_user then Some true else None); bypass_rls = None }
+-- [[WITH] attributes]; WITH isn't written
+unfoldable pub attributes_if_any : Rule (Option (List RoleAttribute)) role_more role_more true
+attributes_if_any = widened (perhaps (after_as None (perhaps (word (codes "with"))) attributes refl)) refl refl
 
--- as this attribute says
-abbrev pub with_attribute : Attributes → RoleAttribute → Attributes
-with_attribute all (a.Superuser flag) = record all { superuser = Some flag }
-with_attribute all (a.Login flag) = record all { login = Some flag }
-with_attribute all (a.BypassRls flag) = record all { bypass_rls = Some flag }
+-- the attributes of CREATE ROLE, or of CREATE USER, who may log in unless it is written otherwise
+unfoldable pub attributes_of_role : (is_user : Bool) → Rule Attributes role_more role_more true
+attributes_of_role is_user = mapped (g.attributes_from is_user) (back.as_attributes is_user) (back.attributes_law is_user) attributes_if_any
 
--- the list, or none
-abbrev pub or_empty : {A : Type 0} → Option (List A) → List A
-or_empty None = []
-or_empty (Some xs) = xs
+-- name [[WITH] attributes]
+unfoldable pub role : (is_user : Bool) → Rule Statement (Names ∷ []) role_more false
+role is_user = mapped g.role_of back.as_role back.role_law (both name (attributes_of_role is_user) refl)
 
--- [[WITH] attributes]
-abbrev pub attributes_of_role : Bool → Lang Attributes
-attributes_of_role is_user = Mapped (λ r. put_in with_attribute (opening is_user) (or_empty r)) (Perhaps (After (Perhaps (word (codes "with"))) attributes))
+-- [WITH] attributes; WITH isn't written
+unfoldable pub written_attributes : Rule Attributes role_more attribute_heads false
+written_attributes = mapped (λ all. g.attributes_from false (Some all)) back.in_order back.some_attributes_law (after_as None (perhaps (word (codes "with"))) attributes refl)
 
--- behind CREATE ROLE, or CREATE USER
-abbrev pub role : Bool → Lang Statement
-role is_user = Mapped (λ r. st.CreateRole record { name = r.0; attributes = r.1 }) (Both name (attributes_of_role is_user))
+-- name [WITH] attributes
+unfoldable pub altered_role : Rule Statement (Names ∷ []) attribute_heads false
+altered_role = mapped g.altering_of back.as_altering back.altering_law (both name written_attributes refl)
 
--- INTEGER | INT | BIGINT | TEXT | BOOLEAN | BOOL
-abbrev pub column_type : Lang ColType
-column_type = Either (stands_for (Word (codes "integer")) k.Integer) (Either (stands_for (Word (codes "int")) k.Integer) (Either (stands_for (Word (codes "bigint")) k.BigInt)
-    (Either (stands_for (Word (codes "text")) k.Text) (Either (stands_for (Word (codes "boolean")) k.Boolean) (stands_for (Word (codes "bool")) k.Boolean)))))
+-- ---- tables
 
--- a column that takes nulls
-abbrev pub column_of : List ℕ × ColType → Column
-column_of r = record { name = r.0; kind = r.1; not_null = false }
+-- INTEGER | INT | BIGINT | TEXT | BOOLEAN | BOOL, of which INTEGER and BOOLEAN are written
+unfoldable pub column_type : Rule ColType (Keyword (codes "integer") ∷ Keyword (codes "int") ∷ Keyword (codes "bigint") ∷ Keyword (codes "text") ∷ Keyword (codes "boolean") ∷ Keyword (codes "bool") ∷ []) [] false
+column_type = either (word_for back.column_types k.Integer (codes "integer")) (either (word_for back.column_types k.Integer (codes "int")) (either (word_for back.column_types k.BigInt (codes "bigint"))
+    (either (word_for back.column_types k.Text (codes "text")) (either (word_for back.column_types k.Boolean (codes "boolean")) (word_for back.column_types k.Boolean (codes "bool")) refl) refl) refl) refl) refl
 
 -- name type
-abbrev pub column_definition : Lang Column
-column_definition = Mapped column_of (Both name column_type)
+unfoldable pub column_definition : Rule Column (Names ∷ []) [] false
+column_definition = mapped g.column_of back.as_definition back.definition_law (both name column_type refl)
 
--- one of them has that name
-abbrev pub has_column : List ℕ → List Column → Bool
-has_column name columns = list_any (λ column. bytes_eq column.name name) columns
+-- column {"," column}
+unfoldable pub definitions : Rule (List Column) (Names ∷ []) (Sign s.Comma ∷ []) false
+definitions = listed column_definition
 
--- no two of one name
-abbrev pub are_distinct : List Column → Bool
-are_distinct [] = true
-are_distinct (column ∷ columns) = not (has_column column.name columns) && are_distinct columns
+-- column {"," column}, no two of one name
+unfoldable pub distinct_columns : Rule (List Column) (Names ∷ []) (Sign s.Comma ∷ []) false
+distinct_columns = checked g.are_distinct definitions
 
--- behind CREATE TABLE
-abbrev pub table : Lang Statement
-table = Mapped (λ r. st.CreateTable record { name = r.0; columns = r.1 }) (Both name (parenthesized (Checked are_distinct (Listed column_definition))))
+-- name "(" columns ")"
+unfoldable pub table : Rule Statement (Names ∷ []) [] false
+table = mapped g.table_of back.as_table back.table_law (both name (in_parentheses distinct_columns refl) refl)
 
--- ALTER TABLE name ENABLE ROW LEVEL SECURITY
-abbrev pub alter : Lang Statement
-alter = Mapped (λ name. st.AlterTable record { table = name; change = change.Enable })
-    (After (word (codes "alter")) (After (word (codes "table")) (Before name (After (word (codes "enable")) (After (word (codes "row")) (After (word (codes "level")) (word (codes "security"))))))))
+-- name ENABLE ROW LEVEL SECURITY
+unfoldable pub altered_table : Rule Statement (Names ∷ []) [] false
+altered_table = mapped g.enabling back.as_enabling back.enabling_law (before name (after (word (codes "enable")) (after (word (codes "row")) (after (word (codes "level")) (word (codes "security")) refl) refl) refl) refl)
+
+-- ALTER (ROLE role | TABLE table)
+unfoldable pub alter : Rule Statement (Keyword (codes "alter") ∷ []) attribute_heads false
+alter = widened (after (word (codes "alter")) (either (after (word (codes "role")) altered_role refl) (after (word (codes "table")) altered_table refl) refl) refl) refl refl
+
+-- ---- policies
 
 -- PUBLIC | name
-abbrev pub grantee : Lang Grantee
-grantee = Either (stands_for (Word (codes "public")) to.Public) (Mapped to.Role name)
+unfoldable pub grantee : Rule Grantee (Keyword (codes "public") ∷ Names ∷ []) [] false
+grantee = either (mapped (λ _. to.Public) back.as_public back.public_law (word (codes "public"))) (mapped to.Role back.as_grantee back.grantee_law name) public_apart
 
--- TO grantee {"," grantee}
-abbrev pub to_grantees : Lang (List Grantee)
-to_grantees = After (word (codes "to")) (Listed grantee)
+-- grantee {"," grantee}
+unfoldable pub grantees : Rule (List Grantee) (Keyword (codes "public") ∷ Names ∷ []) (Sign s.Comma ∷ []) false
+grantees = listed grantee
 
--- without TO it is for PUBLIC
-abbrev pub or_public : Option (List Grantee) → List Grantee
-or_public None = to.Public ∷ []
-or_public (Some all) = all
+-- TO grantees
+unfoldable pub to_grantees : Rule (List Grantee) (Keyword (codes "to") ∷ []) (Sign s.Comma ∷ []) false
+to_grantees = after (word (codes "to")) grantees refl
 
--- [TO grantee {"," grantee}]
-abbrev pub for_grantees : Lang (List Grantee)
-for_grantees = Mapped or_public (Perhaps to_grantees)
+-- [TO grantees], without which it is for PUBLIC; it is always written
+unfoldable pub for_grantees : Rule (List Grantee) (Keyword (codes "to") ∷ []) (Sign s.Comma ∷ Keyword (codes "to") ∷ []) true
+for_grantees = mapped g.or_public back.as_for back.grantees_law (perhaps to_grantees)
 
--- [USING "(" expr ")"]
-abbrev pub using : Lang Tree → Lang (Option Tree)
-using expr = Perhaps (After (word (codes "using")) (parenthesized expr))
+-- what is created without an expression is kept as it is
+pub role_kept : (is_user : Bool) (ts : List Token) (x : Statement) → (role is_user).spells ts x → draft_of x ≡ t.flat x
+unfolding role
+role_kept is_user ts x h = rw (h.value) refl
 
--- [WITH CHECK "(" expr ")"]
-abbrev pub check : Lang Tree → Lang (Option Tree)
-check expr = Perhaps (After (word (codes "with")) (After (word (codes "check")) (parenthesized expr)))
+pub table_kept : (ts : List Token) (x : Statement) → table.spells ts x → draft_of x ≡ t.flat x
+unfolding table
+table_kept ts x h = rw (h.value) refl
 
--- CREATE POLICY, of its parts; it is permissive and for all commands
-abbrev pub policy_of : List ℕ → List ℕ → List Grantee → Option Term × ℕ → Option Term × ℕ → Draft
-policy_of name table to using check =
-    (st.CreatePolicy record { table = table; policy = record { name = name; permissive = true; kind = kind.All; to = to; using = using.0; check = check.0 } }, max using.1 check.1)
+pub alter_kept : (ts : List Token) (x : Statement) → alter.spells ts x → draft_of x ≡ t.flat x
+unfolding alter altered_role altered_table
+alter_kept ts x h = rw (h.value) (elim h.spelled.other [ inl y ↦ rw (y.value, y.spelled.other.value) refl | inr y ↦ rw (y.value, y.spelled.other.value) refl ])
 
--- behind CREATE POLICY
-abbrev pub policy : Lang Tree → Lang Draft
-policy expr = Mapped (λ r. policy_of r.0 r.1.0 r.1.1.0 (parted r.1.1.1.0) (parted r.1.1.1.1))
-    (Both name (After (word (codes "on")) (Both name (Both for_grantees (Both (using expr) (check expr))))))
+module _ (inner : Cut tree_of expr_heads expr_more false) where
+  -- [USING "(" expr ")"]
+  unfoldable pub using : Cut (of_some tree_of) (Keyword (codes "using") ∷ []) (Keyword (codes "using") ∷ []) true
+  using = cut.perhaps (cut.after (word (codes "using")) (parenthesized inner) refl)
 
--- CREATE (ROLE role | USER role | TABLE table | POLICY policy)
-abbrev pub create : Lang Tree → Lang Draft
-create expr = After (word (codes "create")) (Either (After (word (codes "role")) (Flat (role false))) (Either (After (word (codes "user")) (Flat (role true)))
-    (Either (After (word (codes "table")) (Flat table)) (After (word (codes "policy")) (policy expr)))))
+  -- [WITH CHECK "(" expr ")"]
+  unfoldable pub check : Cut (of_some tree_of) (Keyword (codes "with") ∷ []) (Keyword (codes "with") ∷ []) true
+  check = cut.perhaps (cut.after (word (codes "with")) (cut.after (word (codes "check")) (parenthesized inner) refl) refl)
+
+  -- name ON name [TO grantees] [USING ..] [WITH CHECK ..]
+  unfoldable pub policy : Cut draft_of (Names ∷ []) policy_more false
+  policy = cut.widened (cut.mapped draft_of g.policy_of t.policy_of (λ r. refl) back.as_policy back.policy_law
+      (cut.both (cut.plain name) (cut.after (word (codes "on")) (cut.both (cut.plain name) (cut.both (cut.plain for_grantees) (cut.both using check refl) refl) refl) refl) refl)) refl refl
+
+  -- CREATE (ROLE role | USER role | TABLE table | POLICY policy), of which USER isn't written
+  unfoldable pub create : Cut draft_of (Keyword (codes "create") ∷ []) create_more false
+  create = cut.widened (cut.after (word (codes "create")) (cut.either (cut.after (word (codes "role")) (cut.kept_as draft_of t.flat (role false) (role_kept false)) refl)
+      (cut.either (cut.after (word (codes "user")) (cut.kept_as draft_of t.flat (role true) (role_kept true)) refl)
+      (cut.either (cut.after (word (codes "table")) (cut.kept_as draft_of t.flat table table_kept) refl) (cut.after (word (codes "policy")) policy refl) refl) refl) refl) refl) refl refl
+
+-- ---- GRANT
 
 -- SELECT | INSERT | UPDATE | DELETE
-abbrev pub privilege : Lang Privilege
-privilege = Either (stands_for (Word (codes "select")) p.Select) (Either (stands_for (Word (codes "insert")) p.Insert)
-    (Either (stands_for (Word (codes "update")) p.Update) (stands_for (Word (codes "delete")) p.Delete)))
-
--- none of the four
-abbrev pub no_privileges : Privileges
-no_privileges = record { select = false; insert = false; update = false; delete = false }
-
--- the four
-abbrev pub all_privileges : Privileges
-all_privileges = record { select = true; insert = true; update = true; delete = true }
-
--- with this one too
-unfoldable pub with_privilege : Privileges → Privilege → Privileges
-with_privilege all p.Select = record all { select = true }
-with_privilege all p.Insert = record all { insert = true }
-with_privilege all p.Update = record all { update = true }
-with_privilege all p.Delete = record all { delete = true }
-
--- those that are named; one may be named twice
-abbrev pub privileges_of : Privilege → List Privilege → Privileges
-privileges_of first more = put_in with_privilege (with_privilege no_privileges first) more
+unfoldable pub privilege : Rule Privilege privilege_heads [] false
+privilege = either (word_for back.privilege_names p.Select (codes "select")) (either (word_for back.privilege_names p.Insert (codes "insert"))
+    (either (word_for back.privilege_names p.Update (codes "update")) (word_for back.privilege_names p.Delete (codes "delete")) refl) refl) refl
 
 -- privilege {"," privilege}
-abbrev pub named_privileges : Lang Privileges
-named_privileges = Mapped (λ r. privileges_of r.0 r.1) (Both privilege (Many (After (symbol s.Comma) privilege)))
+unfoldable pub named_privileges : Rule Privileges privilege_heads (Sign s.Comma ∷ []) false
+named_privileges = mapped g.privileges_of back.as_privileges back.privileges_law (both privilege (many (with_comma privilege) refl) refl)
 
--- ALL [PRIVILEGES] | privilege {"," privilege}
-abbrev pub privileges : Lang Privileges
-privileges = Either (Mapped (λ _. all_privileges) (Both (word (codes "all")) (Perhaps (word (codes "privileges"))))) named_privileges
+-- ALL [PRIVILEGES] | privilege {"," privilege}; PRIVILEGES isn't written
+unfoldable pub privileges : Rule Privileges (Keyword (codes "all") ∷ privilege_heads) (Keyword (codes "privileges") ∷ Sign s.Comma ∷ []) false
+privileges = either (mapped (λ _. g.all_privileges) back.as_all_privileges back.all_privileges_law (both (word (codes "all")) (perhaps (word (codes "privileges"))) refl)) named_privileges refl
 
--- a name, with the word TABLE or without
-abbrev pub table_name : Lang (List ℕ)
-table_name = After (Perhaps (word (codes "table"))) name
+-- [TABLE] name; TABLE isn't written
+unfoldable pub table_name : Rule (List ℕ) (Keyword (codes "table") ∷ Names ∷ []) [] false
+table_name = after_as None (perhaps (word (codes "table"))) name table_apart
 
--- GRANT privileges ON [TABLE] name TO grantee {"," grantee}
-abbrev pub grant : Lang Statement
-grant = Mapped (λ r. st.Grant record { privileges = r.0; table = r.1.0; to = r.1.1 })
-    (After (word (codes "grant")) (Both privileges (After (word (codes "on")) (Both table_name to_grantees))))
+-- privileges ON [TABLE] name TO grantees
+unfoldable pub granted_privileges : Rule Statement (Keyword (codes "all") ∷ privilege_heads) (Sign s.Comma ∷ []) false
+granted_privileges = mapped g.grant_of back.as_grant back.grant_law (both privileges (after (word (codes "on")) (both table_name to_grantees refl) refl) refl)
 
--- select | insert | create | alter | grant
-abbrev pub body : Lang Tree → Lang Draft
-body expr = Either (select expr) (Either (insert expr) (Either (create expr) (Either (Flat alter) (Flat grant))))
+-- ---- memberships
 
--- body [";"]
-abbrev pub statement : ℕ → Lang Draft
-statement depth = Before (body (expr depth)) (Perhaps (symbol s.Semicolon))
+-- name {"," name}
+unfoldable pub names : Rule (List (List ℕ)) (Names ∷ []) (Sign s.Comma ∷ []) false
+names = listed name
+
+-- ADMIN | INHERIT | SET
+unfoldable pub option : Rule MembershipOption option_heads [] false
+option = either (word_for back.option_names m.Admin (codes "admin")) (either (word_for back.option_names m.Inherit (codes "inherit")) (word_for back.option_names m.Set (codes "set")) refl) refl
+
+-- TRUE | OPTION | FALSE, of which OPTION is TRUE and isn't written
+unfoldable pub flag : Rule Bool (Keyword (codes "true") ∷ Keyword (codes "option") ∷ Keyword (codes "false") ∷ []) [] false
+flag = either (word_for back.flags true (codes "true")) (either (word_for back.flags true (codes "option")) (word_for back.flags false (codes "false")) refl) refl
+
+-- option (OPTION | TRUE | FALSE)
+unfoldable pub setting : Rule g.Setting option_heads [] false
+setting = both option flag refl
+
+-- setting {"," setting}
+unfoldable pub all_settings : Rule (List g.Setting) option_heads (Sign s.Comma ∷ []) false
+all_settings = listed setting
+
+-- setting {"," setting}, no two of one option
+unfoldable pub settings : Rule (List g.Setting) option_heads (Sign s.Comma ∷ []) false
+settings = checked g.set_once all_settings
+
+-- [WITH settings]
+unfoldable pub settings_if_any : Rule (Option (List g.Setting)) (Keyword (codes "with") ∷ []) granted_more true
+settings_if_any = perhaps (after (word (codes "with")) settings refl)
+
+-- the options that are written
+unfoldable pub options : Rule MembershipOptions (Keyword (codes "with") ∷ []) granted_more true
+options = mapped g.options_from back.as_with back.options_law settings_if_any
+
+-- names TO names [WITH settings]
+unfoldable pub granted_roles : Rule Statement (Names ∷ []) granted_more false
+granted_roles = widened (mapped g.granting_of back.as_granting back.granting_law (both names (after (word (codes "to")) (both names options refl) refl) refl)) refl refl
+
+-- neither ON nor TO is such a word
+word_skips : (w : List ℕ) → begins (Keyword (codes "on") ∷ []) (Word w) ≡ false → begins (Keyword (codes "to") ∷ []) (Word w) ≡ false → Skips on_before_to (only (Word w))
+word_skips w on to = token_skips (Keyword (codes "on") ∷ []) (Keyword (codes "to") ∷ []) (Word w) on to
+
+comma_skips : Skips on_before_to (only (tokens.Symbol s.Comma))
+comma_skips = token_skips (Keyword (codes "on") ∷ []) (Keyword (codes "to") ∷ []) (tokens.Symbol s.Comma) refl refl
+
+privilege_skips : Skips on_before_to privilege.spells
+unfolding privilege
+privilege_skips = either_skips _ _ _ (mapped_skips _ _ _ (word_skips (codes "select") refl refl)) (either_skips _ _ _ (mapped_skips _ _ _ (word_skips (codes "insert") refl refl))
+    (either_skips _ _ _ (mapped_skips _ _ _ (word_skips (codes "update") refl refl)) (mapped_skips _ _ _ (word_skips (codes "delete") refl refl))))
+
+-- in looking for ON and TO privileges are passed over
+privileges_skip : Skips on_before_to privileges.spells
+unfolding privileges named_privileges with_comma
+privileges_skip = either_skips _ _ _ (mapped_skips _ _ _ (both_skips _ _ _ (word_skips (codes "all") refl refl) (perhaps_skips _ _ (word_skips (codes "privileges") refl refl))))
+    (mapped_skips _ _ _ (both_skips _ _ _ privilege_skips (many_skips _ _ (mapped_skips _ _ _ (both_skips _ _ _ comma_skips privilege_skips)))))
+
+name_skips : Skips on_before_to name.spells
+unfolding name
+name_skips = one_skips (Keyword (codes "on") ∷ []) (Keyword (codes "to") ∷ []) g.name_of (Names ∷ []) back.name_begins on_apart to_apart
+
+-- so are names
+names_skip : Skips on_before_to names.spells
+unfolding names with_comma
+names_skip = mapped_skips _ _ _ (both_skips _ _ _ name_skips (many_skips _ _ (mapped_skips _ _ _ (both_skips _ _ _ comma_skips name_skips))))
+
+-- what is of privileges has ON before TO
+pub on_first : (front rest : List Token) (a : Statement) → granted_privileges.spells front a → sees (Sign s.Comma ∷ []) rest ≡ false → on_before_to (front ++ rest) ≡ true
+unfolding granted_privileges
+on_first front rest a h stop = decided_behind on_before_to _ _ (Word (codes "on")) _ privileges_skip true (λ ts. refl) front rest a h
+
+-- what is of roles has TO before ON
+pub to_first : (front rest : List Token) (a : Statement) → granted_roles.spells front a → sees granted_more rest ≡ false → on_before_to (front ++ rest) ≡ false
+unfolding granted_roles
+to_first front rest a h stop = decided_behind on_before_to _ _ (Word (codes "to")) _ names_skip false (λ ts. refl) front rest a h
+
+-- GRANT (privileges ON [TABLE] name TO grantees | names TO names [WITH settings]): where ON comes before TO, it is of privileges
+unfoldable pub grant : Rule Statement (Keyword (codes "grant") ∷ []) granted_more false
+grant = widened (after (word (codes "grant")) (either_by on_before_to granted_privileges granted_roles on_first to_first) refl) refl refl
+
+-- without an expression, it is kept as it is
+grant_kept : (ts : List Token) (x : Statement) → grant.spells ts x → draft_of x ≡ t.flat x
+unfolding grant granted_privileges granted_roles
+grant_kept ts x h = rw (h.value) (elim h.spelled.other [ inl y ↦ rw (y.value) refl | inr y ↦ rw (y.value) refl ])
+
+-- CASCADE | RESTRICT
+unfoldable pub how : Rule (Unit {0}) (Keyword (codes "cascade") ∷ Keyword (codes "restrict") ∷ []) [] false
+how = either (word (codes "cascade")) (word (codes "restrict")) refl
+
+-- names [how], which has no effect on memberships and isn't written
+unfoldable pub members : Rule (List (List ℕ)) (Names ∷ []) revoked_more false
+members = widened (before_as None names (perhaps how) refl) refl refl
+
+-- names FROM names [how]
+unfoldable pub roles_from : Rule (List (List ℕ) × List (List ℕ)) (Names ∷ []) revoked_more false
+roles_from = widened (both names (after (word (codes "from")) members refl) refl) refl refl
+
+-- names FROM names [how], as a statement
+unfoldable pub revoked_roles : Rule Statement (Names ∷ []) revoked_more false
+revoked_roles = mapped g.revoking_of back.as_revoking back.revoking_law roles_from
+
+-- option OPTION FOR
+unfoldable pub option_for : Rule MembershipOption option_heads [] false
+option_for = before option (after (word (codes "option")) (word (codes "for")) refl) refl
+
+-- option OPTION FOR names FROM names [how]
+unfoldable pub revoked_option : Rule Statement option_heads revoked_more false
+revoked_option = widened (mapped g.option_revoking_of back.as_option_revoking back.option_revoking_law (both option_for roles_from refl)) refl refl
+
+-- an option is one word
+option_alone : Alone option.spells
+unfolding option
+option_alone = either_alone _ _ (mapped_alone _ _ (only_alone (Word (codes "admin")))) (either_alone _ _ (mapped_alone _ _ (only_alone (Word (codes "inherit")))) (mapped_alone _ _ (only_alone (Word (codes "set")))))
+
+-- where an option is revoked the second word is OPTION
+pub option_second : (front rest : List Token) (a : Statement) → revoked_option.spells front a → sees revoked_more rest ≡ false → second_is (Keyword (codes "option") ∷ []) (front ++ rest) ≡ true
+unfolding revoked_option option_for
+option_second front rest a h stop =
+    let x = h.spelled in
+    let y = x.one.spelled in
+    let z = y.other.spelled in
+    rw (x.split, y.split, (option_alone.token y.front x.one.source.0 y.one).1, z.split, z.one) refl
+
+-- where roles are revoked it is a comma or FROM
+pub no_option_second : (front rest : List Token) (a : Statement) → revoked_roles.spells front a → sees revoked_more rest ≡ false → second_is (Keyword (codes "option") ∷ []) (front ++ rest) ≡ false
+unfolding revoked_roles roles_from names name with_comma
+no_option_second front rest a h stop =
+    let x = h.spelled in
+    let y = x.other.spelled in
+    let n = x.one.spelled in
+    rw (x.split, n.split, n.one.alone) (go n.rest x.rest x.one.source.1 n.other x.other.source y)
+  where
+    go : (ts us : List Token) (more : List (List ℕ)) → Many (with_comma name).spells ts more → (r : Unit {0} × List (List ℕ)) → Both (only (Word (codes "from"))) members.spells us r → sees (Keyword (codes "option") ∷ []) ((ts ++ us) ++ rest) ≡ false
+    go ts us [] m r y = rw (m, y.split, y.one) refl
+    go ts us (n ∷ more) m r y = rw (m.2, m.3.spelled.split, m.3.spelled.one) refl
+
+-- REVOKE [option OPTION FOR] names FROM names [how]: where the second word is OPTION, it is of an option
+unfoldable pub revoke : Rule Statement (Keyword (codes "revoke") ∷ []) revoked_more false
+revoke = widened (after (word (codes "revoke")) (either_by (second_is (Keyword (codes "option") ∷ [])) revoked_option revoked_roles option_second no_option_second) refl) refl refl
+
+-- so is this
+revoke_kept : (ts : List Token) (x : Statement) → revoke.spells ts x → draft_of x ≡ t.flat x
+unfolding revoke revoked_option revoked_roles
+revoke_kept ts x h = rw (h.value) (elim h.spelled.other [ inl y ↦ rw (y.value) refl | inr y ↦ rw (y.value) refl ])
+
+-- ---- SET ROLE
+
+-- NONE | name
+unfoldable pub chosen_role : Rule SetRole (Keyword (codes "none") ∷ Names ∷ []) [] false
+chosen_role = either (mapped (λ _. sr.None) back.as_no_role back.no_role_law (word (codes "none"))) (mapped sr.To back.as_chosen back.chosen_law name) none_apart
+
+-- SET ROLE (NONE | name)
+unfoldable pub role_set : Rule SetRole (Keyword (codes "set") ∷ []) [] false
+role_set = after (word (codes "set")) (after (word (codes "role")) chosen_role refl) refl
+
+-- RESET ROLE
+unfoldable pub role_reset : Rule SetRole (Keyword (codes "reset") ∷ []) [] false
+role_reset = mapped (λ _. sr.Reset) back.as_reset back.reset_law (after (word (codes "reset")) (word (codes "role")) refl)
+
+-- role_set | role_reset
+unfoldable pub role_change : Rule SetRole (Keyword (codes "set") ∷ Keyword (codes "reset") ∷ []) [] false
+role_change = either role_set role_reset refl
+
+-- role_change, as a statement
+unfoldable pub set_role : Rule Statement (Keyword (codes "set") ∷ Keyword (codes "reset") ∷ []) [] false
+set_role = mapped st.SetRole back.as_set_role back.set_role_law role_change
+
+-- and this
+set_role_kept : (ts : List Token) (x : Statement) → set_role.spells ts x → draft_of x ≡ t.flat x
+unfolding set_role
+set_role_kept ts x h = rw (h.value) refl
+
+-- ---- statements
+
+-- alter | grant | revoke | set_role
+unfoldable pub flat_body : Rule Statement flat_heads flat_more false
+flat_body = widened (either alter (either grant (either revoke set_role refl) refl) refl) refl refl
+
+-- what has no expression is kept as it is
+pub flat_kept : (ts : List Token) (x : Statement) → flat_body.spells ts x → draft_of x ≡ t.flat x
+unfolding flat_body
+flat_kept ts x h = elim h [ inl y ↦ alter_kept ts x y | inr y ↦ elim y [ inl z ↦ grant_kept ts x z | inr z ↦ elim z [ inl u ↦ revoke_kept ts x u | inr u ↦ set_role_kept ts x u ] ] ]
+
+-- select | insert | create | flat_body
+unfoldable pub body : (inner : Cut tree_of expr_heads expr_more false) → Cut draft_of body_heads body_more false
+body inner = cut.widened (cut.either (select inner) (cut.either (insert inner) (cut.either (create inner) (cut.kept_as draft_of t.flat flat_body flat_kept) refl) refl) refl) refl refl
+
+-- body [";"], with parentheses to this depth; the semicolon isn't written
+unfoldable pub statement : (depth : ℕ) → Cut draft_of body_heads (Sign s.Semicolon ∷ body_more) false
+statement depth = cut.widened (cut.before_as None (body (expr depth)) (perhaps (sign s.Semicolon)) refl) refl refl
 
 -- The tokens spell the statement, at some depth of parentheses.
-pub record Spells (ts : List Token) (x : Draft) : Type 0 where
+pub record Spells (ts : List Token) (x : Statement) : Type 0 where
   pub depth : ℕ
-  pub spelled : statement depth ts x
+  pub spelled : (statement depth).rule.spells ts x

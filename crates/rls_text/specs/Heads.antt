@@ -1,5 +1,5 @@
 -- By which tokens a phrase begins, and which may not follow it.
-use Rattle.std.specs.Prelude.{Bool, true, false, ◌&&◌, ◌||◌, not, List, [], ◌∷◌}
+use Rattle.std.specs.Prelude.{ℕ, Bool, true, false, ◌&&◌, ◌||◌, not, List, [], ◌∷◌}
 use Rattle.std.specs.Str.{bytes_eq}
 use denote.Enum.Bare.{sameb}
 use Rattle.rls_text.specs.contracts.token.Symbol.{the_type}
@@ -25,6 +25,14 @@ pub data Head : Type 0 where
   Names : Head
   Numbers : Head
   Texts : Head
+
+-- this keyword
+abbrev pub Keyword : List ℕ → Head
+Keyword w = Exact (Word w)
+
+-- this sign
+abbrev pub Sign : Symbol → Head
+Sign x = Exact (t.Symbol x)
 
 -- the token is of that kind
 abbrev pub fits : Head → Token → Bool

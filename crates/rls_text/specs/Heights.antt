@@ -1,10 +1,9 @@
 -- How deep an expression is: a leaf counts one.
-use Rattle.std.specs.Prelude.{◌≡◌, ℕ, ◌+◌, ◌≤◌, max, List, [], ◌∷◌, Option, Some, None}
+use Rattle.std.specs.Prelude.{ℕ, ◌+◌, max, List, [], ◌∷◌, Option, Some, None}
 use Rattle.rls_expr.specs.Terms.{Term, Terms, Literal, Column, Place, CurrentUser, Compare, And, Or, Not, IsNull, IsNotNull, End, More}
 use Rattle.rls_expr.specs.Terms.{terms_of}
-use Rattle.rls_text.specs.declared.statement.Statement.{Statement}
-use Rattle.rls_text.specs.declared.statement.Statement.TheVariants as st
-use Rattle.rls_text.specs.Trees.{Tree}
+use Rattle.rls_statement.specs.declared.statement.Statement.{Statement}
+use Rattle.rls_statement.specs.declared.statement.Statement.TheVariants as st
 
 abbrev mutual
   -- the nodes on its longest path
@@ -24,10 +23,6 @@ abbrev mutual
   pub heights : Terms → ℕ
   heights End = 0
   heights (More t ts) = max (height t) (heights ts)
-
--- the depth that is kept with a tree is its height, unless it was cut
-abbrev pub IsKept : Tree → Type 0
-IsKept tree = tree.1 ≤ 64 → height tree.0 ≡ tree.1
 
 -- how high a condition is; 0 where there is none
 abbrev pub height_if : Option Term → ℕ

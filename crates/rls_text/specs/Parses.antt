@@ -88,7 +88,7 @@ not_true : (b : Bool) → (b ≡ true → ⊥) → b ≡ false
 not_true true h = absurd (h refl)
 not_true false h = refl
 
-unseen : (hs ks : List Head) (ts : List Token) → apart hs ks ≡ true → sees hs ts ≡ true → sees ks ts ≡ false
+pub unseen : (hs ks : List Head) (ts : List Token) → apart hs ks ≡ true → sees hs ts ≡ true → sees ks ts ≡ false
 unseen hs ks [] e h = cc
 unseen hs ks (t ∷ ts) e h = not_true (begins ks t) (apart_is hs ks t e h)
 

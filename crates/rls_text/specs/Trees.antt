@@ -1,10 +1,15 @@
 -- Trees of limited depth: an expression with its depth, where a leaf counts one. For one that is deeper than 64
 -- a null stands, with a depth above the limit.
-use Rattle.std.specs.Prelude.{ℕ, ◌+◌, max, nat_lt, if◌then◌else◌, List, [], ◌∷◌, ◌++◌, Option, Some, None}
+use Rattle.std.specs.Prelude.{ℕ, zero, suc, true, ◌+◌, max, nat_lt, if◌then◌else◌, List, [], ◌∷◌, ◌++◌, Option, Some, None}
 use Rattle.rls_value.specs.declared.value.Value.TheVariants.{Null}
 use Rattle.rls_expr.specs.declared.expr.Comparison.{Comparison}
 use Rattle.rls_expr.specs.Terms.{Term, terms_of}
 use Rattle.rls_expr.specs.Terms as t
+use Rattle.rls_value.specs.declared.verb.PolicyKind.TheVariants as kind
+use Rattle.rls_expr.specs.declared.policy.Grantee.{Grantee}
+use Rattle.rls_statement.specs.declared.statement.Selected.{Selected}
+use Rattle.rls_statement.specs.declared.statement.Statement.{Statement}
+use Rattle.rls_statement.specs.declared.statement.Statement.TheVariants as st
 use Rattle.rls_text.specs.declared.tree.Operands.{Operands}
 use Rattle.rls_text.specs.declared.tree.Operands.TheVariants.{One, Several}
 use Rattle.rls_text.specs.Lang.{put_in}
@@ -34,9 +39,19 @@ unfoldable pub null_test_of : Tree → Option (Unit {0}) → Tree
 null_test_of tree None = above tree.1 (t.IsNull tree.0)
 null_test_of tree (Some _) = above tree.1 (t.IsNotNull tree.0)
 
+-- negated so many times
+abbrev pub negated : ℕ → Tree → Tree
+negated zero operand = operand
+negated (suc n) operand = negated n (not_of operand)
+
 -- a comparison
 abbrev pub compare_of : Comparison → Tree → Tree → Tree
 compare_of how left right = above (max left.1 right.1) (t.Compare how left.0 right.0)
+
+-- a comparison, or its left side alone
+abbrev pub compared : Tree → Option (Comparison × Tree) → Tree
+compared left None = left
+compared left (Some r) = compare_of r.0 left r.1
 
 -- one operand more, as deep as the deepest
 unfoldable pub with_operand : Operands → Tree → Operands
@@ -85,3 +100,29 @@ tuples_of first more = put_in with_tuple (first.0 ∷ [], first.1) more
 abbrev pub parted : Option Tree → Option Term × ℕ
 parted None = (None, 0)
 parted (Some tree) = (Some tree.0, tree.1)
+
+-- a statement, with the depth of its deepest expression; 0 where it has none
+abbrev pub Draft : Type 0
+Draft = Statement × ℕ
+
+-- without an expression
+abbrev pub flat : Statement → Draft
+flat statement = (statement, 0)
+
+-- SELECT, of its parts
+abbrev pub select_of : Selected × (List ℕ × Option Tree) → Draft
+select_of r = (st.Select record { items = r.0; table = r.1.0; condition = (parted r.1.1).0 }, (parted r.1.1).1)
+
+-- INSERT, of its parts
+abbrev pub insert_of : List ℕ × Tuples → Draft
+insert_of r = (st.Insert record { table = r.0; tuples = r.1.0 }, r.1.1)
+
+-- CREATE POLICY, of its parts
+abbrev pub policy_of : List ℕ × (List ℕ × (List Grantee × (Option Tree × Option Tree))) → Draft
+policy_of r = (
+  st.CreatePolicy record {
+    table = r.1.0;
+    policy = record { name = r.0; permissive = true; kind = kind.All; to = r.1.1.0; using = (parted r.1.1.1.0).0; check = (parted r.1.1.1.1).0 };
+  },
+  max (parted r.1.1.1.0).1 (parted r.1.1.1.1).1,
+)

@@ -1,22 +1,23 @@
 //! The attributes of a role from tokens.
 
 ghost use Rattle.std.specs.Prelude.{◌≡◌, length};
+ghost use Rattle.rls_text.specs.FirstSets.{attribute_heads};
 ghost use Rattle.rls_text.specs.Gives.{Gives, with_front, or_no_items};
 ghost use Rattle.rls_text.specs.Heads.{sees};
 ghost use Rattle.rls_text.specs.Lang.{put_in};
 ghost use Rattle.rls_text.specs.Parses.{read_many};
-ghost use Rattle.rls_text.specs.Readers as r;
 ghost use Rattle.rls_text.specs.Grammar as g;
+ghost use Rattle.rls_text.specs.Values as values;
 
 use crate::fault::Fault;
 use crate::reading::{sees_one_of, word};
-use crate::statement::Attributes;
 use crate::token::Token;
+use rls_statement::Attributes;
 use rls_value::Items;
 use std::alloc::Global;
 
 /// An attribute as it is written.
-#[derive(Clone, Copy, Debug, PartialEq, Eq)]
+#[derive(Clone, Copy, PartialEq, Eq)]
 pub enum RoleAttribute {
     Superuser(bool),
     Login(bool),
@@ -24,24 +25,37 @@ pub enum RoleAttribute {
 }
 
 /// The attributes behind a role's name, each kind once at most.
-#[tactic(auto, unfolding(crate::specs::Readers::attributes_of_role, crate::specs::Gives::or_no_items))]
+#[tactic(auto, unfolding(crate::specs::Grammar::attributes_of_role, crate::specs::Gives::or_no_items))]
 pub fn attributes_of_role(
     alloc: Global,
     is_user: bool,
     tokens: &[Token],
 ) -> Result<(Attributes, &[Token]), Fault>
-    ensures { Gives result ((r.attributes_of_role is_user).read tokens.now) }
+    ensures { Gives result ((g.attributes_of_role is_user).parses.read tokens.now) }
 {
     let (written, rest) = attributes_if_any(alloc, tokens)?;
     Ok((gathered(opening(is_user), written.as_slice()), rest))
 }
 
-#[tactic(auto, unfolding(crate::specs::Readers::attributes_if_any, crate::specs::Gives::or_no_items))]
+/// The attributes that are written, of which there is one at least.
+#[tactic(auto, unfolding(crate::specs::Grammar::written_attributes))]
+pub fn written_attributes(alloc: Global, tokens: &[Token]) -> Result<(Attributes, &[Token]), Fault>
+    ensures { Gives result (g.written_attributes.parses.read tokens.now) }
+{
+    let rest = match word(tokens, b"with") {
+        Some(rest) => rest,
+        None => tokens,
+    };
+    let (written, rest) = attributes(alloc, rest)?;
+    Ok((gathered(opening(false), written.as_slice()), rest))
+}
+
+#[tactic(auto, unfolding(crate::specs::Grammar::attributes_if_any, crate::specs::Gives::or_no_items))]
 fn attributes_if_any(
     alloc: Global,
     tokens: &[Token],
 ) -> Result<(Items<RoleAttribute>, &[Token]), Fault>
-    ensures { Gives result (or_no_items (r.attributes_if_any.read tokens.now)) }
+    ensures { Gives result (or_no_items (g.attributes_if_any.parses.read tokens.now)) }
 {
     if let Some(rest) = word(tokens, b"with") {
         attributes(alloc, rest)
@@ -52,9 +66,9 @@ fn attributes_if_any(
     }
 }
 
-#[tactic(auto, unfolding(crate::specs::Readers::attributes))]
+#[tactic(auto, unfolding(crate::specs::Grammar::attributes))]
 fn attributes(alloc: Global, tokens: &[Token]) -> Result<(Items<RoleAttribute>, &[Token]), Fault>
-    ensures { Gives result (r.attributes.read tokens.now) }
+    ensures { Gives result (g.attributes.parses.read tokens.now) }
 {
     let (all, rest) = first_and_more(alloc, tokens)?;
     if each_once(all.as_slice()) {
@@ -64,12 +78,12 @@ fn attributes(alloc: Global, tokens: &[Token]) -> Result<(Items<RoleAttribute>, 
     }
 }
 
-#[tactic(auto, unfolding(crate::specs::Readers::first_and_more, crate::specs::Gives::with_front))]
+#[tactic(auto, unfolding(crate::specs::Grammar::first_and_more, crate::specs::Gives::with_front))]
 fn first_and_more(
     alloc: Global,
     tokens: &[Token],
 ) -> Result<(Items<RoleAttribute>, &[Token]), Fault>
-    ensures { Gives result (r.first_and_more.read tokens.now) }
+    ensures { Gives result (g.first_and_more.parses.read tokens.now) }
 {
     let (first, rest) = attribute(tokens)?;
     let mut all = Items::new(alloc);
@@ -82,7 +96,7 @@ fn more_attributes(
     first: Items<RoleAttribute>,
     tokens: &[Token],
 ) -> Result<(Items<RoleAttribute>, &[Token]), Fault>
-    ensures { Gives result (with_front first (read_many (r.attribute_heads) r.attribute.read (length tokens.now) tokens.now)) }
+    ensures { Gives result (with_front first (read_many (attribute_heads) g.attribute.parses.read (length tokens.now) tokens.now)) }
 {
     let mut all = first;
     let mut rest = tokens;
@@ -97,9 +111,9 @@ fn more_attributes(
     Ok((all, rest))
 }
 
-#[tactic(auto, unfolding(crate::specs::Readers::attribute))]
+#[tactic(auto, unfolding(crate::specs::Grammar::attribute))]
 fn attribute(tokens: &[Token]) -> Result<(RoleAttribute, &[Token]), Fault>
-    ensures { Gives result (r.attribute.read tokens.now) }
+    ensures { Gives result (g.attribute.parses.read tokens.now) }
 {
     if let Some(rest) = word(tokens, b"superuser") {
         Ok((RoleAttribute::Superuser(true), rest))
@@ -128,13 +142,13 @@ const ATTRIBUTES: [&[u8]; 6] = [
 ];
 
 fn starts_attribute(tokens: &[Token]) -> bool
-    ensures { result ≡ sees r.attribute_heads tokens.now }
+    ensures { result ≡ sees attribute_heads tokens.now }
 {
     sees_one_of(tokens, &ATTRIBUTES)
 }
 
 fn each_once(mut attributes: &[RoleAttribute]) -> bool
-    ensures { result ≡ g.each_once attributes.entry.now }
+    ensures { result ≡ values.each_once attributes.entry.now }
 {
     while let [first, rest @ ..] = attributes {
         if !lacks(*first, rest) {
@@ -146,7 +160,7 @@ fn each_once(mut attributes: &[RoleAttribute]) -> bool
 }
 
 fn lacks(attribute: RoleAttribute, mut others: &[RoleAttribute]) -> bool
-    ensures { result ≡ g.lacks attribute others.entry.now }
+    ensures { result ≡ values.lacks attribute others.entry.now }
 {
     while let [other, rest @ ..] = others {
         if are_one_kind(attribute, *other) {
@@ -158,7 +172,7 @@ fn lacks(attribute: RoleAttribute, mut others: &[RoleAttribute]) -> bool
 }
 
 fn are_one_kind(left: RoleAttribute, right: RoleAttribute) -> bool
-    ensures { result ≡ g.are_one_kind left right }
+    ensures { result ≡ values.are_one_kind left right }
 {
     match (left, right) {
         (RoleAttribute::Superuser(_), RoleAttribute::Superuser(_)) => true,
@@ -170,7 +184,7 @@ fn are_one_kind(left: RoleAttribute, right: RoleAttribute) -> bool
 
 /// What holds where nothing is written: a user may log in.
 fn opening(is_user: bool) -> Attributes
-    ensures { result ≡ g.opening is_user }
+    ensures { result ≡ values.opening is_user }
 {
     Attributes {
         superuser: None,
@@ -180,7 +194,7 @@ fn opening(is_user: bool) -> Attributes
 }
 
 fn gathered(opening: Attributes, mut written: &[RoleAttribute]) -> Attributes
-    ensures { result ≡ put_in g.with_attribute opening written.entry.now }
+    ensures { result ≡ put_in values.with_attribute opening written.entry.now }
 {
     let mut attributes = opening;
     while let [first, rest @ ..] = written {
@@ -191,7 +205,7 @@ fn gathered(opening: Attributes, mut written: &[RoleAttribute]) -> Attributes
 }
 
 fn with_attribute(attributes: Attributes, attribute: RoleAttribute) -> Attributes
-    ensures { result ≡ g.with_attribute attributes attribute }
+    ensures { result ≡ values.with_attribute attributes attribute }
 {
     let mut attributes = attributes;
     match attribute {

@@ -3,25 +3,29 @@
 ghost use Rattle.std.specs.Prelude.{◌≡◌, [], ◌∷◌, length, IfOk};
 ghost use Rattle.rls_text.specs.Gives.{Gives, with_front};
 ghost use Rattle.rls_text.specs.Parses.{read_many};
-ghost use Rattle.rls_text.specs.Readers as r;
+ghost use Rattle.rls_text.specs.Heads.{Sign};
+ghost use Rattle.rls_text.specs.Rule.{with_comma};
 ghost use Rattle.rls_text.specs.Grammar as g;
+ghost use Rattle.rls_text.specs.Values as values;
 
-use crate::attributes::attributes_of_role;
+use crate::attributes::{attributes_of_role, written_attributes};
 use crate::expression::expr;
 use crate::fault::Fault;
 use crate::granting::to_grantees;
 use crate::reading::{name, past_symbol, past_word, sees_symbol, sees_word, word};
-use crate::statement::{AlterTable, CreatePolicy, CreateRole, CreateTable, RowSecurity, Statement};
 use crate::token::{Symbol, Token};
 use crate::tree::{Draft, Tree, parted};
 use rls_expr::{Column, Grantee, Policy};
+use rls_statement::{
+    AlterRole, AlterTable, CreatePolicy, CreateRole, CreateTable, RowSecurity, Statement,
+};
 use rls_value::{ColType, Items, PolicyKind};
 use std::alloc::{AllocError, Global};
 use std::collections::BTreeSet;
 
-#[tactic(auto, unfolding(crate::specs::Readers::create))]
+#[tactic(auto, unfolding(crate::specs::Grammar::create))]
 pub fn create(alloc: Global, depth: usize, tokens: &[Token]) -> Result<(Draft, &[Token]), Fault>
-    ensures { Gives result ((r.create (g.expr depth) (r.expr depth)).read tokens.now) }
+    ensures { Gives result ((g.create (g.expr depth)).read tokens.now) }
 {
     let rest = past_word(tokens, b"create")?;
     if let Some(rest) = word(rest, b"role") {
@@ -39,18 +43,18 @@ pub fn create(alloc: Global, depth: usize, tokens: &[Token]) -> Result<(Draft, &
     }
 }
 
-#[tactic(auto, unfolding(crate::specs::Readers::role))]
+#[tactic(auto, unfolding(crate::specs::Grammar::role))]
 fn role(alloc: Global, is_user: bool, tokens: &[Token]) -> Result<(Statement, &[Token]), Fault>
-    ensures { Gives result ((r.role is_user).read tokens.now) }
+    ensures { Gives result ((g.role is_user).parses.read tokens.now) }
 {
     let (name, rest) = name(alloc, tokens)?;
     let (attributes, rest) = attributes_of_role(alloc, is_user, rest)?;
     Ok((Statement::CreateRole(CreateRole { name, attributes }), rest))
 }
 
-#[tactic(auto, unfolding(crate::specs::Readers::table))]
+#[tactic(auto, unfolding(crate::specs::Grammar::table))]
 fn table(alloc: Global, tokens: &[Token]) -> Result<(Statement, &[Token]), Fault>
-    ensures { Gives result (r.table.read tokens.now) }
+    ensures { Gives result (g.table.parses.read tokens.now) }
 {
     let (name, rest) = name(alloc, tokens)?;
     let rest = past_symbol(rest, Symbol::LParen)?;
@@ -59,9 +63,9 @@ fn table(alloc: Global, tokens: &[Token]) -> Result<(Statement, &[Token]), Fault
     Ok((Statement::CreateTable(CreateTable { name, columns }), rest))
 }
 
-#[tactic(auto, unfolding(crate::specs::Readers::distinct_columns))]
+#[tactic(auto, unfolding(crate::specs::Grammar::distinct_columns))]
 fn distinct_columns(alloc: Global, tokens: &[Token]) -> Result<(Items<Column>, &[Token]), Fault>
-    ensures { Gives result (r.distinct_columns.read tokens.now) }
+    ensures { Gives result (g.distinct_columns.parses.read tokens.now) }
 {
     let (columns, rest) = columns(alloc, tokens)?;
     if are_distinct(alloc, columns.as_slice())? {
@@ -73,7 +77,7 @@ fn distinct_columns(alloc: Global, tokens: &[Token]) -> Result<(Items<Column>, &
 
 /// Whether no two columns have one name. It sorts the names, since there may be thousands of columns.
 fn are_distinct(alloc: Global, mut columns: &[Column]) -> Result<bool, AllocError>
-    ensures { IfOk result (λ distinct. distinct ≡ g.are_distinct columns.entry.now) }
+    ensures { IfOk result (λ distinct. distinct ≡ values.are_distinct columns.entry.now) }
 {
     let mut seen = BTreeSet::new(alloc);
     while let [first, rest @ ..] = columns {
@@ -85,9 +89,9 @@ fn are_distinct(alloc: Global, mut columns: &[Column]) -> Result<bool, AllocErro
     Ok(true)
 }
 
-#[tactic(auto, unfolding(crate::specs::Readers::definitions, crate::specs::Gives::with_front))]
+#[tactic(auto, unfolding(crate::specs::Grammar::definitions, crate::specs::Gives::with_front))]
 fn columns(alloc: Global, tokens: &[Token]) -> Result<(Items<Column>, &[Token]), Fault>
-    ensures { Gives result (r.definitions.read tokens.now) }
+    ensures { Gives result (g.definitions.parses.read tokens.now) }
 {
     let (first, rest) = column(alloc, tokens)?;
     let mut all = Items::new(alloc);
@@ -101,7 +105,7 @@ fn more_columns(
     first: Items<Column>,
     tokens: &[Token],
 ) -> Result<(Items<Column>, &[Token]), Fault>
-    ensures { Gives result (with_front first (read_many (r.S Symbol.Comma ∷ []) r.next_definition.read (length tokens.now) tokens.now)) }
+    ensures { Gives result (with_front first (read_many (Sign Symbol.Comma ∷ []) (with_comma g.column_definition).parses.read (length tokens.now) tokens.now)) }
 {
     let mut all = first;
     let mut rest = tokens;
@@ -116,17 +120,17 @@ fn more_columns(
     Ok((all, rest))
 }
 
-#[tactic(auto, unfolding(crate::specs::Readers::next_definition))]
+#[tactic(auto, unfolding(crate::specs::Rule::with_comma))]
 fn next_column(alloc: Global, tokens: &[Token]) -> Result<(Column, &[Token]), Fault>
-    ensures { Gives result (r.next_definition.read tokens.now) }
+    ensures { Gives result ((with_comma g.column_definition).parses.read tokens.now) }
 {
     let rest = past_symbol(tokens, Symbol::Comma)?;
     column(alloc, rest)
 }
 
-#[tactic(auto, unfolding(crate::specs::Readers::column_definition))]
+#[tactic(auto, unfolding(crate::specs::Grammar::column_definition))]
 fn column(alloc: Global, tokens: &[Token]) -> Result<(Column, &[Token]), Fault>
-    ensures { Gives result (r.column_definition.read tokens.now) }
+    ensures { Gives result (g.column_definition.parses.read tokens.now) }
 {
     let (name, rest) = name(alloc, tokens)?;
     let (kind, rest) = column_type(rest)?;
@@ -138,9 +142,9 @@ fn column(alloc: Global, tokens: &[Token]) -> Result<(Column, &[Token]), Fault>
     Ok((column, rest))
 }
 
-#[tactic(auto, unfolding(crate::specs::Readers::column_type))]
+#[tactic(auto, unfolding(crate::specs::Grammar::column_type))]
 fn column_type(tokens: &[Token]) -> Result<(ColType, &[Token]), Fault>
-    ensures { Gives result (r.column_type.read tokens.now) }
+    ensures { Gives result (g.column_type.parses.read tokens.now) }
 {
     if let Some(rest) = word(tokens, b"integer") {
         Ok((ColType::Integer, rest))
@@ -159,13 +163,33 @@ fn column_type(tokens: &[Token]) -> Result<(ColType, &[Token]), Fault>
     }
 }
 
-#[tactic(auto, unfolding(crate::specs::Readers::alter))]
+#[tactic(auto, unfolding(crate::specs::Grammar::alter))]
 pub fn alter(alloc: Global, tokens: &[Token]) -> Result<(Statement, &[Token]), Fault>
-    ensures { Gives result (r.alter.read tokens.now) }
+    ensures { Gives result (g.alter.parses.read tokens.now) }
 {
     let rest = past_word(tokens, b"alter")?;
-    let rest = past_word(rest, b"table")?;
-    let (table, rest) = name(alloc, rest)?;
+    if let Some(rest) = word(rest, b"role") {
+        altered_role(alloc, rest)
+    } else {
+        let rest = past_word(rest, b"table")?;
+        altered_table(alloc, rest)
+    }
+}
+
+#[tactic(auto, unfolding(crate::specs::Grammar::altered_role))]
+fn altered_role(alloc: Global, tokens: &[Token]) -> Result<(Statement, &[Token]), Fault>
+    ensures { Gives result (g.altered_role.parses.read tokens.now) }
+{
+    let (name, rest) = name(alloc, tokens)?;
+    let (attributes, rest) = written_attributes(alloc, rest)?;
+    Ok((Statement::AlterRole(AlterRole { name, attributes }), rest))
+}
+
+#[tactic(auto, unfolding(crate::specs::Grammar::altered_table))]
+fn altered_table(alloc: Global, tokens: &[Token]) -> Result<(Statement, &[Token]), Fault>
+    ensures { Gives result (g.altered_table.parses.read tokens.now) }
+{
+    let (table, rest) = name(alloc, tokens)?;
     let rest = past_word(rest, b"enable")?;
     let rest = past_word(rest, b"row")?;
     let rest = past_word(rest, b"level")?;
@@ -177,9 +201,9 @@ pub fn alter(alloc: Global, tokens: &[Token]) -> Result<(Statement, &[Token]), F
     Ok((Statement::AlterTable(change), rest))
 }
 
-#[tactic(auto, unfolding(crate::specs::Readers::policy))]
+#[tactic(auto, unfolding(crate::specs::Grammar::policy))]
 fn policy(alloc: Global, depth: usize, tokens: &[Token]) -> Result<(Draft, &[Token]), Fault>
-    ensures { Gives result ((r.policy (g.expr depth) (r.expr depth)).read tokens.now) }
+    ensures { Gives result ((g.policy (g.expr depth)).read tokens.now) }
 {
     let (name, rest) = name(alloc, tokens)?;
     let rest = past_word(rest, b"on")?;
@@ -208,9 +232,9 @@ fn policy(alloc: Global, depth: usize, tokens: &[Token]) -> Result<(Draft, &[Tok
 }
 
 /// The grantees behind TO; without it, PUBLIC.
-#[tactic(auto, unfolding(crate::specs::Readers::for_grantees))]
+#[tactic(auto, unfolding(crate::specs::Grammar::for_grantees))]
 fn for_grantees(alloc: Global, tokens: &[Token]) -> Result<(Items<Grantee>, &[Token]), Fault>
-    ensures { Gives result (r.for_grantees.read tokens.now) }
+    ensures { Gives result (g.for_grantees.parses.read tokens.now) }
 {
     if sees_word(tokens, b"to") {
         to_grantees(alloc, tokens)
@@ -220,16 +244,16 @@ fn for_grantees(alloc: Global, tokens: &[Token]) -> Result<(Items<Grantee>, &[To
 }
 
 fn public_alone(alloc: Global) -> Result<Items<Grantee>, AllocError>
-    ensures { IfOk result (λ all. all ≡ g.or_public None) }
+    ensures { IfOk result (λ all. all ≡ values.or_public None) }
 {
     let mut all = Items::new(alloc);
     all.push(Grantee::Public)?;
     Ok(all)
 }
 
-#[tactic(auto, unfolding(crate::specs::Readers::using))]
+#[tactic(auto, unfolding(crate::specs::Grammar::using))]
 fn using(alloc: Global, depth: usize, tokens: &[Token]) -> Result<(Option<Tree>, &[Token]), Fault>
-    ensures { Gives result ((r.using (g.expr depth) (r.expr depth)).read tokens.now) }
+    ensures { Gives result ((g.using (g.expr depth)).read tokens.now) }
 {
     if let Some(rest) = word(tokens, b"using") {
         let (condition, rest) = parenthesized(alloc, depth, rest)?;
@@ -239,9 +263,9 @@ fn using(alloc: Global, depth: usize, tokens: &[Token]) -> Result<(Option<Tree>,
     }
 }
 
-#[tactic(auto, unfolding(crate::specs::Readers::check))]
+#[tactic(auto, unfolding(crate::specs::Grammar::check))]
 fn check(alloc: Global, depth: usize, tokens: &[Token]) -> Result<(Option<Tree>, &[Token]), Fault>
-    ensures { Gives result ((r.check (g.expr depth) (r.expr depth)).read tokens.now) }
+    ensures { Gives result ((g.check (g.expr depth)).read tokens.now) }
 {
     if let Some(rest) = word(tokens, b"with") {
         let rest = past_word(rest, b"check")?;
@@ -252,9 +276,9 @@ fn check(alloc: Global, depth: usize, tokens: &[Token]) -> Result<(Option<Tree>,
     }
 }
 
-#[tactic(auto, unfolding(crate::specs::Readers::parenthesized))]
+#[tactic(auto, unfolding(crate::specs::Grammar::parenthesized))]
 fn parenthesized(alloc: Global, depth: usize, tokens: &[Token]) -> Result<(Tree, &[Token]), Fault>
-    ensures { Gives result ((r.parenthesized (g.expr depth) (r.expr depth)).read tokens.now) }
+    ensures { Gives result ((g.parenthesized (g.expr depth)).read tokens.now) }
 {
     let rest = past_symbol(tokens, Symbol::LParen)?;
     let (inner, rest) = expr(alloc, depth, rest)?;

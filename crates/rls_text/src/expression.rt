@@ -1,10 +1,10 @@
 //! Expressions from tokens.
 
 ghost use Rattle.std.specs.Prelude.{◌≡◌, [], ◌∷◌, codes, length, IfOk};
+ghost use Rattle.rls_text.specs.FirstSets.{constant_heads, literal_heads, comparison_heads};
 ghost use Rattle.rls_text.specs.Gives.{Gives, folded};
-ghost use Rattle.rls_text.specs.Heads.{sees};
+ghost use Rattle.rls_text.specs.Heads.{sees, Keyword};
 ghost use Rattle.rls_text.specs.Parses.{read_many};
-ghost use Rattle.rls_text.specs.Readers as r;
 ghost use Rattle.rls_text.specs.Grammar as g;
 ghost use Rattle.rls_text.specs.Trees as spec;
 
@@ -20,9 +20,9 @@ use std::alloc::{AllocError, Global};
 
 /// An expression with parentheses to this depth.
 #[cycle(expression)]
-#[tactic(auto, using(crate::proofs::Loops::deeper), unfolding(crate::specs::Readers::expr))]
+#[tactic(auto, using(crate::proofs::Loops::deeper), unfolding(crate::specs::Grammar::expr))]
 pub fn expr(alloc: Global, depth: usize, tokens: &[Token]) -> Result<(Tree, &[Token]), Fault>
-    ensures { Gives result ((r.expr depth).read tokens.now) }
+    ensures { Gives result ((g.expr depth).read tokens.now) }
 {
     if depth == 0 {
         Err(Fault::Syntax)
@@ -32,9 +32,9 @@ pub fn expr(alloc: Global, depth: usize, tokens: &[Token]) -> Result<(Tree, &[To
 }
 
 #[cycle(expression)]
-#[tactic(auto, unfolding(crate::specs::Readers::or, crate::specs::Gives::folded))]
+#[tactic(auto, unfolding(crate::specs::Grammar::or, crate::specs::Gives::folded))]
 fn or(alloc: Global, depth: usize, tokens: &[Token]) -> Result<(Tree, &[Token]), Fault>
-    ensures { Gives result ((r.or (g.expr depth) (r.expr depth)).read tokens.now) }
+    ensures { Gives result ((g.or (g.expr depth)).read tokens.now) }
 {
     let ((first, height), rest) = and(alloc, depth, tokens)?;
     let (operands, rest) = or_more(alloc, depth, Operands::One(first, height), rest)?;
@@ -49,7 +49,7 @@ fn or_more(
     first: Operands,
     tokens: &[Token],
 ) -> Result<(Operands, &[Token]), Fault>
-    ensures { Gives result (folded spec.with_operand first (read_many (r.W (codes "or") ∷ []) (r.or_next (g.expr depth) (r.expr depth)).read (length tokens.now) tokens.now)) }
+    ensures { Gives result (folded spec.with_operand first (read_many (Keyword (codes "or") ∷ []) (g.or_next (g.expr depth)).read (length tokens.now) tokens.now)) }
 {
     let mut operands = first;
     let mut rest = tokens;
@@ -65,9 +65,9 @@ fn or_more(
 }
 
 #[cycle(expression)]
-#[tactic(auto, unfolding(crate::specs::Readers::or_next))]
+#[tactic(auto, unfolding(crate::specs::Grammar::or_next))]
 fn or_next(alloc: Global, depth: usize, tokens: &[Token]) -> Result<(Tree, &[Token]), Fault>
-    ensures { Gives result ((r.or_next (g.expr depth) (r.expr depth)).read tokens.now) }
+    ensures { Gives result ((g.or_next (g.expr depth)).read tokens.now) }
 {
     match word(tokens, b"or") {
         Some(rest) => and(alloc, depth, rest),
@@ -76,9 +76,9 @@ fn or_next(alloc: Global, depth: usize, tokens: &[Token]) -> Result<(Tree, &[Tok
 }
 
 #[cycle(expression)]
-#[tactic(auto, unfolding(crate::specs::Readers::and, crate::specs::Gives::folded))]
+#[tactic(auto, unfolding(crate::specs::Grammar::and, crate::specs::Gives::folded))]
 fn and(alloc: Global, depth: usize, tokens: &[Token]) -> Result<(Tree, &[Token]), Fault>
-    ensures { Gives result ((r.and (g.expr depth) (r.expr depth)).read tokens.now) }
+    ensures { Gives result ((g.and (g.expr depth)).read tokens.now) }
 {
     let ((first, height), rest) = not(alloc, depth, tokens)?;
     let (operands, rest) = and_more(alloc, depth, Operands::One(first, height), rest)?;
@@ -93,7 +93,7 @@ fn and_more(
     first: Operands,
     tokens: &[Token],
 ) -> Result<(Operands, &[Token]), Fault>
-    ensures { Gives result (folded spec.with_operand first (read_many (r.W (codes "and") ∷ []) (r.and_next (g.expr depth) (r.expr depth)).read (length tokens.now) tokens.now)) }
+    ensures { Gives result (folded spec.with_operand first (read_many (Keyword (codes "and") ∷ []) (g.and_next (g.expr depth)).read (length tokens.now) tokens.now)) }
 {
     let mut operands = first;
     let mut rest = tokens;
@@ -109,9 +109,9 @@ fn and_more(
 }
 
 #[cycle(expression)]
-#[tactic(auto, unfolding(crate::specs::Readers::and_next))]
+#[tactic(auto, unfolding(crate::specs::Grammar::and_next))]
 fn and_next(alloc: Global, depth: usize, tokens: &[Token]) -> Result<(Tree, &[Token]), Fault>
-    ensures { Gives result ((r.and_next (g.expr depth) (r.expr depth)).read tokens.now) }
+    ensures { Gives result ((g.and_next (g.expr depth)).read tokens.now) }
 {
     match word(tokens, b"and") {
         Some(rest) => not(alloc, depth, rest),
@@ -120,9 +120,9 @@ fn and_next(alloc: Global, depth: usize, tokens: &[Token]) -> Result<(Tree, &[To
 }
 
 #[cycle(expression)]
-#[tactic(auto, unfolding(crate::specs::Readers::not_))]
+#[tactic(auto, unfolding(crate::specs::Grammar::not_))]
 fn not(alloc: Global, depth: usize, tokens: &[Token]) -> Result<(Tree, &[Token]), Fault>
-    ensures { Gives result ((r.not_ (g.expr depth) (r.expr depth)).read tokens.now) }
+    ensures { Gives result ((g.not_ (g.expr depth)).read tokens.now) }
 {
     let (count, rest) = nots(tokens);
     let (operand, rest) = is(alloc, depth, rest)?;
@@ -130,18 +130,18 @@ fn not(alloc: Global, depth: usize, tokens: &[Token]) -> Result<(Tree, &[Token])
 }
 
 #[cycle(expression)]
-#[tactic(auto, unfolding(crate::specs::Readers::is, crate::specs::Gives::folded))]
+#[tactic(auto, unfolding(crate::specs::Grammar::is, crate::specs::Gives::folded))]
 fn is(alloc: Global, depth: usize, tokens: &[Token]) -> Result<(Tree, &[Token]), Fault>
-    ensures { Gives result ((r.is (g.expr depth) (r.expr depth)).read tokens.now) }
+    ensures { Gives result ((g.is (g.expr depth)).read tokens.now) }
 {
     let (tested, rest) = cmp(alloc, depth, tokens)?;
     null_tests(alloc, tested, rest)
 }
 
 #[cycle(expression)]
-#[tactic(auto, unfolding(crate::specs::Readers::cmp))]
+#[tactic(auto, unfolding(crate::specs::Grammar::cmp))]
 fn cmp(alloc: Global, depth: usize, tokens: &[Token]) -> Result<(Tree, &[Token]), Fault>
-    ensures { Gives result ((r.cmp (g.expr depth) (r.expr depth)).read tokens.now) }
+    ensures { Gives result ((g.cmp (g.expr depth)).read tokens.now) }
 {
     let (left, rest) = prim(alloc, depth, tokens)?;
     if !starts_comparison(rest) {
@@ -153,9 +153,9 @@ fn cmp(alloc: Global, depth: usize, tokens: &[Token]) -> Result<(Tree, &[Token])
 }
 
 #[cycle(expression)]
-#[tactic(auto, unfolding(crate::specs::Readers::prim))]
+#[tactic(auto, unfolding(crate::specs::Grammar::prim))]
 fn prim(alloc: Global, depth: usize, tokens: &[Token]) -> Result<(Tree, &[Token]), Fault>
-    ensures { Gives result ((r.prim (g.expr depth) (r.expr depth)).read tokens.now) }
+    ensures { Gives result ((g.prim (g.expr depth)).read tokens.now) }
 {
     if starts_literal(tokens) {
         let (literal, rest) = literal(tokens)?;
@@ -176,7 +176,7 @@ fn prim(alloc: Global, depth: usize, tokens: &[Token]) -> Result<(Tree, &[Token]
 /// How many times NOT stands there.
 #[tactic(auto, using(crate::proofs::Loops::nots_begin, crate::proofs::Loops::count_stops, crate::proofs::Loops::count_ends, crate::proofs::Loops::count_goes_on))]
 fn nots(tokens: &[Token]) -> (usize, &[Token])
-    ensures { r.nots.read tokens.now ≡ Some (result.0, result.1.now) }
+    ensures { g.nots.parses.read tokens.now ≡ Some (result.0, result.1.now) }
 {
     let mut count = 0;
     let mut rest = tokens;
@@ -192,7 +192,7 @@ fn nots(tokens: &[Token]) -> (usize, &[Token])
 
 #[tactic(auto, using(crate::proofs::Loops::negated_on, crate::proofs::Loops::negated_done))]
 fn negated(alloc: Global, count: usize, operand: Tree) -> Result<Tree, AllocError>
-    ensures { IfOk result (λ tree. tree ≡ g.negated count operand) }
+    ensures { IfOk result (λ tree. tree ≡ spec.negated count operand) }
 {
     let mut operand = operand;
     for _turn in 0..count {
@@ -203,7 +203,7 @@ fn negated(alloc: Global, count: usize, operand: Tree) -> Result<Tree, AllocErro
 
 #[tactic(auto, using(crate::proofs::Loops::fold_begins, crate::proofs::Loops::fold_stops, crate::proofs::Loops::fold_ends, crate::proofs::Loops::fold_fails, crate::proofs::Loops::fold_goes_on))]
 fn null_tests(alloc: Global, tested: Tree, tokens: &[Token]) -> Result<(Tree, &[Token]), Fault>
-    ensures { Gives result (folded spec.null_test_of tested (read_many (r.W (codes "is") ∷ []) r.null_test.read (length tokens.now) tokens.now)) }
+    ensures { Gives result (folded spec.null_test_of tested (read_many (Keyword (codes "is") ∷ []) g.null_test.parses.read (length tokens.now) tokens.now)) }
 {
     let mut tested = tested;
     let mut rest = tokens;
@@ -218,9 +218,9 @@ fn null_tests(alloc: Global, tested: Tree, tokens: &[Token]) -> Result<(Tree, &[
     Ok((tested, rest))
 }
 
-#[tactic(auto, unfolding(crate::specs::Readers::null_test))]
+#[tactic(auto, unfolding(crate::specs::Grammar::null_test))]
 fn null_test(tokens: &[Token]) -> Result<(Option<()>, &[Token]), Fault>
-    ensures { Gives result (r.null_test.read tokens.now) }
+    ensures { Gives result (g.null_test.parses.read tokens.now) }
 {
     let rest = past_word(tokens, b"is")?;
     if let Some(rest) = word(rest, b"not") {
@@ -231,7 +231,7 @@ fn null_test(tokens: &[Token]) -> Result<(Option<()>, &[Token]), Fault>
 }
 
 fn starts_comparison(tokens: &[Token]) -> bool
-    ensures { result ≡ sees r.comparison_heads tokens.now }
+    ensures { result ≡ sees comparison_heads tokens.now }
 {
     match tokens {
         [Token::Symbol(symbol), ..] => match symbol {
@@ -247,9 +247,9 @@ fn starts_comparison(tokens: &[Token]) -> bool
     }
 }
 
-#[tactic(auto, unfolding(crate::specs::Readers::comparison))]
+#[tactic(auto, unfolding(crate::specs::Grammar::comparison))]
 fn comparison(tokens: &[Token]) -> Result<(Comparison, &[Token]), Fault>
-    ensures { Gives result (r.comparison.read tokens.now) }
+    ensures { Gives result (g.comparison.parses.read tokens.now) }
 {
     match tokens {
         [Token::Symbol(Symbol::Equal), rest @ ..] => Ok((Comparison::Equal, rest)),
@@ -266,7 +266,7 @@ fn comparison(tokens: &[Token]) -> Result<(Comparison, &[Token]), Fault>
 }
 
 fn starts_literal(tokens: &[Token]) -> bool
-    ensures { result ≡ sees r.literal_heads tokens.now }
+    ensures { result ≡ sees literal_heads tokens.now }
 {
     if let [
         Token::Text(_) | Token::Number(_) | Token::Symbol(Symbol::Minus),
@@ -280,7 +280,7 @@ fn starts_literal(tokens: &[Token]) -> bool
 }
 
 fn starts_constant(tokens: &[Token]) -> bool
-    ensures { result ≡ sees r.constant_heads tokens.now }
+    ensures { result ≡ sees constant_heads tokens.now }
 {
     match tokens {
         [Token::Word(letters), ..] => {
@@ -299,9 +299,9 @@ fn starts_constant(tokens: &[Token]) -> bool
     }
 }
 
-#[tactic(auto, unfolding(crate::specs::Readers::literal))]
+#[tactic(auto, unfolding(crate::specs::Grammar::literal))]
 fn literal(tokens: &[Token]) -> Result<(Value, &[Token]), Fault>
-    ensures { Gives result (r.literal.read tokens.now) }
+    ensures { Gives result (g.literal.parses.read tokens.now) }
 {
     if starts_constant(tokens) {
         constant(tokens)
@@ -312,9 +312,9 @@ fn literal(tokens: &[Token]) -> Result<(Value, &[Token]), Fault>
     }
 }
 
-#[tactic(auto, unfolding(crate::specs::Readers::constant))]
+#[tactic(auto, unfolding(crate::specs::Grammar::constant))]
 fn constant(tokens: &[Token]) -> Result<(Value, &[Token]), Fault>
-    ensures { Gives result (r.constant.read tokens.now) }
+    ensures { Gives result (g.constant.parses.read tokens.now) }
 {
     if let Some(rest) = word(tokens, b"true") {
         Ok((Value::Bool(true), rest))
@@ -327,9 +327,9 @@ fn constant(tokens: &[Token]) -> Result<(Value, &[Token]), Fault>
     }
 }
 
-#[tactic(auto, unfolding(crate::specs::Readers::text))]
+#[tactic(auto, unfolding(crate::specs::Grammar::text))]
 fn text(tokens: &[Token]) -> Result<(Value, &[Token]), Fault>
-    ensures { Gives result (r.text.read tokens.now) }
+    ensures { Gives result (g.text.parses.read tokens.now) }
 {
     match tokens {
         [Token::Text(content), rest @ ..] => Ok((Value::Text(content.copy()?), rest)),
@@ -337,9 +337,9 @@ fn text(tokens: &[Token]) -> Result<(Value, &[Token]), Fault>
     }
 }
 
-#[tactic(auto, unfolding(crate::specs::Readers::number))]
+#[tactic(auto, unfolding(crate::specs::Grammar::number))]
 fn number(tokens: &[Token]) -> Result<(Value, &[Token]), Fault>
-    ensures { Gives result (r.number.read tokens.now) }
+    ensures { Gives result (g.number.parses.read tokens.now) }
 {
     if let Some(rest) = symbol(tokens, Symbol::Minus) {
         let (digits, rest) = digits(rest)?;
@@ -358,9 +358,9 @@ fn number(tokens: &[Token]) -> Result<(Value, &[Token]), Fault>
     }
 }
 
-#[tactic(auto, unfolding(crate::specs::Readers::digits))]
+#[tactic(auto, unfolding(crate::specs::Grammar::digits))]
 fn digits(tokens: &[Token]) -> Result<(u64, &[Token]), Fault>
-    ensures { Gives result (r.digits.read tokens.now) }
+    ensures { Gives result (g.digits.parses.read tokens.now) }
 {
     match tokens {
         [Token::Number(number), rest @ ..] => Ok((*number, rest)),
@@ -369,9 +369,9 @@ fn digits(tokens: &[Token]) -> Result<(u64, &[Token]), Fault>
 }
 
 /// A column alone, as a select item.
-#[tactic(auto, unfolding(crate::specs::Readers::column))]
+#[tactic(auto, unfolding(crate::specs::Grammar::column))]
 pub fn column(alloc: Global, tokens: &[Token]) -> Result<(Expr, &[Token]), Fault>
-    ensures { Gives result (r.column.read tokens.now) }
+    ensures { Gives result (g.column.parses.read tokens.now) }
 {
     let (name, rest) = name(alloc, tokens)?;
     Ok((Expr::new(Node::Column(name)), rest))

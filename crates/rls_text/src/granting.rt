@@ -1,25 +1,56 @@
-//! GRANT of privileges from tokens, and lists of grantees.
+//! GRANT from tokens, of privileges here, and lists of grantees.
 
 ghost use Rattle.std.specs.Prelude.{◌≡◌, [], ◌∷◌, length};
 ghost use Rattle.rls_text.specs.Gives.{Gives, with_front, folded};
 ghost use Rattle.rls_text.specs.Parses.{read_many};
-ghost use Rattle.rls_text.specs.Readers as r;
+ghost use Rattle.rls_text.specs.Heads.{Sign};
+ghost use Rattle.rls_text.specs.Rule.{with_comma};
+ghost use Rattle.rls_text.specs.Ahead as ahead;
 ghost use Rattle.rls_text.specs.Grammar as g;
+ghost use Rattle.rls_text.specs.Values as values;
 
 use crate::fault::Fault;
-use crate::reading::{name, past_symbol, past_word, sees_symbol, word};
-use crate::statement::{GrantPrivileges, Privileges, Statement};
+use crate::memberships::granted_roles;
+use crate::reading::{name, past_symbol, past_word, sees_symbol, sees_word, word};
 use crate::token::{Symbol, Token};
 use rls_expr::Grantee;
+use rls_statement::{GrantPrivileges, Privileges, Statement};
 use rls_value::{Items, Name, Privilege};
 use std::alloc::Global;
 
-#[tactic(auto, unfolding(crate::specs::Readers::grant))]
+#[tactic(auto, unfolding(crate::specs::Grammar::grant))]
 pub fn grant(alloc: Global, tokens: &[Token]) -> Result<(Statement, &[Token]), Fault>
-    ensures { Gives result (r.grant.read tokens.now) }
+    ensures { Gives result (g.grant.parses.read tokens.now) }
 {
     let rest = past_word(tokens, b"grant")?;
-    let (privileges, rest) = privileges(rest)?;
+    if on_before_to(rest) {
+        granted_privileges(alloc, rest)
+    } else {
+        granted_roles(alloc, rest)
+    }
+}
+
+/// Whether the list is followed by ON, and so of privileges.
+fn on_before_to(mut tokens: &[Token]) -> bool
+    ensures { result ≡ ahead.on_before_to tokens.entry.now }
+{
+    while let [_, rest @ ..] = tokens {
+        if sees_word(tokens, b"on") {
+            return true;
+        }
+        if sees_word(tokens, b"to") {
+            return false;
+        }
+        tokens = rest;
+    }
+    false
+}
+
+#[tactic(auto, unfolding(crate::specs::Grammar::granted_privileges))]
+fn granted_privileges(alloc: Global, tokens: &[Token]) -> Result<(Statement, &[Token]), Fault>
+    ensures { Gives result (g.granted_privileges.parses.read tokens.now) }
+{
+    let (privileges, rest) = privileges(tokens)?;
     let rest = past_word(rest, b"on")?;
     let (table, rest) = table_name(alloc, rest)?;
     let (to, rest) = to_grantees(alloc, rest)?;
@@ -32,9 +63,9 @@ pub fn grant(alloc: Global, tokens: &[Token]) -> Result<(Statement, &[Token]), F
 }
 
 /// The name of a table, with the word TABLE or without.
-#[tactic(auto, unfolding(crate::specs::Readers::table_name))]
+#[tactic(auto, unfolding(crate::specs::Grammar::table_name))]
 fn table_name(alloc: Global, tokens: &[Token]) -> Result<(Name, &[Token]), Fault>
-    ensures { Gives result (r.table_name.read tokens.now) }
+    ensures { Gives result (g.table_name.parses.read tokens.now) }
 {
     match word(tokens, b"table") {
         Some(rest) => name(alloc, rest),
@@ -42,9 +73,9 @@ fn table_name(alloc: Global, tokens: &[Token]) -> Result<(Name, &[Token]), Fault
     }
 }
 
-#[tactic(auto, unfolding(crate::specs::Readers::privileges))]
+#[tactic(auto, unfolding(crate::specs::Grammar::privileges))]
 fn privileges(tokens: &[Token]) -> Result<(Privileges, &[Token]), Fault>
-    ensures { Gives result (r.privileges.read tokens.now) }
+    ensures { Gives result (g.privileges.parses.read tokens.now) }
 {
     if let Some(rest) = word(tokens, b"all") {
         match word(rest, b"privileges") {
@@ -56,9 +87,9 @@ fn privileges(tokens: &[Token]) -> Result<(Privileges, &[Token]), Fault>
     }
 }
 
-#[tactic(auto, unfolding(crate::specs::Readers::named_privileges, crate::specs::Gives::folded))]
+#[tactic(auto, unfolding(crate::specs::Grammar::named_privileges, crate::specs::Gives::folded))]
 fn named_privileges(tokens: &[Token]) -> Result<(Privileges, &[Token]), Fault>
-    ensures { Gives result (r.named_privileges.read tokens.now) }
+    ensures { Gives result (g.named_privileges.parses.read tokens.now) }
 {
     let (first, rest) = privilege(tokens)?;
     more_privileges(with_privilege(no_privileges(), first), rest)
@@ -66,7 +97,7 @@ fn named_privileges(tokens: &[Token]) -> Result<(Privileges, &[Token]), Fault>
 
 #[tactic(auto, using(crate::proofs::Loops::fold_begins, crate::proofs::Loops::fold_stops, crate::proofs::Loops::fold_ends, crate::proofs::Loops::fold_fails, crate::proofs::Loops::fold_goes_on))]
 fn more_privileges(first: Privileges, tokens: &[Token]) -> Result<(Privileges, &[Token]), Fault>
-    ensures { Gives result (folded g.with_privilege first (read_many (r.S Symbol.Comma ∷ []) r.next_privilege.read (length tokens.now) tokens.now)) }
+    ensures { Gives result (folded values.with_privilege first (read_many (Sign Symbol.Comma ∷ []) (with_comma g.privilege).parses.read (length tokens.now) tokens.now)) }
 {
     let mut all = first;
     let mut rest = tokens;
@@ -81,17 +112,17 @@ fn more_privileges(first: Privileges, tokens: &[Token]) -> Result<(Privileges, &
     Ok((all, rest))
 }
 
-#[tactic(auto, unfolding(crate::specs::Readers::next_privilege))]
+#[tactic(auto, unfolding(crate::specs::Rule::with_comma))]
 fn next_privilege(tokens: &[Token]) -> Result<(Privilege, &[Token]), Fault>
-    ensures { Gives result (r.next_privilege.read tokens.now) }
+    ensures { Gives result ((with_comma g.privilege).parses.read tokens.now) }
 {
     let rest = past_symbol(tokens, Symbol::Comma)?;
     privilege(rest)
 }
 
-#[tactic(auto, unfolding(crate::specs::Readers::privilege))]
+#[tactic(auto, unfolding(crate::specs::Grammar::privilege))]
 fn privilege(tokens: &[Token]) -> Result<(Privilege, &[Token]), Fault>
-    ensures { Gives result (r.privilege.read tokens.now) }
+    ensures { Gives result (g.privilege.parses.read tokens.now) }
 {
     if let Some(rest) = word(tokens, b"select") {
         Ok((Privilege::Select, rest))
@@ -107,7 +138,7 @@ fn privilege(tokens: &[Token]) -> Result<(Privilege, &[Token]), Fault>
 }
 
 fn no_privileges() -> Privileges
-    ensures { result ≡ g.no_privileges }
+    ensures { result ≡ values.no_privileges }
 {
     Privileges {
         select: false,
@@ -118,7 +149,7 @@ fn no_privileges() -> Privileges
 }
 
 fn all_privileges() -> Privileges
-    ensures { result ≡ g.all_privileges }
+    ensures { result ≡ values.all_privileges }
 {
     Privileges {
         select: true,
@@ -128,9 +159,9 @@ fn all_privileges() -> Privileges
     }
 }
 
-#[tactic(auto, unfolding(crate::specs::Grammar::with_privilege))]
+#[tactic(auto, unfolding(crate::specs::Values::with_privilege))]
 fn with_privilege(privileges: Privileges, privilege: Privilege) -> Privileges
-    ensures { result ≡ g.with_privilege privileges privilege }
+    ensures { result ≡ values.with_privilege privileges privilege }
 {
     let mut privileges = privileges;
     match privilege {
@@ -143,17 +174,17 @@ fn with_privilege(privileges: Privileges, privilege: Privilege) -> Privileges
 }
 
 /// TO and its list.
-#[tactic(auto, unfolding(crate::specs::Readers::to_grantees))]
+#[tactic(auto, unfolding(crate::specs::Grammar::to_grantees))]
 pub fn to_grantees(alloc: Global, tokens: &[Token]) -> Result<(Items<Grantee>, &[Token]), Fault>
-    ensures { Gives result (r.to_grantees.read tokens.now) }
+    ensures { Gives result (g.to_grantees.parses.read tokens.now) }
 {
     let rest = past_word(tokens, b"to")?;
     grantees(alloc, rest)
 }
 
-#[tactic(auto, unfolding(crate::specs::Readers::grantees, crate::specs::Gives::with_front))]
+#[tactic(auto, unfolding(crate::specs::Grammar::grantees, crate::specs::Gives::with_front))]
 fn grantees(alloc: Global, tokens: &[Token]) -> Result<(Items<Grantee>, &[Token]), Fault>
-    ensures { Gives result (r.grantees.read tokens.now) }
+    ensures { Gives result (g.grantees.parses.read tokens.now) }
 {
     let (first, rest) = grantee(alloc, tokens)?;
     let mut all = Items::new(alloc);
@@ -167,7 +198,7 @@ fn more_grantees(
     first: Items<Grantee>,
     tokens: &[Token],
 ) -> Result<(Items<Grantee>, &[Token]), Fault>
-    ensures { Gives result (with_front first (read_many (r.S Symbol.Comma ∷ []) r.next_grantee.read (length tokens.now) tokens.now)) }
+    ensures { Gives result (with_front first (read_many (Sign Symbol.Comma ∷ []) (with_comma g.grantee).parses.read (length tokens.now) tokens.now)) }
 {
     let mut all = first;
     let mut rest = tokens;
@@ -182,17 +213,17 @@ fn more_grantees(
     Ok((all, rest))
 }
 
-#[tactic(auto, unfolding(crate::specs::Readers::next_grantee))]
+#[tactic(auto, unfolding(crate::specs::Rule::with_comma))]
 fn next_grantee(alloc: Global, tokens: &[Token]) -> Result<(Grantee, &[Token]), Fault>
-    ensures { Gives result (r.next_grantee.read tokens.now) }
+    ensures { Gives result ((with_comma g.grantee).parses.read tokens.now) }
 {
     let rest = past_symbol(tokens, Symbol::Comma)?;
     grantee(alloc, rest)
 }
 
-#[tactic(auto, unfolding(crate::specs::Readers::grantee))]
+#[tactic(auto, unfolding(crate::specs::Grammar::grantee))]
 fn grantee(alloc: Global, tokens: &[Token]) -> Result<(Grantee, &[Token]), Fault>
-    ensures { Gives result (r.grantee.read tokens.now) }
+    ensures { Gives result (g.grantee.parses.read tokens.now) }
 {
     if let Some(rest) = word(tokens, b"public") {
         Ok((Grantee::Public, rest))

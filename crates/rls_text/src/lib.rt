@@ -7,16 +7,14 @@ mod expression;
 mod fault;
 mod granting;
 mod limits;
+mod memberships;
 mod parsing;
+mod read_back;
 mod reading;
 mod selecting;
-mod statement;
 mod token;
 mod tree;
 mod words;
 
 pub use parsing::parse;
-pub use statement::{
-    AlterTable, Attributes, CreatePolicy, CreateRole, CreateTable, GrantPrivileges, Insert,
-    Privileges, RowSecurity, Select, Selected, Statement,
-};
+pub use read_back::written_spells;

@@ -1,8 +1,7 @@
 //! A statement from a text.
 
 ghost use Rattle.std.specs.Prelude.{◌≡◌, ◌≤◌, IfOk};
-ghost use Rattle.rls_text.specs.Gives.{Gives, GivesWhole, whole_of, answer_of};
-ghost use Rattle.rls_text.specs.Readers as r;
+ghost use Rattle.rls_text.specs.Gives.{Gives, GivesWhole, whole_of, answer_of, within_limits};
 ghost use Rattle.rls_text.specs.Grammar as g;
 ghost use Rattle.rls_text.specs.Words.{words_of};
 ghost use Rattle.rls_text.specs.Heights.{height_of};
@@ -13,12 +12,13 @@ use crate::creating::{alter, create};
 use crate::fault::Fault;
 use crate::granting::grant;
 use crate::limits::first_limit;
+use crate::memberships::{revoke, set_role};
 use crate::reading::{sees_word, symbol};
 use crate::selecting::{insert, select};
-use crate::statement::Statement;
 use crate::token::{Symbol, Token};
 use crate::tree::{Draft, MAX_DEPTH};
 use crate::words::words;
+use rls_statement::Statement;
 use rls_value::{Limit, Refusal};
 use std::alloc::Global;
 
@@ -53,7 +53,7 @@ fn answer(alloc: Global, tokens: &[Token]) -> Result<Statement, Refusal>
 
 /// The statement, unless it is over a limit.
 fn limited(draft: Draft) -> Result<Statement, Refusal>
-    ensures { result ≡ spec.limited draft }
+    ensures { result ≡ within_limits draft }
 {
     let (statement, depth) = draft;
     if column_count(&statement) > MAX_COLUMNS {
@@ -93,9 +93,9 @@ fn whole(alloc: Global, tokens: &[Token]) -> Result<Draft, Fault>
 }
 
 /// A statement, with a semicolon or without.
-#[tactic(auto, unfolding(crate::specs::Readers::statement))]
+#[tactic(auto, unfolding(crate::specs::Grammar::statement))]
 fn statement(alloc: Global, depth: usize, tokens: &[Token]) -> Result<(Draft, &[Token]), Fault>
-    ensures { Gives result ((r.statement depth).read tokens.now) }
+    ensures { Gives result ((g.statement depth).read tokens.now) }
 {
     let (statement, rest) = body(alloc, depth, tokens)?;
     match symbol(rest, Symbol::Semicolon) {
@@ -104,9 +104,9 @@ fn statement(alloc: Global, depth: usize, tokens: &[Token]) -> Result<(Draft, &[
     }
 }
 
-#[tactic(auto, unfolding(crate::specs::Readers::body))]
+#[tactic(auto, unfolding(crate::specs::Grammar::body))]
 fn body(alloc: Global, depth: usize, tokens: &[Token]) -> Result<(Draft, &[Token]), Fault>
-    ensures { Gives result ((r.body (g.expr depth) (r.expr depth)).read tokens.now) }
+    ensures { Gives result ((g.body (g.expr depth)).read tokens.now) }
 {
     if sees_word(tokens, b"select") {
         select(alloc, depth, tokens)
@@ -114,11 +114,24 @@ fn body(alloc: Global, depth: usize, tokens: &[Token]) -> Result<(Draft, &[Token
         insert(alloc, depth, tokens)
     } else if sees_word(tokens, b"create") {
         create(alloc, depth, tokens)
-    } else if sees_word(tokens, b"alter") {
-        let (change, rest) = alter(alloc, tokens)?;
-        Ok(((change, 0), rest))
     } else {
-        let (grant, rest) = grant(alloc, tokens)?;
-        Ok(((grant, 0), rest))
+        let (statement, rest) = flat_body(alloc, tokens)?;
+        Ok(((statement, 0), rest))
+    }
+}
+
+/// A statement without an expression.
+#[tactic(auto, unfolding(crate::specs::Grammar::flat_body))]
+fn flat_body(alloc: Global, tokens: &[Token]) -> Result<(Statement, &[Token]), Fault>
+    ensures { Gives result (g.flat_body.parses.read tokens.now) }
+{
+    if sees_word(tokens, b"alter") {
+        alter(alloc, tokens)
+    } else if sees_word(tokens, b"grant") {
+        grant(alloc, tokens)
+    } else if sees_word(tokens, b"revoke") {
+        revoke(alloc, tokens)
+    } else {
+        set_role(alloc, tokens)
     }
 }

@@ -4,8 +4,8 @@ ghost use Rattle.std.specs.Prelude.{◌≡◌, [], ◌∷◌, map, is_some};
 ghost use Rattle.rls_text.specs.Gives.{Gives, GivesName, Finds, Passes};
 ghost use Rattle.rls_text.specs.Heads.{Exact, Names, sees};
 ghost use Rattle.rls_text.specs.Parses.{read_token};
-ghost use Rattle.rls_text.specs.Readers as r;
 ghost use Rattle.rls_text.specs.Grammar as g;
+ghost use Rattle.rls_text.specs.Values as values;
 
 use crate::fault::Fault;
 use crate::token::{Symbol, Token};
@@ -96,9 +96,9 @@ pub fn starts_name(tokens: &[Token]) -> bool
     }
 }
 
-#[tactic(auto, unfolding(crate::specs::Readers::name))]
+#[tactic(auto, unfolding(crate::specs::Grammar::name))]
 pub fn name(alloc: Global, tokens: &[Token]) -> Result<(Name, &[Token]), Fault>
-    ensures { Gives result (r.name.read tokens.now) }
+    ensures { Gives result (g.name.parses.read tokens.now) }
 {
     match tokens {
         [Token::Word(letters), rest @ ..] if !is_reserved(letters.as_str().as_bytes()) => {
@@ -109,7 +109,7 @@ pub fn name(alloc: Global, tokens: &[Token]) -> Result<(Name, &[Token]), Fault>
 }
 
 fn named(alloc: Global, letters: &str) -> Result<Name, Fault>
-    ensures { GivesName result (g.named letters.now) }
+    ensures { GivesName result (values.named letters.now) }
 {
     match Name::new(alloc, letters) {
         Ok(name) => Ok(name),

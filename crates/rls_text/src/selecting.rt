@@ -3,23 +3,26 @@
 ghost use Rattle.std.specs.Prelude.{◌≡◌, [], ◌∷◌, length};
 ghost use Rattle.rls_text.specs.Gives.{Gives, with_front, folded};
 ghost use Rattle.rls_text.specs.Parses.{read_many};
-ghost use Rattle.rls_text.specs.Readers as r;
+ghost use Rattle.rls_text.specs.Heads.{Sign};
+ghost use Rattle.rls_text.specs.Rule.{with_comma};
+ghost use Rattle.rls_text.specs.Cut as cut;
 ghost use Rattle.rls_text.specs.Grammar as g;
+ghost use Rattle.rls_text.specs.Values as values;
 ghost use Rattle.rls_text.specs.Trees as spec;
 
 use crate::expression::{column, expr};
 use crate::fault::Fault;
 use crate::reading::{name, past_symbol, past_word, sees_symbol, symbol, word};
-use crate::statement::{Insert, Select, Selected, Statement};
 use crate::token::{Symbol, Token};
 use crate::tree::{Draft, Tree, Tuple, Tuples, parted, with_part, with_tuple};
 use rls_expr::Expr;
+use rls_statement::{Insert, Select, Selected, Statement};
 use rls_value::Items;
 use std::alloc::Global;
 
-#[tactic(auto, unfolding(crate::specs::Readers::select))]
+#[tactic(auto, unfolding(crate::specs::Grammar::select))]
 pub fn select(alloc: Global, depth: usize, tokens: &[Token]) -> Result<(Draft, &[Token]), Fault>
-    ensures { Gives result ((r.select (g.expr depth) (r.expr depth)).read tokens.now) }
+    ensures { Gives result ((g.select (g.expr depth)).read tokens.now) }
 {
     let rest = past_word(tokens, b"select")?;
     let (items, rest) = items(alloc, rest)?;
@@ -35,13 +38,13 @@ pub fn select(alloc: Global, depth: usize, tokens: &[Token]) -> Result<(Draft, &
     Ok(((Statement::Select(select), depth), rest))
 }
 
-#[tactic(auto, unfolding(crate::specs::Readers::condition))]
+#[tactic(auto, unfolding(crate::specs::Grammar::condition))]
 fn condition(
     alloc: Global,
     depth: usize,
     tokens: &[Token],
 ) -> Result<(Option<Tree>, &[Token]), Fault>
-    ensures { Gives result ((r.condition (g.expr depth) (r.expr depth)).read tokens.now) }
+    ensures { Gives result ((g.condition (g.expr depth)).read tokens.now) }
 {
     if let Some(rest) = word(tokens, b"where") {
         let (condition, rest) = expr(alloc, depth, rest)?;
@@ -51,9 +54,9 @@ fn condition(
     }
 }
 
-#[tactic(auto, unfolding(crate::specs::Readers::items))]
+#[tactic(auto, unfolding(crate::specs::Grammar::items))]
 fn items(alloc: Global, tokens: &[Token]) -> Result<(Selected, &[Token]), Fault>
-    ensures { Gives result (r.items.read tokens.now) }
+    ensures { Gives result (g.items.parses.read tokens.now) }
 {
     if let Some(rest) = symbol(tokens, Symbol::Star) {
         Ok((Selected::All, rest))
@@ -63,9 +66,9 @@ fn items(alloc: Global, tokens: &[Token]) -> Result<(Selected, &[Token]), Fault>
     }
 }
 
-#[tactic(auto, unfolding(crate::specs::Readers::columns, crate::specs::Gives::with_front))]
+#[tactic(auto, unfolding(crate::specs::Grammar::columns, crate::specs::Gives::with_front))]
 fn columns(alloc: Global, tokens: &[Token]) -> Result<(Items<Expr>, &[Token]), Fault>
-    ensures { Gives result (r.columns.read tokens.now) }
+    ensures { Gives result (g.columns.parses.read tokens.now) }
 {
     let (first, rest) = column(alloc, tokens)?;
     let mut all = Items::new(alloc);
@@ -79,7 +82,7 @@ fn more_columns(
     first: Items<Expr>,
     tokens: &[Token],
 ) -> Result<(Items<Expr>, &[Token]), Fault>
-    ensures { Gives result (with_front first (read_many (r.S Symbol.Comma ∷ []) r.next_column.read (length tokens.now) tokens.now)) }
+    ensures { Gives result (with_front first (read_many (Sign Symbol.Comma ∷ []) (with_comma g.column).parses.read (length tokens.now) tokens.now)) }
 {
     let mut all = first;
     let mut rest = tokens;
@@ -94,17 +97,17 @@ fn more_columns(
     Ok((all, rest))
 }
 
-#[tactic(auto, unfolding(crate::specs::Readers::next_column))]
+#[tactic(auto, unfolding(crate::specs::Rule::with_comma))]
 fn next_column(alloc: Global, tokens: &[Token]) -> Result<(Expr, &[Token]), Fault>
-    ensures { Gives result (r.next_column.read tokens.now) }
+    ensures { Gives result ((with_comma g.column).parses.read tokens.now) }
 {
     let rest = past_symbol(tokens, Symbol::Comma)?;
     column(alloc, rest)
 }
 
-#[tactic(auto, unfolding(crate::specs::Readers::insert))]
+#[tactic(auto, unfolding(crate::specs::Grammar::insert))]
 pub fn insert(alloc: Global, depth: usize, tokens: &[Token]) -> Result<(Draft, &[Token]), Fault>
-    ensures { Gives result ((r.insert (g.expr depth) (r.expr depth)).read tokens.now) }
+    ensures { Gives result ((g.insert (g.expr depth)).read tokens.now) }
 {
     let rest = past_word(tokens, b"insert")?;
     let rest = past_word(rest, b"into")?;
@@ -115,9 +118,9 @@ pub fn insert(alloc: Global, depth: usize, tokens: &[Token]) -> Result<(Draft, &
 }
 
 /// Tuples of one length.
-#[tactic(auto, unfolding(crate::specs::Readers::even_tuples))]
+#[tactic(auto, unfolding(crate::specs::Grammar::even_tuples))]
 fn even_tuples(alloc: Global, depth: usize, tokens: &[Token]) -> Result<(Tuples, &[Token]), Fault>
-    ensures { Gives result ((r.even_tuples (g.expr depth) (r.expr depth)).read tokens.now) }
+    ensures { Gives result ((g.even_tuples (g.expr depth)).read tokens.now) }
 {
     let (tuples, rest) = tuples(alloc, depth, tokens)?;
     if are_even(tuples.0.as_slice()) {
@@ -128,7 +131,7 @@ fn even_tuples(alloc: Global, depth: usize, tokens: &[Token]) -> Result<(Tuples,
 }
 
 fn are_even(tuples: &[Items<Expr>]) -> bool
-    ensures { result ≡ g.are_even tuples.now }
+    ensures { result ≡ values.are_even tuples.now }
 {
     match tuples {
         [first, rest @ ..] => have_length(first.len(), rest),
@@ -137,7 +140,7 @@ fn are_even(tuples: &[Items<Expr>]) -> bool
 }
 
 fn have_length(length: usize, mut tuples: &[Items<Expr>]) -> bool
-    ensures { result ≡ g.have_length length tuples.entry.now }
+    ensures { result ≡ values.have_length length tuples.entry.now }
 {
     while let [first, rest @ ..] = tuples {
         if first.len() != length {
@@ -148,9 +151,9 @@ fn have_length(length: usize, mut tuples: &[Items<Expr>]) -> bool
     true
 }
 
-#[tactic(auto, unfolding(crate::specs::Readers::tuples, crate::specs::Gives::folded))]
+#[tactic(auto, unfolding(crate::specs::Grammar::tuples, crate::specs::Gives::folded))]
 fn tuples(alloc: Global, depth: usize, tokens: &[Token]) -> Result<(Tuples, &[Token]), Fault>
-    ensures { Gives result ((r.tuples (g.expr depth) (r.expr depth)).read tokens.now) }
+    ensures { Gives result ((g.tuples (g.expr depth)).read tokens.now) }
 {
     let ((first, height), rest) = tuple(alloc, depth, tokens)?;
     let mut all = Items::new(alloc);
@@ -165,7 +168,7 @@ fn more_tuples(
     first: Tuples,
     tokens: &[Token],
 ) -> Result<(Tuples, &[Token]), Fault>
-    ensures { Gives result (folded spec.with_tuple first (read_many (r.S Symbol.Comma ∷ []) (r.next_tuple (g.expr depth) (r.expr depth)).read (length tokens.now) tokens.now)) }
+    ensures { Gives result (folded spec.with_tuple first (read_many (Sign Symbol.Comma ∷ []) (cut.with_comma (g.tuple (g.expr depth))).read (length tokens.now) tokens.now)) }
 {
     let mut all = first;
     let mut rest = tokens;
@@ -180,17 +183,17 @@ fn more_tuples(
     Ok((all, rest))
 }
 
-#[tactic(auto, unfolding(crate::specs::Readers::next_tuple))]
+#[tactic(auto, unfolding(crate::specs::Cut::with_comma))]
 fn next_tuple(alloc: Global, depth: usize, tokens: &[Token]) -> Result<(Tuple, &[Token]), Fault>
-    ensures { Gives result ((r.next_tuple (g.expr depth) (r.expr depth)).read tokens.now) }
+    ensures { Gives result ((cut.with_comma (g.tuple (g.expr depth))).read tokens.now) }
 {
     let rest = past_symbol(tokens, Symbol::Comma)?;
     tuple(alloc, depth, rest)
 }
 
-#[tactic(auto, unfolding(crate::specs::Readers::tuple))]
+#[tactic(auto, unfolding(crate::specs::Grammar::tuple))]
 fn tuple(alloc: Global, depth: usize, tokens: &[Token]) -> Result<(Tuple, &[Token]), Fault>
-    ensures { Gives result ((r.tuple (g.expr depth) (r.expr depth)).read tokens.now) }
+    ensures { Gives result ((g.tuple (g.expr depth)).read tokens.now) }
 {
     let rest = past_symbol(tokens, Symbol::LParen)?;
     let (parts, rest) = parts(alloc, depth, rest)?;
@@ -198,9 +201,9 @@ fn tuple(alloc: Global, depth: usize, tokens: &[Token]) -> Result<(Tuple, &[Toke
     Ok((parts, rest))
 }
 
-#[tactic(auto, unfolding(crate::specs::Readers::parts, crate::specs::Gives::folded))]
+#[tactic(auto, unfolding(crate::specs::Grammar::parts, crate::specs::Gives::folded))]
 fn parts(alloc: Global, depth: usize, tokens: &[Token]) -> Result<(Tuple, &[Token]), Fault>
-    ensures { Gives result ((r.parts (g.expr depth) (r.expr depth)).read tokens.now) }
+    ensures { Gives result ((g.parts (g.expr depth)).read tokens.now) }
 {
     let ((first, height), rest) = expr(alloc, depth, tokens)?;
     let mut all = Items::new(alloc);
@@ -215,7 +218,7 @@ fn more_parts(
     first: Tuple,
     tokens: &[Token],
 ) -> Result<(Tuple, &[Token]), Fault>
-    ensures { Gives result (folded spec.with_part first (read_many (r.S Symbol.Comma ∷ []) (r.next_part (g.expr depth) (r.expr depth)).read (length tokens.now) tokens.now)) }
+    ensures { Gives result (folded spec.with_part first (read_many (Sign Symbol.Comma ∷ []) (cut.with_comma (g.expr depth)).read (length tokens.now) tokens.now)) }
 {
     let mut all = first;
     let mut rest = tokens;
@@ -230,9 +233,9 @@ fn more_parts(
     Ok((all, rest))
 }
 
-#[tactic(auto, unfolding(crate::specs::Readers::next_part))]
+#[tactic(auto, unfolding(crate::specs::Cut::with_comma))]
 fn next_part(alloc: Global, depth: usize, tokens: &[Token]) -> Result<(Tree, &[Token]), Fault>
-    ensures { Gives result ((r.next_part (g.expr depth) (r.expr depth)).read tokens.now) }
+    ensures { Gives result ((cut.with_comma (g.expr depth)).read tokens.now) }
 {
     let rest = past_symbol(tokens, Symbol::Comma)?;
     expr(alloc, depth, rest)

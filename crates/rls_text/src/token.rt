@@ -3,7 +3,7 @@
 use rls_value::Text;
 
 /// A sign that is no word of letters.
-#[derive(Clone, Copy, Debug, PartialEq, Eq)]
+#[derive(Clone, Copy, PartialEq, Eq)]
 pub enum Symbol {
     LParen,
     RParen,
@@ -22,7 +22,7 @@ pub enum Symbol {
 }
 
 /// A word of a text.
-#[derive(Debug, Drop)]
+#[derive(Drop)]
 pub enum Token {
     /// A keyword or a name, in lower case.
     Word(Text),

@@ -4,8 +4,8 @@ ghost use Rattle.std.specs.Prelude.{◌≡◌, IfOk};
 ghost use Rattle.rls_expr.specs.ExprTerms.{term_of};
 ghost use Rattle.rls_text.specs.Trees as spec;
 
-use crate::statement::Statement;
 use rls_expr::{Comparison, Expr, Node};
+use rls_statement::Statement;
 use rls_value::{Items, Value};
 use std::alloc::{AllocError, Global};
 

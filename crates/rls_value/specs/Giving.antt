@@ -1,5 +1,6 @@
 -- What a call that may refuse gives.
 use Rattle.std.specs.Prelude.{◌≡◌, Result, Ok, Err}
+use Rattle.std.specs.Borrow.{Bor}
 use Rattle.rls_value.specs.declared.refusal.Refusal.{Refusal}
 use Rattle.rls_value.specs.declared.refusal.Refusal.TheVariants.{NoMemory}
 
@@ -23,3 +24,8 @@ UnlessNoMemory (Err refusal) fact = fact
 abbrev pub and_then : {A B : Type 0} → Result A Refusal → (A → Result B Refusal) → Result B Refusal
 and_then (Ok a) next = next a
 and_then (Err refusal) next = Err refusal
+
+-- what a call gives that lends it
+abbrev pub lent_now : {A : Type 0} → Result (Bor A) Refusal → Result A Refusal
+lent_now (Ok a) = Ok a.now
+lent_now (Err refusal) = Err refusal

@@ -9,6 +9,8 @@ use Rattle.rls_value.specs.declared.refusal.TxnState.{TxnState}
 use Rattle.rls_value.specs.declared.refusal.TxnState.TheVariants as t
 use Rattle.rls_value.specs.declared.refusal.NameKind.{NameKind}
 use Rattle.rls_value.specs.declared.refusal.NameKind.TheVariants as n
+use Rattle.rls_value.specs.declared.refusal.DefinedKind.{DefinedKind}
+use Rattle.rls_value.specs.declared.refusal.DefinedKind.TheVariants as d
 use Rattle.rls_value.specs.declared.refusal.Why.{Why}
 use Rattle.rls_value.specs.declared.refusal.Why.TheVariants as w
 use Rattle.rls_value.specs.declared.refusal.GrantFault.{GrantFault}
@@ -38,11 +40,16 @@ undefined_code n.Role = codes "42704"
 undefined_code n.Policy = codes "42704"
 
 -- by what is there already
-abbrev pub duplicate_code : NameKind → List ℕ
-duplicate_code n.Relation = codes "42P07"
-duplicate_code n.Column = codes "42701"
-duplicate_code n.Role = codes "42710"
-duplicate_code n.Policy = codes "42710"
+abbrev pub duplicate_code : DefinedKind → List ℕ
+duplicate_code d.Relation = codes "42P07"
+duplicate_code d.Role = codes "42710"
+duplicate_code d.Policy = codes "42710"
+
+-- what its name is the name of
+abbrev pub name_kind_of : DefinedKind → NameKind
+name_kind_of d.Relation = n.Relation
+name_kind_of d.Role = n.Role
+name_kind_of d.Policy = n.Policy
 
 -- the SQLSTATE
 abbrev pub code_of : Refusal → List ℕ
@@ -124,7 +131,7 @@ refusal_text (r.TxnState state) = txn_text state
 refusal_text (r.NoLogin None) = codes "not connected"
 refusal_text (r.NoLogin (Some role)) = codes "role \"" ++ (role ++ codes "\" may not log in")
 refusal_text (r.Undefined kind name) = name_kind_text kind ++ (codes " \"" ++ (name ++ codes "\" does not exist"))
-refusal_text (r.Duplicate kind name) = name_kind_text kind ++ (codes " \"" ++ (name ++ codes "\" already exists"))
+refusal_text (r.Duplicate kind name) = name_kind_text (name_kind_of kind) ++ (codes " \"" ++ (name ++ codes "\" already exists"))
 refusal_text r.TypeFault = codes "types do not match"
 refusal_text r.Unsupported = codes "not supported"
 refusal_text (r.Recursion table) = codes "infinite recursion detected in policy for relation \"" ++ (table ++ codes "\"")

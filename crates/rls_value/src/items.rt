@@ -7,7 +7,7 @@ use std::alloc::{AllocError, Global};
 use std::marker::Model;
 
 /// A `Vec` that contracts see as the list of its elements, so that a copy equals what it copies.
-#[derive(Debug, Drop)]
+#[derive(Drop)]
 pub struct Items<T> {
     items: Vec<T>,
 }

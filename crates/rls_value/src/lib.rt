@@ -2,6 +2,7 @@
 #![tactic(auto)]
 
 mod items;
+mod loan;
 mod name;
 mod object;
 mod refusal;
@@ -13,9 +14,10 @@ mod value;
 mod verb;
 
 pub use items::Items;
+pub use loan::Loan;
 pub use name::{MAX_NAME, Name, is_reserved};
 pub use object::{Object, cmp_objects};
-pub use refusal::{Cause, GrantFault, Limit, NameKind, Refusal, TxnState, Why};
+pub use refusal::{Cause, DefinedKind, GrantFault, Limit, NameKind, Refusal, TxnState, Why};
 pub use row::{Row, RowId, cmp_rows};
 pub use tag::Tag;
 pub use text::Text;

@@ -19,7 +19,7 @@ use std::marker::Model;
 pub const MAX_NAME: usize = 63;
 
 /// A name, in lower case, seen as its bytes (PostgreSQL manual, 4.1.1, without quoted names).
-#[derive(Debug, Drop)]
+#[derive(Drop)]
 pub struct Name {
     letters: String,
 }

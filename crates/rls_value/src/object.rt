@@ -13,7 +13,7 @@ use std::cmp::Ordering;
 use std::fmt;
 
 /// A versioned object of the database.
-#[derive(Debug, Drop)]
+#[derive(Drop)]
 pub enum Object {
     Role(Name),
     /// The memberships that the role has.

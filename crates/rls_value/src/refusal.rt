@@ -1,6 +1,7 @@
 //! The refusals of the database, with their codes and texts.
 
-ghost use Rattle.std.specs.Prelude.{◌≡◌, IfOk};
+ghost use Rattle.std.specs.Prelude.{◌≡◌, IfOk, ◌++◌, codes};
+ghost use Rattle.std.specs.Fmt.{WritesOnOk};
 ghost use Rattle.rls_value.specs.Refusals as spec;
 
 use crate::name::Name;
@@ -9,9 +10,10 @@ use crate::tag::Tag;
 use crate::verb::{Kind, Privilege};
 use std::alloc::{AllocError, AllocFailed, Global};
 use std::fmt;
+use std::fmt::{Display, Write};
 
 /// Why something was refused. The codes are SQLSTATEs (PostgreSQL manual, Appendix A), the texts this project's.
-#[derive(Debug, Drop)]
+#[derive(Drop)]
 pub enum Refusal {
     NoMemory,
     Syntax,
@@ -20,7 +22,8 @@ pub enum Refusal {
     /// The role may not log in; without one, the label isn't connected.
     NoLogin(Option<Name>),
     Undefined(NameKind, Name),
-    Duplicate(NameKind, Name),
+    /// One of that name is there already.
+    Duplicate(DefinedKind, Name),
     TypeFault,
     Unsupported,
     /// A policy of the table reads the table again.
@@ -44,7 +47,7 @@ pub enum Refusal {
 }
 
 /// Which limit was passed.
-#[derive(Clone, Copy, Debug, PartialEq, Eq)]
+#[derive(Clone, Copy, PartialEq, Eq)]
 pub enum Limit {
     Line,
     Columns,
@@ -61,7 +64,7 @@ pub enum Limit {
 }
 
 /// A statement that the transaction's state doesn't allow.
-#[derive(Clone, Copy, Debug, PartialEq, Eq)]
+#[derive(Clone, Copy, PartialEq, Eq)]
 pub enum TxnState {
     AlreadyInProgress,
     NoneInProgress,
@@ -71,7 +74,7 @@ pub enum TxnState {
 }
 
 /// What a name is the name of.
-#[derive(Clone, Copy, Debug, PartialEq, Eq)]
+#[derive(Clone, Copy, PartialEq, Eq)]
 pub enum NameKind {
     Relation,
     Column,
@@ -79,8 +82,29 @@ pub enum NameKind {
     Policy,
 }
 
+/// What statements define under a name.
+#[derive(Clone, Copy, PartialEq, Eq)]
+pub enum DefinedKind {
+    Relation,
+    Role,
+    Policy,
+}
+
+impl DefinedKind {
+    /// The kind of its name.
+    pub fn name_kind(self) -> NameKind
+        ensures { result ≡ spec.name_kind_of self }
+    {
+        match self {
+            DefinedKind::Relation => NameKind::Relation,
+            DefinedKind::Role => NameKind::Role,
+            DefinedKind::Policy => NameKind::Policy,
+        }
+    }
+}
+
 /// What is missing where something is denied.
-#[derive(Debug, Drop)]
+#[derive(Drop)]
 pub enum Why {
     /// The privilege on the table.
     Privilege(Privilege, Name),
@@ -99,7 +123,7 @@ pub enum Why {
 }
 
 /// A grant that may not be.
-#[derive(Debug, Drop)]
+#[derive(Drop)]
 pub enum GrantFault {
     /// The first role is a member of the second already.
     Cycle(Name, Name),
@@ -109,7 +133,7 @@ pub enum GrantFault {
 }
 
 /// Why a transaction can't be serialized (Ports and Grittner, VLDB 2012, 3.2).
-#[derive(Debug, Drop)]
+#[derive(Drop)]
 pub enum Cause {
     /// The object that both wrote, and the other transaction.
     Written(Object, u64),
@@ -228,13 +252,12 @@ fn undefined_code(kind: NameKind) -> &'static str
     }
 }
 
-fn duplicate_code(kind: NameKind) -> &'static str
+fn duplicate_code(kind: DefinedKind) -> &'static str
     ensures { result.now ≡ spec.duplicate_code kind }
 {
     match kind {
-        NameKind::Relation => "42P07",
-        NameKind::Column => "42701",
-        NameKind::Role | NameKind::Policy => "42710",
+        DefinedKind::Relation => "42P07",
+        DefinedKind::Role | DefinedKind::Policy => "42710",
     }
 }
 
@@ -298,43 +321,71 @@ impl fmt::Display for Refusal {
 
     fn fmt<W: fmt::Write>(&self, f: &mut fmt::Formatter<W>) -> fmt::Result {
         match self {
-            Refusal::NoMemory => write!(f, "out of memory"),
-            Refusal::Syntax => write!(f, "syntax error"),
-            Refusal::Limit(limit) => write!(f, "{limit}"),
-            Refusal::TxnState(state) => write!(f, "{state}"),
-            Refusal::NoLogin(None) => write!(f, "not connected"),
-            Refusal::NoLogin(Some(role)) => write!(f, "role \"{role}\" may not log in"),
-            Refusal::Undefined(kind, name) => write!(f, "{kind} \"{name}\" does not exist"),
-            Refusal::Duplicate(kind, name) => write!(f, "{kind} \"{name}\" already exists"),
-            Refusal::TypeFault => write!(f, "types do not match"),
-            Refusal::Unsupported => write!(f, "not supported"),
-            Refusal::Recursion(table) => {
-                write!(
-                    f,
-                    "infinite recursion detected in policy for relation \"{table}\""
-                )
+            Refusal::NoMemory => f.write_str("out of memory"),
+            Refusal::Syntax => f.write_str("syntax error"),
+            Refusal::Limit(limit) => limit.fmt(f),
+            Refusal::TxnState(state) => state.fmt(f),
+            Refusal::NoLogin(None) => f.write_str("not connected"),
+            Refusal::NoLogin(Some(role)) => {
+                write_around(f, "role \"", role, "\" may not log in")
             }
-            Refusal::Denied(why) => write!(f, "{why}"),
-            Refusal::GrantOp(fault) => write!(f, "{fault}"),
-            Refusal::Dependent(_) => write!(f, "dependent privileges exist"),
-            Refusal::Range(column) => write!(f, "value out of range for column \"{column}\""),
-            Refusal::NotNull(column) => {
-                write!(
-                    f,
-                    "null value in column \"{column}\" violates not-null constraint"
-                )
+            Refusal::Undefined(kind, name) => write_kind(f, *kind, name, "\" does not exist"),
+            Refusal::Duplicate(kind, name) => {
+                write_kind(f, kind.name_kind(), name, "\" already exists")
             }
-            Refusal::Unique(table) => {
-                write!(
-                    f,
-                    "duplicate key value violates the primary key of table \"{table}\""
-                )
+            Refusal::TypeFault => f.write_str("types do not match"),
+            Refusal::Unsupported => f.write_str("not supported"),
+            Refusal::Recursion(table) => write_around(
+                f,
+                "infinite recursion detected in policy for relation \"",
+                table,
+                "\"",
+            ),
+            Refusal::Denied(why) => why.fmt(f),
+            Refusal::GrantOp(fault) => fault.fmt(f),
+            Refusal::Dependent(_) => f.write_str("dependent privileges exist"),
+            Refusal::Range(column) => {
+                write_around(f, "value out of range for column \"", column, "\"")
             }
+            Refusal::NotNull(column) => write_around(
+                f,
+                "null value in column \"",
+                column,
+                "\" violates not-null constraint",
+            ),
+            Refusal::Unique(table) => write_around(
+                f,
+                "duplicate key value violates the primary key of table \"",
+                table,
+                "\"",
+            ),
             Refusal::Serial(cause) => write!(f, "could not serialize access: {cause}"),
-            Refusal::Foreign => write!(f, "not of this engine"),
+            Refusal::Foreign => f.write_str("not of this engine"),
             Refusal::BadAudit(line) => write!(f, "bad audit line {line}"),
         }
     }
+}
+
+fn write_around<W: fmt::Write>(
+    f: &mut fmt::Formatter<W>,
+    before: &str,
+    name: &Name,
+    after: &str,
+) -> fmt::Result
+    ensures { WritesOnOk W.write_str_gives f.old result (before.now ++ (name.now ++ after.now)) f.new }
+{
+    write!(f, "{before}{name}{after}")
+}
+
+fn write_kind<W: fmt::Write>(
+    f: &mut fmt::Formatter<W>,
+    kind: NameKind,
+    name: &Name,
+    after: &str,
+) -> fmt::Result
+    ensures { WritesOnOk W.write_str_gives f.old result (spec.name_kind_text kind ++ (codes " \"" ++ (name.now ++ after.now))) f.new }
+{
+    write!(f, "{kind} \"{name}{after}")
 }
 
 impl fmt::Display for Limit {

@@ -12,7 +12,7 @@ use std::fmt;
 use std::marker::Model;
 
 /// A row, or the values of a key, seen as the list of its values.
-#[derive(Debug, Drop)]
+#[derive(Drop)]
 pub struct Row {
     values: Vec<Value>,
 }
@@ -178,7 +178,7 @@ fn cmp_lists(mut left: &[Value], mut right: &[Value]) -> Ordering
 }
 
 /// The number of a row: the transaction that inserted it, and its place among that one's insertions, from 0.
-#[derive(Clone, Copy, Debug, PartialEq, Eq, PartialOrd, Ord)]
+#[derive(Clone, Copy, PartialEq, Eq, PartialOrd, Ord)]
 pub struct RowId {
     pub txn: u64,
     pub n: u32,

@@ -6,7 +6,7 @@ ghost use Rattle.rls_value.specs.Words.{tag_text};
 use std::fmt;
 
 /// The tag of a command, without the numbers that some carry (PostgreSQL manual, 55.7, "CommandComplete").
-#[derive(Clone, Copy, Debug, PartialEq, Eq)]
+#[derive(Clone, Copy, PartialEq, Eq)]
 pub enum Tag {
     Select,
     Insert,

@@ -11,7 +11,7 @@ use std::cmp::Ordering;
 use std::marker::Model;
 
 /// A text value; texts are compared by their bytes.
-#[derive(Debug, Drop)]
+#[derive(Drop)]
 pub struct Text {
     content: String,
 }

@@ -16,7 +16,7 @@ use std::fmt;
 use std::fmt::Write;
 
 /// The value of a column, or null.
-#[derive(Debug, Drop)]
+#[derive(Drop)]
 pub enum Value {
     Null,
     /// A whole number of 64 bits.
@@ -26,7 +26,7 @@ pub enum Value {
 }
 
 /// The type of a column (PostgreSQL manual, 8.1, 8.3, 8.6).
-#[derive(Clone, Copy, Debug, PartialEq, Eq)]
+#[derive(Clone, Copy, PartialEq, Eq)]
 pub enum ColType {
     /// A whole number of 32 bits with its sign.
     Integer,

@@ -3,7 +3,7 @@
 use std::fmt;
 
 /// A privilege on a table (PostgreSQL manual, 5.8, "Privileges").
-#[derive(Clone, Copy, Debug, PartialEq, Eq, PartialOrd, Ord)]
+#[derive(Clone, Copy, PartialEq, Eq)]
 pub enum Privilege {
     Select,
     Insert,
@@ -12,7 +12,7 @@ pub enum Privilege {
 }
 
 /// The type of command that a row is checked for (PostgreSQL manual, CREATE POLICY, "Policies Applied by Command Type").
-#[derive(Clone, Copy, Debug, PartialEq, Eq, PartialOrd, Ord)]
+#[derive(Clone, Copy, PartialEq, Eq)]
 pub enum Kind {
     Select,
     Insert,
@@ -21,7 +21,7 @@ pub enum Kind {
 }
 
 /// The commands that a policy is for: `FOR ALL`, or one type.
-#[derive(Clone, Copy, Debug, PartialEq, Eq, PartialOrd, Ord)]
+#[derive(Clone, Copy, PartialEq, Eq)]
 pub enum PolicyKind {
     All,
     Only(Kind),

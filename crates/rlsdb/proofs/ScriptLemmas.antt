@@ -1,5 +1,5 @@
 -- A script's lines from its front, and what is written line by line.
-use Rattle.std.proofs.Common.{◌≡◌, ◌<◌, ◌≤◌, ℕ, ◌+◌, ◌-◌, Bool, true, false, cond, nat_lt, List, [], ◌∷◌, ◌++◌, length, refl, sym, ap, subst, ◌∙◌, Bor, append_assoc, arith, rules, Option, Result, Ok, Err, OnOk}
+use Rattle.std.proofs.Common.{◌≡◌, ◌<◌, ◌≤◌, ℕ, ◌+◌, ◌-◌, Bool, true, false, cond, nat_lt, List, [], ◌∷◌, ◌++◌, length, refl, sym, ap, subst, ◌∙◌, Bor, append_assoc, arith, rules, Option, Result, Ok, Err, OnOk, IfOk}
 use Rattle.std.specs.List.{All, slice_split, position_or_len, before_first, after_first}
 use Rattle.std.specs.Str.Lines.{lines, lines_of_parts}
 use Rattle.std.proofs.lemmas.List.Splits.{slice_split_first, slice_split_none, length-slice_split}
@@ -9,8 +9,9 @@ use Rattle.std.proofs.lemmas.Bool.Decides.{nat_tests}
 use Rattle.rls_catalog.specs.State.{State}
 use Rattle.rls_session.specs.Lines.{IsRead, ends_line, first_line_of, without_return}
 use Rattle.rls_session.specs.Rendering.{answer_text}
-use Rattle.rls_session.specs.Sessions.{state_left}
-use Rattle.rlsdb.specs.Scripts.{Run, RunsLine, RunsLines, RunsRead, AnswersIf, comes_first, IsScriptText, GrewBy, opening_run}
+use Rattle.rls_session.specs.Labels.{opening_sessions, state_left, AnswersUnder}
+use Rattle.rls_session.specs.declared.sessions.Sessions.{Sessions}
+use Rattle.rlsdb.specs.Scripts.{RunsLine, RunsLines, RunsRead, RunsScript, IsScriptText, GrewBy}
 use Rattle.rlsdb.specs.Scripts.{none, next}
 use Rattle.rls_session.specs.declared.answer.Answer.{Answer}
 use Rattle.rls_session.specs.declared.line.Line.{Line}
@@ -55,30 +56,30 @@ pub lines_first : (script : List ℕ) → 0 < length script → lines script ≡
 lines_first script some = lines_first_if script (nat_lt (position_or_len ends_line script) (length script)) refl some
 
 -- a command's line: its answer, and what is written for it
-pub said : (before now : List ℕ) (line : Line) (label command : Bor (List ℕ)) (answer : Answer) (run after : Run) {E : Type 0} (r : Result (Unit {0}) E) → line ≡ l.Command label command → AnswersIf (comes_first run.first label.now) run label.now command.now answer after → OnOk r (GrewBy before now (λ written. written ≡ answer_text label.now answer)) → OnOk r (GrewBy before now (λ written. RunsRead line run written after))
+pub said : (before now : List ℕ) (line : Line) (label command : Bor (List ℕ)) (answer : Answer) (run after : Sessions) {E : Type 0} (r : Result (Unit {0}) E) → line ≡ l.Command label command → AnswersUnder run label.now command.now answer after → OnOk r (GrewBy before now (λ written. written ≡ answer_text label.now answer)) → OnOk r (GrewBy before now (λ written. RunsRead line run written after))
 said before now line label command answer run after (Ok x) is answers shown =
     let fact : RunsRead (l.Command label command) run shown.more after = record { answer = answer; answers = answers; shown = shown.fact } in
     record { more = shown.more; grew = shown.grew; fact = subst (λ it. RunsRead it run shown.more after) (sym is) fact }
 said before now line label command answer run after (Err e) is answers shown = tt
 
 -- a line's bytes, and then those of the lines behind it
-pub grew_more : {before middle now line : List ℕ} {lines : List (List ℕ)} {run middle_run after : Run} → GrewBy before middle (λ written. RunsLine line run written middle_run) → GrewBy middle now (λ written. RunsLines lines middle_run written after) → GrewBy before now (λ written. RunsLines (line ∷ lines) run written after)
+pub grew_more : {before middle now line : List ℕ} {lines : List (List ℕ)} {run middle_run after : Sessions} → GrewBy before middle (λ written. RunsLine line run written middle_run) → GrewBy middle now (λ written. RunsLines lines middle_run written after) → GrewBy before now (λ written. RunsLines (line ∷ lines) run written after)
 grew_more first rest = record { more = first.more ++ rest.more; grew = rest.grew ∙ ap (λ m. m ++ rest.more) first.grew ∙ append_assoc _ first.more rest.more; fact = next first.fact rest.fact }
 
 -- behind the last line
-pub grew_none : (now : List ℕ) (run : Run) → GrewBy now now (λ written. RunsLines [] run written run)
+pub grew_none : (now : List ℕ) (run : Sessions) → GrewBy now now (λ written. RunsLines [] run written run)
 grew_none now run = record { more = []; grew = grind (arith, common_steps); fact = none }
 
 -- the lines make the script's text
-pub grew_script : {before now : List ℕ} {script : List ℕ} {after : Run} {state : State} → state ≡ state_left after.session → GrewBy before now (λ written. RunsLines (lines script) opening_run written after) → GrewBy before now (λ written. IsScriptText script written state)
+pub grew_script : {before now : List ℕ} {script : List ℕ} {after : Sessions} {state : State} → state ≡ state_left after → GrewBy before now (λ written. RunsLines (lines script) opening_sessions written after) → GrewBy before now (λ written. IsScriptText script written state)
 grew_script left grew = record { more = grew.more; grew = grew.grew; fact = record { after = _; runs = grew.fact; left = left } }
 
 -- what holds while lines are run: what the lines of the rest will write, and leave, makes the whole script's
-abbrev pub MakesWhole : List ℕ → List ℕ → List ℕ → List ℕ → Run → Type 0
-MakesWhole start before script rest run = (now : List ℕ) (after : Run) → GrewBy before now (λ written. RunsLines (lines rest) run written after) → GrewBy start now (λ written. RunsLines (lines script) opening_run written after)
+abbrev pub MakesWhole : List ℕ → List ℕ → List ℕ → List ℕ → Sessions → Type 0
+MakesWhole start before script rest run = (now : List ℕ) (after : Sessions) → GrewBy before now (λ written. RunsLines (lines rest) run written after) → GrewBy start now (λ written. RunsLines (lines script) opening_sessions written after)
 
 -- it holds behind the first line of the rest too
-pub passed_line : (start before middle script rest line behind : List ℕ) (read : Line) (run further : Run) → 0 < length rest → line ≡ first_line_of rest → behind ≡ after_first ends_line rest → IsRead line read → GrewBy before middle (λ written. RunsRead read run written further) → MakesWhole start before script rest run → MakesWhole start middle script behind further
+pub passed_line : (start before middle script rest line behind : List ℕ) (read : Line) (run further : Sessions) → 0 < length rest → line ≡ first_line_of rest → behind ≡ after_first ends_line rest → IsRead line read → GrewBy before middle (λ written. RunsRead read run written further) → MakesWhole start before script rest run → MakesWhole start middle script behind further
 passed_line start before middle script rest line behind read run further some is_line is_behind is_read grew makes now after more =
     let fact : RunsLine line run grew.more further = record { read = read; is_read = is_read; runs = grew.fact } in
     let both : GrewBy before now (λ written. RunsLines (line ∷ lines behind) run written after) = grew_more (record { more = grew.more; grew = grew.grew; fact = fact }) more in
@@ -86,6 +87,11 @@ passed_line start before middle script rest line behind read run further some is
     makes now after (subst (λ ls. GrewBy before now (λ written. RunsLines ls run written after)) (sym split) both)
 
 -- behind the last line the script's text is whole
-pub finished : (start now script rest : List ℕ) (run : Run) (state : State) → length rest ≡ 0 → MakesWhole start now script rest run → state ≡ state_left run.session → GrewBy start now (λ written. IsScriptText script written state)
+pub finished : (start now script rest : List ℕ) (run : Sessions) (state : State) → length rest ≡ 0 → MakesWhole start now script rest run → state ≡ state_left run → GrewBy start now (λ written. IsScriptText script written state)
 finished start now script [] run state none_left makes left = grew_script left (makes now run (grew_none now run))
 finished start now script (byte ∷ bytes) run state none_left makes left = absurd (omega arith)
+
+-- the text of what was given
+pub ran_script : {E : Type 0} (given_before given_now taken_before taken_now script : List ℕ) (r : Result State E) → given_now ≡ given_before ++ script → IfOk r (λ state. GrewBy taken_before taken_now (λ written. IsScriptText script written state)) → IfOk r (RunsScript given_before given_now taken_before taken_now)
+ran_script given_before given_now taken_before taken_now script (Ok state) given text = record { script = script; given = given; text = text }
+ran_script given_before given_now taken_before taken_now script (Err e) given text = tt

@@ -17,7 +17,7 @@ const USAGE: u8 = 2;
 
 const AFTER_HELP: &str = "\
 A FILE has a command a line: `LABEL: \\connect ROLE` or `LABEL: STATEMENT`.
-A label is 1 to 63 lower case letters, digits or underscores; the file's first label has the session.
+A label is 1 to 63 lower case letters, digits or underscores; up to 64 labels have a session each.
 Empty lines and lines that begin with `--` are skipped; every answer is written as `LABEL: TEXT`.
 
 Exit statuses: 0 done; 1 a read or write fault, or want of memory; 2 a usage fault.";

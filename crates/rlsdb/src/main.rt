@@ -7,8 +7,6 @@ mod fault;
 mod passed;
 mod script;
 mod stream;
-#[cfg(test)]
-mod tests;
 
 use std::process::ExitCode;
 

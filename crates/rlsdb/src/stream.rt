@@ -1,6 +1,6 @@
 //! What a script is read from, and what its answers are written to.
 
-ghost use Rattle.std.specs.Prelude.{◌≡◌, ℕ, Bool, true, List, ◌++◌, ◌<◌, ◌≤◌, length, take, IsNone, IfOk, OnOk, OnErr};
+ghost use Rattle.std.specs.Prelude.{◌≡◌, ◌⊎◌, ℕ, Bool, true, List, ◌+◌, ◌++◌, ◌<◌, ◌≤◌, length, take, None, Ok, IsNone, IfOk, OnOk, OnErr};
 ghost use Rattle.std.specs.Option.{option_to_list};
 
 /// A call of a reader or of a writer that failed.
@@ -18,13 +18,15 @@ pub trait ScriptIn {
     /// Whether the end was reached.
     ghost ended: { Self → Bool };
 
-    /// The next byte, or none at the end. A reader that has failed isn't asked again.
+    /// The next byte, or none at the end.
     fn next_byte(&mut self) -> Result<Option<u8>, Failed>
-        requires whole { failures self.old ≡ 0 }
         ensures byte { IfOk result (λ byte. given self.new ≡ given self.old ++ option_to_list byte) }
         ensures end { IfOk result (λ byte. IsNone byte → ended self.new ≡ true) }
-        ensures ok { OnOk result (failures self.new ≡ 0) }
-        ensures err { OnErr result (failures self.new ≡ 1) }
+
+        // It says that it has ended only at its end.
+        ensures before_end { ended self.new ≡ true → (ended self.old ≡ true) ⊎ (result ≡ Ok None) }
+        ensures ok { OnOk result (failures self.new ≡ failures self.old) }
+        ensures err { OnErr result (failures self.new ≡ failures self.old + 1) }
         ensures none_given { OnErr result (given self.new ≡ given self.old) };
 }
 
@@ -36,12 +38,11 @@ pub trait ScriptOut {
     /// The bytes that were taken, in order, by calls that didn't fail.
     ghost taken: { Self → List ℕ };
 
-    /// Takes some of the bytes from the front, at least one, and says how many. A writer that has failed isn't asked again.
+    /// Takes some of the bytes from the front, at least one, and says how many.
     fn write_some(&mut self, bytes: &[u8]) -> Result<usize, Failed>
-        requires whole { failures self.old ≡ 0 }
-        requires some { 0 < length bytes.now }
+        requires { 0 < length bytes.now }
         ensures count { IfOk result (λ count. (0 < count) × (count ≤ length bytes.now)) }
         ensures bytes { IfOk result (λ count. taken self.new ≡ taken self.old ++ take count bytes.now) }
-        ensures ok { OnOk result (failures self.new ≡ 0) }
-        ensures err { OnErr result (failures self.new ≡ 1) };
+        ensures ok { OnOk result (failures self.new ≡ failures self.old) }
+        ensures err { OnErr result (failures self.new ≡ failures self.old + 1) };
 }

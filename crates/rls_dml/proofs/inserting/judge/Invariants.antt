@@ -6,4 +6,4 @@ use Rattle.rls_dml.proofs.inserting.judge.Given as goal
 
 -- the first rows are judged
 abbrev pub invariant-loop-stored : goal.invariant-loop-stored
-invariant-loop-stored l = l.decisions ≡ map (decision_by side.New kind.Insert l.guard l.role) (take l.stored-index l.rows)
+invariant-loop-stored l = l.decisions.items ≡ map (decision_by side.New kind.Insert l.guard l.role) (take l.stored-index l.rows)

@@ -6,8 +6,11 @@ use Rattle.rls_dml.proofs.keys.are_taken.Given as goal
 -- the source stands for the same state, and what is left leads to the whole
 abbrev pub invariant-loop-key : goal.invariant-loop-key
 invariant-loop-key g l =
+    let whole = (keys_taken l.name l.keys).in_state (g.S.RowSource.state l.fn.source) in
+    let rest = (keys_taken l.name (drop l.key-index l.keys)).in_state (g.S.RowSource.state l.fn.source) in
     record {
       state : g.S.RowSource.state l.source ≡ g.S.RowSource.state l.fn.source;
-      given : (keys_taken (g.S.RowSource.state l.fn.source) l.name l.keys).gives ≡ and_then (keys_taken (g.S.RowSource.state l.fn.source) l.name (drop l.key-index l.keys)).gives (λ rest. Ok (l.taken || rest));
-      noted : l.notes ++ (keys_taken (g.S.RowSource.state l.fn.source) l.name (drop l.key-index l.keys)).reads ≡ l.fn.notes ++ (keys_taken (g.S.RowSource.state l.fn.source) l.name l.keys).reads;
+      given : whole.gives ≡ and_then rest.gives (λ others. Ok (l.taken || others));
+      noted : l.notes ++ rest.reads ≡ l.fn.notes ++ whole.reads;
+      read : g.S.RowSource.after l.source rest.reads ≡ g.S.RowSource.after l.fn.source whole.reads;
     }

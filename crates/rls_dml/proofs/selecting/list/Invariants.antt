@@ -6,6 +6,6 @@ use Rattle.rls_dml.proofs.selecting.list.Given as goal
 abbrev pub invariant-loop-stored : goal.invariant-loop-stored
 invariant-loop-stored l =
     record {
-      decisions : l.decisions ≡ map (decision_on l.guard l.role) (take l.stored-index l.candidates);
+      decisions : l.decisions.items ≡ map (decision_on l.guard l.role) (take l.stored-index l.candidates);
       rows : l.rows.items ++ hits l.guard l.query l.role (drop l.stored-index l.candidates) ≡ hits l.guard l.query l.role l.candidates;
     }

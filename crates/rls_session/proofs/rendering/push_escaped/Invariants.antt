@@ -3,8 +3,8 @@ use Rattle.rls_session.specs.Rendering.{escaped}
 use Rattle.rls_session.proofs.rendering.push_escaped.Given as goal
 
 -- what is written, and what is left, make the whole
-abbrev pub invariant-loop-bytes : goal.invariant-loop-bytes
-invariant-loop-bytes l = l.out.items ++ escaped l.bytes ≡ l.initial.out.items ++ escaped l.fn.bytes
+abbrev pub invariant-loop-rest : goal.invariant-loop-rest
+invariant-loop-rest l = l.out.items ++ escaped l.rest ≡ l.fn.out.items ++ escaped l.bytes
 
-abbrev pub decreases-loop-bytes : goal.decreases-loop-bytes
-decreases-loop-bytes l = length l.bytes
+abbrev pub decreases-loop-rest : goal.decreases-loop-rest
+decreases-loop-rest l = length l.rest

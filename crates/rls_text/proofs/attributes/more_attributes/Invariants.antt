@@ -1,9 +1,10 @@
 use Rattle.std.proofs.Common.{◌≡◌, ◌-◌, length}
 use Rattle.rls_text.specs.Parses.{read_many}
+use Rattle.rls_text.specs.FirstSets.{attribute_heads}
 use Rattle.rls_text.specs.Gives.{with_front}
-use Rattle.rls_text.specs.Readers as r
+use Rattle.rls_text.specs.Grammar as g
 use Rattle.rls_text.proofs.attributes.more_attributes.Given as goal
 
 -- what was read stands before what is read next
 abbrev pub invariant-loop-turn : goal.invariant-loop-turn
-invariant-loop-turn l = with_front l.fn.first (read_many (r.attribute_heads) r.attribute.read (length l.tokens) l.tokens) ≡ with_front l.all (read_many (r.attribute_heads) r.attribute.read (l._turn-end - l._turn) l.rest)
+invariant-loop-turn l = with_front l.fn.first (read_many (attribute_heads) g.attribute.parses.read (length l.tokens) l.tokens) ≡ with_front l.all (read_many (attribute_heads) g.attribute.parses.read (l._turn-end - l._turn) l.rest)

@@ -1,11 +1,11 @@
 use Rattle.std.proofs.Common.{rules, ap, sym, ◌≡◌, ◌&&◌, ◌∷◌, drop, true, false}
 use Rattle.std.specs.BTreeSet.{insert_key}
-use Rattle.rls_text.specs.Grammar as g
+use Rattle.rls_text.specs.Values as values
 use Rattle.rls_text.proofs.Columns.{all_new, none_left, seen_more, seen_twice, was_seen, text_order}
 use Rattle.rls_text.proofs.creating.are_distinct.Goals as goal
 
 pub loop-columns-init : goal.loop-columns-init
-loop-columns-init c = sym (ap (λ new. new && g.are_distinct c.args.columns.now) (all_new c.new-seen.result.keys c.args.columns.now c.new-seen.ensures.empty))
+loop-columns-init c = sym (ap (λ new. new && values.are_distinct c.args.columns.now) (all_new c.new-seen.result.keys c.args.columns.now c.new-seen.ensures.empty))
 
 pub returns-then-not-branch : goal.returns-then-not-branch
 returns-then-not-branch c =

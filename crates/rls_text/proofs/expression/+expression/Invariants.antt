@@ -3,7 +3,7 @@ use Rattle.std.specs.Prelude.{codes}
 use Rattle.rls_text.specs.Gives.{folded}
 use Rattle.rls_text.specs.Parses.{read_many}
 use Rattle.rls_text.specs.Trees.{with_operand}
-use Rattle.rls_text.specs.Readers as r
+use Rattle.rls_text.specs.Heads.{Keyword}
 use Rattle.rls_text.specs.Grammar as g
 use Rattle.rls_text.proofs.expression.+expression.Given as goal
 
@@ -43,11 +43,11 @@ decreases-or l = 16 * l.depth + 10
 -- what is read next is put into what was read
 abbrev pub invariant-and_more-loop-turn : goal.invariant-and_more-loop-turn
 invariant-and_more-loop-turn l =
-    let next = (r.and_next (g.expr l.depth) (r.expr l.depth)).read in
-    folded with_operand l.fn.first (read_many (r.W (codes "and") ∷ []) next (length l.fn.tokens) l.fn.tokens) ≡ folded with_operand l.operands (read_many (r.W (codes "and") ∷ []) next (l._turn-end - l._turn) l.rest)
+    let next = (g.and_next (g.expr l.depth)).read in
+    folded with_operand l.fn.first (read_many (Keyword (codes "and") ∷ []) next (length l.fn.tokens) l.fn.tokens) ≡ folded with_operand l.operands (read_many (Keyword (codes "and") ∷ []) next (l._turn-end - l._turn) l.rest)
 
 -- what is read next is put into what was read
 abbrev pub invariant-or_more-loop-turn : goal.invariant-or_more-loop-turn
 invariant-or_more-loop-turn l =
-    let next = (r.or_next (g.expr l.depth) (r.expr l.depth)).read in
-    folded with_operand l.fn.first (read_many (r.W (codes "or") ∷ []) next (length l.fn.tokens) l.fn.tokens) ≡ folded with_operand l.operands (read_many (r.W (codes "or") ∷ []) next (l._turn-end - l._turn) l.rest)
+    let next = (g.or_next (g.expr l.depth)).read in
+    folded with_operand l.fn.first (read_many (Keyword (codes "or") ∷ []) next (length l.fn.tokens) l.fn.tokens) ≡ folded with_operand l.operands (read_many (Keyword (codes "or") ∷ []) next (l._turn-end - l._turn) l.rest)

@@ -1,7 +1,6 @@
 use Rattle.std.proofs.Common.{sym, ◌∙◌, subst, IfOk}
 use Rattle.rls_text.specs.Answers.{Answers, IsSpelled}
-use Rattle.rls_text.proofs.Kept.{ok_low}
-use Rattle.rls_text.proofs.Laws.{is_answer, ok_spelled}
+use Rattle.rls_text.proofs.Laws.{is_answer, ok_spelled, ok_low}
 use Rattle.rls_text.proofs.parsing.parse.Goals as goal
 
 pub returns-clause-ok : goal.returns-clause-ok

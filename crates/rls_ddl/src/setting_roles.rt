@@ -1,0 +1,83 @@
+//! SET ROLE and RESET ROLE.
+
+ghost use Rattle.std.specs.Prelude.{◌≡◌, IfOk};
+ghost use Rattle.rls_source.specs.Answering.{Answers, Tells};
+ghost use Rattle.rls_ddl.specs.SettingRoles as spec;
+ghost use Rattle.rls_ddl.specs.SettingRoles.{asked_may_set, role_set, sets};
+
+use crate::named_roles::role_named;
+use rls_catalog::Delta;
+use rls_guard::{Ctx, Effect, Reply};
+use rls_role::{Step, note_reach, reach_by};
+use rls_source::{Reads, RowSource};
+use rls_statement::SetRole;
+use rls_value::{Items, Name, Refusal, Why};
+use std::alloc::{AllocError, Global};
+
+/// Makes another role the current one; back to the login nothing is asked and nothing denied.
+pub fn run_set_role<'c, S: RowSource<'c>>(
+    alloc: Global,
+    source: &mut S,
+    notes: &mut Reads,
+    ctx: &Ctx,
+    set: &SetRole,
+) -> Result<Effect, Refusal>
+    ensures { Answers S.state S.after (spec.set_role ctx.now set.now) source.old source.new notes.old notes.new result }
+{
+    match set {
+        SetRole::To(role) => {
+            role_named(alloc, source, notes, role)?;
+            set_role(alloc, source, notes, &ctx.login, role)
+        }
+        SetRole::None | SetRole::Reset => Ok(role_to(alloc, &ctx.login)?),
+    }
+}
+
+/// Makes the role the current one, where the login may set it.
+#[tactic(auto, unfolding(crate::specs::SettingRoles::role_set))]
+fn set_role<'c, S: RowSource<'c>>(
+    alloc: Global,
+    source: &mut S,
+    notes: &mut Reads,
+    login: &Name,
+    role: &Name,
+) -> Result<Effect, Refusal>
+    ensures { Answers S.state S.after (role_set login.now role.now) source.old source.new notes.old notes.new result }
+{
+    if may_set(alloc, source, notes, login, role)? {
+        Ok(role_to(alloc, role)?)
+    } else {
+        Err(Refusal::Denied(Why::SetRole(role.copy()?)))
+    }
+}
+
+/// Whether the login may set the role. It reads the login and, unless that is a superuser, each role that it reaches.
+#[tactic(auto, unfolding(crate::specs::SettingRoles::may_set, crate::specs::SettingRoles::may_set_reads), using(rls_role::specs::Steps::can_set_walked, rls_role::specs::Steps::can_set_reads_walked))]
+fn may_set<'c, S: RowSource<'c>>(
+    alloc: Global,
+    source: &mut S,
+    notes: &mut Reads,
+    login: &Name,
+    role: &Name,
+) -> Result<bool, AllocError>
+    ensures { Tells S.state S.after (asked_may_set login.now role.now) source.old source.new notes.old notes.new result }
+{
+    let reach = reach_by(alloc, source, login, Step::Set)?;
+    let may = reach.has(role);
+    let noted = note_reach(notes, login, reach.names.as_slice());
+    drop(reach);
+    noted?;
+    Ok(may)
+}
+
+fn role_to(alloc: Global, role: &Name) -> Result<Effect, AllocError>
+    ensures { IfOk result (λ effect. effect ≡ sets role.now) }
+{
+    let role = role.copy()?;
+    Ok(Effect::Done(
+        Reply::Done,
+        Items::new(alloc),
+        Delta::new(alloc),
+        Some(role),
+    ))
+}

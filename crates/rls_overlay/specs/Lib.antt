@@ -1,0 +1,5 @@
+pub mod Written
+pub mod Merged
+pub mod Indexed
+pub use Rattle.rls_catalog.specs.State
+pub use Rattle.rls_catalog.specs.Changed

@@ -1,0 +1,382 @@
+//! Statements, as they are written.
+
+ghost use Rattle.std.specs.Prelude.{◌≡◌, IfOk};
+ghost use Rattle.rls_statement.specs.Tags.{tag_of};
+
+use rls_expr::{Column, Expr, Grantee, Policy};
+use rls_value::{Items, Name, Tag};
+use std::alloc::{AllocError, Global};
+
+/// A statement of SQL.
+#[derive(Drop)]
+pub enum Statement {
+    CreateRole(CreateRole),
+    AlterRole(AlterRole),
+    CreateTable(CreateTable),
+    AlterTable(AlterTable),
+    CreatePolicy(CreatePolicy),
+    Grant(GrantPrivileges),
+    GrantRoles(GrantRoles),
+    RevokeRoles(RevokeRoles),
+    SetRole(SetRole),
+    Insert(Insert),
+    Select(Select),
+}
+
+/// `CREATE ROLE`, or `CREATE USER`, which is the same with `LOGIN` unless `NOLOGIN` is written.
+#[derive(Drop)]
+pub struct CreateRole {
+    pub name: Name,
+    pub attributes: Attributes,
+}
+
+/// The attributes of a role, each as it is written, if it is.
+#[derive(Clone, Copy, PartialEq, Eq)]
+pub struct Attributes {
+    pub superuser: Option<bool>,
+    pub login: Option<bool>,
+    pub bypass_rls: Option<bool>,
+}
+
+/// `ALTER ROLE`: the attributes that are written change, the others stay.
+#[derive(Drop)]
+pub struct AlterRole {
+    pub name: Name,
+    pub attributes: Attributes,
+}
+
+#[derive(Drop)]
+pub struct CreateTable {
+    pub name: Name,
+    pub columns: Items<Column>,
+}
+
+#[derive(Drop)]
+pub struct AlterTable {
+    pub table: Name,
+    pub change: RowSecurity,
+}
+
+/// A change of a table's row security.
+#[derive(Clone, Copy, PartialEq, Eq)]
+pub enum RowSecurity {
+    Enable,
+}
+
+#[derive(Drop)]
+pub struct CreatePolicy {
+    pub table: Name,
+    pub policy: Policy,
+}
+
+/// `GRANT` of privileges on a table.
+#[derive(Drop)]
+pub struct GrantPrivileges {
+    pub privileges: Privileges,
+    pub table: Name,
+    pub to: Items<Grantee>,
+}
+
+/// `GRANT` of roles: each of the roles to each of the members.
+#[derive(Drop)]
+pub struct GrantRoles {
+    pub roles: Items<Name>,
+    pub to: Items<Name>,
+    pub options: MembershipOptions,
+}
+
+/// The options of a membership, each as it is written, if it is; `OPTION` is `TRUE`.
+#[derive(Clone, Copy, PartialEq, Eq)]
+pub struct MembershipOptions {
+    pub admin: Option<bool>,
+    pub inherit: Option<bool>,
+    pub set: Option<bool>,
+}
+
+/// `REVOKE` of roles, or of one option of the memberships. `CASCADE` and `RESTRICT` have no effect on memberships.
+#[derive(Drop)]
+pub struct RevokeRoles {
+    pub option: Option<MembershipOption>,
+    pub roles: Items<Name>,
+    pub from: Items<Name>,
+}
+
+/// An option of a membership.
+#[derive(Clone, Copy, PartialEq, Eq)]
+pub enum MembershipOption {
+    Admin,
+    Inherit,
+    Set,
+}
+
+/// Which role becomes the current one.
+#[derive(Drop)]
+pub enum SetRole {
+    /// `SET ROLE` of a role.
+    To(Name),
+    /// `SET ROLE NONE`: the login.
+    None,
+    /// `RESET ROLE`: the login.
+    Reset,
+}
+
+/// The privileges that are named.
+#[derive(Clone, Copy, PartialEq, Eq)]
+pub struct Privileges {
+    pub select: bool,
+    pub insert: bool,
+    pub update: bool,
+    pub delete: bool,
+}
+
+/// `INSERT`; the tuples have one length, which is at least 1.
+#[derive(Drop)]
+pub struct Insert {
+    pub table: Name,
+    pub tuples: Items<Items<Expr>>,
+}
+
+#[derive(Drop)]
+pub struct Select {
+    pub items: Selected,
+    pub table: Name,
+    pub condition: Option<Expr>,
+}
+
+/// What is selected: all columns, or the items.
+#[derive(Drop)]
+pub enum Selected {
+    All,
+    Items(Items<Expr>),
+}
+
+impl Statement {
+    /// The tag that it is answered with.
+    pub fn tag(&self) -> Tag
+        ensures { result ≡ tag_of self.now }
+    {
+        match self {
+            Statement::CreateRole(_) => Tag::CreateRole,
+            Statement::AlterRole(_) => Tag::AlterRole,
+            Statement::CreateTable(_) => Tag::CreateTable,
+            Statement::AlterTable(_) => Tag::AlterTable,
+            Statement::CreatePolicy(_) => Tag::CreatePolicy,
+            Statement::Grant(_) => Tag::Grant,
+            Statement::GrantRoles(_) => Tag::GrantRole,
+            Statement::RevokeRoles(_) => Tag::RevokeRole,
+            Statement::SetRole(SetRole::To(_) | SetRole::None) => Tag::Set,
+            Statement::SetRole(SetRole::Reset) => Tag::Reset,
+            Statement::Insert(_) => Tag::Insert,
+            Statement::Select(_) => Tag::Select,
+        }
+    }
+
+    pub fn copy(&self, alloc: Global) -> Result<Statement, AllocError>
+        ensures { IfOk result (λ statement. statement ≡ self.now) }
+    {
+        match self {
+            Statement::CreateRole(role) => Ok(Statement::CreateRole(role.copy()?)),
+            Statement::AlterRole(role) => Ok(Statement::AlterRole(role.copy()?)),
+            Statement::CreateTable(table) => Ok(Statement::CreateTable(table.copy(alloc)?)),
+            Statement::AlterTable(change) => Ok(Statement::AlterTable(change.copy()?)),
+            Statement::CreatePolicy(policy) => Ok(Statement::CreatePolicy(policy.copy(alloc)?)),
+            Statement::Grant(grant) => Ok(Statement::Grant(grant.copy(alloc)?)),
+            Statement::GrantRoles(grant) => Ok(Statement::GrantRoles(grant.copy(alloc)?)),
+            Statement::RevokeRoles(revoke) => Ok(Statement::RevokeRoles(revoke.copy(alloc)?)),
+            Statement::SetRole(set) => Ok(Statement::SetRole(set.copy()?)),
+            Statement::Insert(insert) => Ok(Statement::Insert(insert.copy(alloc)?)),
+            Statement::Select(select) => Ok(Statement::Select(select.copy(alloc)?)),
+        }
+    }
+}
+
+impl CreateRole {
+    pub fn copy(&self) -> Result<CreateRole, AllocError>
+        ensures { IfOk result (λ role. role ≡ self.now) }
+    {
+        Ok(CreateRole {
+            name: self.name.copy()?,
+            attributes: self.attributes,
+        })
+    }
+}
+
+impl AlterRole {
+    pub fn copy(&self) -> Result<AlterRole, AllocError>
+        ensures { IfOk result (λ role. role ≡ self.now) }
+    {
+        Ok(AlterRole {
+            name: self.name.copy()?,
+            attributes: self.attributes,
+        })
+    }
+}
+
+impl GrantRoles {
+    pub fn copy(&self, alloc: Global) -> Result<GrantRoles, AllocError>
+        ensures { IfOk result (λ grant. grant ≡ self.now) }
+    {
+        let roles = copy_names(alloc, self.roles.as_slice())?;
+        match copy_names(alloc, self.to.as_slice()) {
+            Ok(to) => Ok(GrantRoles {
+                roles,
+                to,
+                options: self.options,
+            }),
+            Err(refused) => {
+                drop(roles);
+                Err(refused)
+            }
+        }
+    }
+}
+
+impl RevokeRoles {
+    pub fn copy(&self, alloc: Global) -> Result<RevokeRoles, AllocError>
+        ensures { IfOk result (λ revoke. revoke ≡ self.now) }
+    {
+        let roles = copy_names(alloc, self.roles.as_slice())?;
+        match copy_names(alloc, self.from.as_slice()) {
+            Ok(from) => Ok(RevokeRoles {
+                option: self.option,
+                roles,
+                from,
+            }),
+            Err(refused) => {
+                drop(roles);
+                Err(refused)
+            }
+        }
+    }
+}
+
+impl SetRole {
+    pub fn copy(&self) -> Result<SetRole, AllocError>
+        ensures { IfOk result (λ set. set ≡ self.now) }
+    {
+        match self {
+            SetRole::To(role) => match role.copy() {
+                Ok(role) => Ok(SetRole::To(role)),
+                Err(refused) => Err(refused),
+            },
+            SetRole::None => Ok(SetRole::None),
+            SetRole::Reset => Ok(SetRole::Reset),
+        }
+    }
+}
+
+fn copy_names(alloc: Global, names: &[Name]) -> Result<Items<Name>, AllocError>
+    ensures { IfOk result (λ copies. copies ≡ names.now) }
+{
+    let mut copies = Vec::with_capacity(alloc, names.len())?;
+    for name in names {
+        copies.push(name.copy()?)?;
+    }
+    Ok(Items::from_vec(copies))
+}
+
+impl CreateTable {
+    pub fn copy(&self, alloc: Global) -> Result<CreateTable, AllocError>
+        ensures { IfOk result (λ table. table ≡ self.now) }
+    {
+        Ok(CreateTable {
+            name: self.name.copy()?,
+            columns: Column::copy_all(alloc, self.columns.as_slice())?,
+        })
+    }
+}
+
+impl AlterTable {
+    pub fn copy(&self) -> Result<AlterTable, AllocError>
+        ensures { IfOk result (λ change. change ≡ self.now) }
+    {
+        Ok(AlterTable {
+            table: self.table.copy()?,
+            change: self.change,
+        })
+    }
+}
+
+impl CreatePolicy {
+    pub fn copy(&self, alloc: Global) -> Result<CreatePolicy, AllocError>
+        ensures { IfOk result (λ policy. policy ≡ self.now) }
+    {
+        Ok(CreatePolicy {
+            table: self.table.copy()?,
+            policy: self.policy.copy(alloc)?,
+        })
+    }
+}
+
+impl GrantPrivileges {
+    pub fn copy(&self, alloc: Global) -> Result<GrantPrivileges, AllocError>
+        ensures { IfOk result (λ grant. grant ≡ self.now) }
+    {
+        Ok(GrantPrivileges {
+            privileges: self.privileges,
+            table: self.table.copy()?,
+            to: Grantee::copy_all(alloc, self.to.as_slice())?,
+        })
+    }
+}
+
+impl Insert {
+    pub fn copy(&self, alloc: Global) -> Result<Insert, AllocError>
+        ensures { IfOk result (λ insert. insert ≡ self.now) }
+    {
+        Ok(Insert {
+            table: self.table.copy()?,
+            tuples: Items::from_vec(copy_tuples(alloc, self.tuples.as_slice())?),
+        })
+    }
+}
+
+impl Select {
+    pub fn copy(&self, alloc: Global) -> Result<Select, AllocError>
+        ensures { IfOk result (λ select. select ≡ self.now) }
+    {
+        let condition = match &self.condition {
+            Some(condition) => Some(condition.copy(alloc)?),
+            None => None,
+        };
+        Ok(Select {
+            items: self.items.copy(alloc)?,
+            table: self.table.copy()?,
+            condition,
+        })
+    }
+}
+
+impl Selected {
+    pub fn copy(&self, alloc: Global) -> Result<Selected, AllocError>
+        ensures { IfOk result (λ selected. selected ≡ self.now) }
+    {
+        match self {
+            Selected::All => Ok(Selected::All),
+            Selected::Items(items) => Ok(Selected::Items(Items::from_vec(copy_exprs(
+                alloc,
+                items.as_slice(),
+            )?))),
+        }
+    }
+}
+
+fn copy_tuples(alloc: Global, tuples: &[Items<Expr>]) -> Result<Vec<Items<Expr>>, AllocError>
+    ensures { IfOk result (λ copies. copies.items ≡ tuples.now) }
+{
+    let mut copies = Vec::with_capacity(alloc, tuples.len())?;
+    for tuple in tuples {
+        copies.push(Items::from_vec(copy_exprs(alloc, tuple.as_slice())?))?;
+    }
+    Ok(copies)
+}
+
+fn copy_exprs(alloc: Global, exprs: &[Expr]) -> Result<Vec<Expr>, AllocError>
+    ensures { IfOk result (λ copies. copies.items ≡ exprs.now) }
+{
+    let mut copies = Vec::with_capacity(alloc, exprs.len())?;
+    for expr in exprs {
+        copies.push(expr.copy(alloc)?)?;
+    }
+    Ok(copies)
+}

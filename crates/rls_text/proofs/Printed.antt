@@ -1,0 +1,135 @@
+-- What is written for a statement spells it, and is read back; an example of each statement.
+use Rattle.std.specs.Prelude.{◌≡◌, ℕ, true, false, negsuc, List, [], ◌∷◌, ◌++◌, Some, None, Result, codes, refl}
+use Rattle.rls_value.specs.Names.{reserved}
+use Rattle.rls_value.specs.declared.refusal.Refusal.{Refusal}
+use Rattle.rls_value.specs.declared.value.Value.TheVariants as v
+use Rattle.rls_value.specs.declared.value.ColType.TheVariants as k
+use Rattle.rls_value.specs.declared.verb.PolicyKind.TheVariants as kind
+use Rattle.rls_expr.specs.Terms.{Term}
+use Rattle.rls_expr.specs.Terms as e
+use Rattle.rls_expr.specs.declared.expr.Comparison.TheVariants as c
+use Rattle.rls_expr.specs.declared.policy.Grantee.TheVariants as to
+use Rattle.rls_statement.specs.declared.statement.MembershipOption.TheVariants as m
+use Rattle.rls_statement.specs.declared.statement.RowSecurity.TheVariants as change
+use Rattle.rls_statement.specs.declared.statement.Selected.TheVariants as selected
+use Rattle.rls_statement.specs.declared.statement.SetRole.TheVariants as sr
+use Rattle.rls_statement.specs.declared.statement.Statement.{Statement}
+use Rattle.rls_statement.specs.declared.statement.Statement.TheVariants as st
+use Rattle.rls_text.specs.declared.token.Symbol.TheVariants as s
+use Rattle.rls_text.specs.declared.token.Token.{Token}
+use Rattle.rls_text.specs.declared.token.Token.TheVariants.{Word, Number, Text, Bad}
+use Rattle.rls_text.specs.declared.token.Token.TheVariants as t
+use Rattle.rls_text.specs.Cutting.{draft_of}
+use Rattle.rls_text.specs.Parses.{read_many}
+use Rattle.rls_text.specs.Rule.{with_comma}
+use Rattle.rls_text.specs.Cut as cut
+use Rattle.rls_text.specs.Grammar as g
+use Rattle.rls_text.specs.Gives.{whole_of}
+use Rattle.rls_text.specs.Answers.{Answers}
+use Rattle.rls_text.specs.Printing.{IsWritten}
+use Rattle.rls_text.proofs.Laws.{whole_spelled}
+
+-- What is written for an expression is read back.
+pub printed_is_read : (depth : ℕ) (a : Term) (ts : List Token) → (g.expr depth).rule.prints.writes a ≡ Some ts → (g.expr depth).rule.parses.read (ts ++ []) ≡ Some (a, [])
+printed_is_read depth a ts h = (g.expr depth).rule.parses.complete ts [] a ((g.expr depth).rule.prints.wrote a ts h) refl
+
+-- What is written for a statement spells it.
+pub statement_spelled : (ts : List Token) (x : Statement) → IsWritten ts x → g.Spells ts x
+statement_spelled ts x h = record { depth = h.depth; spelled = (g.statement h.depth).rule.prints.wrote x ts h.written }
+
+-- What is written for a statement is read back.
+pub statement_read : (ts : List Token) (x : Statement) → IsWritten ts x → whole_of ts ≡ Some (draft_of x)
+statement_read ts x h = whole_spelled ts x (statement_spelled ts x h)
+
+-- (a = -5) IS NULL AND NOT (NOT b)
+abbrev pub example : Term
+example = e.And (e.More (e.IsNull (e.Compare c.Equal (e.Column (codes "a")) (e.Literal (v.Int (negsuc 4))))) (e.More (e.Not (e.Not (e.Column (codes "b")))) e.End))
+
+written : (g.expr 6).rule.prints.writes example ≡ Some
+    (t.Symbol s.LParen ∷ t.Symbol s.LParen ∷ Word (codes "a") ∷ t.Symbol s.Equal ∷ t.Symbol s.Minus ∷ Number 5 ∷ t.Symbol s.RParen ∷ Word (codes "is") ∷ Word (codes "null") ∷ t.Symbol s.RParen
+    ∷ Word (codes "and") ∷ t.Symbol s.LParen ∷ Word (codes "not") ∷ t.Symbol s.LParen ∷ Word (codes "not") ∷ Word (codes "b") ∷ t.Symbol s.RParen ∷ t.Symbol s.RParen ∷ [])
+unfolding reserved g.expr g.or g.or_next g.and g.and_next g.not_ g.nots g.is g.null_test g.cmp g.comparison g.prim g.name g.literal g.constant g.text g.number g.digits
+written = refl
+
+-- SELECT a, b FROM t WHERE a
+select_written : (g.statement 2).rule.prints.writes (st.Select record { items = selected.Items (e.Column (codes "a") ∷ e.Column (codes "b") ∷ []); table = codes "t"; condition = Some (e.Column (codes "a")) }) ≡ Some
+    (Word (codes "select") ∷ Word (codes "a") ∷ t.Symbol s.Comma ∷ Word (codes "b") ∷ Word (codes "from") ∷ Word (codes "t") ∷ Word (codes "where") ∷ Word (codes "a") ∷ [])
+unfolding reserved g.statement g.body g.select g.items g.columns g.column g.condition with_comma g.expr g.or g.or_next g.and g.and_next g.not_ g.nots g.is g.null_test g.cmp g.comparison g.prim g.name g.literal g.constant g.text g.number g.digits
+select_written = refl
+
+-- INSERT INTO t VALUES (-1, NOT b)
+insert_written : (g.statement 2).rule.prints.writes (st.Insert record { table = codes "t"; tuples = (e.Literal (v.Int (negsuc 0)) ∷ e.Not (e.Column (codes "b")) ∷ []) ∷ [] }) ≡ Some
+    (Word (codes "insert") ∷ Word (codes "into") ∷ Word (codes "t") ∷ Word (codes "values") ∷ t.Symbol s.LParen ∷ t.Symbol s.Minus ∷ Number 1 ∷ t.Symbol s.Comma ∷ Word (codes "not") ∷ Word (codes "b") ∷ t.Symbol s.RParen ∷ [])
+unfolding reserved g.statement g.body g.select g.insert g.even_tuples g.tuples g.tuple g.parts cut.with_comma g.expr g.or g.or_next g.and g.and_next g.not_ g.nots g.is g.null_test g.cmp g.comparison g.prim g.name g.literal g.constant g.text g.number g.digits
+insert_written = refl
+
+-- CREATE ROLE x NOSUPERUSER BYPASSRLS
+role_written : (g.statement 1).rule.prints.writes (st.CreateRole record { name = codes "x"; attributes = record { superuser = Some false; login = None; bypass_rls = Some true } }) ≡ Some
+    (Word (codes "create") ∷ Word (codes "role") ∷ Word (codes "x") ∷ Word (codes "nosuperuser") ∷ Word (codes "bypassrls") ∷ [])
+unfolding reserved g.statement g.body g.select g.insert g.create g.role g.name g.attributes_of_role g.attributes_if_any g.attributes g.first_and_more g.attribute
+role_written = refl
+
+-- CREATE TABLE t (a INTEGER, b BOOLEAN)
+table_written : (g.statement 1).rule.prints.writes (st.CreateTable record { name = codes "t"; columns = record { name = codes "a"; kind = k.Integer; not_null = false } ∷ record { name = codes "b"; kind = k.Boolean; not_null = false } ∷ [] }) ≡ Some
+    (Word (codes "create") ∷ Word (codes "table") ∷ Word (codes "t") ∷ t.Symbol s.LParen ∷ Word (codes "a") ∷ Word (codes "integer") ∷ t.Symbol s.Comma ∷ Word (codes "b") ∷ Word (codes "boolean") ∷ t.Symbol s.RParen ∷ [])
+unfolding reserved g.statement g.body g.select g.insert g.create g.role g.table g.distinct_columns g.definitions g.column_definition g.column_type with_comma g.name
+table_written = refl
+
+-- ALTER TABLE t ENABLE ROW LEVEL SECURITY
+alter_written : (g.statement 1).rule.prints.writes (st.AlterTable record { table = codes "t"; change = change.Enable }) ≡ Some
+    (Word (codes "alter") ∷ Word (codes "table") ∷ Word (codes "t") ∷ Word (codes "enable") ∷ Word (codes "row") ∷ Word (codes "level") ∷ Word (codes "security") ∷ [])
+unfolding reserved g.statement g.body g.select g.insert g.create g.role g.table g.policy g.flat_body g.alter g.altered_role g.altered_table g.name
+alter_written = refl
+
+-- CREATE POLICY p ON t TO PUBLIC WITH CHECK (a)
+policy_written : (g.statement 2).rule.prints.writes (st.CreatePolicy record { table = codes "t"; policy = record { name = codes "p"; permissive = true; kind = kind.All; to = to.Public ∷ []; using = None; check = Some (e.Column (codes "a")) } }) ≡ Some
+    (Word (codes "create") ∷ Word (codes "policy") ∷ Word (codes "p") ∷ Word (codes "on") ∷ Word (codes "t") ∷ Word (codes "to") ∷ Word (codes "public")
+    ∷ Word (codes "with") ∷ Word (codes "check") ∷ t.Symbol s.LParen ∷ Word (codes "a") ∷ t.Symbol s.RParen ∷ [])
+unfolding reserved g.statement g.body g.select g.insert g.create g.role g.table g.policy g.for_grantees g.to_grantees g.grantees g.grantee g.using g.check g.parenthesized with_comma g.expr g.or g.or_next g.and g.and_next g.not_ g.nots g.is g.null_test g.cmp g.comparison g.prim g.name g.literal g.constant g.text g.number g.digits
+policy_written = refl
+
+-- GRANT INSERT, DELETE ON t TO r, PUBLIC
+grant_written : (g.statement 1).rule.prints.writes (st.Grant record { privileges = record { select = false; insert = true; update = false; delete = true }; table = codes "t"; to = to.Role (codes "r") ∷ to.Public ∷ [] }) ≡ Some
+    (Word (codes "grant") ∷ Word (codes "insert") ∷ t.Symbol s.Comma ∷ Word (codes "delete") ∷ Word (codes "on") ∷ Word (codes "t") ∷ Word (codes "to") ∷ Word (codes "r") ∷ t.Symbol s.Comma ∷ Word (codes "public") ∷ [])
+unfolding reserved g.statement g.body g.select g.insert g.create g.role g.table g.policy g.flat_body g.alter g.altered_role g.altered_table g.grant g.granted_privileges g.privileges g.named_privileges g.privilege g.table_name g.to_grantees g.grantees g.grantee with_comma g.name
+grant_written = refl
+
+-- ALTER ROLE x LOGIN NOBYPASSRLS
+alter_role_written : (g.statement 1).rule.prints.writes (st.AlterRole record { name = codes "x"; attributes = record { superuser = None; login = Some true; bypass_rls = Some false } }) ≡ Some
+    (Word (codes "alter") ∷ Word (codes "role") ∷ Word (codes "x") ∷ Word (codes "login") ∷ Word (codes "nobypassrls") ∷ [])
+unfolding reserved g.statement g.body g.select g.insert g.create g.role g.table g.policy g.flat_body g.alter g.altered_role g.altered_table g.written_attributes g.attributes g.first_and_more g.attribute g.name
+alter_role_written = refl
+
+-- GRANT a, b TO c WITH ADMIN TRUE, SET FALSE
+grant_roles_written : (g.statement 1).rule.prints.writes (st.GrantRoles record { roles = codes "a" ∷ codes "b" ∷ []; to = codes "c" ∷ []; options = record { admin = Some true; inherit = None; set = Some false } }) ≡ Some
+    (Word (codes "grant") ∷ Word (codes "a") ∷ t.Symbol s.Comma ∷ Word (codes "b") ∷ Word (codes "to") ∷ Word (codes "c") ∷ Word (codes "with")
+    ∷ Word (codes "admin") ∷ Word (codes "true") ∷ t.Symbol s.Comma ∷ Word (codes "set") ∷ Word (codes "false") ∷ [])
+unfolding reserved g.statement g.body g.select g.insert g.create g.role g.table g.policy g.flat_body g.alter g.altered_role g.altered_table g.grant g.granted_privileges g.granted_roles g.names g.options g.settings_if_any g.settings g.all_settings g.setting g.option g.flag with_comma g.name
+grant_roles_written = refl
+
+-- REVOKE ADMIN OPTION FOR a FROM b, c
+revoke_roles_written : (g.statement 1).rule.prints.writes (st.RevokeRoles record { option = Some m.Admin; roles = codes "a" ∷ []; from = codes "b" ∷ codes "c" ∷ [] }) ≡ Some
+    (Word (codes "revoke") ∷ Word (codes "admin") ∷ Word (codes "option") ∷ Word (codes "for") ∷ Word (codes "a") ∷ Word (codes "from") ∷ Word (codes "b") ∷ t.Symbol s.Comma ∷ Word (codes "c") ∷ [])
+unfolding reserved g.statement g.body g.select g.insert g.create g.role g.table g.policy g.flat_body g.alter g.altered_role g.altered_table g.grant g.granted_privileges g.granted_roles g.revoke g.revoked_option g.option_for g.option g.roles_from g.members g.names with_comma g.name
+revoke_roles_written = refl
+
+-- SET ROLE NONE, and RESET ROLE
+set_role_written : (g.statement 1).rule.prints.writes (st.SetRole sr.None) ≡ Some (Word (codes "set") ∷ Word (codes "role") ∷ Word (codes "none") ∷ [])
+unfolding reserved g.statement g.body g.select g.insert g.create g.role g.table g.policy g.flat_body g.alter g.altered_role g.altered_table g.grant g.granted_privileges g.granted_roles g.revoke g.revoked_option g.revoked_roles g.set_role g.role_change g.role_set g.role_reset g.chosen_role
+set_role_written = refl
+
+reset_role_written : (g.statement 1).rule.prints.writes (st.SetRole sr.Reset) ≡ Some (Word (codes "reset") ∷ Word (codes "role") ∷ [])
+unfolding reserved g.statement g.body g.select g.insert g.create g.role g.table g.policy g.flat_body g.alter g.altered_role g.altered_table g.grant g.granted_privileges g.granted_roles g.revoke g.revoked_option g.revoked_roles g.set_role g.role_change g.role_set g.role_reset g.chosen_role g.name
+reset_role_written = refl
+
+-- GRANT insert TO r WITH INHERIT OPTION is of a role called insert, and OPTION is TRUE.
+insert_is_a_role : g.grant.parses.read (Word (codes "grant") ∷ Word (codes "insert") ∷ Word (codes "to") ∷ Word (codes "r") ∷ Word (codes "with") ∷ Word (codes "inherit") ∷ Word (codes "option") ∷ []) ≡ Some
+    (st.GrantRoles record { roles = codes "insert" ∷ []; to = codes "r" ∷ []; options = record { admin = None; inherit = Some true; set = None } }, [])
+unfolding reserved read_many g.grant g.granted_roles g.names g.options g.settings_if_any g.settings g.all_settings g.setting g.option g.flag with_comma g.name
+insert_is_a_role = refl
+
+-- REVOKE admin FROM r CASCADE is of a role called admin.
+admin_is_a_role : g.revoke.parses.read (Word (codes "revoke") ∷ Word (codes "admin") ∷ Word (codes "from") ∷ Word (codes "r") ∷ Word (codes "cascade") ∷ []) ≡ Some
+    (st.RevokeRoles record { option = None; roles = codes "admin" ∷ []; from = codes "r" ∷ [] }, [])
+unfolding reserved read_many g.revoke g.revoked_roles g.roles_from g.members g.how g.names with_comma g.name
+admin_is_a_role = refl

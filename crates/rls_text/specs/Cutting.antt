@@ -1,0 +1,274 @@
+-- What is kept of an expression: the expression with its height, or what stands for one that is too high; and that the
+-- builders of trees keep it so.
+use Rattle.std.specs.Prelude.{◌≡◌, ℕ, zero, suc, ◌+◌, ◌≤◌, ◌<◌, max, nat_lt, nat_eq, Bool, true, false, ◌&&◌, if◌then◌else◌, List, [], ◌∷◌, ◌++◌, length, map, Option, Some, None, refl}
+use Rattle.std.proofs.Common.{arith, sym, ap, ◌∙◌, append_assoc}
+use Rattle.std.proofs.lemmas.Bool.{ltb-true, ltb-false, lt-ltb, le-ltb}
+use Rattle.rls_expr.specs.declared.expr.Comparison.{Comparison}
+use Rattle.rls_expr.specs.Terms.{Term, Terms, terms_of}
+use Rattle.rls_expr.specs.Terms as e
+use Rattle.rls_statement.specs.declared.statement.Statement.{Statement}
+use Rattle.rls_statement.specs.declared.statement.Statement.TheVariants as st
+use Rattle.rls_text.specs.declared.tree.Operands.TheVariants.{Several}
+use Rattle.rls_text.specs.Cut.{of_some}
+use Rattle.rls_text.specs.Heights.{height, heights, height_if, highest, height_of}
+use Rattle.rls_text.specs.Lang.{put_in}
+use Rattle.rls_text.specs.Trees.{Tree, Tuple, Tuples, Draft, cut, above, null_test_of, with_operand, operands, with_part, tuple_of, with_tuple, tuples_of, parted}
+use Rattle.rls_text.specs.Trees as t
+use Rattle.rls_text.specs.Values as values
+use Rattle.rls_text.specs.Writes.{append_end}
+
+-- an expression with its height, up to 64
+abbrev pub tree_of : Term → Tree
+tree_of x = if◌then◌else◌ {A = Tree} (nat_lt 64 (height x)) cut (x, height x)
+
+-- the parts, each as it is kept
+abbrev pub terms_kept : List Term → List Term
+terms_kept [] = []
+terms_kept (x ∷ xs) = (tree_of x).0 ∷ terms_kept xs
+
+-- the depth of the deepest
+abbrev pub deepest : List Term → ℕ
+deepest [] = 0
+deepest (x ∷ xs) = max (tree_of x).1 (deepest xs)
+
+-- a tuple, with the depth of its deepest part
+abbrev pub tuple_kept : List Term → Tuple
+tuple_kept xs = (terms_kept xs, deepest xs)
+
+-- the depth of the deepest tuple
+abbrev pub deepest_tuple : List (List Term) → ℕ
+deepest_tuple [] = 0
+deepest_tuple (x ∷ xs) = max (deepest x) (deepest_tuple xs)
+
+-- tuples, with the depth of the deepest
+abbrev pub tuples_kept : List (List Term) → Tuples
+tuples_kept xs = (map terms_kept xs, deepest_tuple xs)
+
+-- a statement, with the depth of its deepest expression
+abbrev pub draft_of : Statement → Draft
+draft_of (st.Select x) = t.select_of (x.items, (x.table, of_some tree_of x.condition))
+draft_of (st.Insert x) = t.insert_of (x.table, tuples_kept x.tuples)
+draft_of (st.CreatePolicy x) = (
+  st.CreatePolicy record { table = x.table; policy = record x.policy { using = (parted (of_some tree_of x.policy.using)).0; check = (parted (of_some tree_of x.policy.check)).0 } },
+  max (parted (of_some tree_of x.policy.using)).1 (parted (of_some tree_of x.policy.check)).1,
+)
+draft_of x = t.flat x
+
+-- ---- one that isn't too high is kept as it is
+
+pub tree_low : (x : Term) → (tree_of x).1 ≤ 64 → ((tree_of x).0 ≡ x) × ((tree_of x).1 ≡ height x)
+tree_low x h = go (nat_lt 64 (height x)) h
+  where
+    go : (b : Bool) → (if◌then◌else◌ {A = Tree} b cut (x, height x)).1 ≤ 64 → ((if◌then◌else◌ {A = Tree} b cut (x, height x)).0 ≡ x) × ((if◌then◌else◌ {A = Tree} b cut (x, height x)).1 ≡ height x)
+    go true h = absurd (omega (arith, h))
+    go false h = (refl, refl)
+
+pub tree_high : (x : Term) → 64 < (tree_of x).1 → 64 < height x
+tree_high x h = go (nat_lt 64 (height x)) refl h
+  where
+    go : (b : Bool) → nat_lt 64 (height x) ≡ b → 64 < (if◌then◌else◌ {A = Tree} b cut (x, height x)).1 → 64 < height x
+    go true e h = ltb-true 64 (height x) e
+    go false e h = h
+
+pub terms_low : (xs : List Term) → deepest xs ≤ 64 → (terms_kept xs ≡ xs) × (deepest xs ≡ heights (terms_of xs))
+terms_low [] h = (refl, refl)
+terms_low (x ∷ xs) h =
+    let first = tree_low x (omega (arith, h)) in
+    let more = terms_low xs (omega (arith, h)) in
+    (rw (first.0, more.0) refl, rw (first.1, more.1) refl)
+
+pub terms_high : (xs : List Term) → 64 < deepest xs → 64 < heights (terms_of xs)
+terms_high [] h = absurd (omega (arith, h))
+terms_high (x ∷ xs) h = go (nat_lt 64 (tree_of x).1) refl (terms_high xs)
+  where
+    go : (b : Bool) → nat_lt 64 (tree_of x).1 ≡ b → (64 < deepest xs → 64 < heights (terms_of xs)) → 64 < heights (terms_of (x ∷ xs))
+    go true e again = let k = tree_high x (ltb-true 64 (tree_of x).1 e) in omega (arith, k)
+    go false e again =
+        let low : (tree_of x).1 ≤ 64 = ltb-false 64 (tree_of x).1 e in
+        let k = again (omega (arith, h, low)) in omega (arith, k)
+
+pub tuples_low : (xs : List (List Term)) → deepest_tuple xs ≤ 64 → (map terms_kept xs ≡ xs) × (deepest_tuple xs ≡ highest xs)
+tuples_low [] h = (refl, refl)
+tuples_low (x ∷ xs) h =
+    let first = terms_low x (omega (arith, h)) in
+    let more = tuples_low xs (omega (arith, h)) in
+    (rw (first.0, more.0) refl, rw (first.1, more.1) refl)
+
+pub tuples_high : (xs : List (List Term)) → 64 < deepest_tuple xs → 64 < highest xs
+tuples_high [] h = absurd (omega (arith, h))
+tuples_high (x ∷ xs) h = go (nat_lt 64 (deepest x)) refl (tuples_high xs)
+  where
+    go : (b : Bool) → nat_lt 64 (deepest x) ≡ b → (64 < deepest_tuple xs → 64 < highest xs) → 64 < highest (x ∷ xs)
+    go true e again = let k = terms_high x (ltb-true 64 (deepest x) e) in omega (arith, k)
+    go false e again =
+        let low : deepest x ≤ 64 = ltb-false 64 (deepest x) e in
+        let k = again (omega (arith, h, low)) in omega (arith, k)
+
+-- ---- the builders
+
+-- a node n, built as m above operands of the depth d, where their height is h
+pub node_kept : (n m : Term) (h d : ℕ) → height n ≡ h + 1 → (d ≤ 64 → (m ≡ n) × (d ≡ h)) → (64 < d → 64 < h) → tree_of n ≡ above d m
+node_kept n m h d up low high = go (nat_lt d 64) refl
+  where
+    go : (b : Bool) → nat_lt d 64 ≡ b → tree_of n ≡ if◌then◌else◌ {A = Tree} b (m, d + 1) cut
+    go true p =
+        let k : d < 64 = ltb-true d 64 p in
+        let same = low (omega (arith, k)) in
+        let flat : nat_lt 64 (height n) ≡ false = le-ltb 64 (height n) (omega (arith, k, up, same.1)) in
+        let depth : height n ≡ d + 1 = omega (arith, up, same.1) in
+        rw (flat, same.0, depth) refl
+    go false p =
+        let k : 64 ≤ d = ltb-false d 64 p in
+        let deep : 64 < height n = over k (nat_lt 64 d) refl in
+        let tall : nat_lt 64 (height n) ≡ true = lt-ltb 64 (height n) deep in
+        rw tall refl
+      where
+        over : 64 ≤ d → (c : Bool) → nat_lt 64 d ≡ c → 64 < height n
+        over k true q = let j = high (ltb-true 64 d q) in omega (arith, j, up)
+        over k false q =
+            let j : d ≤ 64 = ltb-false 64 d q in
+            let same = (low j).1 in omega (arith, j, k, up, same)
+
+-- a node above one operand
+one_kept : (node : Term → Term) (x : Term) → height (node x) ≡ height x + 1 → tree_of (node x) ≡ above (tree_of x).1 (node (tree_of x).0)
+one_kept node x up = node_kept (node x) (node (tree_of x).0) (height x) (tree_of x).1 up (λ h. let k = tree_low x h in (ap node k.0, k.1)) (tree_high x)
+
+-- a node above a list of operands
+many_kept : (node : Terms → Term) (xs : List Term) → height (node (terms_of xs)) ≡ heights (terms_of xs) + 1 → tree_of (node (terms_of xs)) ≡ above (deepest xs) (node (terms_of (terms_kept xs)))
+many_kept node xs up =
+    node_kept (node (terms_of xs)) (node (terms_of (terms_kept xs))) (heights (terms_of xs)) (deepest xs) up
+    (λ h. let k = terms_low xs h in (ap (λ z. node (terms_of z)) k.0, k.1)) (terms_high xs)
+
+pub compared_kept : (r : Term × Option (Comparison × Term)) → tree_of (values.compared r.0 r.1) ≡ t.compared (tree_of r.0) (of_some (λ s. (s.0, tree_of s.1)) r.1)
+compared_kept (x, None) = refl
+compared_kept (x, Some s) =
+    let y = s.1 in
+    node_kept (e.Compare s.0 x y) (e.Compare s.0 (tree_of x).0 (tree_of y).0) (max (height x) (height y)) (max (tree_of x).1 (tree_of y).1) refl
+    (λ h. let k = tree_low x (omega (arith, h)) in let j = tree_low y (omega (arith, h)) in (rw (k.0, j.0) refl, rw (k.1, j.1) refl))
+    (λ h. go h (nat_lt 64 (tree_of x).1) refl)
+  where
+    go : 64 < max (tree_of x).1 (tree_of s.1).1 → (b : Bool) → nat_lt 64 (tree_of x).1 ≡ b → 64 < max (height x) (height s.1)
+    go h true p = let k = tree_high x (ltb-true 64 (tree_of x).1 p) in omega (arith, k)
+    go h false p =
+        let low : (tree_of x).1 ≤ 64 = ltb-false 64 (tree_of x).1 p in
+        let k = tree_high s.1 (omega (arith, h, low)) in omega (arith, k)
+
+test_kept : (x : Term) (o : Option (Unit {0})) → tree_of (values.null_test x o) ≡ null_test_of (tree_of x) o
+unfolding null_test_of
+test_kept x None = one_kept e.IsNull x refl
+test_kept x (Some _) = one_kept e.IsNotNull x refl
+
+tests_kept : (x : Term) (os : List (Option (Unit {0}))) → tree_of (put_in values.null_test x os) ≡ put_in null_test_of (tree_of x) os
+tests_kept x [] = refl
+tests_kept x (o ∷ os) = tests_kept (values.null_test x o) os ∙ ap (λ z. put_in null_test_of z os) (test_kept x o)
+
+pub tested_kept : (r : Term × List (Option (Unit {0}))) → tree_of (put_in values.null_test r.0 r.1) ≡ put_in null_test_of (tree_of r.0) r.1
+tested_kept r = tests_kept r.0 r.1
+
+nots_kept : (n : ℕ) (x : Term) → tree_of (values.negated n x) ≡ t.negated n (tree_of x)
+nots_kept zero x = refl
+nots_kept (suc n) x = nots_kept n (e.Not x) ∙ ap (t.negated n) (one_kept e.Not x refl)
+
+pub negated_kept : (r : ℕ × Term) → tree_of (values.negated r.0 r.1) ≡ t.negated r.0 (tree_of r.1)
+negated_kept r = nots_kept r.0 r.1
+
+several_kept : (ys : List Term) (d : ℕ) (xs : List Term) → put_in with_operand (Several ys d) (map tree_of xs) ≡ Several (ys ++ terms_kept xs) (max d (deepest xs))
+unfolding with_operand
+several_kept ys d [] = let k : max d 0 ≡ d = omega arith in rw (k) (ap (λ z. Several z d) (sym (append_end ys)))
+several_kept ys d (x ∷ xs) =
+    let k : max (max d (tree_of x).1) (deepest xs) ≡ max d (max (tree_of x).1 (deepest xs)) = omega arith in
+    several_kept (ys ++ (tree_of x).0 ∷ []) (max d (tree_of x).1) xs ∙ ap (λ z. Several z (max (max d (tree_of x).1) (deepest xs))) (append_assoc ys ((tree_of x).0 ∷ []) (terms_kept xs)) ∙ ap (λ z. Several (ys ++ (tree_of x).0 ∷ terms_kept xs) z) k
+
+operands_kept : (x y : Term) (xs : List Term) → operands (tree_of x) (map tree_of (y ∷ xs)) ≡ Several (terms_kept (x ∷ y ∷ xs)) (deepest (x ∷ y ∷ xs))
+unfolding with_operand
+operands_kept x y xs =
+    let k : max (max (tree_of x).1 (tree_of y).1) (deepest xs) ≡ deepest (x ∷ y ∷ xs) = omega arith in
+    several_kept ((tree_of x).0 ∷ (tree_of y).0 ∷ []) (max (tree_of x).1 (tree_of y).1) xs ∙ ap (λ z. Several (terms_kept (x ∷ y ∷ xs)) z) k
+
+pub and_kept : (r : Term × List Term) → tree_of (values.and_of r.0 r.1) ≡ t.and_of (operands (tree_of r.0) (map tree_of r.1))
+and_kept (x, []) = refl
+and_kept (x, y ∷ xs) = many_kept e.And (x ∷ y ∷ xs) refl ∙ ap t.and_of (sym (operands_kept x y xs))
+
+pub or_kept : (r : Term × List Term) → tree_of (values.or_of r.0 r.1) ≡ t.or_of (operands (tree_of r.0) (map tree_of r.1))
+or_kept (x, []) = refl
+or_kept (x, y ∷ xs) = many_kept e.Or (x ∷ y ∷ xs) refl ∙ ap t.or_of (sym (operands_kept x y xs))
+
+parts_kept : (ys : List Term) (d : ℕ) (xs : List Term) → put_in with_part (ys, d) (map tree_of xs) ≡ (ys ++ terms_kept xs, max d (deepest xs))
+unfolding with_part
+parts_kept ys d [] = let k : max d 0 ≡ d = omega arith in rw (k) (ap (λ z. (z, d)) (sym (append_end ys)))
+parts_kept ys d (x ∷ xs) =
+    let k : max (max d (tree_of x).1) (deepest xs) ≡ max d (max (tree_of x).1 (deepest xs)) = omega arith in
+    parts_kept (ys ++ (tree_of x).0 ∷ []) (max d (tree_of x).1) xs ∙ ap (λ z. (z, max (max d (tree_of x).1) (deepest xs))) (append_assoc ys ((tree_of x).0 ∷ []) (terms_kept xs)) ∙ ap (λ z. (ys ++ (tree_of x).0 ∷ terms_kept xs, z)) k
+
+pub tuple_is_kept : (r : Term × List Term) → tuple_kept (r.0 ∷ r.1) ≡ tuple_of (tree_of r.0) (map tree_of r.1)
+tuple_is_kept r = sym (parts_kept ((tree_of r.0).0 ∷ []) (tree_of r.0).1 r.1)
+
+more_kept : (ys : List (List Term)) (d : ℕ) (xs : List (List Term)) → put_in with_tuple (ys, d) (map tuple_kept xs) ≡ (ys ++ map terms_kept xs, max d (deepest_tuple xs))
+unfolding with_tuple
+more_kept ys d [] = let k : max d 0 ≡ d = omega arith in rw (k) (ap (λ z. (z, d)) (sym (append_end ys)))
+more_kept ys d (x ∷ xs) =
+    let k : max (max d (deepest x)) (deepest_tuple xs) ≡ max d (max (deepest x) (deepest_tuple xs)) = omega arith in
+    more_kept (ys ++ terms_kept x ∷ []) (max d (deepest x)) xs ∙ ap (λ z. (z, max (max d (deepest x)) (deepest_tuple xs))) (append_assoc ys (terms_kept x ∷ []) (map terms_kept xs)) ∙ ap (λ z. (ys ++ terms_kept x ∷ map terms_kept xs, z)) k
+
+pub tuples_are_kept : (r : List Term × List (List Term)) → tuples_kept (r.0 ∷ r.1) ≡ tuples_of (tuple_kept r.0) (map tuple_kept r.1)
+tuples_are_kept r = sym (more_kept (terms_kept r.0 ∷ []) (deepest r.0) r.1)
+
+length_kept : (xs : List Term) → length (terms_kept xs) ≡ length xs
+length_kept [] = refl
+length_kept (x ∷ xs) = let k = length_kept xs in omega (arith, k)
+
+lengths_kept : (n : ℕ) (xs : List (List Term)) → values.have_length n (map terms_kept xs) ≡ values.have_length n xs
+lengths_kept n [] = refl
+lengths_kept n (x ∷ xs) = ap (λ z. nat_eq z n && values.have_length n (map terms_kept xs)) (length_kept x) ∙ ap (λ z. nat_eq (length x) n && z) (lengths_kept n xs)
+
+pub even_kept : (xs : List (List Term)) → values.are_even (tuples_kept xs).0 ≡ values.are_even xs
+even_kept [] = refl
+even_kept (x ∷ xs) = ap (λ n. values.have_length n (map terms_kept xs)) (length_kept x) ∙ lengths_kept (length x) xs
+
+-- ---- a statement that isn't too high is kept as it is
+
+pub if_low : (o : Option Term) → (parted (of_some tree_of o)).1 ≤ 64 → ((parted (of_some tree_of o)).0 ≡ o) × ((parted (of_some tree_of o)).1 ≡ height_if o)
+if_low None h = (refl, refl)
+if_low (Some x) h = let k = tree_low x h in (ap Some k.0, k.1)
+
+pub if_high : (o : Option Term) → 64 < (parted (of_some tree_of o)).1 → 64 < height_if o
+if_high None h = absurd (omega (arith, h))
+if_high (Some x) h = tree_high x h
+
+pub draft_low : (x : Statement) → (draft_of x).1 ≤ 64 → ((draft_of x).0 ≡ x) × ((draft_of x).1 ≡ height_of x)
+draft_low (st.Select x) h = let k = if_low x.condition h in (ap (λ z. st.Select record { items = x.items; table = x.table; condition = z }) k.0, k.1)
+draft_low (st.Insert x) h = let k = tuples_low x.tuples h in (ap (λ z. st.Insert record { table = x.table; tuples = z }) k.0, k.1)
+draft_low (st.CreatePolicy x) h =
+    let k = if_low x.policy.using (omega (arith, h)) in
+    let j = if_low x.policy.check (omega (arith, h)) in (
+      ap (λ z. st.CreatePolicy record { table = x.table; policy = record x.policy { using = z; check = (parted (of_some tree_of x.policy.check)).0 } }) k.0
+          ∙ ap (λ z. st.CreatePolicy record { table = x.table; policy = record x.policy { check = z } }) j.0,
+      rw (k.1, j.1) refl,
+    )
+draft_low (st.CreateRole x) h = (refl, refl)
+draft_low (st.CreateTable x) h = (refl, refl)
+draft_low (st.AlterTable x) h = (refl, refl)
+draft_low (st.Grant x) h = (refl, refl)
+draft_low (st.AlterRole x) h = (refl, refl)
+draft_low (st.GrantRoles x) h = (refl, refl)
+draft_low (st.RevokeRoles x) h = (refl, refl)
+draft_low (st.SetRole x) h = (refl, refl)
+
+pub draft_high : (x : Statement) → 64 < (draft_of x).1 → 64 < height_of x
+draft_high (st.Select x) h = if_high x.condition h
+draft_high (st.Insert x) h = tuples_high x.tuples h
+draft_high (st.CreatePolicy x) h = go (nat_lt 64 (parted (of_some tree_of x.policy.using)).1) refl
+  where
+    go : (b : Bool) → nat_lt 64 (parted (of_some tree_of x.policy.using)).1 ≡ b → 64 < max (height_if x.policy.using) (height_if x.policy.check)
+    go true p = let k = if_high x.policy.using (ltb-true 64 (parted (of_some tree_of x.policy.using)).1 p) in omega (arith, k)
+    go false p =
+        let low : (parted (of_some tree_of x.policy.using)).1 ≤ 64 = ltb-false 64 (parted (of_some tree_of x.policy.using)).1 p in
+        let k = if_high x.policy.check (omega (arith, h, low)) in omega (arith, k)
+draft_high (st.CreateRole x) h = absurd (omega (arith, h))
+draft_high (st.CreateTable x) h = absurd (omega (arith, h))
+draft_high (st.AlterTable x) h = absurd (omega (arith, h))
+draft_high (st.Grant x) h = absurd (omega (arith, h))
+draft_high (st.AlterRole x) h = absurd (omega (arith, h))
+draft_high (st.GrantRoles x) h = absurd (omega (arith, h))
+draft_high (st.RevokeRoles x) h = absurd (omega (arith, h))
+draft_high (st.SetRole x) h = absurd (omega (arith, h))

@@ -1,0 +1,118 @@
+-- By which tokens the phrases of the grammar begin, and which tokens would go on with a phrase, so that they may not
+-- follow it; where names are apart from keywords, since a reserved word is no name.
+use Rattle.std.specs.Prelude.{◌≡◌, true, List, [], ◌∷◌, ◌++◌, codes, refl}
+use Rattle.rls_value.specs.Names.{reserved}
+use Rattle.rls_text.specs.declared.token.Symbol.TheVariants as s
+use Rattle.rls_text.specs.Heads.{Head, Names, Numbers, Texts, Keyword, Sign, apart}
+
+-- TRUE, FALSE, NULL
+abbrev pub constant_heads : List Head
+constant_heads = Keyword (codes "true") ∷ Keyword (codes "false") ∷ Keyword (codes "null") ∷ []
+
+-- a literal
+abbrev pub literal_heads : List Head
+literal_heads = constant_heads ++ Texts ∷ Sign s.Minus ∷ Numbers ∷ []
+
+-- an operand
+abbrev pub prim_heads : List Head
+prim_heads = literal_heads ++ Names ∷ Keyword (codes "current_user") ∷ Sign s.LParen ∷ []
+
+-- a comparison
+abbrev pub comparison_heads : List Head
+comparison_heads = Sign s.Equal ∷ Sign s.NotEqual ∷ Sign s.Less ∷ Sign s.LessOrEqual ∷ Sign s.Greater ∷ Sign s.GreaterOrEqual ∷ []
+
+-- what goes on behind an operand: a comparison, or a test for nulls
+abbrev pub is_more : List Head
+is_more = Keyword (codes "is") ∷ comparison_heads
+
+-- an expression
+abbrev pub expr_heads : List Head
+expr_heads = Keyword (codes "not") ∷ prim_heads
+
+-- what goes on behind an expression
+abbrev pub expr_more : List Head
+expr_more = Keyword (codes "or") ∷ Keyword (codes "and") ∷ is_more
+
+-- behind a statement with a condition
+abbrev pub condition_more : List Head
+condition_more = Keyword (codes "where") ∷ expr_more
+
+-- a role's attributes
+abbrev pub attribute_heads : List Head
+attribute_heads = Keyword (codes "superuser") ∷ Keyword (codes "nosuperuser") ∷ Keyword (codes "login") ∷ Keyword (codes "nologin") ∷ Keyword (codes "bypassrls") ∷ Keyword (codes "nobypassrls") ∷ []
+
+-- what goes on behind a new role
+abbrev pub role_more : List Head
+role_more = Keyword (codes "with") ∷ attribute_heads
+
+-- behind a new policy
+abbrev pub policy_more : List Head
+policy_more = Sign s.Comma ∷ Keyword (codes "to") ∷ Keyword (codes "using") ∷ Keyword (codes "with") ∷ []
+
+-- behind what is created
+abbrev pub create_more : List Head
+create_more = role_more ++ Sign s.Comma ∷ Keyword (codes "to") ∷ Keyword (codes "using") ∷ []
+
+-- a privilege
+abbrev pub privilege_heads : List Head
+privilege_heads = Keyword (codes "select") ∷ Keyword (codes "insert") ∷ Keyword (codes "update") ∷ Keyword (codes "delete") ∷ []
+
+-- an option of a membership
+abbrev pub option_heads : List Head
+option_heads = Keyword (codes "admin") ∷ Keyword (codes "inherit") ∷ Keyword (codes "set") ∷ []
+
+-- behind roles that are granted
+abbrev pub granted_more : List Head
+granted_more = Sign s.Comma ∷ Keyword (codes "with") ∷ []
+
+-- behind roles that are revoked
+abbrev pub revoked_more : List Head
+revoked_more = Sign s.Comma ∷ Keyword (codes "cascade") ∷ Keyword (codes "restrict") ∷ []
+
+-- a statement without an expression
+abbrev pub flat_heads : List Head
+flat_heads = Keyword (codes "alter") ∷ Keyword (codes "grant") ∷ Keyword (codes "revoke") ∷ Keyword (codes "set") ∷ Keyword (codes "reset") ∷ []
+
+-- behind one
+abbrev pub flat_more : List Head
+flat_more = attribute_heads ++ Keyword (codes "with") ∷ revoked_more
+
+-- a statement
+abbrev pub body_heads : List Head
+body_heads = Keyword (codes "select") ∷ Keyword (codes "insert") ∷ Keyword (codes "create") ∷ flat_heads
+
+-- behind a statement
+abbrev pub body_more : List Head
+body_more = policy_more ++ attribute_heads ++ condition_more ++ revoked_more
+
+pub literal_apart : apart literal_heads (Names ∷ Keyword (codes "current_user") ∷ Sign s.LParen ∷ []) ≡ true
+unfolding reserved
+literal_apart = refl
+
+pub name_apart : apart (Names ∷ []) (Keyword (codes "current_user") ∷ Sign s.LParen ∷ []) ≡ true
+unfolding reserved
+name_apart = refl
+
+pub not_apart : apart (Keyword (codes "not") ∷ []) prim_heads ≡ true
+unfolding reserved
+not_apart = refl
+
+pub public_apart : apart (Keyword (codes "public") ∷ []) (Names ∷ []) ≡ true
+unfolding reserved
+public_apart = refl
+
+pub table_apart : apart (Keyword (codes "table") ∷ []) (Names ∷ []) ≡ true
+unfolding reserved
+table_apart = refl
+
+pub none_apart : apart (Keyword (codes "none") ∷ []) (Names ∷ []) ≡ true
+unfolding reserved
+none_apart = refl
+
+pub on_apart : apart (Names ∷ []) (Keyword (codes "on") ∷ []) ≡ true
+unfolding reserved
+on_apart = refl
+
+pub to_apart : apart (Names ∷ []) (Keyword (codes "to") ∷ []) ≡ true
+unfolding reserved
+to_apart = refl

@@ -1,0 +1,255 @@
+-- What the phrases of the grammar stand for, each by what its parts stand for.
+use Rattle.std.specs.Prelude.{ℕ, zero, suc, nat_le, nat_eq, pos, ◌-ℤ◌, ◌-◌, ◌^◌, Bool, true, false, not, ◌&&◌, if◌then◌else◌, List, [], ◌∷◌, length, Option, Some, None}
+use Rattle.std.specs.List.{list_any}
+use Rattle.std.specs.Str.{bytes_eq}
+use denote.Enum.Bare.{sameb}
+use Rattle.rls_value.specs.Names.{reserved, spells_name, folded}
+use Rattle.rls_value.specs.declared.value.Value.{Value}
+use Rattle.rls_value.specs.declared.value.Value.TheVariants as v
+use Rattle.rls_value.specs.declared.value.ColType.{ColType}
+use Rattle.rls_value.specs.declared.verb.Privilege.{Privilege}
+use Rattle.rls_value.specs.declared.verb.Privilege.TheVariants as p
+use Rattle.rls_value.specs.declared.verb.PolicyKind.TheVariants as kind
+use Rattle.rls_expr.specs.Terms.{Term, terms_of}
+use Rattle.rls_expr.specs.Terms as e
+use Rattle.rls_expr.specs.declared.table.Column.{Column}
+use Rattle.rls_expr.specs.declared.expr.Comparison.{Comparison}
+use Rattle.rls_expr.specs.declared.policy.Grantee.{Grantee}
+use Rattle.rls_expr.specs.declared.policy.Grantee.TheVariants as to
+use Rattle.rls_text.specs.declared.token.Token.{Token}
+use Rattle.rls_text.specs.declared.token.Token.TheVariants.{Word, Number, Text}
+use Rattle.rls_text.specs.declared.attributes.RoleAttribute.{RoleAttribute}
+use Rattle.rls_text.specs.declared.attributes.RoleAttribute.TheVariants as a
+use Rattle.rls_statement.specs.declared.statement.Attributes.{Attributes}
+use Rattle.rls_statement.specs.contracts.statement.MembershipOption as option
+use Rattle.rls_statement.specs.declared.statement.MembershipOption.{MembershipOption}
+use Rattle.rls_statement.specs.declared.statement.MembershipOption.TheVariants as m
+use Rattle.rls_statement.specs.declared.statement.MembershipOptions.{MembershipOptions}
+use Rattle.rls_statement.specs.declared.statement.Privileges.{Privileges}
+use Rattle.rls_statement.specs.declared.statement.RowSecurity.TheVariants as change
+use Rattle.rls_statement.specs.declared.statement.Selected.{Selected}
+use Rattle.rls_statement.specs.declared.statement.Statement.{Statement}
+use Rattle.rls_statement.specs.declared.statement.Statement.TheVariants as st
+use Rattle.rls_text.specs.Lang.{put_in}
+
+-- ---- tokens
+
+-- the name of a word, if it is one: in lower case, of 63 bytes at most
+abbrev pub named : List ℕ → Option (List ℕ)
+named w = if spells_name w && nat_le (length w) 63 then Some (folded w) else None
+
+-- a word that isn't reserved, of 63 bytes at most
+abbrev pub name_of : Token → Option (List ℕ)
+name_of (Word w) = if reserved w then None else named w
+name_of _ = None
+
+-- what a text in quotes says
+abbrev pub text_of : Token → Option (List ℕ)
+text_of (Text x) = Some x
+text_of _ = None
+
+-- a number without a sign
+abbrev pub number_of : Token → Option ℕ
+number_of (Number n) = Some n
+number_of _ = None
+
+-- ---- literals
+
+-- a number with its sign lies in the range of 64 bits
+abbrev pub in_range : Option (Unit {0}) × ℕ → Bool
+in_range (None, n) = nat_le n (2 ^ 63 - 1)
+in_range (Some _, n) = nat_le n (2 ^ 63)
+
+-- the number with its sign
+abbrev pub signed : Option (Unit {0}) × ℕ → Value
+signed (None, n) = v.Int (pos n)
+signed (Some _, n) = v.Int (pos 0 -ℤ pos n)
+
+-- ---- expressions
+
+-- a comparison, or its left side alone
+abbrev pub compared : Term → Option (Comparison × Term) → Term
+compared left None = left
+compared left (Some r) = e.Compare r.0 left r.1
+
+-- IS NULL, or IS NOT NULL
+abbrev pub null_test : Term → Option (Unit {0}) → Term
+null_test tested None = e.IsNull tested
+null_test tested (Some _) = e.IsNotNull tested
+
+-- negated so many times
+abbrev pub negated : ℕ → Term → Term
+negated zero operand = operand
+negated (suc n) operand = negated n (e.Not operand)
+
+-- AND, one node with all its operands; one alone makes no node
+abbrev pub and_of : Term → List Term → Term
+and_of first [] = first
+and_of first (second ∷ more) = e.And (terms_of (first ∷ second ∷ more))
+
+-- OR, likewise
+abbrev pub or_of : Term → List Term → Term
+or_of first [] = first
+or_of first (second ∷ more) = e.Or (terms_of (first ∷ second ∷ more))
+
+-- ---- statements
+
+-- SELECT, of its parts
+abbrev pub select_of : Selected × (List ℕ × Option Term) → Statement
+select_of r = st.Select record { items = r.0; table = r.1.0; condition = r.1.1 }
+
+-- each is of that length
+abbrev pub have_length : ℕ → List (List Term) → Bool
+have_length n [] = true
+have_length n (x ∷ xs) = nat_eq (length x) n && have_length n xs
+
+-- tuples of one length
+abbrev pub are_even : List (List Term) → Bool
+are_even [] = true
+are_even (x ∷ xs) = have_length (length x) xs
+
+-- INSERT, of its parts
+abbrev pub insert_of : List ℕ × List (List Term) → Statement
+insert_of r = st.Insert record { table = r.0; tuples = r.1 }
+
+-- two that say the same or the contrary
+abbrev pub are_one_kind : RoleAttribute → RoleAttribute → Bool
+are_one_kind (a.Superuser _) (a.Superuser _) = true
+are_one_kind (a.Login _) (a.Login _) = true
+are_one_kind (a.BypassRls _) (a.BypassRls _) = true
+are_one_kind _ _ = false
+
+-- none of them is of its kind
+abbrev pub lacks : RoleAttribute → List RoleAttribute → Bool
+lacks x [] = true
+lacks x (y ∷ ys) = not (are_one_kind x y) && lacks x ys
+
+-- no two are of one kind
+abbrev pub each_once : List RoleAttribute → Bool
+each_once [] = true
+each_once (x ∷ xs) = lacks x xs && each_once xs
+
+-- where nothing is written; a user may log in
+abbrev pub opening : Bool → Attributes
+opening is_user = record { superuser = None; login = (if is_user then Some true else None); bypass_rls = None }
+
+-- as this attribute says
+abbrev pub with_attribute : Attributes → RoleAttribute → Attributes
+with_attribute all (a.Superuser flag) = record all { superuser = Some flag }
+with_attribute all (a.Login flag) = record all { login = Some flag }
+with_attribute all (a.BypassRls flag) = record all { bypass_rls = Some flag }
+
+-- the list, or none
+abbrev pub or_empty : {A : Type 0} → Option (List A) → List A
+or_empty None = []
+or_empty (Some xs) = xs
+
+-- CREATE ROLE, of its parts
+abbrev pub role_of : List ℕ × Attributes → Statement
+role_of r = st.CreateRole record { name = r.0; attributes = r.1 }
+
+-- the attributes that are written, over those that hold without
+abbrev pub attributes_from : Bool → Option (List RoleAttribute) → Attributes
+attributes_from is_user written = put_in with_attribute (opening is_user) (or_empty written)
+
+-- ALTER ROLE, of its parts
+abbrev pub altering_of : List ℕ × Attributes → Statement
+altering_of r = st.AlterRole record { name = r.0; attributes = r.1 }
+
+-- a column that takes nulls
+abbrev pub column_of : List ℕ × ColType → Column
+column_of r = record { name = r.0; kind = r.1; not_null = false }
+
+-- one of them has that name
+abbrev pub has_column : List ℕ → List Column → Bool
+has_column name columns = list_any (λ column. bytes_eq column.name name) columns
+
+-- no two of one name
+abbrev pub are_distinct : List Column → Bool
+are_distinct [] = true
+are_distinct (column ∷ columns) = not (has_column column.name columns) && are_distinct columns
+
+-- CREATE TABLE, of its parts
+abbrev pub table_of : List ℕ × List Column → Statement
+table_of r = st.CreateTable record { name = r.0; columns = r.1 }
+
+-- ALTER TABLE .. ENABLE ROW LEVEL SECURITY
+abbrev pub enabling : List ℕ → Statement
+enabling table = st.AlterTable record { table = table; change = change.Enable }
+
+-- without TO it is for PUBLIC
+abbrev pub or_public : Option (List Grantee) → List Grantee
+or_public None = to.Public ∷ []
+or_public (Some all) = all
+
+-- CREATE POLICY, of its parts; it is permissive and for all commands
+abbrev pub policy_of : List ℕ × (List ℕ × (List Grantee × (Option Term × Option Term))) → Statement
+policy_of r = st.CreatePolicy record {
+  table = r.1.0;
+  policy = record { name = r.0; permissive = true; kind = kind.All; to = r.1.1.0; using = r.1.1.1.0; check = r.1.1.1.1 };
+}
+
+-- none of the four
+abbrev pub no_privileges : Privileges
+no_privileges = record { select = false; insert = false; update = false; delete = false }
+
+-- the four
+abbrev pub all_privileges : Privileges
+all_privileges = record { select = true; insert = true; update = true; delete = true }
+
+-- with this one too
+unfoldable pub with_privilege : Privileges → Privilege → Privileges
+with_privilege all p.Select = record all { select = true }
+with_privilege all p.Insert = record all { insert = true }
+with_privilege all p.Update = record all { update = true }
+with_privilege all p.Delete = record all { delete = true }
+
+-- those that are named; one may be named twice
+abbrev pub privileges_of : Privilege × List Privilege → Privileges
+privileges_of r = put_in with_privilege (with_privilege no_privileges r.0) r.1
+
+-- GRANT, of its parts
+abbrev pub grant_of : Privileges × (List ℕ × List Grantee) → Statement
+grant_of r = st.Grant record { privileges = r.0; table = r.1.0; to = r.1.1 }
+
+-- ---- memberships
+
+-- an option of a membership, on or off
+abbrev pub Setting : Type 0
+Setting = MembershipOption × Bool
+
+-- none of them is of that option
+abbrev pub lacks_option : MembershipOption → List Setting → Bool
+lacks_option x [] = true
+lacks_option x (y ∷ ys) = not (sameb option.the_type x y.0) && lacks_option x ys
+
+-- no two are of one option
+abbrev pub set_once : List Setting → Bool
+set_once [] = true
+set_once (x ∷ xs) = lacks_option x.0 xs && set_once xs
+
+-- where nothing is written
+abbrev pub no_options : MembershipOptions
+no_options = record { admin = None; inherit = None; set = None }
+
+-- with this one set so
+abbrev pub with_setting : MembershipOptions → Setting → MembershipOptions
+with_setting all (m.Admin, flag) = record all { admin = Some flag }
+with_setting all (m.Inherit, flag) = record all { inherit = Some flag }
+with_setting all (m.Set, flag) = record all { set = Some flag }
+
+-- those that are written
+abbrev pub options_from : Option (List Setting) → MembershipOptions
+options_from written = put_in with_setting no_options (or_empty written)
+
+-- GRANT of roles, of its parts
+abbrev pub granting_of : List (List ℕ) × (List (List ℕ) × MembershipOptions) → Statement
+granting_of r = st.GrantRoles record { roles = r.0; to = r.1.0; options = r.1.1 }
+
+-- REVOKE of roles, of its parts
+abbrev pub revoking_of : List (List ℕ) × List (List ℕ) → Statement
+revoking_of r = st.RevokeRoles record { option = None; roles = r.0; from = r.1 }
+
+-- REVOKE of an option, of its parts
+abbrev pub option_revoking_of : MembershipOption × (List (List ℕ) × List (List ℕ)) → Statement
+option_revoking_of r = st.RevokeRoles record { option = Some r.0; roles = r.1.0; from = r.1.1 }

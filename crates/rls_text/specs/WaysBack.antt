@@ -1,0 +1,664 @@
+-- The ways back: of which parts a value is written, each with the law that these parts stand for it.
+use Rattle.std.specs.Prelude.{◌≡◌, ℕ, zero, suc, nat_lt, pos, negsuc, ◌-ℤ◌, Bool, true, false, not, ◌&&◌, ◌||◌, if◌then◌else◌, List, [], ◌∷◌, ◌++◌, length, Option, Some, None, refl}
+use Rattle.std.specs.Str.{bytes_eq}
+use Rattle.std.proofs.Common.{arith, sym, ap, subst, ◌∙◌}
+use Rattle.std.proofs.lemmas.Slice.Eq.{bytes_eq-Decides}
+use Rattle.std.proofs.lemmas.Bool.{lt-ltb}
+use native.Mathlib.Numerals.{unary_clauses}
+use denote.Enum.Bare.{sameb, same_true}
+use Rattle.rls_value.specs.Names.{reserved}
+use Rattle.rls_value.specs.declared.value.Value.{Value}
+use Rattle.rls_value.specs.declared.value.Value.TheVariants as v
+use Rattle.rls_value.specs.declared.value.ColType.{ColType}
+use Rattle.rls_value.specs.contracts.value.ColType as col_type
+use Rattle.rls_value.specs.declared.verb.Privilege.{Privilege}
+use Rattle.rls_value.specs.contracts.verb.Privilege as privilege
+use Rattle.rls_value.specs.declared.verb.Privilege.TheVariants as p
+use Rattle.rls_value.specs.declared.verb.PolicyKind.{PolicyKind}
+use Rattle.rls_value.specs.declared.verb.PolicyKind.TheVariants as kind
+use Rattle.rls_expr.specs.Terms.{Term, Terms, terms_of}
+use Rattle.rls_expr.specs.Terms as e
+use Rattle.rls_expr.specs.declared.table.Column.{Column}
+use Rattle.rls_expr.specs.declared.expr.Comparison.{Comparison}
+use Rattle.rls_expr.specs.contracts.expr.Comparison as comparison
+use Rattle.rls_expr.specs.declared.policy.Grantee.{Grantee}
+use Rattle.rls_expr.specs.declared.policy.Grantee.TheVariants as to
+use Rattle.rls_statement.specs.declared.statement.Attributes.{Attributes}
+use Rattle.rls_statement.specs.contracts.statement.MembershipOption as option
+use Rattle.rls_statement.specs.declared.statement.MembershipOption.{MembershipOption}
+use Rattle.rls_statement.specs.declared.statement.MembershipOption.TheVariants as m
+use Rattle.rls_statement.specs.declared.statement.MembershipOptions.{MembershipOptions}
+use Rattle.rls_statement.specs.declared.statement.Privileges.{Privileges}
+use Rattle.rls_statement.specs.declared.statement.RowSecurity.{RowSecurity}
+use Rattle.rls_statement.specs.declared.statement.RowSecurity.TheVariants as change
+use Rattle.rls_statement.specs.declared.statement.Selected.{Selected}
+use Rattle.rls_statement.specs.declared.statement.Selected.TheVariants as selected
+use Rattle.rls_statement.specs.declared.statement.SetRole.{SetRole}
+use Rattle.rls_statement.specs.declared.statement.SetRole.TheVariants as sr
+use Rattle.rls_statement.specs.declared.statement.Statement.{Statement}
+use Rattle.rls_statement.specs.declared.statement.Statement.TheVariants as st
+use Rattle.rls_text.specs.declared.token.Token.{Token}
+use Rattle.rls_text.specs.declared.token.Token.TheVariants.{Word, Number, Text}
+use Rattle.rls_text.specs.declared.attributes.RoleAttribute.{RoleAttribute}
+use Rattle.rls_text.specs.declared.attributes.RoleAttribute.TheVariants as a
+use Rattle.rls_text.specs.Heads.{Names, Numbers, Texts, begins}
+use Rattle.rls_text.specs.Lang.{put_in}
+use Rattle.rls_text.specs.Values as g
+use Rattle.rls_text.specs.Writes.{some_is}
+use Rattle.rls_text.specs.Rule.{Telling, given_if, given_was, as_list}
+
+pub both_true : (a b : Bool) → (a && b) ≡ true → (a ≡ true) × (b ≡ true)
+both_true true b h = (refl, h)
+both_true false b h = cc
+
+-- ---- tokens
+
+pub name_begins : (t : Token) (a : List ℕ) → g.name_of t ≡ Some a → begins (Names ∷ []) t ≡ true
+name_begins (Word w) a h = go (reserved w) h
+  where
+    go : (b : Bool) → if◌then◌else◌ {A = Option (List ℕ)} b None (g.named w) ≡ Some a → (not b || false) ≡ true
+    go true h = cc
+    go false h = refl
+name_begins _ a h = cc
+
+-- the word, if it says this name
+abbrev pub word_if : Option (List ℕ) → List ℕ → Option Token
+word_if None name = None
+word_if (Some m) name = given_if (bytes_eq m name) (Word name)
+
+-- a name that a word can say
+abbrev pub as_name : List ℕ → Option Token
+as_name name = word_if (g.name_of (Word name)) name
+
+pub name_law : (a : List ℕ) (t : Token) → as_name a ≡ Some t → g.name_of t ≡ Some a
+name_law a t h = go (g.name_of (Word a)) refl h
+  where
+    go : (o : Option (List ℕ)) → g.name_of (Word a) ≡ o → word_if o a ≡ Some t → g.name_of t ≡ Some a
+    go None e h = cc
+    go (Some m) e h =
+        let k = given_was (bytes_eq m a) (Word a) t h in
+        let same : m ≡ a = (bytes_eq-Decides m a).0 k.0 in
+        subst (λ z. g.name_of z ≡ Some a) k.1 (e ∙ ap Some same)
+
+pub text_begins : (t : Token) (a : List ℕ) → g.text_of t ≡ Some a → begins (Texts ∷ []) t ≡ true
+text_begins (Text w) a h = refl
+text_begins _ a h = cc
+
+-- a text in quotes
+abbrev pub as_quoted : List ℕ → Option Token
+as_quoted x = Some (Text x)
+
+pub text_law : (a : List ℕ) (t : Token) → as_quoted a ≡ Some t → g.text_of t ≡ Some a
+text_law a t h = subst (λ z. g.text_of z ≡ Some a) (some_is (Text a) t h) refl
+
+pub number_begins : (t : Token) (a : ℕ) → g.number_of t ≡ Some a → begins (Numbers ∷ []) t ≡ true
+number_begins (Number w) a h = refl
+number_begins _ a h = cc
+
+-- digits
+abbrev pub as_digits : ℕ → Option Token
+as_digits n = Some (Number n)
+
+pub number_law : (a : ℕ) (t : Token) → as_digits a ≡ Some t → g.number_of t ≡ Some a
+number_law a t h = subst (λ z. g.number_of z ≡ Some a) (some_is (Number a) t h) refl
+
+-- ---- literals
+
+-- two of TRUE, FALSE and NULL
+abbrev pub are_one_constant : Value → Value → Bool
+are_one_constant (v.Bool true) (v.Bool true) = true
+are_one_constant (v.Bool false) (v.Bool false) = true
+are_one_constant v.Null v.Null = true
+are_one_constant _ _ = false
+
+pub constant_is : (x y : Value) → are_one_constant x y ≡ true → x ≡ y
+constant_is (v.Bool true) (v.Bool true) h = refl
+constant_is (v.Bool false) (v.Bool false) h = refl
+constant_is v.Null v.Null h = refl
+constant_is _ _ h = cc
+
+-- TRUE, FALSE and NULL, told apart
+abbrev pub constants : Telling Value
+constants = record { are_same = are_one_constant; same_is = constant_is }
+
+-- a text
+abbrev pub as_text : Value → Option (List ℕ)
+as_text (v.Text x) = Some x
+as_text _ = None
+
+pub as_text_law : (b : Value) (a : List ℕ) → as_text b ≡ Some a → b ≡ v.Text a
+as_text_law (v.Text x) a h = ap v.Text (some_is x a h)
+as_text_law _ a h = cc
+
+-- a number; one below 0 has its sign
+abbrev pub as_signed : Value → Option (Option (Unit {0}) × ℕ)
+as_signed (v.Int (pos n)) = Some (None, n)
+as_signed (v.Int (negsuc n)) = Some (Some tt, suc n)
+as_signed _ = None
+
+below : (n : ℕ) → negsuc n ≡ pos 0 -ℤ pos (suc n)
+below n = let t : nat_lt 0 (suc n) ≡ true = lt-ltb 0 (suc n) (omega arith) in simp (unary_clauses, t) refl
+
+pub signed_law : (b : Value) (a : Option (Unit {0}) × ℕ) → as_signed b ≡ Some a → b ≡ g.signed a
+signed_law (v.Int (pos n)) a h = ap g.signed (some_is (None, n) a h)
+signed_law (v.Int (negsuc n)) a h = let z : negsuc n ≡ pos 0 -ℤ pos (suc n) = below n in ap v.Int z ∙ ap g.signed (some_is (Some tt, suc n) a h)
+signed_law _ a h = cc
+
+-- ---- expressions
+
+-- comparisons, told apart
+abbrev pub comparisons : Telling Comparison
+comparisons = record { are_same = sameb comparison.the_type; same_is = same_true comparison.the_type tt }
+
+-- a literal
+abbrev pub as_literal : Term → Option Value
+as_literal (e.Literal x) = Some x
+as_literal _ = None
+
+pub literal_law : (b : Term) (a : Value) → as_literal b ≡ Some a → b ≡ e.Literal a
+literal_law (e.Literal x) a h = ap e.Literal (some_is x a h)
+literal_law _ a h = cc
+
+-- a column
+abbrev pub as_column : Term → Option (List ℕ)
+as_column (e.Column x) = Some x
+as_column _ = None
+
+pub column_law : (b : Term) (a : List ℕ) → as_column b ≡ Some a → b ≡ e.Column a
+column_law (e.Column x) a h = ap e.Column (some_is x a h)
+column_law _ a h = cc
+
+-- CURRENT_USER
+abbrev pub as_user : Term → Option (Unit {0})
+as_user e.CurrentUser = Some tt
+as_user _ = None
+
+pub user_law : (b : Term) (a : Unit {0}) → as_user b ≡ Some a → b ≡ e.CurrentUser
+user_law e.CurrentUser a h = refl
+user_law _ a h = cc
+
+-- a comparison's operands; another is one alone
+abbrev pub as_compared : Term → Option (Term × Option (Comparison × Term))
+as_compared (e.Compare how x y) = Some (x, Some (how, y))
+as_compared term = Some (term, None)
+
+pub compared_law : (b : Term) (a : Term × Option (Comparison × Term)) → as_compared b ≡ Some a → b ≡ g.compared a.0 a.1
+compared_law (e.Compare how x y) a h = ap (λ r. g.compared r.0 r.1) (some_is (x, Some (how, y)) a h)
+compared_law b a h = let same = some_is (b, None) a h in ap (λ r. g.compared r.0 r.1) same
+
+-- what IS NULL or IS NOT NULL tests
+abbrev pub as_tested : Term → Option (Term × List (Option (Unit {0})))
+as_tested (e.IsNull x) = Some (x, None ∷ [])
+as_tested (e.IsNotNull x) = Some (x, Some tt ∷ [])
+as_tested _ = None
+
+pub tested_law : (b : Term) (a : Term × List (Option (Unit {0}))) → as_tested b ≡ Some a → b ≡ put_in g.null_test a.0 a.1
+tested_law (e.IsNull x) a h = ap (λ r. put_in g.null_test r.0 r.1) (some_is (x, None ∷ []) a h)
+tested_law (e.IsNotNull x) a h = ap (λ r. put_in g.null_test r.0 r.1) (some_is (x, Some tt ∷ []) a h)
+tested_law _ a h = cc
+
+-- what NOT negates
+abbrev pub as_negated : Term → Option (ℕ × Term)
+as_negated (e.Not x) = Some (1, x)
+as_negated _ = None
+
+pub negated_law : (b : Term) (a : ℕ × Term) → as_negated b ≡ Some a → b ≡ g.negated a.0 a.1
+negated_law (e.Not x) a h = ap (λ r. g.negated r.0 r.1) (some_is (1, x) a h)
+negated_law _ a h = cc
+
+-- so many words
+abbrev pub repeated : ℕ → List (Unit {0})
+repeated zero = []
+repeated (suc n) = tt ∷ repeated n
+
+-- NOT, so many times
+abbrev pub as_repeated : ℕ → Option (List (Unit {0}))
+as_repeated n = Some (repeated n)
+
+pub repeated_law : (b : ℕ) (a : List (Unit {0})) → as_repeated b ≡ Some a → b ≡ length a
+repeated_law b a h = sym (counted b) ∙ ap length (some_is (repeated b) a h)
+  where
+    counted : (n : ℕ) → length (repeated n) ≡ n
+    counted zero = refl
+    counted (suc n) = let e = counted n in omega (arith, e)
+
+-- the operands of a node
+abbrev pub list_of : Terms → List Term
+list_of e.End = []
+list_of (e.More t ts) = t ∷ list_of ts
+
+pub terms_back : (ts : Terms) → terms_of (list_of ts) ≡ ts
+terms_back e.End = refl
+terms_back (e.More t ts) = ap (λ z. e.More t z) (terms_back ts)
+
+-- the first of two operands or more, and the others
+abbrev pub as_operands : Terms → Option (Term × List Term)
+as_operands (e.More x (e.More y ts)) = Some (x, y ∷ list_of ts)
+as_operands _ = None
+
+-- those of AND
+abbrev pub as_and : Term → Option (Term × List Term)
+as_and (e.And ts) = as_operands ts
+as_and _ = None
+
+pub and_law : (b : Term) (a : Term × List Term) → as_and b ≡ Some a → b ≡ g.and_of a.0 a.1
+and_law (e.And (e.More x (e.More y ts))) a h = ap (λ z. e.And (e.More x (e.More y z))) (sym (terms_back ts)) ∙ ap (λ r. g.and_of r.0 r.1) (some_is (x, y ∷ list_of ts) a h)
+and_law _ a h = cc
+
+-- those of OR
+abbrev pub as_or : Term → Option (Term × List Term)
+as_or (e.Or ts) = as_operands ts
+as_or _ = None
+
+pub or_law : (b : Term) (a : Term × List Term) → as_or b ≡ Some a → b ≡ g.or_of a.0 a.1
+or_law (e.Or (e.More x (e.More y ts))) a h = ap (λ z. e.Or (e.More x (e.More y z))) (sym (terms_back ts)) ∙ ap (λ r. g.or_of r.0 r.1) (some_is (x, y ∷ list_of ts) a h)
+or_law _ a h = cc
+
+-- ---- SELECT
+
+-- all columns
+abbrev pub as_all : Selected → Option (Unit {0})
+as_all selected.All = Some tt
+as_all _ = None
+
+pub all_law : (b : Selected) (a : Unit {0}) → as_all b ≡ Some a → b ≡ selected.All
+all_law selected.All a h = refl
+all_law _ a h = cc
+
+-- the items
+abbrev pub as_items : Selected → Option (List Term)
+as_items (selected.Items x) = Some x
+as_items _ = None
+
+pub items_law : (b : Selected) (a : List Term) → as_items b ≡ Some a → b ≡ selected.Items a
+items_law (selected.Items x) a h = ap selected.Items (some_is x a h)
+items_law _ a h = cc
+
+-- items, table, condition
+abbrev pub as_select : Statement → Option (Selected × (List ℕ × Option Term))
+as_select (st.Select x) = Some (x.items, (x.table, x.condition))
+as_select _ = None
+
+pub select_law : (b : Statement) (a : Selected × (List ℕ × Option Term)) → as_select b ≡ Some a → b ≡ g.select_of a
+select_law (st.Select x) a h = ap g.select_of (some_is (x.items, (x.table, x.condition)) a h)
+select_law _ a h = cc
+
+-- ---- INSERT
+
+-- table, tuples
+abbrev pub as_insert : Statement → Option (List ℕ × List (List Term))
+as_insert (st.Insert x) = Some (x.table, x.tuples)
+as_insert _ = None
+
+pub insert_law : (b : Statement) (a : List ℕ × List (List Term)) → as_insert b ≡ Some a → b ≡ g.insert_of a
+insert_law (st.Insert x) a h = ap g.insert_of (some_is (x.table, x.tuples) a h)
+insert_law _ a h = cc
+
+-- ---- roles
+
+-- one truth value
+abbrev pub same_flag : Bool → Bool → Bool
+same_flag true b = b
+same_flag false b = not b
+
+pub same_flag_is : (x y : Bool) → same_flag x y ≡ true → x ≡ y
+same_flag_is true true h = refl
+same_flag_is true false h = cc
+same_flag_is false true h = cc
+same_flag_is false false h = refl
+
+-- one attribute, said in one way
+abbrev pub same_attribute : RoleAttribute → RoleAttribute → Bool
+same_attribute (a.Superuser x) (a.Superuser y) = same_flag x y
+same_attribute (a.Login x) (a.Login y) = same_flag x y
+same_attribute (a.BypassRls x) (a.BypassRls y) = same_flag x y
+same_attribute _ _ = false
+
+pub same_attribute_is : (x y : RoleAttribute) → same_attribute x y ≡ true → x ≡ y
+same_attribute_is (a.Superuser x) (a.Superuser y) h = ap a.Superuser (same_flag_is x y h)
+same_attribute_is (a.Login x) (a.Login y) h = ap a.Login (same_flag_is x y h)
+same_attribute_is (a.BypassRls x) (a.BypassRls y) h = ap a.BypassRls (same_flag_is x y h)
+same_attribute_is _ _ h = cc
+
+-- attributes, told apart
+abbrev pub role_attributes : Telling RoleAttribute
+role_attributes = record { are_same = same_attribute; same_is = same_attribute_is }
+
+-- the list, or none where it is empty
+abbrev pub if_any : {A : Type 0} → List A → Option (List A)
+if_any [] = None
+if_any (x ∷ xs) = Some (x ∷ xs)
+
+-- the attribute, if it is written
+abbrev pub one_if : (Bool → RoleAttribute) → Option Bool → List RoleAttribute
+one_if f None = []
+one_if f (Some x) = f x ∷ []
+
+-- those that are written, in the order SUPERUSER, LOGIN, BYPASSRLS
+abbrev pub in_order : Attributes → Option (List RoleAttribute)
+in_order b = if_any (one_if a.Superuser b.superuser ++ one_if a.Login b.login ++ one_if a.BypassRls b.bypass_rls)
+
+-- behind CREATE ROLE; CREATE USER is written as CREATE ROLE with LOGIN
+abbrev pub as_attributes : Bool → Attributes → Option (Option (List RoleAttribute))
+as_attributes true b = None
+as_attributes false b = Some (in_order b)
+
+attributes_back : (s l p : Option Bool) → record { superuser = s; login = l; bypass_rls = p } ≡ g.attributes_from false (in_order record { superuser = s; login = l; bypass_rls = p })
+attributes_back None None None = refl
+attributes_back None None (Some z) = refl
+attributes_back None (Some y) None = refl
+attributes_back None (Some y) (Some z) = refl
+attributes_back (Some x) None None = refl
+attributes_back (Some x) None (Some z) = refl
+attributes_back (Some x) (Some y) None = refl
+attributes_back (Some x) (Some y) (Some z) = refl
+
+pub attributes_law : (is_user : Bool) (b : Attributes) (a : Option (List RoleAttribute)) → as_attributes is_user b ≡ Some a → b ≡ g.attributes_from is_user a
+attributes_law true b a h = cc
+attributes_law false b a h = attributes_back b.superuser b.login b.bypass_rls ∙ ap (g.attributes_from false) (some_is (in_order b) a h)
+
+-- name, attributes
+abbrev pub as_role : Statement → Option (List ℕ × Attributes)
+as_role (st.CreateRole x) = Some (x.name, x.attributes)
+as_role _ = None
+
+pub role_law : (b : Statement) (a : List ℕ × Attributes) → as_role b ≡ Some a → b ≡ g.role_of a
+role_law (st.CreateRole x) a h = ap g.role_of (some_is (x.name, x.attributes) a h)
+role_law _ a h = cc
+
+-- behind ALTER ROLE, where at least one is written
+pub some_attributes_law : (b : Attributes) (a : List RoleAttribute) → in_order b ≡ Some a → b ≡ g.attributes_from false (Some a)
+some_attributes_law b a h = attributes_back b.superuser b.login b.bypass_rls ∙ ap (g.attributes_from false) h
+
+-- name, attributes
+abbrev pub as_altering : Statement → Option (List ℕ × Attributes)
+as_altering (st.AlterRole x) = Some (x.name, x.attributes)
+as_altering _ = None
+
+pub altering_law : (b : Statement) (a : List ℕ × Attributes) → as_altering b ≡ Some a → b ≡ g.altering_of a
+altering_law (st.AlterRole x) a h = ap g.altering_of (some_is (x.name, x.attributes) a h)
+altering_law _ a h = cc
+
+-- ---- tables
+
+-- types, told apart
+abbrev pub column_types : Telling ColType
+column_types = record { are_same = sameb col_type.the_type; same_is = same_true col_type.the_type tt }
+
+-- name and type of a column that takes nulls
+abbrev pub as_definition : Column → Option (List ℕ × ColType)
+as_definition x = given_if (not x.not_null) (x.name, x.kind)
+
+pub definition_law : (b : Column) (a : List ℕ × ColType) → as_definition b ≡ Some a → b ≡ g.column_of a
+definition_law b a h =
+    let k = given_was (not b.not_null) (b.name, b.kind) a h in
+    ap (λ z. record { name = b.name; kind = b.kind; not_null = z }) (takes_nulls b.not_null k.0) ∙ ap g.column_of k.1
+  where
+    takes_nulls : (x : Bool) → not x ≡ true → x ≡ false
+    takes_nulls true h = cc
+    takes_nulls false h = refl
+
+-- name, columns
+abbrev pub as_table : Statement → Option (List ℕ × List Column)
+as_table (st.CreateTable x) = Some (x.name, x.columns)
+as_table _ = None
+
+pub table_law : (b : Statement) (a : List ℕ × List Column) → as_table b ≡ Some a → b ≡ g.table_of a
+table_law (st.CreateTable x) a h = ap g.table_of (some_is (x.name, x.columns) a h)
+table_law _ a h = cc
+
+-- the table whose row security is enabled
+abbrev pub as_enabling : Statement → Option (List ℕ)
+as_enabling (st.AlterTable x) = Some x.table
+as_enabling _ = None
+
+is_enabling : (x : RowSecurity) → x ≡ change.Enable
+is_enabling change.Enable = refl
+
+pub enabling_law : (b : Statement) (a : List ℕ) → as_enabling b ≡ Some a → b ≡ g.enabling a
+enabling_law (st.AlterTable x) a h = ap (λ z. st.AlterTable record { table = x.table; change = z }) (is_enabling x.change) ∙ ap g.enabling (some_is x.table a h)
+enabling_law _ a h = cc
+
+-- ---- policies
+
+-- PUBLIC
+abbrev pub as_public : Grantee → Option (Unit {0})
+as_public to.Public = Some tt
+as_public _ = None
+
+pub public_law : (b : Grantee) (a : Unit {0}) → as_public b ≡ Some a → b ≡ to.Public
+public_law to.Public a h = refl
+public_law _ a h = cc
+
+-- a role that is a grantee
+abbrev pub as_grantee : Grantee → Option (List ℕ)
+as_grantee (to.Role x) = Some x
+as_grantee _ = None
+
+pub grantee_law : (b : Grantee) (a : List ℕ) → as_grantee b ≡ Some a → b ≡ to.Role a
+grantee_law (to.Role x) a h = ap to.Role (some_is x a h)
+grantee_law _ a h = cc
+
+-- TO is always written
+abbrev pub as_for : List Grantee → Option (Option (List Grantee))
+as_for all = Some (Some all)
+
+pub grantees_law : (b : List Grantee) (a : Option (List Grantee)) → as_for b ≡ Some a → b ≡ g.or_public a
+grantees_law b a h = ap g.or_public (some_is (Some b) a h)
+
+-- for all commands
+abbrev pub is_all : PolicyKind → Bool
+is_all kind.All = true
+is_all _ = false
+
+all_is : (x : PolicyKind) → is_all x ≡ true → x ≡ kind.All
+all_is kind.All h = refl
+all_is _ h = cc
+
+-- name, table, grantees, USING, WITH CHECK, of a policy that is permissive and for all commands
+abbrev pub as_policy : Statement → Option (List ℕ × (List ℕ × (List Grantee × (Option Term × Option Term))))
+as_policy (st.CreatePolicy x) =
+    given_if (x.policy.permissive && is_all x.policy.kind) (x.policy.name, (x.table, (x.policy.to, (x.policy.using, x.policy.check))))
+as_policy _ = None
+
+policy_back : (name table : List ℕ) (permissive : Bool) (commands : PolicyKind) (grantees : List Grantee) (using check : Option Term)
+    → (permissive && is_all commands) ≡ true
+    → st.CreatePolicy record { table = table; policy = record { name = name; permissive = permissive; kind = commands; to = grantees; using = using; check = check } }
+    ≡ g.policy_of (name, (table, (grantees, (using, check))))
+policy_back name table permissive commands grantees using check h =
+    let k = both_true permissive (is_all commands) h in
+    rw (k.0, all_is commands k.1) refl
+
+pub policy_law : (b : Statement) (a : List ℕ × (List ℕ × (List Grantee × (Option Term × Option Term)))) → as_policy b ≡ Some a → b ≡ g.policy_of a
+policy_law (st.CreatePolicy x) a h =
+    let y = x.policy in
+    let k = given_was (y.permissive && is_all y.kind) (y.name, (x.table, (y.to, (y.using, y.check)))) a h in
+    policy_back y.name x.table y.permissive y.kind y.to y.using y.check k.0 ∙ ap g.policy_of k.1
+policy_law _ a h = cc
+
+-- ---- GRANT
+
+-- privileges, told apart
+abbrev pub privilege_names : Telling Privilege
+privilege_names = record { are_same = sameb privilege.the_type; same_is = same_true privilege.the_type tt }
+
+-- the four
+abbrev pub are_all : Privileges → Bool
+are_all b = b.select && (b.insert && (b.update && b.delete))
+
+-- all four, without PRIVILEGES
+abbrev pub as_all_privileges : Privileges → Option (Unit {0} × Option (Unit {0}))
+as_all_privileges b = given_if (are_all b) (tt, None)
+
+all_back : (s i u d : Bool) → are_all record { select = s; insert = i; update = u; delete = d } ≡ true → record { select = s; insert = i; update = u; delete = d } ≡ g.all_privileges
+all_back true true true true h = refl
+all_back false i u d h = cc
+all_back true false u d h = cc
+all_back true true false d h = cc
+all_back true true true false h = cc
+
+pub all_privileges_law : (b : Privileges) (a : Unit {0} × Option (Unit {0})) → as_all_privileges b ≡ Some a → b ≡ g.all_privileges
+all_privileges_law b a h = all_back b.select b.insert b.update b.delete (given_was (are_all b) (tt, None) a h).0
+
+-- the privilege, if it is there
+abbrev pub where_there : Bool → Privilege → List Privilege
+where_there true x = x ∷ []
+where_there false x = []
+
+-- those that are there, in the order SELECT, INSERT, UPDATE, DELETE
+abbrev pub as_privileges : Privileges → Option (Privilege × List Privilege)
+as_privileges b = as_list (where_there b.select p.Select ++ where_there b.insert p.Insert ++ where_there b.update p.Update ++ where_there b.delete p.Delete)
+
+-- this one, and the others
+abbrev pub are_privileges : Privileges → Option (Privilege × List Privilege) → Type 0
+are_privileges b None = Unit {0}
+are_privileges b (Some a) = b ≡ g.privileges_of a
+
+privileges_back : (s i u d : Bool) → are_privileges record { select = s; insert = i; update = u; delete = d } (as_privileges record { select = s; insert = i; update = u; delete = d })
+unfolding g.with_privilege
+privileges_back true true true true = refl
+privileges_back true true true false = refl
+privileges_back true true false true = refl
+privileges_back true true false false = refl
+privileges_back true false true true = refl
+privileges_back true false true false = refl
+privileges_back true false false true = refl
+privileges_back true false false false = refl
+privileges_back false true true true = refl
+privileges_back false true true false = refl
+privileges_back false true false true = refl
+privileges_back false true false false = refl
+privileges_back false false true true = refl
+privileges_back false false true false = refl
+privileges_back false false false true = refl
+privileges_back false false false false = tt
+
+pub privileges_law : (b : Privileges) (a : Privilege × List Privilege) → as_privileges b ≡ Some a → b ≡ g.privileges_of a
+privileges_law b a h = subst (are_privileges b) h (privileges_back b.select b.insert b.update b.delete)
+
+-- privileges, table, grantees
+abbrev pub as_grant : Statement → Option (Privileges × (List ℕ × List Grantee))
+as_grant (st.Grant x) = Some (x.privileges, (x.table, x.to))
+as_grant _ = None
+
+pub grant_law : (b : Statement) (a : Privileges × (List ℕ × List Grantee)) → as_grant b ≡ Some a → b ≡ g.grant_of a
+grant_law (st.Grant x) a h = ap g.grant_of (some_is (x.privileges, (x.table, x.to)) a h)
+grant_law _ a h = cc
+
+-- ---- memberships
+
+abbrev pub option_names : Telling MembershipOption
+option_names = record { are_same = sameb option.the_type; same_is = same_true option.the_type tt }
+
+abbrev pub flags : Telling Bool
+flags = record { are_same = same_flag; same_is = same_flag_is }
+
+-- the option, if it is written
+abbrev pub setting_if : MembershipOption → Option Bool → List g.Setting
+setting_if x None = []
+setting_if x (Some flag) = (x, flag) ∷ []
+
+-- those that are written, in the order ADMIN, INHERIT, SET
+abbrev pub as_options : MembershipOptions → Option (List g.Setting)
+as_options b = if_any (setting_if m.Admin b.admin ++ setting_if m.Inherit b.inherit ++ setting_if m.Set b.set)
+
+options_back : (x y z : Option Bool) → record { admin = x; inherit = y; set = z } ≡ g.options_from (as_options record { admin = x; inherit = y; set = z })
+options_back None None None = refl
+options_back None None (Some z) = refl
+options_back None (Some y) None = refl
+options_back None (Some y) (Some z) = refl
+options_back (Some x) None None = refl
+options_back (Some x) None (Some z) = refl
+options_back (Some x) (Some y) None = refl
+options_back (Some x) (Some y) (Some z) = refl
+
+-- WITH and those that are written
+abbrev pub as_with : MembershipOptions → Option (Option (List g.Setting))
+as_with b = Some (as_options b)
+
+pub options_law : (b : MembershipOptions) (a : Option (List g.Setting)) → as_with b ≡ Some a → b ≡ g.options_from a
+options_law b a h = options_back b.admin b.inherit b.set ∙ ap g.options_from (some_is (as_options b) a h)
+
+-- roles, members, options
+abbrev pub as_granting : Statement → Option (List (List ℕ) × (List (List ℕ) × MembershipOptions))
+as_granting (st.GrantRoles x) = Some (x.roles, (x.to, x.options))
+as_granting _ = None
+
+pub granting_law : (b : Statement) (a : List (List ℕ) × (List (List ℕ) × MembershipOptions)) → as_granting b ≡ Some a → b ≡ g.granting_of a
+granting_law (st.GrantRoles x) a h = ap g.granting_of (some_is (x.roles, (x.to, x.options)) a h)
+granting_law _ a h = cc
+
+-- the parts, where there is no option
+abbrev pub without_option : {A : Type 0} → Option MembershipOption → A → Option A
+without_option None r = Some r
+without_option (Some x) r = None
+
+-- the option and the parts, where there is one
+abbrev pub beside_option : {A : Type 0} → Option MembershipOption → A → Option (MembershipOption × A)
+beside_option None r = None
+beside_option (Some x) r = Some (x, r)
+
+-- roles, members
+abbrev pub as_revoking : Statement → Option (List (List ℕ) × List (List ℕ))
+as_revoking (st.RevokeRoles x) = without_option x.option (x.roles, x.from)
+as_revoking _ = None
+
+revoking_back : (o : Option MembershipOption) (roles from : List (List ℕ)) (a : List (List ℕ) × List (List ℕ)) → without_option o (roles, from) ≡ Some a → st.RevokeRoles record { option = o; roles = roles; from = from } ≡ g.revoking_of a
+revoking_back None roles from a h = ap g.revoking_of (some_is (roles, from) a h)
+revoking_back (Some x) roles from a h = cc
+
+pub revoking_law : (b : Statement) (a : List (List ℕ) × List (List ℕ)) → as_revoking b ≡ Some a → b ≡ g.revoking_of a
+revoking_law (st.RevokeRoles x) a h = revoking_back x.option x.roles x.from a h
+revoking_law _ a h = cc
+
+-- the option, roles, members
+abbrev pub as_option_revoking : Statement → Option (MembershipOption × (List (List ℕ) × List (List ℕ)))
+as_option_revoking (st.RevokeRoles x) = beside_option x.option (x.roles, x.from)
+as_option_revoking _ = None
+
+option_revoking_back : (o : Option MembershipOption) (roles from : List (List ℕ)) (a : MembershipOption × (List (List ℕ) × List (List ℕ))) → beside_option o (roles, from) ≡ Some a
+    → st.RevokeRoles record { option = o; roles = roles; from = from } ≡ g.option_revoking_of a
+option_revoking_back None roles from a h = cc
+option_revoking_back (Some x) roles from a h = ap g.option_revoking_of (some_is (x, (roles, from)) a h)
+
+pub option_revoking_law : (b : Statement) (a : MembershipOption × (List (List ℕ) × List (List ℕ))) → as_option_revoking b ≡ Some a → b ≡ g.option_revoking_of a
+option_revoking_law (st.RevokeRoles x) a h = option_revoking_back x.option x.roles x.from a h
+option_revoking_law _ a h = cc
+
+-- ---- SET ROLE
+
+-- the login, by NONE
+abbrev pub as_no_role : SetRole → Option (Unit {0})
+as_no_role sr.None = Some tt
+as_no_role _ = None
+
+pub no_role_law : (b : SetRole) (a : Unit {0}) → as_no_role b ≡ Some a → b ≡ sr.None
+no_role_law sr.None a h = refl
+no_role_law _ a h = cc
+
+-- the role's name
+abbrev pub as_chosen : SetRole → Option (List ℕ)
+as_chosen (sr.To x) = Some x
+as_chosen _ = None
+
+pub chosen_law : (b : SetRole) (a : List ℕ) → as_chosen b ≡ Some a → b ≡ sr.To a
+chosen_law (sr.To x) a h = ap sr.To (some_is x a h)
+chosen_law _ a h = cc
+
+-- the login, by RESET
+abbrev pub as_reset : SetRole → Option (Unit {0})
+as_reset sr.Reset = Some tt
+as_reset _ = None
+
+pub reset_law : (b : SetRole) (a : Unit {0}) → as_reset b ≡ Some a → b ≡ sr.Reset
+reset_law sr.Reset a h = refl
+reset_law _ a h = cc
+
+-- which role is set
+abbrev pub as_set_role : Statement → Option SetRole
+as_set_role (st.SetRole x) = Some x
+as_set_role _ = None
+
+pub set_role_law : (b : Statement) (a : SetRole) → as_set_role b ≡ Some a → b ≡ st.SetRole a
+set_role_law (st.SetRole x) a h = ap st.SetRole (some_is x a h)
+set_role_law _ a h = cc

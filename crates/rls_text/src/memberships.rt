@@ -1,0 +1,377 @@
+//! GRANT and REVOKE of roles, and SET ROLE, from tokens.
+
+ghost use Rattle.std.specs.Prelude.{◌≡◌, [], ◌∷◌, length, codes};
+ghost use Rattle.rls_text.specs.Gives.{Gives, with_front, or_no_items};
+ghost use Rattle.rls_text.specs.Parses.{read_many};
+ghost use Rattle.rls_text.specs.Heads.{Sign, Keyword};
+ghost use Rattle.rls_text.specs.Lang.{put_in};
+ghost use Rattle.rls_text.specs.Rule.{with_comma};
+ghost use Rattle.rls_text.specs.Ahead as ahead;
+ghost use Rattle.rls_text.specs.Grammar as g;
+ghost use Rattle.rls_text.specs.Values as values;
+
+use crate::fault::Fault;
+use crate::reading::{name, past_symbol, past_word, sees_symbol, sees_word, word};
+use crate::token::{Symbol, Token};
+use rls_statement::{
+    GrantRoles, MembershipOption, MembershipOptions, RevokeRoles, SetRole, Statement,
+};
+use rls_value::{Items, Name};
+use std::alloc::Global;
+
+#[tactic(auto, unfolding(crate::specs::Grammar::granted_roles))]
+pub fn granted_roles(alloc: Global, tokens: &[Token]) -> Result<(Statement, &[Token]), Fault>
+    ensures { Gives result (g.granted_roles.parses.read tokens.now) }
+{
+    let (roles, rest) = names(alloc, tokens)?;
+    let rest = past_word(rest, b"to")?;
+    let (to, rest) = names(alloc, rest)?;
+    let (options, rest) = options(alloc, rest)?;
+    let grant = GrantRoles { roles, to, options };
+    Ok((Statement::GrantRoles(grant), rest))
+}
+
+#[tactic(auto, unfolding(crate::specs::Grammar::revoke))]
+pub fn revoke(alloc: Global, tokens: &[Token]) -> Result<(Statement, &[Token]), Fault>
+    ensures { Gives result (g.revoke.parses.read tokens.now) }
+{
+    let rest = past_word(tokens, b"revoke")?;
+    if option_second(rest) {
+        revoked_option(alloc, rest)
+    } else {
+        revoked_roles(alloc, rest)
+    }
+}
+
+/// Whether the second word is OPTION: no list of roles has it there.
+fn option_second(tokens: &[Token]) -> bool
+    ensures { result ≡ ahead.second_is (Keyword (codes "option") ∷ []) tokens.now }
+{
+    match tokens {
+        [_, rest @ ..] => sees_word(rest, b"option"),
+        [] => false,
+    }
+}
+
+#[tactic(auto, unfolding(crate::specs::Grammar::revoked_option))]
+fn revoked_option(alloc: Global, tokens: &[Token]) -> Result<(Statement, &[Token]), Fault>
+    ensures { Gives result (g.revoked_option.parses.read tokens.now) }
+{
+    let (option, rest) = option_for(tokens)?;
+    let ((roles, from), rest) = roles_from(alloc, rest)?;
+    let revoke = RevokeRoles {
+        option: Some(option),
+        roles,
+        from,
+    };
+    Ok((Statement::RevokeRoles(revoke), rest))
+}
+
+#[tactic(auto, unfolding(crate::specs::Grammar::revoked_roles))]
+fn revoked_roles(alloc: Global, tokens: &[Token]) -> Result<(Statement, &[Token]), Fault>
+    ensures { Gives result (g.revoked_roles.parses.read tokens.now) }
+{
+    let ((roles, from), rest) = roles_from(alloc, tokens)?;
+    let revoke = RevokeRoles {
+        option: None,
+        roles,
+        from,
+    };
+    Ok((Statement::RevokeRoles(revoke), rest))
+}
+
+#[tactic(auto, unfolding(crate::specs::Grammar::option_for))]
+fn option_for(tokens: &[Token]) -> Result<(MembershipOption, &[Token]), Fault>
+    ensures { Gives result (g.option_for.parses.read tokens.now) }
+{
+    let (option, rest) = option(tokens)?;
+    let rest = past_word(rest, b"option")?;
+    let rest = past_word(rest, b"for")?;
+    Ok((option, rest))
+}
+
+#[tactic(auto, unfolding(crate::specs::Grammar::roles_from))]
+fn roles_from(
+    alloc: Global,
+    tokens: &[Token],
+) -> Result<((Items<Name>, Items<Name>), &[Token]), Fault>
+    ensures { Gives result (g.roles_from.parses.read tokens.now) }
+{
+    let (roles, rest) = names(alloc, tokens)?;
+    let rest = past_word(rest, b"from")?;
+    let (from, rest) = members(alloc, rest)?;
+    Ok(((roles, from), rest))
+}
+
+/// The members, and CASCADE or RESTRICT, which have no effect on memberships.
+#[tactic(auto, unfolding(crate::specs::Grammar::members, crate::specs::Grammar::how))]
+fn members(alloc: Global, tokens: &[Token]) -> Result<(Items<Name>, &[Token]), Fault>
+    ensures { Gives result (g.members.parses.read tokens.now) }
+{
+    let (members, rest) = names(alloc, tokens)?;
+    if let Some(rest) = word(rest, b"cascade") {
+        Ok((members, rest))
+    } else if let Some(rest) = word(rest, b"restrict") {
+        Ok((members, rest))
+    } else {
+        Ok((members, rest))
+    }
+}
+
+#[tactic(auto, unfolding(crate::specs::Grammar::set_role))]
+pub fn set_role(alloc: Global, tokens: &[Token]) -> Result<(Statement, &[Token]), Fault>
+    ensures { Gives result (g.set_role.parses.read tokens.now) }
+{
+    let (role, rest) = role_change(alloc, tokens)?;
+    Ok((Statement::SetRole(role), rest))
+}
+
+#[tactic(auto, unfolding(crate::specs::Grammar::role_change))]
+fn role_change(alloc: Global, tokens: &[Token]) -> Result<(SetRole, &[Token]), Fault>
+    ensures { Gives result (g.role_change.parses.read tokens.now) }
+{
+    if sees_word(tokens, b"set") {
+        role_set(alloc, tokens)
+    } else {
+        role_reset(tokens)
+    }
+}
+
+#[tactic(auto, unfolding(crate::specs::Grammar::role_set))]
+fn role_set(alloc: Global, tokens: &[Token]) -> Result<(SetRole, &[Token]), Fault>
+    ensures { Gives result (g.role_set.parses.read tokens.now) }
+{
+    let rest = past_word(tokens, b"set")?;
+    let rest = past_word(rest, b"role")?;
+    chosen_role(alloc, rest)
+}
+
+#[tactic(auto, unfolding(crate::specs::Grammar::role_reset))]
+fn role_reset(tokens: &[Token]) -> Result<(SetRole, &[Token]), Fault>
+    ensures { Gives result (g.role_reset.parses.read tokens.now) }
+{
+    let rest = past_word(tokens, b"reset")?;
+    let rest = past_word(rest, b"role")?;
+    Ok((SetRole::Reset, rest))
+}
+
+#[tactic(auto, unfolding(crate::specs::Grammar::chosen_role))]
+fn chosen_role(alloc: Global, tokens: &[Token]) -> Result<(SetRole, &[Token]), Fault>
+    ensures { Gives result (g.chosen_role.parses.read tokens.now) }
+{
+    if let Some(rest) = word(tokens, b"none") {
+        Ok((SetRole::None, rest))
+    } else {
+        let (role, rest) = name(alloc, tokens)?;
+        Ok((SetRole::To(role), rest))
+    }
+}
+
+#[tactic(auto, unfolding(crate::specs::Grammar::names, crate::specs::Gives::with_front))]
+fn names(alloc: Global, tokens: &[Token]) -> Result<(Items<Name>, &[Token]), Fault>
+    ensures { Gives result (g.names.parses.read tokens.now) }
+{
+    let (first, rest) = name(alloc, tokens)?;
+    let mut all = Items::new(alloc);
+    all.push(first)?;
+    more_names(alloc, all, rest)
+}
+
+#[tactic(auto, using(crate::proofs::Loops::front_begins, crate::proofs::Loops::loop_stops, crate::proofs::Loops::loop_ends, crate::proofs::Loops::loop_fails, crate::proofs::Loops::loop_goes_on))]
+fn more_names(
+    alloc: Global,
+    first: Items<Name>,
+    tokens: &[Token],
+) -> Result<(Items<Name>, &[Token]), Fault>
+    ensures { Gives result (with_front first (read_many (Sign Symbol.Comma ∷ []) (with_comma g.name).parses.read (length tokens.now) tokens.now)) }
+{
+    let mut all = first;
+    let mut rest = tokens;
+    for _turn in 0..tokens.len() {
+        if !sees_symbol(rest, Symbol::Comma) {
+            return Ok((all, rest));
+        }
+        let (next, behind) = next_name(alloc, rest)?;
+        all.push(next)?;
+        rest = behind;
+    }
+    Ok((all, rest))
+}
+
+#[tactic(auto, unfolding(crate::specs::Rule::with_comma))]
+fn next_name(alloc: Global, tokens: &[Token]) -> Result<(Name, &[Token]), Fault>
+    ensures { Gives result ((with_comma g.name).parses.read tokens.now) }
+{
+    let rest = past_symbol(tokens, Symbol::Comma)?;
+    name(alloc, rest)
+}
+
+/// The options behind WITH, each once at most.
+#[tactic(auto, unfolding(crate::specs::Grammar::options, crate::specs::Gives::or_no_items))]
+fn options(alloc: Global, tokens: &[Token]) -> Result<(MembershipOptions, &[Token]), Fault>
+    ensures { Gives result (g.options.parses.read tokens.now) }
+{
+    let (written, rest) = settings_if_any(alloc, tokens)?;
+    Ok((gathered(written.as_slice()), rest))
+}
+
+#[tactic(auto, unfolding(crate::specs::Grammar::settings_if_any, crate::specs::Gives::or_no_items))]
+fn settings_if_any(
+    alloc: Global,
+    tokens: &[Token],
+) -> Result<(Items<(MembershipOption, bool)>, &[Token]), Fault>
+    ensures { Gives result (or_no_items (g.settings_if_any.parses.read tokens.now)) }
+{
+    if let Some(rest) = word(tokens, b"with") {
+        settings(alloc, rest)
+    } else {
+        Ok((Items::new(alloc), tokens))
+    }
+}
+
+#[tactic(auto, unfolding(crate::specs::Grammar::settings))]
+fn settings(
+    alloc: Global,
+    tokens: &[Token],
+) -> Result<(Items<(MembershipOption, bool)>, &[Token]), Fault>
+    ensures { Gives result (g.settings.parses.read tokens.now) }
+{
+    let (all, rest) = all_settings(alloc, tokens)?;
+    if set_once(all.as_slice()) {
+        Ok((all, rest))
+    } else {
+        Err(Fault::Syntax)
+    }
+}
+
+#[tactic(auto, unfolding(crate::specs::Grammar::all_settings, crate::specs::Gives::with_front))]
+fn all_settings(
+    alloc: Global,
+    tokens: &[Token],
+) -> Result<(Items<(MembershipOption, bool)>, &[Token]), Fault>
+    ensures { Gives result (g.all_settings.parses.read tokens.now) }
+{
+    let (first, rest) = setting(tokens)?;
+    let mut all = Items::new(alloc);
+    all.push(first)?;
+    more_settings(all, rest)
+}
+
+#[tactic(auto, using(crate::proofs::Loops::front_begins, crate::proofs::Loops::loop_stops, crate::proofs::Loops::loop_ends, crate::proofs::Loops::loop_fails, crate::proofs::Loops::loop_goes_on))]
+fn more_settings(
+    first: Items<(MembershipOption, bool)>,
+    tokens: &[Token],
+) -> Result<(Items<(MembershipOption, bool)>, &[Token]), Fault>
+    ensures { Gives result (with_front first (read_many (Sign Symbol.Comma ∷ []) (with_comma g.setting).parses.read (length tokens.now) tokens.now)) }
+{
+    let mut all = first;
+    let mut rest = tokens;
+    for _turn in 0..tokens.len() {
+        if !sees_symbol(rest, Symbol::Comma) {
+            return Ok((all, rest));
+        }
+        let (next, behind) = next_setting(rest)?;
+        all.push(next)?;
+        rest = behind;
+    }
+    Ok((all, rest))
+}
+
+#[tactic(auto, unfolding(crate::specs::Rule::with_comma))]
+fn next_setting(tokens: &[Token]) -> Result<((MembershipOption, bool), &[Token]), Fault>
+    ensures { Gives result ((with_comma g.setting).parses.read tokens.now) }
+{
+    let rest = past_symbol(tokens, Symbol::Comma)?;
+    setting(rest)
+}
+
+#[tactic(auto, unfolding(crate::specs::Grammar::setting))]
+fn setting(tokens: &[Token]) -> Result<((MembershipOption, bool), &[Token]), Fault>
+    ensures { Gives result (g.setting.parses.read tokens.now) }
+{
+    let (option, rest) = option(tokens)?;
+    let (flag, rest) = flag(rest)?;
+    Ok(((option, flag), rest))
+}
+
+#[tactic(auto, unfolding(crate::specs::Grammar::option))]
+fn option(tokens: &[Token]) -> Result<(MembershipOption, &[Token]), Fault>
+    ensures { Gives result (g.option.parses.read tokens.now) }
+{
+    if let Some(rest) = word(tokens, b"admin") {
+        Ok((MembershipOption::Admin, rest))
+    } else if let Some(rest) = word(tokens, b"inherit") {
+        Ok((MembershipOption::Inherit, rest))
+    } else if let Some(rest) = word(tokens, b"set") {
+        Ok((MembershipOption::Set, rest))
+    } else {
+        Err(Fault::Syntax)
+    }
+}
+
+/// OPTION is TRUE.
+#[tactic(auto, unfolding(crate::specs::Grammar::flag))]
+fn flag(tokens: &[Token]) -> Result<(bool, &[Token]), Fault>
+    ensures { Gives result (g.flag.parses.read tokens.now) }
+{
+    if let Some(rest) = word(tokens, b"true") {
+        Ok((true, rest))
+    } else if let Some(rest) = word(tokens, b"option") {
+        Ok((true, rest))
+    } else if let Some(rest) = word(tokens, b"false") {
+        Ok((false, rest))
+    } else {
+        Err(Fault::Syntax)
+    }
+}
+
+fn set_once(mut settings: &[(MembershipOption, bool)]) -> bool
+    ensures { result ≡ values.set_once settings.entry.now }
+{
+    while let [first, rest @ ..] = settings {
+        if !lacks_option(first.0, rest) {
+            return false;
+        }
+        settings = rest;
+    }
+    true
+}
+
+fn lacks_option(option: MembershipOption, mut others: &[(MembershipOption, bool)]) -> bool
+    ensures { result ≡ values.lacks_option option others.entry.now }
+{
+    while let [other, rest @ ..] = others {
+        if option == other.0 {
+            return false;
+        }
+        others = rest;
+    }
+    true
+}
+
+fn gathered(mut written: &[(MembershipOption, bool)]) -> MembershipOptions
+    ensures { result ≡ put_in values.with_setting values.no_options written.entry.now }
+{
+    let mut options = MembershipOptions {
+        admin: None,
+        inherit: None,
+        set: None,
+    };
+    while let [first, rest @ ..] = written {
+        options = with_setting(options, *first);
+        written = rest;
+    }
+    options
+}
+
+fn with_setting(options: MembershipOptions, setting: (MembershipOption, bool)) -> MembershipOptions
+    ensures { result ≡ values.with_setting options setting }
+{
+    let mut options = options;
+    match setting {
+        (MembershipOption::Admin, flag) => options.admin = Some(flag),
+        (MembershipOption::Inherit, flag) => options.inherit = Some(flag),
+        (MembershipOption::Set, flag) => options.set = Some(flag),
+    }
+    options
+}
