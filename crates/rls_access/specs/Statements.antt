@@ -20,12 +20,10 @@ use Rattle.rls_guard.specs.Effects.{shown}
 use Rattle.rls_ddl.specs.CreatingRoles.{create_role}
 use Rattle.rls_ddl.specs.AlteringRoles.{alter_role}
 use Rattle.rls_ddl.specs.SettingRoles.{set_role}
-use Rattle.rls_ddl.specs.GrantingRoles.{grant_roles}
-use Rattle.rls_ddl.specs.RevokingRoles.{revoke_roles}
 use Rattle.rls_ddl.specs.CreatingTables.{create_table}
 use Rattle.rls_ddl.specs.AlteringTables.{alter_table}
 use Rattle.rls_ddl.specs.CreatingPolicies.{create_policy}
-use Rattle.rls_ddl.specs.Granting.{grant}
+use Rattle.rls_ddl.specs.Granting.{grant, grant_roles, revoke, revoke_roles}
 use Rattle.rls_dml.specs.Inserting.{insert}
 use Rattle.rls_dml.specs.Selecting.{select}
 
@@ -46,6 +44,7 @@ done_by ctx (statement.AlterTable asked) = alter_table ctx asked
 done_by ctx (statement.CreatePolicy asked) = create_policy ctx asked
 done_by ctx (statement.Grant asked) = grant ctx asked
 done_by ctx (statement.GrantRoles asked) = grant_roles ctx asked
+done_by ctx (statement.Revoke asked) = revoke ctx asked
 done_by ctx (statement.RevokeRoles asked) = revoke_roles ctx asked
 done_by ctx (statement.SetRole asked) = set_role ctx asked
 done_by ctx (statement.Insert asked) = insert ctx asked

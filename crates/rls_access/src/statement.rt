@@ -11,7 +11,7 @@ ghost use Rattle.rls_access.specs.Statements.{effect_in, step, mode_or_refused};
 use crate::outcome::Outcome;
 use rls_ddl::{
     run_alter_role, run_alter_table, run_create_policy, run_create_role, run_create_table,
-    run_grant, run_grant_roles, run_revoke_roles, run_set_role,
+    run_grant, run_grant_roles, run_revoke, run_revoke_roles, run_set_role,
 };
 use rls_dml::{run_insert, run_select};
 use rls_guard::{Ctx, Effect, Mode};
@@ -130,6 +130,7 @@ fn done_by<'c, S: RowSource<'c>>(
         Statement::CreatePolicy(create) => run_create_policy(alloc, source, notes, ctx, create),
         Statement::Grant(grant) => run_grant(alloc, source, notes, ctx, grant),
         Statement::GrantRoles(grant) => run_grant_roles(alloc, source, notes, ctx, grant),
+        Statement::Revoke(revoke) => run_revoke(alloc, source, notes, ctx, revoke),
         Statement::RevokeRoles(revoke) => run_revoke_roles(alloc, source, notes, ctx, revoke),
         Statement::SetRole(set) => run_set_role(alloc, source, notes, ctx, set),
         Statement::Insert(insert) => run_insert(alloc, source, notes, ctx, insert),

@@ -8,7 +8,8 @@ use Rattle.rls_statement.specs.declared.statement.AlterRole.{AlterRole}
 use Rattle.rls_guard.specs.declared.context.Ctx.{Ctx}
 use Rattle.rls_guard.specs.declared.effect.Effect.{Effect}
 use Rattle.rls_source.specs.Askings.{Asking, known, followed_by}
-use Rattle.rls_guard.specs.Checks.{role_or_undefined, superuser_or_denied}
+use Rattle.rls_source.specs.Named.{role_or_undefined}
+use Rattle.rls_guard.specs.Checks.{superuser_or_denied}
 use Rattle.rls_guard.specs.Effects.{writes}
 
 -- the role with the attributes that are written

@@ -8,7 +8,7 @@ use Rattle.rls_statement.specs.declared.statement.AlterTable.{AlterTable}
 use Rattle.rls_guard.specs.declared.context.Ctx.{Ctx}
 use Rattle.rls_guard.specs.declared.effect.Effect.{Effect}
 use Rattle.rls_source.specs.Askings.{Asking, known, followed_by}
-use Rattle.rls_guard.specs.Checks.{table_or_undefined}
+use Rattle.rls_source.specs.Named.{table_or_undefined}
 use Rattle.rls_guard.specs.Standings.{ownership}
 use Rattle.rls_guard.specs.Effects.{writes}
 

@@ -19,9 +19,10 @@ use Rattle.rls_catalog.specs.State.{name_order}
 use Rattle.rls_statement.specs.declared.statement.CreatePolicy.{CreatePolicy}
 use Rattle.rls_guard.specs.declared.context.Ctx.{Ctx}
 use Rattle.rls_source.specs.Askings.{Asking, known, followed_by}
-use Rattle.rls_guard.specs.Sequences.{put_before}
+use Rattle.rls_source.specs.Sequences.{put_before}
 use Rattle.rls_source.specs.Asked.{asked_policies}
-use Rattle.rls_guard.specs.Checks.{table_or_undefined, grantees_or_undefined, known_or_undefined}
+use Rattle.rls_source.specs.Named.{table_or_undefined, grantees_or_undefined}
+use Rattle.rls_guard.specs.Checks.{known_or_undefined}
 use Rattle.rls_guard.specs.Standings.{ownership}
 use Rattle.rls_guard.specs.declared.effect.Effect.{Effect}
 use Rattle.rls_guard.specs.Effects.{writes}

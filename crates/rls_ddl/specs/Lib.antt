@@ -1,11 +1,7 @@
-pub mod Holders
-pub mod Granting
 pub mod CreatingRoles
-pub mod NamedRoles
 pub mod AlteringRoles
 pub mod SettingRoles
-pub mod GrantingRoles
-pub mod RevokingRoles
 pub mod CreatingTables
 pub mod AlteringTables
 pub mod CreatingPolicies
+pub mod Granting

@@ -18,7 +18,7 @@ use Rattle.rls_guard.specs.declared.effect.Effect.{Effect}
 use Rattle.rls_guard.specs.declared.effect.Effect.TheVariants as effect
 use Rattle.rls_guard.specs.declared.reply.Reply.TheVariants as reply
 use Rattle.rls_source.specs.Askings.{Asking, IsFramed, known, followed_by}
-use Rattle.rls_guard.specs.Checks.{role_or_undefined}
+use Rattle.rls_source.specs.Named.{role_or_undefined}
 
 -- ---- whether the login may set the role
 

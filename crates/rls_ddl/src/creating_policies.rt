@@ -13,8 +13,8 @@ ghost use Rattle.rls_ddl.specs.CreatingPolicies.{create_policy, policy_added, po
 
 use rls_catalog::Change;
 use rls_expr::{Expr, FromTable, Policy, Scope, check_condition};
-use rls_guard::{Ctx, Effect, known_term, require_ownership, require_roles, table_named};
-use rls_source::{Reads, RowSource, noted_policies};
+use rls_guard::{Ctx, Effect, known_term, require_ownership};
+use rls_source::{Reads, RowSource, noted_policies, require_grantees, table_named};
 use rls_statement::CreatePolicy;
 use rls_value::{DefinedKind, Items, Limit, Name, Refusal};
 use std::alloc::{AllocError, Global};
@@ -51,7 +51,7 @@ fn policy_on<'c, 'x, S: RowSource<'c>>(
 ) -> Result<Effect, Refusal>
     ensures { Answers S.state S.after (spec.policy_on role.now from.entry.name.now from.entry.table.now policy.now) source.old source.new notes.old notes.new result }
 {
-    require_roles(alloc, source, notes, policy.to.as_slice())?;
+    require_grantees(alloc, source, notes, policy.to.as_slice())?;
     require_names(alloc, policy, from)?;
     add_policy(alloc, source, notes, role, from, policy)
 }

@@ -6,16 +6,15 @@ ghost use Rattle.rls_guard.specs.Effects.{writes};
 ghost use Rattle.rls_ddl.specs.AlteringTables.{altered, alter_table};
 ghost use Rattle.rls_ddl.specs.CreatingTables as spec;
 ghost use Rattle.rls_ddl.specs.CreatingTables.{table_with};
-ghost use Rattle.rls_ddl.specs.Granting as granted;
-ghost use Rattle.rls_ddl.specs.Granting.{with_grants};
+ghost use Rattle.rls_grant.specs.Granting.{own_grants, with_grants};
 
-use crate::granting::{plain_grant, put_grants};
 use rls_catalog::{Change, Delta, Grant};
-use rls_expr::{Column, Grantee, TableDef};
-use rls_guard::{Ctx, Effect, require_ownership, table_named};
-use rls_source::{Reads, RowSource, noted_grants, noted_table};
+use rls_expr::{Column, TableDef};
+use rls_grant::{own_grants, put_grants};
+use rls_guard::{Ctx, Effect, require_ownership};
+use rls_source::{Reads, RowSource, noted_grants, noted_table, table_named};
 use rls_statement::{AlterTable, CreateTable, RowSecurity};
-use rls_value::{DefinedKind, Items, Name, Privilege, Refusal};
+use rls_value::{DefinedKind, Items, Name, Refusal};
 use std::alloc::{AllocError, Global};
 
 /// Adds a table, owned by the current role, which gets every privilege on it.
@@ -54,7 +53,7 @@ fn made(
     create: &CreateTable,
     grants: &[Grant],
 ) -> Result<Effect, AllocError>
-    ensures { IfOk result (λ effect. effect ≡ writes (Change.Table create.now.name (table_with owner.now create.now.columns) ∷ Change.Grants create.now.name (with_grants grants.now (spec.own_grants owner.now)) ∷ [])) }
+    ensures { IfOk result (λ effect. effect ≡ writes (Change.Table create.now.name (table_with owner.now create.now.columns) ∷ Change.Grants create.now.name (with_grants grants.now (own_grants owner.now)) ∷ [])) }
 {
     let mut delta = Delta::new(alloc);
     delta.push(table_change(alloc, owner, create)?)?;
@@ -78,13 +77,26 @@ fn grants_change(
     create: &CreateTable,
     grants: &[Grant],
 ) -> Result<Change, AllocError>
-    ensures { IfOk result (λ change. change ≡ Change.Grants create.now.name (with_grants grants.now (spec.own_grants owner.now))) }
+    ensures { IfOk result (λ change. change ≡ Change.Grants create.now.name (with_grants grants.now (own_grants owner.now))) }
 {
-    let grants = put_grants(Grant::copy_all(alloc, grants)?, own_grants(alloc, owner)?)?;
+    let grants = with_own(alloc, owner, grants)?;
     match create.name.copy() {
         Ok(name) => Ok(Change::Grants(name, grants)),
         Err(refused) => {
             drop(grants);
+            Err(refused)
+        }
+    }
+}
+
+fn with_own(alloc: Global, owner: &Name, grants: &[Grant]) -> Result<Items<Grant>, AllocError>
+    ensures { IfOk result (λ all. all ≡ with_grants grants.now (own_grants owner.now)) }
+{
+    let own = own_grants(alloc, owner)?;
+    match Grant::copy_all(alloc, grants) {
+        Ok(grants) => put_grants(alloc, grants, own),
+        Err(refused) => {
+            drop(own);
             Err(refused)
         }
     }
@@ -100,24 +112,6 @@ fn new_table(alloc: Global, owner: &Name, create: &CreateTable) -> Result<TableD
         columns: Column::copy_all(alloc, create.columns.as_slice())?,
         key: Items::new(alloc),
     })
-}
-
-/// The owner's own grants of the four privileges.
-fn own_grants(alloc: Global, owner: &Name) -> Result<Items<Grant>, AllocError>
-    ensures { IfOk result (λ grants. grants ≡ spec.own_grants owner.now) }
-{
-    let mut grants = Items::new(alloc);
-    grants.push(own_grant(Privilege::Select, owner)?)?;
-    grants.push(own_grant(Privilege::Insert, owner)?)?;
-    grants.push(own_grant(Privilege::Update, owner)?)?;
-    grants.push(own_grant(Privilege::Delete, owner)?)?;
-    Ok(grants)
-}
-
-fn own_grant(privilege: Privilege, owner: &Name) -> Result<Grant, AllocError>
-    ensures { IfOk result (λ grant. grant ≡ granted.plain_grant privilege (Grantee.Role owner.now) owner.now) }
-{
-    plain_grant(privilege, Grantee::Role(owner.copy()?), owner)
 }
 
 /// Turns row security on.

@@ -5,11 +5,10 @@ ghost use Rattle.rls_source.specs.Answering.{Answers, Tells};
 ghost use Rattle.rls_ddl.specs.SettingRoles as spec;
 ghost use Rattle.rls_ddl.specs.SettingRoles.{asked_may_set, role_set, sets};
 
-use crate::named_roles::role_named;
 use rls_catalog::Delta;
 use rls_guard::{Ctx, Effect, Reply};
 use rls_role::{Step, note_reach, reach_by};
-use rls_source::{Reads, RowSource};
+use rls_source::{Reads, RowSource, role_named};
 use rls_statement::SetRole;
 use rls_value::{Items, Name, Refusal, Why};
 use std::alloc::{AllocError, Global};

@@ -1,5 +1,5 @@
 -- Keys beside those that were seen before them.
-use Rattle.std.proofs.Common.{◌≡◌, ℕ, Bool, ◌||◌, not, true, false, List, [], ◌∷◌, length, take, drop, ◌-◌, ◌<◌, refl, arith, ap, sym, subst, ◌∙◌}
+use Rattle.std.proofs.Common.{◌≡◌, Bool, ◌||◌, not, true, false, List, [], ◌∷◌, length, take, drop, ◌-◌, ◌<◌, refl, arith, ap, sym, subst, ◌∙◌}
 use Rattle.std.specs.Borrow.{Bor}
 use Rattle.std.specs.List.{list_any}
 use Rattle.std.specs.Cmp.Lexicographic.{slice_cmp}

@@ -1,9 +1,8 @@
 -- What is sorted and has the same rows is the listing: a sorted list is determined by how often it has each element.
-use Rattle.std.proofs.Common.{◌≡◌, ℕ, suc, ◌+◌, Bool, true, false, cond, List, [], ◌∷◌, length, refl, arith, ap, sym, subst, ◌∙◌}
+use Rattle.std.proofs.Common.{◌≡◌, ℕ, suc, ◌+◌, Bool, true, false, cond, List, [], ◌∷◌, refl, arith, ap, sym, subst, ◌∙◌}
 use Rattle.std.specs.Prelude.{if◌then◌else◌, slice_index_or}
 use Rattle.std.specs.List.{sum_by}
 use Rattle.std.specs.List.Sorted.{IsSorted, IsPermutation}
-use Rattle.std.specs.Cmp.{IsTotalOrder}
 use Rattle.std.specs.Cmp.Lexicographic.{slice_cmp}
 use Rattle.std.specs.Ordering.{is_eq, is_lt, ordering_reverse}
 use Rattle.std.specs.declared.cmp.Ordering.{Ordering}

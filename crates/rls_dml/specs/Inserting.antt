@@ -1,12 +1,11 @@
 -- INSERT .. VALUES (PostgreSQL manual, INSERT, and 5.9): names, then types, then how many rows, then the privilege, then
 -- the ranges; then the rows are judged: row security, then NOT NULL, then the primary key.
-use Rattle.std.specs.Prelude.{ℕ, suc, ◌+◌, List, [], ◌∷◌, ◌++◌, Option, Some, None, Bool, true, false, not, ◌&&◌, ◌||◌, nat_le, Result, Ok, Err, length, if◌then◌else◌, map, filter}
+use Rattle.std.specs.Prelude.{ℕ, suc, ◌+◌, List, [], ◌∷◌, Some, None, Bool, true, false, not, ◌&&◌, ◌||◌, nat_le, Result, Ok, Err, length, if◌then◌else◌, map, filter}
 use Rattle.std.specs.List.{list_any, list_all}
 use Rattle.std.specs.Cmp.Lexicographic.{slice_cmp}
 use Rattle.std.specs.Ordering.{is_eq}
 use Rattle.rls_value.specs.declared.value.Value.{Value}
 use Rattle.rls_value.specs.declared.value.Value.TheVariants.{Null}
-use Rattle.rls_value.specs.declared.row.RowId.{RowId}
 use Rattle.rls_value.specs.declared.verb.Privilege.TheVariants as privilege
 use Rattle.rls_value.specs.declared.verb.Kind.{Kind}
 use Rattle.rls_value.specs.declared.verb.Kind.TheVariants as kind
@@ -34,9 +33,9 @@ use Rattle.rls_guard.specs.declared.guard.Guard.{Guard}
 use Rattle.rls_guard.specs.declared.reply.Decision.{Decision}
 use Rattle.rls_guard.specs.declared.reply.Reply.TheVariants.{Count}
 use Rattle.rls_source.specs.Askings.{Asking, known, followed_by, settled}
-use Rattle.rls_guard.specs.Sequences.{each_of, each_or_refused}
+use Rattle.rls_source.specs.Sequences.{each_of, each_or_refused}
 use Rattle.rls_source.specs.Asked.{asked_key}
-use Rattle.rls_guard.specs.Checks.{table_or_undefined}
+use Rattle.rls_source.specs.Named.{table_or_undefined}
 use Rattle.rls_guard.specs.Standings.{standing_of, privilege_or_denied}
 use Rattle.rls_guard.specs.Guards.{guard_for}
 use Rattle.rls_dml.specs.Listings.{decision_by}

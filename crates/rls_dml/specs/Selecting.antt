@@ -1,6 +1,6 @@
 -- SELECT (PostgreSQL manual, SELECT, and 5.9): names, then types, then the privilege; then the rows that row security
 -- shows and that WHERE holds of.
-use Rattle.std.specs.Prelude.{ℕ, List, [], ◌∷◌, Option, Some, None, Result, Ok, Err, map}
+use Rattle.std.specs.Prelude.{ℕ, List, [], ◌∷◌, Option, Some, None, Result, Ok, map}
 use Rattle.rls_value.specs.declared.refusal.Refusal.{Refusal}
 use Rattle.rls_value.specs.declared.verb.Privilege.TheVariants as privilege
 use Rattle.rls_value.specs.declared.verb.Kind.TheVariants as kind
@@ -18,12 +18,12 @@ use Rattle.rls_guard.specs.declared.standing.Standing.{Standing}
 use Rattle.rls_guard.specs.declared.guard.Guard.{Guard}
 use Rattle.rls_dml.specs.declared.selecting.Query.{Query}
 use Rattle.rls_source.specs.Askings.{Asking, known, followed_by}
-use Rattle.rls_guard.specs.Sequences.{each_of}
+use Rattle.rls_source.specs.Sequences.{each_of}
 use Rattle.rls_source.specs.Asked.{asked_rows}
-use Rattle.rls_guard.specs.Checks.{table_or_undefined}
+use Rattle.rls_source.specs.Named.{table_or_undefined}
 use Rattle.rls_guard.specs.Standings.{standing_of, privilege_or_denied}
 use Rattle.rls_guard.specs.Guards.{guard_for}
-use Rattle.rls_dml.specs.Listings.{hits, decision_on, listing}
+use Rattle.rls_dml.specs.Listings.{hits, decision_on, answered}
 use Rattle.rls_guard.specs.declared.effect.Effect.{Effect}
 use Rattle.rls_guard.specs.declared.effect.Effect.TheVariants as effect
 use Rattle.rls_guard.specs.declared.reply.Reply.TheVariants.{Rows}
@@ -32,10 +32,11 @@ use Rattle.rls_guard.specs.declared.reply.Reply.TheVariants.{Rows}
 abbrev pub item_of : List TableDef → Term → Result Term Refusal
 item_of tables item = and_then (checked item tables) (λ typed. Ok typed.expr)
 
--- `*` stands for the whole row
-abbrev pub selection_of : Selected → List TableDef → Result (Option (List Term)) Refusal
-selection_of selected.All tables = Ok None
-selection_of (selected.Items items) tables = and_then (each_of (item_of tables) items) (λ found. Ok (Some found))
+-- `*` and `count(*)` have nothing to check
+abbrev pub selection_of : Selected → List TableDef → Result Selected Refusal
+selection_of selected.All tables = Ok selected.All
+selection_of (selected.Items items) tables = and_then (each_of (item_of tables) items) (λ found. Ok (selected.Items found))
+selection_of selected.Count tables = Ok selected.Count
 
 -- the condition, if there is one
 abbrev pub where_of : Option Term → List TableDef → Result (Option Term) Refusal
@@ -47,9 +48,9 @@ abbrev pub query_of : Select → TableDef → Result Query Refusal
 query_of select table = and_then (selection_of select.items (table ∷ [])) (λ items.
     and_then (where_of select.condition (table ∷ [])) (λ condition. Ok (record { items = items; condition = condition })))
 
--- the rows that are allowed and meet the condition, and the decision on each row
+-- the answer from the rows that are allowed and meet the condition, and the decision on each row
 abbrev pub listed_by : Guard → Query → List ℕ → List Stored → Effect
-listed_by guard query role candidates = effect.Done (Rows (listing (hits guard query role candidates))) (map (decision_on guard role) candidates) [] None
+listed_by guard query role candidates = effect.Done (Rows (answered query.items role (hits guard query.condition role candidates))) (map (decision_on guard role) candidates) [] None
 
 -- the rows, where the role may read the table
 unfoldable pub listed_for : Standing → Guard → Query → List ℕ → List ℕ → Asking Effect

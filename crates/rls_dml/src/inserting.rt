@@ -3,7 +3,7 @@
 ghost use Rattle.std.specs.Prelude.{◌≡◌, ◌+◌, ◌≤◌, None, length, map, IfOk, OnOk};
 ghost use Rattle.rls_value.specs.Giving.{Gives};
 ghost use Rattle.rls_source.specs.Answering.{Answers, Tells};
-ghost use Rattle.rls_guard.specs.Sequences.{each_or_refused};
+ghost use Rattle.rls_source.specs.Sequences.{each_or_refused};
 ghost use Rattle.rls_dml.specs.Inserting as spec;
 ghost use Rattle.rls_dml.specs.Listings.{decision_by};
 
@@ -12,10 +12,9 @@ use crate::tuples::{check_tuples, require_range, require_values, rows_of};
 use rls_catalog::{Change, Delta, Keyed, RowChange, Side, Stored, Verdict};
 use rls_expr::{Column, Expr, FromTable};
 use rls_guard::{
-    Ctx, Decision, Effect, Guard, Judgement, Reply, Standing, guard_of, standing_of, table_named,
-    verdict_on,
+    Ctx, Decision, Effect, Guard, Judgement, Reply, Standing, guard_of, standing_of, verdict_on,
 };
-use rls_source::{Reads, RowSource};
+use rls_source::{Reads, RowSource, table_named};
 use rls_statement::Insert;
 use rls_value::{Items, Kind, Limit, Name, Privilege, Refusal, Row, RowId, Why};
 use std::alloc::{AllocError, Global};

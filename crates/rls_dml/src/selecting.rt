@@ -1,12 +1,11 @@
 //! SELECT.
 
-ghost use Rattle.std.specs.Prelude.{◌≡◌, ◌&&◌, [], None, map, IfOk};
+ghost use Rattle.std.specs.Prelude.{◌≡◌, ◌&&◌, [], ◌∷◌, None, map, IfOk};
 ghost use Rattle.rls_value.specs.Giving.{Gives};
 ghost use Rattle.rls_expr.specs.Scopes.{tables_in};
 ghost use Rattle.rls_source.specs.Answering.{Answers};
-ghost use Rattle.rls_guard.specs.Eval.{value_of, over};
 ghost use Rattle.rls_guard.specs.Guards as guards;
-ghost use Rattle.rls_guard.specs.Sequences.{each_of};
+ghost use Rattle.rls_source.specs.Sequences.{each_of};
 ghost use Rattle.rls_dml.specs.Listings as listings;
 ghost use Rattle.rls_dml.specs.Listings.{meets};
 ghost use Rattle.rls_dml.specs.Selecting as spec;
@@ -16,22 +15,22 @@ use crate::listing::listing_of;
 use rls_catalog::{Delta, Lent, Side, Verdict};
 use rls_expr::{Expr, FromTable, Scope, check, check_condition};
 use rls_guard::{
-    Ctx, Decision, Effect, Guard, Reply, Standing, allows, guard_of, standing_of, table_named,
-    truth_over, value_over, verdict_on,
+    Ctx, Decision, Effect, Guard, Reply, Standing, allows, guard_of, standing_of, truth_over,
+    value_over, verdict_on,
 };
-use rls_source::{Reads, RowSource, noted_scan};
+use rls_source::{Reads, RowSource, noted_scan, table_named};
 use rls_statement::{Select, Selected};
-use rls_value::{Items, Kind, Name, Privilege, Refusal, Row, RowId};
+use rls_value::{Items, Kind, Name, Privilege, Refusal, Row, RowId, Value};
 use std::alloc::{AllocError, Global};
 
-/// A SELECT whose names are resolved; no items stand for all columns, no condition for one that is true.
+/// A SELECT whose names are resolved; no condition stands for one that is true.
 #[derive(Drop)]
 pub struct Query {
-    pub items: Option<Items<Expr>>,
+    pub items: Selected,
     pub condition: Option<Expr>,
 }
 
-/// The rows that the role sees and that meet the condition, in listing order.
+/// The rows that the role sees and that meet the condition, in listing order, or how many they are.
 pub fn run_select<'c, S: RowSource<'c>>(
     alloc: Global,
     source: &mut S,
@@ -128,19 +127,16 @@ fn check_query(alloc: Global, select: &Select, from: FromTable) -> Result<Query,
     Ok(Query { items, condition })
 }
 
-fn check_selection(
-    alloc: Global,
-    selected: &Selected,
-    scope: &Scope,
-) -> Result<Option<Items<Expr>>, Refusal>
+fn check_selection(alloc: Global, selected: &Selected, scope: &Scope) -> Result<Selected, Refusal>
     ensures { Gives result (selection_of selected.now (tables_in scope.now)) }
 {
     match selected {
-        Selected::All => Ok(None),
+        Selected::All => Ok(Selected::All),
         Selected::Items(items) => {
             let items = check_items(alloc, items.as_slice(), scope)?;
-            Ok(Some(items))
+            Ok(Selected::Items(items))
         }
+        Selected::Count => Ok(Selected::Count),
     }
 }
 
@@ -178,8 +174,8 @@ fn check_item(alloc: Global, item: &Expr, scope: &Scope) -> Result<Expr, Refusal
     Ok(typed.expr)
 }
 
-/// Judges each candidate, and lists those that are allowed and meet the condition. There is room for each decision
-/// beforehand, and the buffer of judgements serves all rows.
+/// Judges each candidate, and answers from those that are allowed and meet the condition. There is room for each
+/// decision beforehand, and the buffer of judgements serves all rows.
 fn list<'c>(
     alloc: Global,
     query: &Query,
@@ -190,24 +186,30 @@ fn list<'c>(
     ensures { IfOk result (λ effect. effect ≡ spec.listed_by guard.now query.now role.now candidates.now) }
 {
     let mut decisions = Vec::with_capacity(alloc, candidates.len())?;
-    let mut rows = Vec::new(alloc);
+    let mut hits = Vec::new(alloc);
     let mut judgements = Vec::new(alloc);
     for stored in candidates {
         let row = stored.row();
         let verdict = verdict_on(&mut judgements, guard, role, row)?;
         if is_hit(query, &verdict, role, row) {
-            rows.push(selected(alloc, query, role, row)?)?;
+            hits.push(row)?;
         }
         decisions.push(decision(stored.id(), verdict))?;
     }
     drop(judgements);
-    listed(alloc, rows, decisions)
+    listed(alloc, query, role, hits.as_slice(), decisions)
 }
 
-fn listed(alloc: Global, rows: Vec<Row>, decisions: Vec<Decision>) -> Result<Effect, AllocError>
-    ensures { IfOk result (λ effect. effect ≡ Effect.Done (Reply.Rows (listings.listing rows.items)) decisions.items [] None) }
+fn listed(
+    alloc: Global,
+    query: &Query,
+    role: &Name,
+    hits: &[&Row],
+    decisions: Vec<Decision>,
+) -> Result<Effect, AllocError>
+    ensures { IfOk result (λ effect. effect ≡ Effect.Done (Reply.Rows (listings.answered query.now.items role.now (map (λ row. row.now) hits.now))) decisions.items [] None) }
 {
-    match listing_of(rows) {
+    match answered(alloc, &query.items, role, hits) {
         Ok(rows) => Ok(Effect::Done(
             Reply::Rows(rows),
             Items::from_vec(decisions),
@@ -244,24 +246,63 @@ fn is_hit(query: &Query, verdict: &Verdict, role: &Name, row: &Row) -> bool
     }
 }
 
-fn selected(alloc: Global, query: &Query, role: &Name, row: &Row) -> Result<Row, AllocError>
-    ensures { IfOk result (λ values. values ≡ listings.selected query.now.items role.now row.now) }
+fn answered(
+    alloc: Global,
+    selected: &Selected,
+    role: &Name,
+    hits: &[&Row],
+) -> Result<Items<Row>, AllocError>
+    ensures { IfOk result (λ rows. rows ≡ listings.answered selected.now role.now (map (λ row. row.now) hits.now)) }
 {
-    match &query.items {
-        None => {
-            let copy = row.copy(alloc)?;
-            Ok(copy)
-        }
-        Some(items) => values_over(alloc, items.as_slice(), role, row),
+    match selected {
+        Selected::All => whole_rows(alloc, hits),
+        Selected::Items(items) => rows_of_items(alloc, items.as_slice(), role, hits),
+        Selected::Count => number_alone(alloc, hits.len() as i64),
     }
 }
 
+fn whole_rows(alloc: Global, hits: &[&Row]) -> Result<Items<Row>, AllocError>
+    ensures { IfOk result (λ rows. rows ≡ listings.listing (map (λ row. row.now) hits.now)) }
+{
+    let mut rows = Vec::with_capacity(alloc, hits.len())?;
+    for row in hits {
+        rows.push(row.copy(alloc)?)?;
+    }
+    listing_of(rows)
+}
+
+fn rows_of_items(
+    alloc: Global,
+    items: &[Expr],
+    role: &Name,
+    hits: &[&Row],
+) -> Result<Items<Row>, AllocError>
+    ensures { IfOk result (λ rows. rows ≡ listings.listing (map (listings.values_of items.now role.now) (map (λ row. row.now) hits.now))) }
+{
+    let mut rows = Vec::with_capacity(alloc, hits.len())?;
+    for row in hits {
+        rows.push(values_over(alloc, items, role, row)?)?;
+    }
+    listing_of(rows)
+}
+
 fn values_over(alloc: Global, items: &[Expr], role: &Name, row: &Row) -> Result<Row, AllocError>
-    ensures { IfOk result (λ values. values ≡ map (λ item. value_of item (over role.now row.now)) items.now) }
+    ensures { IfOk result (λ values. values ≡ listings.values_of items.now role.now row.now) }
 {
     let mut values = Vec::with_capacity(alloc, items.len())?;
     for item in items {
         values.push(value_over(alloc, item, role, row)?)?;
     }
     Ok(Row::new(values))
+}
+
+/// One row, with the number alone.
+fn number_alone(alloc: Global, number: i64) -> Result<Items<Row>, AllocError>
+    ensures { IfOk result (λ rows. rows ≡ (Value.Int number ∷ []) ∷ []) }
+{
+    let mut values = Vec::with_capacity(alloc, 1)?;
+    values.push(Value::Int(number))?;
+    let mut rows = Vec::with_capacity(alloc, 1)?;
+    rows.push(Row::new(values))?;
+    Ok(Items::from_vec(rows))
 }

@@ -3,7 +3,7 @@
 ghost use Rattle.std.specs.Prelude.{◌≡◌, map, IfOk};
 ghost use Rattle.std.specs.List.{list_all};
 ghost use Rattle.rls_value.specs.Giving.{Gives};
-ghost use Rattle.rls_guard.specs.Sequences.{each_of, each_or_refused};
+ghost use Rattle.rls_source.specs.Sequences.{each_of, each_or_refused};
 ghost use Rattle.rls_dml.specs.Inserting as spec;
 
 use rls_catalog::Stored;

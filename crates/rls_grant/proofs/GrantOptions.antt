@@ -1,5 +1,6 @@
 -- A walk over grants with option meets who holds the option.
-use Rattle.std.specs.Prelude.{◌≡◌, ℕ, suc, ◌+◌, List, [], ◌∷◌, ◌++◌, Option, Some, None, Bool, true, false, if◌then◌else◌, take, slice_get}
+use Rattle.std.specs.Prelude.{◌≡◌, ◌↔◌, ℕ, suc, ◌+◌, List, [], ◌∷◌, ◌++◌, Some, None, Bool, true, false, if◌then◌else◌, take, slice_get}
+use Rattle.std.specs.BTreeSet.{BTreeSet, contains}
 use Rattle.std.specs.Str.{bytes_eq}
 use Rattle.std.proofs.Common.{arith, sym, ap, ◌∙◌, subst, append_assoc, append-nil}
 use Rattle.std.proofs.lemmas.Bool.{true≢false, or_left}
@@ -7,8 +8,11 @@ use Rattle.rls_value.specs.Names.{one_of}
 use Rattle.rls_value.specs.declared.verb.Privilege.{Privilege}
 use Rattle.rls_catalog.specs.declared.grant.Grant.{Grant}
 use Rattle.rls_catalog.specs.Membership.{fresh}
-use Rattle.rls_catalog.specs.Privileges.{optioned_by, Options, Owner, Granted, AreOptions}
+use Rattle.rls_catalog.specs.Privileges.{optioned_by, Options, Owner, Granted}
 use Rattle.rls_catalog.specs.Walks.{Within, one_of-append, among_first, bytes_same, bytes_own, reads_all}
+use Rattle.rls_catalog.specs.State.{name_order}
+use Rattle.rls_role.specs.Seen.{IsSetOf}
+use Rattle.rls_grant.specs.Optioned.{AreHolders}
 use Rattle.rls_catalog.specs.Inheriting.{or_either, among_got, fresh_within, fresh_all, take_on}
 
 -- each of the names holds the option
@@ -84,8 +88,13 @@ complete : (owner : List ℕ) (grants : List Grant) (privilege : Privilege) (nam
 complete owner grants privilege names itself closed name Owner = itself
 complete owner grants privilege names itself closed name (Granted grantor grantee holds is) = closed grantor (complete owner grants privilege names itself closed grantor holds) grantee is
 
-pub all_options : (owner : List ℕ) (grants : List Grant) (privilege : Privilege) (names items : List (List ℕ)) (next : ℕ) → items ≡ names → slice_get names next ≡ None
-    → Sound owner grants privilege names → one_of names owner ≡ true → Closed grants privilege (take next names) names → AreOptions owner grants privilege items
-all_options owner grants privilege names items next same past sound itself closed =
-    subst (AreOptions owner grants privilege) (sym same)
-    (λ name. (sound name, complete owner grants privilege names itself (subst (λ these. Closed grants privilege these names) (reads_all names next past) closed) name))
+pub all_options : (owner : List ℕ) (grants : List Grant) (privilege : Privilege) (names : List (List ℕ)) (seen : BTreeSet (List ℕ)) (next : ℕ) → IsSetOf seen names → slice_get names next ≡ None
+    → Sound owner grants privilege names → one_of names owner ≡ true → Closed grants privilege (take next names) names → AreHolders owner grants privilege seen
+all_options owner grants privilege names seen next same past sound itself closed role = (
+  λ is. sound role (sym (same role) ∙ is),
+  λ holds. same role ∙ complete owner grants privilege names itself (subst (λ these. Closed grants privilege these names) (reads_all names next past) closed) role holds,
+)
+
+-- where there is no table nobody is in the set
+pub nobody : (holders : BTreeSet (List ℕ)) → ((role : List ℕ) → contains name_order holders role ≡ false) → (role : List ℕ) → (contains name_order holders role ≡ true) ↔ ⊥
+nobody holders none role = ((λ is. true≢false (sym is ∙ none role)), (λ never. absurd never))

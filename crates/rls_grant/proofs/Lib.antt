@@ -1,1 +1,5 @@
 pub mod GrantOptions
+pub mod HandedLemmas
+pub mod HolderLemmas
+pub mod GrantLaws
+pub mod GrantorLaws

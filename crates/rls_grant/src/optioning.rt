@@ -1,37 +1,197 @@
 //! Who holds a grant option.
 
-ghost use Rattle.std.specs.Prelude.{◌≡◌, ◌++◌, slice_get, IfOk, OnOk};
+ghost use Rattle.std.specs.Prelude.{◌≡◌, ◌↔◌, ◌++◌, ◌∷◌, [], ℕ, List, None, true, cond, slice_get, IfOk, OnOk};
+ghost use Rattle.std.specs.BTreeMap.{is_at};
+ghost use Rattle.std.specs.BTreeSet.{contains};
+ghost use Rattle.std.specs.Map.{lookup};
 ghost use Rattle.std.specs.Option.{option_copied};
+ghost use Rattle.rls_value.specs.declared.verb.Privilege.{Privilege as Kind};
+ghost use Rattle.rls_catalog.specs.GrantOptions as given;
+ghost use Rattle.rls_catalog.specs.GrantOptions.{without_options_of};
 ghost use Rattle.rls_catalog.specs.Membership.{fresh};
-ghost use Rattle.rls_catalog.specs.Privileges as spec;
-ghost use Rattle.rls_catalog.specs.Privileges.{roles_in, optioned_by, AreOptions};
+ghost use Rattle.rls_catalog.specs.State.{State, AgreesOn, name_order};
+ghost use Rattle.rls_catalog.specs.declared.grant.Grant.{Grant as Given};
+ghost use Rattle.rls_role.specs.Seen.{IsSetOf};
+ghost use Rattle.rls_grant.specs.Considered as seen;
+ghost use Rattle.rls_grant.specs.Considered.{considered, considered_one};
+ghost use Rattle.rls_grant.specs.Handed as handed;
+ghost use Rattle.rls_grant.specs.Handed.{HandsOn, under};
+ghost use Rattle.rls_grant.specs.Optioned.{AreHolders, HoldsOption, HoldsOn, option_reads};
 
 use crate::holding::is_same_privilege;
 use rls_catalog::Grant;
-use rls_expr::Grantee;
-use rls_role::is_among;
+use rls_expr::{Grantee, TableDef};
+use rls_role::add_unseen;
+use rls_source::RowSource;
 use rls_value::{Items, Name, Privilege};
 use std::alloc::{AllocError, Global};
+use std::collections::{BTreeMap, BTreeSet};
 
-/// The roles that hold the grant option for the privilege, each once: the owner, and each grantee of a grant with option
-/// whose grantor holds it.
+/// The roles that hold the grant option for the privilege on the table: the least set that has the owner, and
+/// each grantee of a grant with option whose grantor is in it (PostgreSQL manual, GRANT); none where there is no such
+/// table. It reads the table and its grants; in every state that agrees on them the same roles hold it.
+#[tactic(auto, using(crate::specs::Optioned::option_frame))]
+pub fn option<'c, S: RowSource<'c>>(
+    alloc: Global,
+    source: &mut S,
+    table: &Name,
+    privilege: Privilege,
+) -> Result<BTreeSet<Name>, AllocError>
+    ensures option { IfOk result (λ holders. (role : List ℕ) → (contains name_order holders role ≡ true) ↔ HoldsOption (S.state source.old) table.now privilege role) }
+    ensures frame { (other : State) → AgreesOn (S.state source.old) other (option_reads table.now) → (role : List ℕ) → HoldsOption other table.now privilege role ↔ HoldsOption (S.state source.old) table.now privilege role }
+    ensures read { OnOk result (source.new ≡ S.after source.old (option_reads table.now)) }
+    ensures state { S.state source.new ≡ S.state source.old }
+{
+    let def = source.table(alloc, table)?;
+    let grants = source.grants(alloc, table)?;
+    holders_on(alloc, def, grants, privilege)
+}
+
+#[tactic(auto, using(crate::proofs::GrantOptions::nobody))]
+fn holders_on(
+    alloc: Global,
+    table: Option<&TableDef>,
+    grants: &[Grant],
+    privilege: Privilege,
+) -> Result<BTreeSet<Name>, AllocError>
+    ensures { IfOk result (λ holders. (role : List ℕ) → (contains name_order holders role ≡ true) ↔ HoldsOn (option_copied table.entry) grants.now privilege role) }
+{
+    match table {
+        Some(table) => options(alloc, &table.owner, grants, privilege),
+        None => Ok(BTreeSet::new(alloc)),
+    }
+}
+
+/// Who holds it by these grants: the owner, and each grantee of a grant with option whose grantor holds it.
+#[tactic(auto, using(crate::specs::Considered::considered_all))]
 pub fn options(
     alloc: Global,
     owner: &Name,
     grants: &[Grant],
     privilege: Privilege,
-) -> Result<Items<Name>, AllocError>
-    ensures { IfOk result (λ holders. AreOptions owner.now grants.now privilege holders) }
+) -> Result<BTreeSet<Name>, AllocError>
+    ensures { IfOk result (λ holders. AreHolders owner.now grants.now privilege holders) }
 {
-    let mut holders = Vec::new(alloc);
-    holders.push(owner.copy()?)?;
+    let holders = options_seen(alloc, owner, grants, privilege, None)?;
+    Ok(holders)
+}
+
+/// Who would hold it without the grantee's own grant options.
+#[tactic(auto, using(crate::specs::Considered::considered_without))]
+pub(crate) fn options_without(
+    alloc: Global,
+    owner: &Name,
+    grants: &[Grant],
+    privilege: Privilege,
+    grantee: &Name,
+) -> Result<BTreeSet<Name>, AllocError>
+    ensures { IfOk result (λ holders. AreHolders owner.now (without_options_of grantee.now grants.now) privilege holders) }
+{
+    let holders = options_seen(alloc, owner, grants, privilege, Some(grantee))?;
+    Ok(holders)
+}
+
+/// Who holds it, where the options of one grantee are left out.
+fn options_seen(
+    alloc: Global,
+    owner: &Name,
+    grants: &[Grant],
+    privilege: Privilege,
+    without: Option<&Name>,
+) -> Result<BTreeSet<Name>, AllocError>
+    ensures { IfOk result (λ holders. AreHolders owner.now (considered (option_copied without.entry) grants.now) privilege holders) }
+{
+    let index = index_of(alloc, grants, privilege, without)?;
+    let holders = holders_by(alloc, owner, &index);
+    drop(index);
+    holders
+}
+
+/// Those to whom each grantor handed the option on.
+fn index_of(
+    alloc: Global,
+    grants: &[Grant],
+    privilege: Privilege,
+    without: Option<&Name>,
+) -> Result<BTreeMap<Name, Items<Name>>, AllocError>
+    ensures { IfOk result (λ index. HandsOn index.entries (considered (option_copied without.entry) grants.now) privilege) }
+{
+    let mut index = BTreeMap::new(alloc);
+    for grant in grants {
+        if let Some(grantee) = handed_to(grant, privilege, without) {
+            add(&mut index, alloc, &grant.grantor, grantee)?;
+        }
+    }
+    Ok(index)
+}
+
+/// To whom the grant hands the option on, if it does.
+fn handed_to<'a>(grant: &'a Grant, privilege: Privilege, without: Option<&Name>) -> Option<&'a Name>
+    ensures { option_copied result ≡ handed.handed_to privilege (considered_one (option_copied without.entry) grant.now) }
+{
+    let hands_on = grant.option
+        && !is_left_out(without, &grant.grantee)
+        && is_same_privilege(grant.privilege, privilege);
+    match &grant.grantee {
+        Grantee::Role(name) if hands_on => Some(name),
+        _ => None,
+    }
+}
+
+/// Puts the grantee behind those under the grantor.
+fn add(
+    index: &mut BTreeMap<Name, Items<Name>>,
+    alloc: Global,
+    grantor: &Name,
+    grantee: &Name,
+) -> Result<(), AllocError>
+    ensures { OnOk result ((name : List ℕ) → under name index.new.entries ≡ cond (is_at (name_order grantor.now) name) (under name index.old.entries ++ grantee.now ∷ []) (under name index.old.entries)) }
+{
+    let grantee = grantee.copy()?;
+    match index.get_mut(grantor) {
+        Some(grantees) => match grantees.push(grantee) {
+            Ok(()) => Ok(()),
+            Err(refused) => Err(refused),
+        },
+        None => add_first(index, alloc, grantor, grantee),
+    }
+}
+
+/// Puts the grantee as the first under the grantor.
+fn add_first(
+    index: &mut BTreeMap<Name, Items<Name>>,
+    alloc: Global,
+    grantor: &Name,
+    grantee: Name,
+) -> Result<(), AllocError>
+    requires { lookup (is_at (name_order grantor.now)) index.old.entries ≡ None }
+    ensures { OnOk result ((name : List ℕ) → under name index.new.entries ≡ cond (is_at (name_order grantor.now) name) (under name index.old.entries ++ grantee ∷ []) (under name index.old.entries)) }
+{
+    let mut grantees = Items::new(alloc);
+    grantees.push(grantee)?;
+    index.insert(grantor.copy()?, grantees)?;
+    Ok(())
+}
+
+/// The least set that has the owner, and those under each of its roles: a walk that looks each of them up once.
+fn holders_by(
+    alloc: Global,
+    owner: &Name,
+    index: &BTreeMap<Name, Items<Name>>,
+) -> Result<BTreeSet<Name>, AllocError>
+    ensures { IfOk result (λ holders. (grants : List Given) (privilege : Kind) → HandsOn index.now.entries grants privilege → AreHolders owner.now grants privilege holders) }
+{
+    let mut names = Vec::new(alloc);
+    let mut seen = BTreeSet::new(alloc);
+    add_unseen(&mut names, &mut seen, owner)?;
     let mut next = 0;
-    while let Some(holder) = holder_at(&holders, next) {
+    while let Some(holder) = holder_at(&names, next) {
         let holder = holder.copy()?;
-        add_optioned(&mut holders, grants, privilege, &holder)?;
+        add_under(&mut names, &mut seen, index, &holder)?;
         next += 1;
     }
-    Ok(Items::from_vec(holders))
+    drop(names);
+    Ok(seen)
 }
 
 fn holder_at(holders: &[Name], index: usize) -> Option<&Name>
@@ -40,39 +200,54 @@ fn holder_at(holders: &[Name], index: usize) -> Option<&Name>
     holders.get(index)
 }
 
-/// Adds those to whom the holder granted the option and that aren't there yet.
-fn add_optioned(
-    holders: &mut Vec<Name>,
-    grants: &[Grant],
-    privilege: Privilege,
-    holder: &Name,
+/// Adds those under the name that aren't there yet.
+fn add_under(
+    names: &mut Vec<Name>,
+    seen: &mut BTreeSet<Name>,
+    index: &BTreeMap<Name, Items<Name>>,
+    name: &Name,
 ) -> Result<(), AllocError>
-    ensures { OnOk result (holders.new.items ≡ holders.old.items ++ fresh holders.old.items (optioned_by grants.now privilege holder.now)) }
+    requires { IsSetOf seen.old names.old.items }
+    ensures names { OnOk result (names.new.items ≡ names.old.items ++ fresh names.old.items (under name.now index.now.entries)) }
+    ensures seen { OnOk result (IsSetOf seen.new names.new.items) }
 {
-    for grant in grants {
-        if is_option_by(grant, privilege, holder) {
-            add_grantee(holders, &grant.grantee)?;
-        }
+    match index.get(name) {
+        Some(grantees) => add_each(names, seen, grantees.as_slice()),
+        None => Ok(()),
+    }
+}
+
+fn add_each(
+    names: &mut Vec<Name>,
+    seen: &mut BTreeSet<Name>,
+    more: &[Name],
+) -> Result<(), AllocError>
+    requires { IsSetOf seen.old names.old.items }
+    ensures names { OnOk result (names.new.items ≡ names.old.items ++ fresh names.old.items more.now) }
+    ensures seen { OnOk result (IsSetOf seen.new names.new.items) }
+{
+    for name in more {
+        add_unseen(names, seen, name)?;
     }
     Ok(())
 }
 
-fn is_option_by(grant: &Grant, privilege: Privilege, grantor: &Name) -> bool
-    ensures { result ≡ spec.is_option_by privilege grantor.now grant.now }
+fn is_left_out(without: Option<&Name>, grantee: &Grantee) -> bool
+    ensures { result ≡ seen.is_left_out (option_copied without.entry) grantee.now }
 {
-    grant.option && is_same_privilege(grant.privilege, privilege) && grant.grantor.is(grantor)
+    match (without, grantee) {
+        (Some(name), Grantee::Role(role)) => role.is(name),
+        (_, _) => false,
+    }
 }
 
-fn add_grantee(holders: &mut Vec<Name>, grantee: &Grantee) -> Result<(), AllocError>
-    ensures { OnOk result (holders.new.items ≡ holders.old.items ++ fresh holders.old.items (roles_in grantee.now)) }
+/// Whether the two are the same grantee.
+pub(crate) fn is_same_grantee(left: &Grantee, right: &Grantee) -> bool
+    ensures { result ≡ given.is_same_grantee left.now right.now }
 {
-    match grantee {
-        Grantee::Public => Ok(()),
-        Grantee::Role(name) => {
-            if !is_among(holders, name) {
-                holders.push(name.copy()?)?;
-            }
-            Ok(())
-        }
+    match (left, right) {
+        (Grantee::Public, Grantee::Public) => true,
+        (Grantee::Role(left), Grantee::Role(right)) => left.is(right),
+        (_, _) => false,
     }
 }

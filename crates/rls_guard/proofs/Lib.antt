@@ -1,2 +1,1 @@
-pub mod EachLemmas
 pub mod StandingLaws

@@ -1,6 +1,5 @@
 pub mod Eval
 pub mod Envs
-pub mod Sequences
 pub mod Checks
 pub mod Standings
 pub mod Guards

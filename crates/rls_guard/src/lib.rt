@@ -1,4 +1,4 @@
-//! Who asks and what they may: the context of a statement, look-ups that are noted, the role's standing, who guards rows
+//! Who asks and what they may: the context of a statement, the role's standing, who guards rows
 //! from it, the value of an expression on a row; and what a statement comes to.
 #![tactic(auto)]
 
@@ -11,7 +11,7 @@ mod laws;
 mod reply;
 mod standing;
 
-pub use checks::{known_term, require_roles, require_superuser, table_named};
+pub use checks::{known_term, require_superuser};
 pub use context::{Ctx, Mode};
 pub use effect::Effect;
 pub use evaluation::{truth_over, value_alone, value_over};

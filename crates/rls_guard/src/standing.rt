@@ -1,8 +1,7 @@
 //! Who the current role is for a statement: its attributes, and whose privileges it has.
 
-ghost use Rattle.std.specs.Prelude.{◌≡◌, ◌++◌, OnOk};
+ghost use Rattle.std.specs.Prelude.{◌≡◌};
 ghost use Rattle.rls_value.specs.Giving.{Gives};
-ghost use Rattle.rls_catalog.specs.Membership.{walk_reads};
 ghost use Rattle.rls_catalog.specs.Verdict.{exempts};
 ghost use Rattle.rls_source.specs.Answering.{Answers, Tells};
 ghost use Rattle.rls_guard.specs.Standings as spec;
@@ -11,9 +10,9 @@ use rls_catalog::RoleDef;
 use rls_expr::TableDef;
 use rls_grant::is_granted;
 use rls_policy::exempt;
-use rls_role::{Reach, reach_of};
+use rls_role::{Reach, noted_reach};
 use rls_source::{Reads, RowSource, noted_grants, noted_role};
-use rls_value::{Name, Object, Privilege, Refusal, Why};
+use rls_value::{Name, Privilege, Refusal, Why};
 use std::alloc::{AllocError, Global};
 
 /// The current role, as its attributes and its memberships make it.
@@ -24,7 +23,7 @@ pub struct Standing {
 }
 
 /// The standing of the role. It reads the role and, unless that is a superuser, each role whose privileges it has.
-#[tactic(auto, unfolding(rls_source::specs::Asked::role_at, crate::specs::Standings::standing_in, crate::specs::Standings::standing_reads))]
+#[tactic(auto, unfolding(rls_source::specs::Asked::role_at, rls_role::specs::Reaching::reach_in, rls_role::specs::Reaching::reach_reads_in, crate::specs::Standings::standing_in, crate::specs::Standings::standing_reads))]
 pub fn standing_of<'c, S: RowSource<'c>>(
     alloc: Global,
     source: &mut S,
@@ -34,25 +33,8 @@ pub fn standing_of<'c, S: RowSource<'c>>(
     ensures { Tells S.state S.after (spec.standing_of role.now) source.old source.new notes.old notes.new result }
 {
     let attributes = RoleDef::known(noted_role(alloc, source, notes, role)?);
-    notes.note(Object::Role(role.copy()?))?;
-    let reach = reach_of(alloc, source, role)?;
-    match note_walk(notes, reach.names.as_slice()) {
-        Ok(()) => Ok(Standing { attributes, reach }),
-        Err(refused) => {
-            drop(reach);
-            Err(refused)
-        }
-    }
-}
-
-fn note_walk(notes: &mut Reads, names: &[Name]) -> Result<(), AllocError>
-    ensures { OnOk result (notes.new ≡ notes.old ++ walk_reads names.now) }
-{
-    for name in names {
-        notes.note(Object::Role(name.copy()?))?;
-        notes.note(Object::Members(name.copy()?))?;
-    }
-    Ok(())
+    let reach = noted_reach(alloc, source, notes, role)?;
+    Ok(Standing { attributes, reach })
 }
 
 /// Denied where the role hasn't the privileges of the table's owner.

@@ -2,10 +2,11 @@
 
 ghost use Rattle.std.specs.Prelude.{◌≡◌, None, IfOk};
 ghost use Rattle.std.specs.Option.{option_copied, option_map};
-ghost use Rattle.rls_catalog.specs.Verdict.{verdict_of, names_where, least, lesser};
+ghost use Rattle.rls_catalog.specs.Verdict.{verdict_of, names_where, least};
 
 use rls_catalog::Verdict;
 use rls_expr::Policy;
+use rls_role::lesser_name;
 use rls_value::{Loan, Name, Truth};
 use std::alloc::AllocError;
 
@@ -43,14 +44,4 @@ fn first_name<'a>(
         judgements = others;
     }
     best
-}
-
-/// The name, unless the best one so far is before it.
-pub fn lesser_name<'a>(best: Option<&'a Name>, name: &'a Name) -> &'a Name
-    ensures { result.now ≡ lesser (option_copied best.entry) name.now }
-{
-    match best {
-        Some(best) => { if *best > *name { name } else { best } }
-        None => name,
-    }
 }

@@ -6,7 +6,7 @@ mod combining;
 mod exemption;
 
 pub use choosing::{applying, chosen, expression_of};
-pub use combining::{Judgement, combine, lesser_name};
+pub use combining::{Judgement, combine};
 pub use exemption::{exempt, is_exempt};
 pub use rls_catalog::{Side, Verdict};
 pub use rls_expr::Policy;

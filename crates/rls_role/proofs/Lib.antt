@@ -1,2 +1,3 @@
 pub mod SeenNames
 pub mod Visits
+pub mod MembershipLaws

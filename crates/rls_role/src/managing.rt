@@ -1,17 +1,90 @@
-//! Who holds the ADMIN option on which roles.
+//! Who holds the ADMIN option on which roles, and so may grant and revoke them.
 
-ghost use Rattle.std.specs.Prelude.{◌≡◌, ◌++◌, IfOk, OnOk, OnErr};
+ghost use Rattle.std.specs.Prelude.{◌≡◌, ◌++◌, ◌||◌, IfOk, OnOk, OnErr};
+ghost use Rattle.rls_value.specs.Giving.{Gives};
 ghost use Rattle.rls_catalog.specs.Membership.{visit_reads, walk_reads};
 ghost use Rattle.rls_catalog.specs.Paths.{granted_where, held_by};
+ghost use Rattle.rls_source.specs.Answering.{Answers, Tells};
+ghost use Rattle.rls_source.specs.Sequences.{each_or_refused};
+ghost use Rattle.rls_role.specs.Granting.{asked_managed, each_managed, managed_or_denied, managed_or_refused};
 ghost use Rattle.rls_role.specs.Holdings.{has_admin, managed_by};
 
+use crate::names::is_among;
+use crate::noting::{note_walk, noted_reach};
+use crate::reach::Reach;
 use rls_catalog::Membership;
-use rls_source::RowSource;
-use rls_value::{Items, Name};
+use rls_source::{Reads, RowSource};
+use rls_value::{Items, Name, Refusal, Why};
 use std::alloc::{AllocError, Global};
 
+/// The first of the roles is denied that neither a superuser nor one who has the privileges of a member with the ADMIN
+/// option manages.
+#[tactic(auto, unfolding(crate::specs::Granting::managed_or_refused))]
+pub fn require_managed<'c, S: RowSource<'c>>(
+    alloc: Global,
+    source: &mut S,
+    notes: &mut Reads,
+    current: &Name,
+    roles: &[Name],
+) -> Result<(), Refusal>
+    ensures { Answers S.state S.after (managed_or_refused current.now roles.now) source.old source.new notes.old notes.new result }
+{
+    let reach = noted_reach(alloc, source, notes, current)?;
+    let may = require_each(alloc, source, notes, &reach, roles);
+    drop(reach);
+    may
+}
+
+#[tactic(auto, unfolding(crate::specs::Granting::each_managed))]
+fn require_each<'c, S: RowSource<'c>>(
+    alloc: Global,
+    source: &mut S,
+    notes: &mut Reads,
+    reach: &Reach,
+    roles: &[Name],
+) -> Result<(), Refusal>
+    ensures { Answers S.state S.after (each_managed reach.now roles.now) source.old source.new notes.old notes.new result }
+{
+    let managed = noted_managed(alloc, source, notes, reach.names.as_slice())?;
+    let may = require_among(reach.superuser, managed.as_slice(), roles);
+    drop(managed);
+    may
+}
+
+#[tactic(auto, unfolding(crate::specs::Granting::managed_in))]
+fn noted_managed<'c, S: RowSource<'c>>(
+    alloc: Global,
+    source: &mut S,
+    notes: &mut Reads,
+    members: &[Name],
+) -> Result<Items<Name>, AllocError>
+    ensures { Tells S.state S.after (asked_managed members.now) source.old source.new notes.old notes.new result }
+{
+    note_walk(notes, members)?;
+    managed(alloc, source, members)
+}
+
+fn require_among(superuser: bool, managed: &[Name], roles: &[Name]) -> Result<(), Refusal>
+    ensures { Gives result (each_or_refused (managed_or_denied superuser managed.now) roles.now) }
+{
+    for role in roles {
+        require_one(superuser, managed, role)?;
+    }
+    Ok(())
+}
+
+fn require_one(superuser: bool, managed: &[Name], role: &Name) -> Result<(), Refusal>
+    ensures { Gives result (managed_or_denied superuser managed.now role.now) }
+{
+    if superuser || is_among(managed, role) {
+        Ok(())
+    } else {
+        Err(Refusal::Denied(Why::Admin(role.copy()?)))
+    }
+}
+
 /// The roles on which some of the members holds the ADMIN option. It reads each member, and its memberships.
-pub fn managed<'c, S: RowSource<'c>>(
+fn managed<'c, S: RowSource<'c>>(
     alloc: Global,
     source: &mut S,
     members: &[Name],

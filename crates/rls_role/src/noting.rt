@@ -1,11 +1,34 @@
-//! Notes of what a walk over memberships reads.
+//! Walks over memberships that are noted.
 
 ghost use Rattle.std.specs.Prelude.{◌≡◌, ◌∷◌, ◌++◌, OnOk};
 ghost use Rattle.rls_catalog.specs.Membership.{walk_reads};
+ghost use Rattle.rls_source.specs.Answering.{Tells};
+ghost use Rattle.rls_role.specs.Reaching as spec;
 
-use rls_source::Reads;
+use crate::reach::{Reach, reach_of};
+use rls_source::{Reads, RowSource};
 use rls_value::{Name, Object};
-use std::alloc::AllocError;
+use std::alloc::{AllocError, Global};
+
+/// Whose privileges the role has. It reads the role and, unless that is a superuser, each role that it reaches.
+#[tactic(auto, unfolding(crate::specs::Reaching::reach_in, crate::specs::Reaching::reach_reads_in))]
+pub fn noted_reach<'c, S: RowSource<'c>>(
+    alloc: Global,
+    source: &mut S,
+    notes: &mut Reads,
+    role: &Name,
+) -> Result<Reach, AllocError>
+    ensures { Tells S.state S.after (spec.reach_of role.now) source.old source.new notes.old notes.new result }
+{
+    let reach = reach_of(alloc, source, role)?;
+    match note_reach(notes, role, reach.names.as_slice()) {
+        Ok(()) => Ok(reach),
+        Err(refused) => {
+            drop(reach);
+            Err(refused)
+        }
+    }
+}
 
 /// Notes the role that a walk began with, and what the walk read that met these.
 pub fn note_reach(notes: &mut Reads, role: &Name, names: &[Name]) -> Result<(), AllocError>

@@ -10,7 +10,8 @@ ghost use Rattle.rls_catalog.specs.Paths.{MaySet, can_set_reads, reached_where};
 ghost use Rattle.rls_catalog.specs.State.{State, AgreesOn};
 ghost use Rattle.rls_role.specs.Steps.{takes, walked_where, walked_reads};
 
-use crate::walking::{Step, is_among, reached};
+use crate::names::is_among;
+use crate::walking::{Step, reached};
 use rls_catalog::RoleDef;
 use rls_expr::Grantee;
 use rls_source::RowSource;

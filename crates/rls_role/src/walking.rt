@@ -2,7 +2,6 @@
 
 ghost use Rattle.std.specs.Prelude.{◌≡◌, [], ◌∷◌, ◌++◌, slice_get, IfOk, OnOk, OnErr};
 ghost use Rattle.std.specs.Option.{option_copied};
-ghost use Rattle.rls_value.specs.Names.{one_of};
 ghost use Rattle.rls_catalog.specs.Membership.{fresh, visit_reads, walk_reads};
 ghost use Rattle.rls_catalog.specs.Paths.{granted_where, held_by, reached_where};
 ghost use Rattle.rls_role.specs.Holdings.{with_held};
@@ -117,7 +116,7 @@ fn add_fresh(
 }
 
 /// Adds the name to the list and to the set of the same names, unless it is there. An `Err` may leave it in the set alone.
-fn add_unseen(
+pub fn add_unseen(
     names: &mut Vec<Name>,
     seen: &mut BTreeSet<Name>,
     name: &Name,
@@ -131,18 +130,4 @@ fn add_unseen(
         names.push(name.copy()?)?;
     }
     Ok(())
-}
-
-/// Whether the name is among them.
-pub fn is_among(names: &[Name], name: &Name) -> bool
-    ensures { result ≡ one_of names.now name.now }
-{
-    let mut rest = names;
-    while let [first, others @ ..] = rest {
-        if first.is(name) {
-            return true;
-        }
-        rest = others;
-    }
-    false
 }

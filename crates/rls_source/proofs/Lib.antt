@@ -1,1 +1,2 @@
 pub mod FootprintExamples
+pub mod EachLemmas

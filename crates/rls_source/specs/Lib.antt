@@ -3,6 +3,8 @@ pub mod FootprintLaws
 pub mod Readings
 pub mod Askings
 pub mod Asked
+pub mod Sequences
+pub mod Named
 pub mod Answering
 pub use Rattle.rls_catalog.specs.State
 pub use Rattle.rls_catalog.specs.Changed

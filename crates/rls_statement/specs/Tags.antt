@@ -14,6 +14,7 @@ tag_of (s.AlterTable _) = t.AlterTable
 tag_of (s.CreatePolicy _) = t.CreatePolicy
 tag_of (s.Grant _) = t.Grant
 tag_of (s.GrantRoles _) = t.GrantRole
+tag_of (s.Revoke _) = t.Revoke
 tag_of (s.RevokeRoles _) = t.RevokeRole
 tag_of (s.SetRole (sr.To _)) = t.Set
 tag_of (s.SetRole sr.None) = t.Set

@@ -5,6 +5,6 @@ mod statement;
 
 pub use statement::{
     AlterRole, AlterTable, Attributes, CreatePolicy, CreateRole, CreateTable, GrantPrivileges,
-    GrantRoles, Insert, MembershipOption, MembershipOptions, Privileges, RevokeRoles, RowSecurity,
-    Select, Selected, SetRole, Statement,
+    GrantRoles, Insert, MembershipOption, MembershipOptions, Privileges, RevokePrivileges,
+    RevokeRoles, RowSecurity, Select, Selected, SetRole, Statement,
 };

@@ -17,6 +17,7 @@ pub enum Statement {
     CreatePolicy(CreatePolicy),
     Grant(GrantPrivileges),
     GrantRoles(GrantRoles),
+    Revoke(RevokePrivileges),
     RevokeRoles(RevokeRoles),
     SetRole(SetRole),
     Insert(Insert),
@@ -75,6 +76,20 @@ pub struct GrantPrivileges {
     pub privileges: Privileges,
     pub table: Name,
     pub to: Items<Grantee>,
+    /// `WITH GRANT OPTION`.
+    pub with_option: bool,
+}
+
+/// `REVOKE` of privileges on a table, or of their grant options.
+#[derive(Drop)]
+pub struct RevokePrivileges {
+    /// `GRANT OPTION FOR`: the privileges stay.
+    pub option_only: bool,
+    pub privileges: Privileges,
+    pub table: Name,
+    pub from: Items<Grantee>,
+    /// `CASCADE`: what depends on them goes too. Otherwise nothing may depend on them.
+    pub cascade: bool,
 }
 
 /// `GRANT` of roles: each of the roles to each of the members.
@@ -143,11 +158,13 @@ pub struct Select {
     pub condition: Option<Expr>,
 }
 
-/// What is selected: all columns, or the items.
+/// What is selected: all columns, the items, or the number of rows.
 #[derive(Drop)]
 pub enum Selected {
     All,
     Items(Items<Expr>),
+    /// `count(*)`.
+    Count,
 }
 
 impl Statement {
@@ -163,6 +180,7 @@ impl Statement {
             Statement::CreatePolicy(_) => Tag::CreatePolicy,
             Statement::Grant(_) => Tag::Grant,
             Statement::GrantRoles(_) => Tag::GrantRole,
+            Statement::Revoke(_) => Tag::Revoke,
             Statement::RevokeRoles(_) => Tag::RevokeRole,
             Statement::SetRole(SetRole::To(_) | SetRole::None) => Tag::Set,
             Statement::SetRole(SetRole::Reset) => Tag::Reset,
@@ -182,6 +200,7 @@ impl Statement {
             Statement::CreatePolicy(policy) => Ok(Statement::CreatePolicy(policy.copy(alloc)?)),
             Statement::Grant(grant) => Ok(Statement::Grant(grant.copy(alloc)?)),
             Statement::GrantRoles(grant) => Ok(Statement::GrantRoles(grant.copy(alloc)?)),
+            Statement::Revoke(revoke) => Ok(Statement::Revoke(revoke.copy(alloc)?)),
             Statement::RevokeRoles(revoke) => Ok(Statement::RevokeRoles(revoke.copy(alloc)?)),
             Statement::SetRole(set) => Ok(Statement::SetRole(set.copy()?)),
             Statement::Insert(insert) => Ok(Statement::Insert(insert.copy(alloc)?)),
@@ -316,6 +335,21 @@ impl GrantPrivileges {
             privileges: self.privileges,
             table: self.table.copy()?,
             to: Grantee::copy_all(alloc, self.to.as_slice())?,
+            with_option: self.with_option,
+        })
+    }
+}
+
+impl RevokePrivileges {
+    pub fn copy(&self, alloc: Global) -> Result<RevokePrivileges, AllocError>
+        ensures { IfOk result (λ revoke. revoke ≡ self.now) }
+    {
+        Ok(RevokePrivileges {
+            option_only: self.option_only,
+            privileges: self.privileges,
+            table: self.table.copy()?,
+            from: Grantee::copy_all(alloc, self.from.as_slice())?,
+            cascade: self.cascade,
         })
     }
 }
@@ -357,6 +391,7 @@ impl Selected {
                 alloc,
                 items.as_slice(),
             )?))),
+            Selected::Count => Ok(Selected::Count),
         }
     }
 }

@@ -226,6 +226,7 @@ columns_kept (st.AlterTable x) = refl
 columns_kept (st.Grant x) = refl
 columns_kept (st.AlterRole x) = refl
 columns_kept (st.GrantRoles x) = refl
+columns_kept (st.Revoke x) = refl
 columns_kept (st.RevokeRoles x) = refl
 columns_kept (st.SetRole x) = refl
 

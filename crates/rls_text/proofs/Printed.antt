@@ -1,7 +1,6 @@
 -- What is written for a statement spells it, and is read back; an example of each statement.
-use Rattle.std.specs.Prelude.{◌≡◌, ℕ, true, false, negsuc, List, [], ◌∷◌, ◌++◌, Some, None, Result, codes, refl}
+use Rattle.std.specs.Prelude.{◌≡◌, ℕ, true, false, negsuc, List, [], ◌∷◌, ◌++◌, Some, None, codes, refl}
 use Rattle.rls_value.specs.Names.{reserved}
-use Rattle.rls_value.specs.declared.refusal.Refusal.{Refusal}
 use Rattle.rls_value.specs.declared.value.Value.TheVariants as v
 use Rattle.rls_value.specs.declared.value.ColType.TheVariants as k
 use Rattle.rls_value.specs.declared.verb.PolicyKind.TheVariants as kind
@@ -24,8 +23,8 @@ use Rattle.rls_text.specs.Parses.{read_many}
 use Rattle.rls_text.specs.Rule.{with_comma}
 use Rattle.rls_text.specs.Cut as cut
 use Rattle.rls_text.specs.Grammar as g
+use Rattle.rls_text.specs.Values.{with_privilege}
 use Rattle.rls_text.specs.Gives.{whole_of}
-use Rattle.rls_text.specs.Answers.{Answers}
 use Rattle.rls_text.specs.Printing.{IsWritten}
 use Rattle.rls_text.proofs.Laws.{whole_spelled}
 
@@ -54,8 +53,14 @@ written = refl
 -- SELECT a, b FROM t WHERE a
 select_written : (g.statement 2).rule.prints.writes (st.Select record { items = selected.Items (e.Column (codes "a") ∷ e.Column (codes "b") ∷ []); table = codes "t"; condition = Some (e.Column (codes "a")) }) ≡ Some
     (Word (codes "select") ∷ Word (codes "a") ∷ t.Symbol s.Comma ∷ Word (codes "b") ∷ Word (codes "from") ∷ Word (codes "t") ∷ Word (codes "where") ∷ Word (codes "a") ∷ [])
-unfolding reserved g.statement g.body g.select g.items g.columns g.column g.condition with_comma g.expr g.or g.or_next g.and g.and_next g.not_ g.nots g.is g.null_test g.cmp g.comparison g.prim g.name g.literal g.constant g.text g.number g.digits
+unfolding reserved g.statement g.body g.select g.items g.count g.column_items g.columns g.column g.condition with_comma g.expr g.or g.or_next g.and g.and_next g.not_ g.nots g.is g.null_test g.cmp g.comparison g.prim g.name g.literal g.constant g.text g.number g.digits
 select_written = refl
+
+-- SELECT COUNT(*) FROM t WHERE a
+count_written : (g.statement 2).rule.prints.writes (st.Select record { items = selected.Count; table = codes "t"; condition = Some (e.Column (codes "a")) }) ≡ Some
+    (Word (codes "select") ∷ Word (codes "count") ∷ t.Symbol s.LParen ∷ t.Symbol s.Star ∷ t.Symbol s.RParen ∷ Word (codes "from") ∷ Word (codes "t") ∷ Word (codes "where") ∷ Word (codes "a") ∷ [])
+unfolding reserved g.statement g.body g.select g.items g.count g.condition g.expr g.or g.or_next g.and g.and_next g.not_ g.nots g.is g.null_test g.cmp g.comparison g.prim g.name g.literal g.constant g.text g.number g.digits
+count_written = refl
 
 -- INSERT INTO t VALUES (-1, NOT b)
 insert_written : (g.statement 2).rule.prints.writes (st.Insert record { table = codes "t"; tuples = (e.Literal (v.Int (negsuc 0)) ∷ e.Not (e.Column (codes "b")) ∷ []) ∷ [] }) ≡ Some
@@ -89,10 +94,28 @@ unfolding reserved g.statement g.body g.select g.insert g.create g.role g.table 
 policy_written = refl
 
 -- GRANT INSERT, DELETE ON t TO r, PUBLIC
-grant_written : (g.statement 1).rule.prints.writes (st.Grant record { privileges = record { select = false; insert = true; update = false; delete = true }; table = codes "t"; to = to.Role (codes "r") ∷ to.Public ∷ [] }) ≡ Some
+grant_written : (g.statement 1).rule.prints.writes (st.Grant record { privileges = record { select = false; insert = true; update = false; delete = true }; table = codes "t"; to = to.Role (codes "r") ∷ to.Public ∷ []; with_option = false }) ≡ Some
     (Word (codes "grant") ∷ Word (codes "insert") ∷ t.Symbol s.Comma ∷ Word (codes "delete") ∷ Word (codes "on") ∷ Word (codes "t") ∷ Word (codes "to") ∷ Word (codes "r") ∷ t.Symbol s.Comma ∷ Word (codes "public") ∷ [])
-unfolding reserved g.statement g.body g.select g.insert g.create g.role g.table g.policy g.flat_body g.alter g.altered_role g.altered_table g.grant g.granted_privileges g.privileges g.named_privileges g.privilege g.table_name g.to_grantees g.grantees g.grantee with_comma g.name
+unfolding reserved g.statement g.body g.select g.insert g.create g.role g.table g.policy g.flat_body g.alter g.altered_role g.altered_table g.grant g.granted_privileges g.privileges_on g.privileges g.named_privileges g.privilege g.table_name g.granted_to g.to_grantees g.grantees g.grantee g.with_option with_comma g.name
 grant_written = refl
+
+-- GRANT ALL ON t TO r WITH GRANT OPTION
+grant_option_written : (g.statement 1).rule.prints.writes (st.Grant record { privileges = record { select = true; insert = true; update = true; delete = true }; table = codes "t"; to = to.Role (codes "r") ∷ []; with_option = true }) ≡ Some
+    (Word (codes "grant") ∷ Word (codes "all") ∷ Word (codes "on") ∷ Word (codes "t") ∷ Word (codes "to") ∷ Word (codes "r") ∷ Word (codes "with") ∷ Word (codes "grant") ∷ Word (codes "option") ∷ [])
+unfolding reserved g.statement g.body g.select g.insert g.create g.role g.table g.policy g.flat_body g.alter g.altered_role g.altered_table g.grant g.granted_privileges g.privileges_on g.privileges g.named_privileges g.privilege g.table_name g.granted_to g.to_grantees g.grantees g.grantee g.with_option with_comma g.name
+grant_option_written = refl
+
+-- REVOKE SELECT ON t FROM r; RESTRICT isn't written
+revoke_written : (g.statement 1).rule.prints.writes (st.Revoke record { option_only = false; privileges = record { select = true; insert = false; update = false; delete = false }; table = codes "t"; from = to.Role (codes "r") ∷ []; cascade = false }) ≡ Some
+    (Word (codes "revoke") ∷ Word (codes "select") ∷ Word (codes "on") ∷ Word (codes "t") ∷ Word (codes "from") ∷ Word (codes "r") ∷ [])
+unfolding reserved g.statement g.body g.select g.insert g.create g.role g.table g.policy g.flat_body g.alter g.altered_role g.altered_table g.grant g.granted_privileges g.granted_roles g.revoke g.revoked_privileges g.option_only g.privileges_on g.privileges g.named_privileges g.privilege g.table_name g.revoked_from g.grantees g.grantee g.cascade with_comma g.name
+revoke_written = refl
+
+-- REVOKE GRANT OPTION FOR UPDATE ON t FROM PUBLIC CASCADE
+revoke_option_written : (g.statement 1).rule.prints.writes (st.Revoke record { option_only = true; privileges = record { select = false; insert = false; update = true; delete = false }; table = codes "t"; from = to.Public ∷ []; cascade = true }) ≡ Some
+    (Word (codes "revoke") ∷ Word (codes "grant") ∷ Word (codes "option") ∷ Word (codes "for") ∷ Word (codes "update") ∷ Word (codes "on") ∷ Word (codes "t") ∷ Word (codes "from") ∷ Word (codes "public") ∷ Word (codes "cascade") ∷ [])
+unfolding reserved g.statement g.body g.select g.insert g.create g.role g.table g.policy g.flat_body g.alter g.altered_role g.altered_table g.grant g.granted_privileges g.granted_roles g.revoke g.revoked_privileges g.option_only g.privileges_on g.privileges g.named_privileges g.privilege g.table_name g.revoked_from g.grantees g.grantee g.cascade with_comma g.name
+revoke_option_written = refl
 
 -- ALTER ROLE x LOGIN NOBYPASSRLS
 alter_role_written : (g.statement 1).rule.prints.writes (st.AlterRole record { name = codes "x"; attributes = record { superuser = None; login = Some true; bypass_rls = Some false } }) ≡ Some
@@ -110,16 +133,16 @@ grant_roles_written = refl
 -- REVOKE ADMIN OPTION FOR a FROM b, c
 revoke_roles_written : (g.statement 1).rule.prints.writes (st.RevokeRoles record { option = Some m.Admin; roles = codes "a" ∷ []; from = codes "b" ∷ codes "c" ∷ [] }) ≡ Some
     (Word (codes "revoke") ∷ Word (codes "admin") ∷ Word (codes "option") ∷ Word (codes "for") ∷ Word (codes "a") ∷ Word (codes "from") ∷ Word (codes "b") ∷ t.Symbol s.Comma ∷ Word (codes "c") ∷ [])
-unfolding reserved g.statement g.body g.select g.insert g.create g.role g.table g.policy g.flat_body g.alter g.altered_role g.altered_table g.grant g.granted_privileges g.granted_roles g.revoke g.revoked_option g.option_for g.option g.roles_from g.members g.names with_comma g.name
+unfolding reserved g.statement g.body g.select g.insert g.create g.role g.table g.policy g.flat_body g.alter g.altered_role g.altered_table g.grant g.granted_privileges g.granted_roles g.revoke g.revoked_privileges g.revoked_memberships g.revoked_option g.option_for g.option g.roles_from g.members g.names with_comma g.name
 revoke_roles_written = refl
 
 -- SET ROLE NONE, and RESET ROLE
 set_role_written : (g.statement 1).rule.prints.writes (st.SetRole sr.None) ≡ Some (Word (codes "set") ∷ Word (codes "role") ∷ Word (codes "none") ∷ [])
-unfolding reserved g.statement g.body g.select g.insert g.create g.role g.table g.policy g.flat_body g.alter g.altered_role g.altered_table g.grant g.granted_privileges g.granted_roles g.revoke g.revoked_option g.revoked_roles g.set_role g.role_change g.role_set g.role_reset g.chosen_role
+unfolding reserved g.statement g.body g.select g.insert g.create g.role g.table g.policy g.flat_body g.alter g.altered_role g.altered_table g.grant g.granted_privileges g.granted_roles g.revoke g.revoked_privileges g.revoked_memberships g.revoked_option g.revoked_roles g.set_role g.role_change g.role_set g.role_reset g.chosen_role
 set_role_written = refl
 
 reset_role_written : (g.statement 1).rule.prints.writes (st.SetRole sr.Reset) ≡ Some (Word (codes "reset") ∷ Word (codes "role") ∷ [])
-unfolding reserved g.statement g.body g.select g.insert g.create g.role g.table g.policy g.flat_body g.alter g.altered_role g.altered_table g.grant g.granted_privileges g.granted_roles g.revoke g.revoked_option g.revoked_roles g.set_role g.role_change g.role_set g.role_reset g.chosen_role g.name
+unfolding reserved g.statement g.body g.select g.insert g.create g.role g.table g.policy g.flat_body g.alter g.altered_role g.altered_table g.grant g.granted_privileges g.granted_roles g.revoke g.revoked_privileges g.revoked_memberships g.revoked_option g.revoked_roles g.set_role g.role_change g.role_set g.role_reset g.chosen_role g.name
 reset_role_written = refl
 
 -- GRANT insert TO r WITH INHERIT OPTION is of a role called insert, and OPTION is TRUE.
@@ -131,5 +154,25 @@ insert_is_a_role = refl
 -- REVOKE admin FROM r CASCADE is of a role called admin.
 admin_is_a_role : g.revoke.parses.read (Word (codes "revoke") ∷ Word (codes "admin") ∷ Word (codes "from") ∷ Word (codes "r") ∷ Word (codes "cascade") ∷ []) ≡ Some
     (st.RevokeRoles record { option = None; roles = codes "admin" ∷ []; from = codes "r" ∷ [] }, [])
-unfolding reserved read_many g.revoke g.revoked_roles g.roles_from g.members g.how g.names with_comma g.name
+unfolding reserved read_many g.revoke g.revoked_memberships g.revoked_roles g.roles_from g.members g.how g.names with_comma g.name
 admin_is_a_role = refl
+
+-- REVOKE select FROM r is nothing, since SELECT is reserved and so no role.
+select_is_no_role : g.revoke.parses.read (Word (codes "revoke") ∷ Word (codes "select") ∷ Word (codes "from") ∷ Word (codes "r") ∷ []) ≡ None
+unfolding reserved read_many g.revoke g.revoked_memberships g.revoked_roles g.roles_from g.members g.how g.names with_comma g.name
+select_is_no_role = refl
+
+-- REVOKE DELETE ON TABLE t FROM restrict RESTRICT is from a role called restrict, without CASCADE.
+restrict_is_a_role : g.revoke.parses.read (Word (codes "revoke") ∷ Word (codes "delete") ∷ Word (codes "on") ∷ Word (codes "table") ∷ Word (codes "t") ∷ Word (codes "from") ∷ Word (codes "restrict") ∷ Word (codes "restrict") ∷ []) ≡ Some
+    (st.Revoke record { option_only = false; privileges = record { select = false; insert = false; update = false; delete = true }; table = codes "t"; from = to.Role (codes "restrict") ∷ []; cascade = false }, [])
+unfolding reserved read_many g.revoke g.revoked_privileges g.option_only g.privileges_on g.privileges g.named_privileges g.privilege g.table_name g.revoked_from g.grantees g.grantee g.cascade with_privilege with_comma g.name
+restrict_is_a_role = refl
+
+-- SELECT count selects a column of that name, and COUNT (a) is nothing.
+count_is_a_column : g.items.parses.read (Word (codes "count") ∷ Word (codes "from") ∷ []) ≡ Some (selected.Items (e.Column (codes "count") ∷ []), Word (codes "from") ∷ [])
+unfolding reserved read_many g.items g.column_items g.columns g.column with_comma g.name
+count_is_a_column = refl
+
+count_of_a_column : g.items.parses.read (Word (codes "count") ∷ t.Symbol s.LParen ∷ Word (codes "a") ∷ t.Symbol s.RParen ∷ []) ≡ None
+unfolding g.items g.count
+count_of_a_column = refl

@@ -11,9 +11,9 @@ abbrev pub comes_first : List Head → List Head → List Token → Bool
 comes_first hs ks [] = false
 comes_first hs ks (t ∷ ts) = if begins hs t then true else (if begins ks t then false else comes_first hs ks ts)
 
--- ON comes before TO
-abbrev pub on_before_to : List Token → Bool
-on_before_to = comes_first (Keyword (codes "on") ∷ []) (Keyword (codes "to") ∷ [])
+-- ON comes before TO and FROM
+abbrev pub on_comes_first : List Token → Bool
+on_comes_first = comes_first (Keyword (codes "on") ∷ []) (Keyword (codes "to") ∷ Keyword (codes "from") ∷ [])
 
 -- the second token is one of these
 abbrev pub second_is : List Head → List Token → Bool
@@ -68,14 +68,19 @@ module _ (hs ks : List Head) where
 
 -- ---- what decides
 
-module _ {A B C : Type 0} (test : List Token → Bool) (f : A × B → C) (p : List Token → A → Type 0) (t : Token) (q : List Token → B → Type 0) where
-  -- where what stands before it is passed over, the token decides
-  pub decided_behind : Skips test p → (b : Bool) → ((ts : List Token) → test (t ∷ ts) ≡ b) → (front rest : List Token) (c : C) → Mapped f (Both p (After (only t) q)) front c → test (front ++ rest) ≡ b
-  decided_behind P b decides front rest c h =
-      let x = h.spelled in
-      let y = x.other.spelled in
-      let behind : test (x.rest ++ rest) ≡ b = rw (y.split, y.one) (decides (y.rest ++ rest)) in
-      rw (x.split, append_assoc) (P.passes x.front (x.rest ++ rest) h.source.0 x.one ∙ behind)
+module _ {A : Type 0} (test : List Token → Bool) (t : Token) (q : List Token → A → Type 0) where
+  -- a token at the front
+  pub decided_at : (b : Bool) → ((ts : List Token) → test (t ∷ ts) ≡ b) → (front rest : List Token) (a : A) → After (only t) q front a → test (front ++ rest) ≡ b
+  decided_at b decides front rest a h = let x = h.spelled in rw (x.split, x.one) (decides (x.rest ++ rest))
+
+module _ {A B : Type 0} (test : List Token → Bool) (p : List Token → A → Type 0) (q : List Token → B → Type 0) where
+  -- the first of two
+  pub decided_before : (b : Bool) → ((front rest : List Token) (a : A) → p front a → test (front ++ rest) ≡ b) → (front rest : List Token) (r : A × B) → Both p q front r → test (front ++ rest) ≡ b
+  decided_before b decides front rest r h = rw (h.split, append_assoc) (decides h.front (h.rest ++ rest) r.0 h.one)
+
+  -- the second, where the first is passed over
+  pub decided_behind : Skips test p → (b : Bool) → ((front rest : List Token) (c : B) → q front c → test (front ++ rest) ≡ b) → (front rest : List Token) (r : A × B) → Both p q front r → test (front ++ rest) ≡ b
+  decided_behind P b decides front rest r h = rw (h.split, append_assoc) (P.passes h.front (h.rest ++ rest) r.0 h.one ∙ decides h.rest rest r.1 h.other)
 
 -- each phrase is one token
 pub record Alone {A : Type 0} (p : List Token → A → Type 0) : Type 0 where

@@ -61,11 +61,15 @@ privilege_heads = Keyword (codes "select") ∷ Keyword (codes "insert") ∷ Keyw
 abbrev pub option_heads : List Head
 option_heads = Keyword (codes "admin") ∷ Keyword (codes "inherit") ∷ Keyword (codes "set") ∷ []
 
--- behind roles that are granted
+-- privileges
+abbrev pub privileges_heads : List Head
+privileges_heads = Keyword (codes "all") ∷ privilege_heads
+
+-- behind what is granted
 abbrev pub granted_more : List Head
 granted_more = Sign s.Comma ∷ Keyword (codes "with") ∷ []
 
--- behind roles that are revoked
+-- behind what is revoked
 abbrev pub revoked_more : List Head
 revoked_more = Sign s.Comma ∷ Keyword (codes "cascade") ∷ Keyword (codes "restrict") ∷ []
 
@@ -113,6 +117,6 @@ pub on_apart : apart (Names ∷ []) (Keyword (codes "on") ∷ []) ≡ true
 unfolding reserved
 on_apart = refl
 
-pub to_apart : apart (Names ∷ []) (Keyword (codes "to") ∷ []) ≡ true
+pub to_apart : apart (Names ∷ []) (Keyword (codes "to") ∷ Keyword (codes "from") ∷ []) ≡ true
 unfolding reserved
 to_apart = refl

@@ -35,9 +35,10 @@ use Rattle.rls_text.specs.declared.attributes.RoleAttribute.{RoleAttribute}
 use Rattle.rls_text.specs.declared.attributes.RoleAttribute.TheVariants as a
 use Rattle.std.proofs.Common.{inl, inr}
 use Rattle.rls_text.specs.Heads.{Names, Numbers, Texts, Keyword, Sign, begins, sees}
-use Rattle.rls_text.specs.FirstSets.{constant_heads, literal_heads, prim_heads, comparison_heads, is_more, expr_heads, expr_more, condition_more, attribute_heads, role_more, policy_more, create_more, privilege_heads, option_heads, granted_more, revoked_more, flat_heads, flat_more, body_heads, body_more, literal_apart, name_apart, not_apart, public_apart, table_apart, none_apart, on_apart, to_apart}
-use Rattle.rls_text.specs.Ahead.{on_before_to, second_is, Skips, both_skips, mapped_skips, either_skips, perhaps_skips, many_skips, token_skips, one_skips, decided_behind, Alone, only_alone, mapped_alone, either_alone}
+use Rattle.rls_text.specs.FirstSets.{constant_heads, literal_heads, prim_heads, comparison_heads, is_more, expr_heads, expr_more, condition_more, attribute_heads, role_more, policy_more, create_more, privilege_heads, privileges_heads, option_heads, granted_more, revoked_more, flat_heads, flat_more, body_heads, body_more, literal_apart, name_apart, not_apart, public_apart, table_apart, none_apart, on_apart, to_apart}
+use Rattle.rls_text.specs.Ahead.{on_comes_first, second_is, Skips, both_skips, mapped_skips, either_skips, perhaps_skips, many_skips, token_skips, one_skips, decided_at, decided_before, decided_behind, Alone, only_alone, mapped_alone, either_alone}
 use Rattle.rls_text.specs.Lang.{only, Both, Many, put_in}
+use Rattle.rls_text.specs.Parses.{unseen_parts}
 use Rattle.rls_text.specs.Trees as t
 use Rattle.rls_text.specs.Writes.{through, without_second, without_first}
 use Rattle.rls_text.specs.Rule.{Rule, word, sign, one, both, mapped, after_as, before_as, after, before, in_parentheses, either, either_by, perhaps, many, checked, widened, with_comma, as_list, list_law, listed, word_for, sign_for}
@@ -166,9 +167,36 @@ column = mapped e.Column back.as_column back.column_law name
 unfoldable pub columns : Rule (List Term) (Names ∷ []) (Sign s.Comma ∷ []) false
 columns = listed column
 
--- "*" | columns
-unfoldable pub items : Rule Selected (Sign s.Star ∷ Names ∷ []) (Sign s.Comma ∷ []) false
-items = either (mapped (λ _. selected.All) back.as_all back.all_law (sign s.Star)) (mapped selected.Items back.as_items back.items_law columns) refl
+-- columns, as what is selected, where no parenthesis follows
+unfoldable pub column_items : Rule Selected (Names ∷ []) (Sign s.LParen ∷ Sign s.Comma ∷ []) false
+column_items = widened (mapped selected.Items back.as_items back.items_law columns) refl refl
+
+-- COUNT "(" "*" ")"
+unfoldable pub count : Rule Selected (Keyword (codes "count") ∷ []) [] false
+count = mapped (λ _. selected.Count) back.as_count back.count_law (after (word (codes "count")) (in_parentheses (sign s.Star) refl) refl)
+
+-- where rows are counted the second token is a parenthesis
+pub paren_second : (front rest : List Token) (a : Selected) → count.spells front a → sees [] rest ≡ false → second_is (Sign s.LParen ∷ []) (front ++ rest) ≡ true
+unfolding count
+paren_second front rest a h stop =
+    let x = h.spelled.spelled in
+    let y = x.other.spelled in
+    rw (x.split, x.one, y.split, y.one) refl
+
+-- where columns are selected it is a comma, or what follows them
+pub no_paren_second : (front rest : List Token) (a : Selected) → column_items.spells front a → sees (Sign s.LParen ∷ Sign s.Comma ∷ []) rest ≡ false → second_is (Sign s.LParen ∷ []) (front ++ rest) ≡ false
+unfolding column_items columns column name with_comma
+no_paren_second front rest a h stop =
+    let x = h.spelled.spelled in
+    rw (x.split, x.one.spelled.alone) (go x.rest h.spelled.source.1 x.other)
+  where
+    go : (ts : List Token) (more : List Term) → Many (with_comma column).spells ts more → sees (Sign s.LParen ∷ []) (ts ++ rest) ≡ false
+    go ts [] m = rw m (unseen_parts (Sign s.LParen ∷ []) (Sign s.Comma ∷ []) rest stop).0
+    go ts (n ∷ more) m = rw (m.2, m.3.spelled.split, m.3.spelled.one) refl
+
+-- "*" | count | columns: where the second token is a parenthesis, rows are counted
+unfoldable pub items : Rule Selected (Sign s.Star ∷ Keyword (codes "count") ∷ Names ∷ []) (Sign s.LParen ∷ Sign s.Comma ∷ []) false
+items = either (mapped (λ _. selected.All) back.as_all back.all_law (sign s.Star)) (either_by (second_is (Sign s.LParen ∷ [])) count column_items paren_second no_paren_second) refl
 
 module _ (inner : Cut tree_of expr_heads expr_more false) where
   -- [WHERE expr]
@@ -319,7 +347,7 @@ module _ (inner : Cut tree_of expr_heads expr_more false) where
       (cut.either (cut.after (word (codes "user")) (cut.kept_as draft_of t.flat (role true) (role_kept true)) refl)
       (cut.either (cut.after (word (codes "table")) (cut.kept_as draft_of t.flat table table_kept) refl) (cut.after (word (codes "policy")) policy refl) refl) refl) refl) refl) refl refl
 
--- ---- GRANT
+-- ---- GRANT and REVOKE of privileges
 
 -- SELECT | INSERT | UPDATE | DELETE
 unfoldable pub privilege : Rule Privilege privilege_heads [] false
@@ -331,16 +359,44 @@ unfoldable pub named_privileges : Rule Privileges privilege_heads (Sign s.Comma 
 named_privileges = mapped g.privileges_of back.as_privileges back.privileges_law (both privilege (many (with_comma privilege) refl) refl)
 
 -- ALL [PRIVILEGES] | privilege {"," privilege}; PRIVILEGES isn't written
-unfoldable pub privileges : Rule Privileges (Keyword (codes "all") ∷ privilege_heads) (Keyword (codes "privileges") ∷ Sign s.Comma ∷ []) false
+unfoldable pub privileges : Rule Privileges privileges_heads (Keyword (codes "privileges") ∷ Sign s.Comma ∷ []) false
 privileges = either (mapped (λ _. g.all_privileges) back.as_all_privileges back.all_privileges_law (both (word (codes "all")) (perhaps (word (codes "privileges"))) refl)) named_privileges refl
 
 -- [TABLE] name; TABLE isn't written
 unfoldable pub table_name : Rule (List ℕ) (Keyword (codes "table") ∷ Names ∷ []) [] false
 table_name = after_as None (perhaps (word (codes "table"))) name table_apart
 
--- privileges ON [TABLE] name TO grantees
-unfoldable pub granted_privileges : Rule Statement (Keyword (codes "all") ∷ privilege_heads) (Sign s.Comma ∷ []) false
-granted_privileges = mapped g.grant_of back.as_grant back.grant_law (both privileges (after (word (codes "on")) (both table_name to_grantees refl) refl) refl)
+-- privileges ON [TABLE] name
+unfoldable pub privileges_on : Rule (Privileges × List ℕ) privileges_heads [] false
+privileges_on = both privileges (after (word (codes "on")) table_name refl) refl
+
+-- [WITH GRANT OPTION]
+unfoldable pub with_option : Rule Bool (Keyword (codes "with") ∷ []) (Keyword (codes "with") ∷ []) true
+with_option = mapped g.are_written back.as_words back.words_law (perhaps (after (word (codes "with")) (after (word (codes "grant")) (word (codes "option")) refl) refl))
+
+-- TO grantees [WITH GRANT OPTION]
+unfoldable pub granted_to : Rule (List Grantee × Bool) (Keyword (codes "to") ∷ []) granted_more false
+granted_to = widened (both to_grantees with_option refl) refl refl
+
+-- privileges ON [TABLE] name TO grantees [WITH GRANT OPTION]
+unfoldable pub granted_privileges : Rule Statement privileges_heads granted_more false
+granted_privileges = widened (mapped g.grant_of back.as_grant back.grant_law (both privileges_on granted_to refl)) refl refl
+
+-- [GRANT OPTION FOR]
+unfoldable pub option_only : Rule Bool (Keyword (codes "grant") ∷ []) (Keyword (codes "grant") ∷ []) true
+option_only = mapped g.are_written back.as_words back.words_law (perhaps (after (word (codes "grant")) (after (word (codes "option")) (word (codes "for")) refl) refl))
+
+-- [CASCADE | RESTRICT], of which RESTRICT isn't written
+unfoldable pub cascade : Rule Bool (Keyword (codes "cascade") ∷ Keyword (codes "restrict") ∷ []) (Keyword (codes "cascade") ∷ Keyword (codes "restrict") ∷ []) true
+cascade = mapped g.or_restrict back.as_cascade back.cascade_law (perhaps (either (word_for back.flags true (codes "cascade")) (word_for back.flags false (codes "restrict")) refl))
+
+-- FROM grantees [CASCADE | RESTRICT]
+unfoldable pub revoked_from : Rule (List Grantee × Bool) (Keyword (codes "from") ∷ []) revoked_more false
+revoked_from = widened (after (word (codes "from")) (both grantees cascade refl) refl) refl refl
+
+-- [GRANT OPTION FOR] privileges ON [TABLE] name FROM grantees [CASCADE | RESTRICT]
+unfoldable pub revoked_privileges : Rule Statement (Keyword (codes "grant") ∷ privileges_heads) revoked_more false
+revoked_privileges = widened (mapped g.revoke_of back.as_revoke back.revoke_law (both option_only (both privileges_on revoked_from refl) refl)) refl refl
 
 -- ---- memberships
 
@@ -380,46 +436,51 @@ options = mapped g.options_from back.as_with back.options_law settings_if_any
 unfoldable pub granted_roles : Rule Statement (Names ∷ []) granted_more false
 granted_roles = widened (mapped g.granting_of back.as_granting back.granting_law (both names (after (word (codes "to")) (both names options refl) refl) refl)) refl refl
 
--- neither ON nor TO is such a word
-word_skips : (w : List ℕ) → begins (Keyword (codes "on") ∷ []) (Word w) ≡ false → begins (Keyword (codes "to") ∷ []) (Word w) ≡ false → Skips on_before_to (only (Word w))
-word_skips w on to = token_skips (Keyword (codes "on") ∷ []) (Keyword (codes "to") ∷ []) (Word w) on to
+-- none of ON, TO and FROM is such a word
+word_skips : (w : List ℕ) → begins (Keyword (codes "on") ∷ []) (Word w) ≡ false → begins (Keyword (codes "to") ∷ Keyword (codes "from") ∷ []) (Word w) ≡ false → Skips on_comes_first (only (Word w))
+word_skips w on to = token_skips (Keyword (codes "on") ∷ []) (Keyword (codes "to") ∷ Keyword (codes "from") ∷ []) (Word w) on to
 
-comma_skips : Skips on_before_to (only (tokens.Symbol s.Comma))
-comma_skips = token_skips (Keyword (codes "on") ∷ []) (Keyword (codes "to") ∷ []) (tokens.Symbol s.Comma) refl refl
+comma_skips : Skips on_comes_first (only (tokens.Symbol s.Comma))
+comma_skips = token_skips (Keyword (codes "on") ∷ []) (Keyword (codes "to") ∷ Keyword (codes "from") ∷ []) (tokens.Symbol s.Comma) refl refl
 
-privilege_skips : Skips on_before_to privilege.spells
+privilege_skips : Skips on_comes_first privilege.spells
 unfolding privilege
 privilege_skips = either_skips _ _ _ (mapped_skips _ _ _ (word_skips (codes "select") refl refl)) (either_skips _ _ _ (mapped_skips _ _ _ (word_skips (codes "insert") refl refl))
     (either_skips _ _ _ (mapped_skips _ _ _ (word_skips (codes "update") refl refl)) (mapped_skips _ _ _ (word_skips (codes "delete") refl refl))))
 
--- in looking for ON and TO privileges are passed over
-privileges_skip : Skips on_before_to privileges.spells
+-- in looking for ON, TO and FROM privileges are passed over
+privileges_skip : Skips on_comes_first privileges.spells
 unfolding privileges named_privileges with_comma
 privileges_skip = either_skips _ _ _ (mapped_skips _ _ _ (both_skips _ _ _ (word_skips (codes "all") refl refl) (perhaps_skips _ _ (word_skips (codes "privileges") refl refl))))
     (mapped_skips _ _ _ (both_skips _ _ _ privilege_skips (many_skips _ _ (mapped_skips _ _ _ (both_skips _ _ _ comma_skips privilege_skips)))))
 
-name_skips : Skips on_before_to name.spells
+name_skips : Skips on_comes_first name.spells
 unfolding name
-name_skips = one_skips (Keyword (codes "on") ∷ []) (Keyword (codes "to") ∷ []) g.name_of (Names ∷ []) back.name_begins on_apart to_apart
+name_skips = one_skips (Keyword (codes "on") ∷ []) (Keyword (codes "to") ∷ Keyword (codes "from") ∷ []) g.name_of (Names ∷ []) back.name_begins on_apart to_apart
 
 -- so are names
-names_skip : Skips on_before_to names.spells
+names_skip : Skips on_comes_first names.spells
 unfolding names with_comma
 names_skip = mapped_skips _ _ _ (both_skips _ _ _ name_skips (many_skips _ _ (mapped_skips _ _ _ (both_skips _ _ _ comma_skips name_skips))))
 
--- what is of privileges has ON before TO
-pub on_first : (front rest : List Token) (a : Statement) → granted_privileges.spells front a → sees (Sign s.Comma ∷ []) rest ≡ false → on_before_to (front ++ rest) ≡ true
+-- behind privileges ON comes first
+on_decides : (front rest : List Token) (r : Privileges × List ℕ) → privileges_on.spells front r → on_comes_first (front ++ rest) ≡ true
+unfolding privileges_on
+on_decides = decided_behind on_comes_first privileges.spells _ privileges_skip true (decided_at on_comes_first (Word (codes "on")) table_name.spells true (λ ts. refl))
+
+-- where privileges are granted ON comes first
+pub on_first : (front rest : List Token) (a : Statement) → granted_privileges.spells front a → sees granted_more rest ≡ false → on_comes_first (front ++ rest) ≡ true
 unfolding granted_privileges
-on_first front rest a h stop = decided_behind on_before_to _ _ (Word (codes "on")) _ privileges_skip true (λ ts. refl) front rest a h
+on_first front rest a h stop = decided_before on_comes_first privileges_on.spells granted_to.spells true on_decides front rest h.source h.spelled
 
--- what is of roles has TO before ON
-pub to_first : (front rest : List Token) (a : Statement) → granted_roles.spells front a → sees granted_more rest ≡ false → on_before_to (front ++ rest) ≡ false
+-- where roles are granted it is TO
+pub to_first : (front rest : List Token) (a : Statement) → granted_roles.spells front a → sees granted_more rest ≡ false → on_comes_first (front ++ rest) ≡ false
 unfolding granted_roles
-to_first front rest a h stop = decided_behind on_before_to _ _ (Word (codes "to")) _ names_skip false (λ ts. refl) front rest a h
+to_first front rest a h stop = decided_behind on_comes_first names.spells _ names_skip false (decided_at on_comes_first (Word (codes "to")) _ false (λ ts. refl)) front rest h.source h.spelled
 
--- GRANT (privileges ON [TABLE] name TO grantees | names TO names [WITH settings]): where ON comes before TO, it is of privileges
+-- GRANT (privileges ON [TABLE] name TO grantees [WITH GRANT OPTION] | names TO names [WITH settings]): where ON comes before TO, it is of privileges
 unfoldable pub grant : Rule Statement (Keyword (codes "grant") ∷ []) granted_more false
-grant = widened (after (word (codes "grant")) (either_by on_before_to granted_privileges granted_roles on_first to_first) refl) refl refl
+grant = widened (after (word (codes "grant")) (either_by on_comes_first granted_privileges granted_roles on_first to_first) refl) refl refl
 
 -- without an expression, it is kept as it is
 grant_kept : (ts : List Token) (x : Statement) → grant.spells ts x → draft_of x ≡ t.flat x
@@ -477,14 +538,51 @@ no_option_second front rest a h stop =
     go ts us [] m r y = rw (m, y.split, y.one) refl
     go ts us (n ∷ more) m r y = rw (m.2, m.3.spelled.split, m.3.spelled.one) refl
 
--- REVOKE [option OPTION FOR] names FROM names [how]: where the second word is OPTION, it is of an option
+-- [option OPTION FOR] names FROM names [how]: where the second word is OPTION, it is of an option
+unfoldable pub revoked_memberships : Rule Statement (option_heads ++ Names ∷ []) revoked_more false
+revoked_memberships = widened (either_by (second_is (Keyword (codes "option") ∷ [])) revoked_option revoked_roles option_second no_option_second) refl refl
+
+-- GRANT OPTION FOR is passed over
+option_only_skips : Skips on_comes_first option_only.spells
+unfolding option_only
+option_only_skips = mapped_skips _ _ _ (perhaps_skips _ _ (mapped_skips _ _ _ (both_skips _ _ _ (word_skips (codes "grant") refl refl) (mapped_skips _ _ _ (both_skips _ _ _ (word_skips (codes "option") refl refl) (word_skips (codes "for") refl refl))))))
+
+option_skips : Skips on_comes_first option.spells
+unfolding option
+option_skips = either_skips _ _ _ (mapped_skips _ _ _ (word_skips (codes "admin") refl refl)) (either_skips _ _ _ (mapped_skips _ _ _ (word_skips (codes "inherit") refl refl)) (mapped_skips _ _ _ (word_skips (codes "set") refl refl)))
+
+-- so is an option with OPTION FOR
+option_for_skips : Skips on_comes_first option_for.spells
+unfolding option_for
+option_for_skips = mapped_skips _ _ _ (both_skips _ _ _ option_skips (mapped_skips _ _ _ (both_skips _ _ _ (word_skips (codes "option") refl refl) (word_skips (codes "for") refl refl))))
+
+-- behind names FROM comes first
+from_decides : (front rest : List Token) (r : List (List ℕ) × List (List ℕ)) → roles_from.spells front r → on_comes_first (front ++ rest) ≡ false
+unfolding roles_from
+from_decides = decided_behind on_comes_first names.spells _ names_skip false (decided_at on_comes_first (Word (codes "from")) members.spells false (λ ts. refl))
+
+-- where privileges are revoked ON comes first
+pub on_still_first : (front rest : List Token) (a : Statement) → revoked_privileges.spells front a → sees revoked_more rest ≡ false → on_comes_first (front ++ rest) ≡ true
+unfolding revoked_privileges
+on_still_first front rest a h stop =
+    decided_behind on_comes_first option_only.spells _ option_only_skips true (decided_before on_comes_first privileges_on.spells revoked_from.spells true on_decides) front rest h.source h.spelled
+
+-- where memberships are revoked it is FROM
+pub from_first : (front rest : List Token) (a : Statement) → revoked_memberships.spells front a → sees revoked_more rest ≡ false → on_comes_first (front ++ rest) ≡ false
+unfolding revoked_memberships revoked_option revoked_roles
+from_first front rest a h stop = elim h [
+  | inl x ↦ decided_behind on_comes_first option_for.spells roles_from.spells option_for_skips false from_decides front rest x.source x.spelled
+  | inr x ↦ from_decides front rest x.source x.spelled
+]
+
+-- REVOKE ([GRANT OPTION FOR] privileges ON [TABLE] name FROM grantees [CASCADE | RESTRICT] | [option OPTION FOR] names FROM names [how]): where ON comes before FROM, it is of privileges
 unfoldable pub revoke : Rule Statement (Keyword (codes "revoke") ∷ []) revoked_more false
-revoke = widened (after (word (codes "revoke")) (either_by (second_is (Keyword (codes "option") ∷ [])) revoked_option revoked_roles option_second no_option_second) refl) refl refl
+revoke = widened (after (word (codes "revoke")) (either_by on_comes_first revoked_privileges revoked_memberships on_still_first from_first) refl) refl refl
 
 -- so is this
 revoke_kept : (ts : List Token) (x : Statement) → revoke.spells ts x → draft_of x ≡ t.flat x
-unfolding revoke revoked_option revoked_roles
-revoke_kept ts x h = rw (h.value) (elim h.spelled.other [ inl y ↦ rw (y.value) refl | inr y ↦ rw (y.value) refl ])
+unfolding revoke revoked_privileges revoked_memberships revoked_option revoked_roles
+revoke_kept ts x h = rw (h.value) (elim h.spelled.other [ inl y ↦ rw (y.value) refl | inr y ↦ elim y [ inl z ↦ rw (z.value) refl | inr z ↦ rw (z.value) refl ] ])
 
 -- ---- SET ROLE
 

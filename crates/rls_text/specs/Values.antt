@@ -208,9 +208,23 @@ with_privilege all p.Delete = record all { delete = true }
 abbrev pub privileges_of : Privilege × List Privilege → Privileges
 privileges_of r = put_in with_privilege (with_privilege no_privileges r.0) r.1
 
--- GRANT, of its parts
-abbrev pub grant_of : Privileges × (List ℕ × List Grantee) → Statement
-grant_of r = st.Grant record { privileges = r.0; table = r.1.0; to = r.1.1 }
+-- whether words that may be left out are there
+abbrev pub are_written : Option (Unit {0}) → Bool
+are_written None = false
+are_written (Some _) = true
+
+-- RESTRICT, where nothing is written
+abbrev pub or_restrict : Option Bool → Bool
+or_restrict None = false
+or_restrict (Some cascade) = cascade
+
+-- GRANT of privileges, of its parts
+abbrev pub grant_of : (Privileges × List ℕ) × (List Grantee × Bool) → Statement
+grant_of r = st.Grant record { privileges = r.0.0; table = r.0.1; to = r.1.0; with_option = r.1.1 }
+
+-- REVOKE of privileges, of its parts
+abbrev pub revoke_of : Bool × ((Privileges × List ℕ) × (List Grantee × Bool)) → Statement
+revoke_of r = st.Revoke record { option_only = r.0; privileges = r.1.0.0; table = r.1.0.1; from = r.1.1.0; cascade = r.1.1.1 }
 
 -- ---- memberships
 

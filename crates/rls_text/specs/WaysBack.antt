@@ -274,6 +274,15 @@ pub items_law : (b : Selected) (a : List Term) → as_items b ≡ Some a → b �
 items_law (selected.Items x) a h = ap selected.Items (some_is x a h)
 items_law _ a h = cc
 
+-- the number of rows
+abbrev pub as_count : Selected → Option (Unit {0})
+as_count selected.Count = Some tt
+as_count _ = None
+
+pub count_law : (b : Selected) (a : Unit {0}) → as_count b ≡ Some a → b ≡ selected.Count
+count_law selected.Count a h = refl
+count_law _ a h = cc
+
 -- items, table, condition
 abbrev pub as_select : Statement → Option (Selected × (List ℕ × Option Term))
 as_select (st.Select x) = Some (x.items, (x.table, x.condition))
@@ -476,7 +485,7 @@ policy_law (st.CreatePolicy x) a h =
     policy_back y.name x.table y.permissive y.kind y.to y.using y.check k.0 ∙ ap g.policy_of k.1
 policy_law _ a h = cc
 
--- ---- GRANT
+-- ---- GRANT and REVOKE of privileges
 
 -- privileges, told apart
 abbrev pub privilege_names : Telling Privilege
@@ -536,14 +545,41 @@ privileges_back false false false false = tt
 pub privileges_law : (b : Privileges) (a : Privilege × List Privilege) → as_privileges b ≡ Some a → b ≡ g.privileges_of a
 privileges_law b a h = subst (are_privileges b) h (privileges_back b.select b.insert b.update b.delete)
 
--- privileges, table, grantees
-abbrev pub as_grant : Statement → Option (Privileges × (List ℕ × List Grantee))
-as_grant (st.Grant x) = Some (x.privileges, (x.table, x.to))
+-- words that are written where it is so
+abbrev pub as_words : Bool → Option (Option (Unit {0}))
+as_words true = Some (Some tt)
+as_words false = Some None
+
+pub words_law : (b : Bool) (a : Option (Unit {0})) → as_words b ≡ Some a → b ≡ g.are_written a
+words_law true a h = ap g.are_written (some_is (Some tt) a h)
+words_law false a h = ap g.are_written (some_is None a h)
+
+-- CASCADE; RESTRICT isn't written
+abbrev pub as_cascade : Bool → Option (Option Bool)
+as_cascade true = Some (Some true)
+as_cascade false = Some None
+
+pub cascade_law : (b : Bool) (a : Option Bool) → as_cascade b ≡ Some a → b ≡ g.or_restrict a
+cascade_law true a h = ap g.or_restrict (some_is (Some true) a h)
+cascade_law false a h = ap g.or_restrict (some_is None a h)
+
+-- privileges, table, grantees, WITH GRANT OPTION
+abbrev pub as_grant : Statement → Option ((Privileges × List ℕ) × (List Grantee × Bool))
+as_grant (st.Grant x) = Some ((x.privileges, x.table), (x.to, x.with_option))
 as_grant _ = None
 
-pub grant_law : (b : Statement) (a : Privileges × (List ℕ × List Grantee)) → as_grant b ≡ Some a → b ≡ g.grant_of a
-grant_law (st.Grant x) a h = ap g.grant_of (some_is (x.privileges, (x.table, x.to)) a h)
+pub grant_law : (b : Statement) (a : (Privileges × List ℕ) × (List Grantee × Bool)) → as_grant b ≡ Some a → b ≡ g.grant_of a
+grant_law (st.Grant x) a h = ap g.grant_of (some_is ((x.privileges, x.table), (x.to, x.with_option)) a h)
 grant_law _ a h = cc
+
+-- GRANT OPTION FOR, privileges, table, grantees, CASCADE
+abbrev pub as_revoke : Statement → Option (Bool × ((Privileges × List ℕ) × (List Grantee × Bool)))
+as_revoke (st.Revoke x) = Some (x.option_only, ((x.privileges, x.table), (x.from, x.cascade)))
+as_revoke _ = None
+
+pub revoke_law : (b : Statement) (a : Bool × ((Privileges × List ℕ) × (List Grantee × Bool))) → as_revoke b ≡ Some a → b ≡ g.revoke_of a
+revoke_law (st.Revoke x) a h = ap g.revoke_of (some_is (x.option_only, ((x.privileges, x.table), (x.from, x.cascade))) a h)
+revoke_law _ a h = cc
 
 -- ---- memberships
 

@@ -1,9 +1,9 @@
-//! GRANT from tokens, of privileges here, and lists of grantees.
+//! GRANT from tokens, of privileges here, and lists of privileges and of grantees.
 
-ghost use Rattle.std.specs.Prelude.{◌≡◌, [], ◌∷◌, length};
+ghost use Rattle.std.specs.Prelude.{◌≡◌, [], ◌∷◌, length, codes};
 ghost use Rattle.rls_text.specs.Gives.{Gives, with_front, folded};
 ghost use Rattle.rls_text.specs.Parses.{read_many};
-ghost use Rattle.rls_text.specs.Heads.{Sign};
+ghost use Rattle.rls_text.specs.Heads.{Sign, Keyword, sees};
 ghost use Rattle.rls_text.specs.Rule.{with_comma};
 ghost use Rattle.rls_text.specs.Ahead as ahead;
 ghost use Rattle.rls_text.specs.Grammar as g;
@@ -23,7 +23,7 @@ pub fn grant(alloc: Global, tokens: &[Token]) -> Result<(Statement, &[Token]), F
     ensures { Gives result (g.grant.parses.read tokens.now) }
 {
     let rest = past_word(tokens, b"grant")?;
-    if on_before_to(rest) {
+    if on_comes_first(rest) {
         granted_privileges(alloc, rest)
     } else {
         granted_roles(alloc, rest)
@@ -31,14 +31,14 @@ pub fn grant(alloc: Global, tokens: &[Token]) -> Result<(Statement, &[Token]), F
 }
 
 /// Whether the list is followed by ON, and so of privileges.
-fn on_before_to(mut tokens: &[Token]) -> bool
-    ensures { result ≡ ahead.on_before_to tokens.entry.now }
+pub fn on_comes_first(mut tokens: &[Token]) -> bool
+    ensures { result ≡ ahead.on_comes_first tokens.entry.now }
 {
     while let [_, rest @ ..] = tokens {
         if sees_word(tokens, b"on") {
             return true;
         }
-        if sees_word(tokens, b"to") {
+        if follows_roles(tokens) {
             return false;
         }
         tokens = rest;
@@ -46,20 +46,64 @@ fn on_before_to(mut tokens: &[Token]) -> bool
     false
 }
 
+/// Whether TO or FROM comes next.
+#[tactic(auto, using(crate::proofs::Loops::sees_more, crate::proofs::Loops::sees_first))]
+fn follows_roles(tokens: &[Token]) -> bool
+    ensures { result ≡ sees (Keyword (codes "to") ∷ Keyword (codes "from") ∷ []) tokens.now }
+{
+    sees_word(tokens, b"to") || sees_word(tokens, b"from")
+}
+
 #[tactic(auto, unfolding(crate::specs::Grammar::granted_privileges))]
 fn granted_privileges(alloc: Global, tokens: &[Token]) -> Result<(Statement, &[Token]), Fault>
     ensures { Gives result (g.granted_privileges.parses.read tokens.now) }
 {
-    let (privileges, rest) = privileges(tokens)?;
-    let rest = past_word(rest, b"on")?;
-    let (table, rest) = table_name(alloc, rest)?;
-    let (to, rest) = to_grantees(alloc, rest)?;
+    let ((privileges, table), rest) = privileges_on(alloc, tokens)?;
+    let ((to, with_option), rest) = granted_to(alloc, rest)?;
     let grant = GrantPrivileges {
         privileges,
         table,
         to,
+        with_option,
     };
     Ok((Statement::Grant(grant), rest))
+}
+
+/// Privileges, and the table that they are on.
+#[tactic(auto, unfolding(crate::specs::Grammar::privileges_on))]
+pub fn privileges_on(
+    alloc: Global,
+    tokens: &[Token],
+) -> Result<((Privileges, Name), &[Token]), Fault>
+    ensures { Gives result (g.privileges_on.parses.read tokens.now) }
+{
+    let (privileges, rest) = privileges(tokens)?;
+    let rest = past_word(rest, b"on")?;
+    let (table, rest) = table_name(alloc, rest)?;
+    Ok(((privileges, table), rest))
+}
+
+/// The grantees, and whether WITH GRANT OPTION is written.
+#[tactic(auto, unfolding(crate::specs::Grammar::granted_to))]
+fn granted_to(alloc: Global, tokens: &[Token]) -> Result<((Items<Grantee>, bool), &[Token]), Fault>
+    ensures { Gives result (g.granted_to.parses.read tokens.now) }
+{
+    let (to, rest) = to_grantees(alloc, tokens)?;
+    let (with_option, rest) = with_option(rest)?;
+    Ok(((to, with_option), rest))
+}
+
+#[tactic(auto, unfolding(crate::specs::Grammar::with_option))]
+fn with_option(tokens: &[Token]) -> Result<(bool, &[Token]), Fault>
+    ensures { Gives result (g.with_option.parses.read tokens.now) }
+{
+    if let Some(rest) = word(tokens, b"with") {
+        let rest = past_word(rest, b"grant")?;
+        let rest = past_word(rest, b"option")?;
+        Ok((true, rest))
+    } else {
+        Ok((false, tokens))
+    }
 }
 
 /// The name of a table, with the word TABLE or without.
@@ -183,7 +227,7 @@ pub fn to_grantees(alloc: Global, tokens: &[Token]) -> Result<(Items<Grantee>, &
 }
 
 #[tactic(auto, unfolding(crate::specs::Grammar::grantees, crate::specs::Gives::with_front))]
-fn grantees(alloc: Global, tokens: &[Token]) -> Result<(Items<Grantee>, &[Token]), Fault>
+pub fn grantees(alloc: Global, tokens: &[Token]) -> Result<(Items<Grantee>, &[Token]), Fault>
     ensures { Gives result (g.grantees.parses.read tokens.now) }
 {
     let (first, rest) = grantee(alloc, tokens)?;

@@ -11,6 +11,7 @@ mod memberships;
 mod parsing;
 mod read_back;
 mod reading;
+mod revoking;
 mod selecting;
 mod token;
 mod tree;

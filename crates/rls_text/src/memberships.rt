@@ -1,4 +1,4 @@
-//! GRANT and REVOKE of roles, and SET ROLE, from tokens.
+//! GRANT and REVOKE of roles behind the first word, and SET ROLE, from tokens.
 
 ghost use Rattle.std.specs.Prelude.{◌≡◌, [], ◌∷◌, length, codes};
 ghost use Rattle.rls_text.specs.Gives.{Gives, with_front, or_no_items};
@@ -31,15 +31,14 @@ pub fn granted_roles(alloc: Global, tokens: &[Token]) -> Result<(Statement, &[To
     Ok((Statement::GrantRoles(grant), rest))
 }
 
-#[tactic(auto, unfolding(crate::specs::Grammar::revoke))]
-pub fn revoke(alloc: Global, tokens: &[Token]) -> Result<(Statement, &[Token]), Fault>
-    ensures { Gives result (g.revoke.parses.read tokens.now) }
+#[tactic(auto, unfolding(crate::specs::Grammar::revoked_memberships))]
+pub fn revoked_memberships(alloc: Global, tokens: &[Token]) -> Result<(Statement, &[Token]), Fault>
+    ensures { Gives result (g.revoked_memberships.parses.read tokens.now) }
 {
-    let rest = past_word(tokens, b"revoke")?;
-    if option_second(rest) {
-        revoked_option(alloc, rest)
+    if option_second(tokens) {
+        revoked_option(alloc, tokens)
     } else {
-        revoked_roles(alloc, rest)
+        revoked_roles(alloc, tokens)
     }
 }
 

@@ -5,6 +5,7 @@ ghost use Rattle.rls_text.specs.Gives.{Gives, with_front, folded};
 ghost use Rattle.rls_text.specs.Parses.{read_many};
 ghost use Rattle.rls_text.specs.Heads.{Sign};
 ghost use Rattle.rls_text.specs.Rule.{with_comma};
+ghost use Rattle.rls_text.specs.Ahead as ahead;
 ghost use Rattle.rls_text.specs.Cut as cut;
 ghost use Rattle.rls_text.specs.Grammar as g;
 ghost use Rattle.rls_text.specs.Values as values;
@@ -60,10 +61,41 @@ fn items(alloc: Global, tokens: &[Token]) -> Result<(Selected, &[Token]), Fault>
 {
     if let Some(rest) = symbol(tokens, Symbol::Star) {
         Ok((Selected::All, rest))
+    } else if paren_second(tokens) {
+        count(tokens)
     } else {
-        let (all, rest) = columns(alloc, tokens)?;
-        Ok((Selected::Items(all), rest))
+        column_items(alloc, tokens)
     }
+}
+
+/// Whether the second token is a parenthesis: no list of columns has it there.
+fn paren_second(tokens: &[Token]) -> bool
+    ensures { result ≡ ahead.second_is (Sign Symbol.LParen ∷ []) tokens.now }
+{
+    match tokens {
+        [_, rest @ ..] => sees_symbol(rest, Symbol::LParen),
+        [] => false,
+    }
+}
+
+/// `COUNT(*)`.
+#[tactic(auto, unfolding(crate::specs::Grammar::count))]
+fn count(tokens: &[Token]) -> Result<(Selected, &[Token]), Fault>
+    ensures { Gives result (g.count.parses.read tokens.now) }
+{
+    let rest = past_word(tokens, b"count")?;
+    let rest = past_symbol(rest, Symbol::LParen)?;
+    let rest = past_symbol(rest, Symbol::Star)?;
+    let rest = past_symbol(rest, Symbol::RParen)?;
+    Ok((Selected::Count, rest))
+}
+
+#[tactic(auto, unfolding(crate::specs::Grammar::column_items))]
+fn column_items(alloc: Global, tokens: &[Token]) -> Result<(Selected, &[Token]), Fault>
+    ensures { Gives result (g.column_items.parses.read tokens.now) }
+{
+    let (all, rest) = columns(alloc, tokens)?;
+    Ok((Selected::Items(all), rest))
 }
 
 #[tactic(auto, unfolding(crate::specs::Grammar::columns, crate::specs::Gives::with_front))]

@@ -1,5 +1,5 @@
 use Rattle.std.proofs.Common.{◌≡◌, drop}
-use Rattle.rls_guard.specs.Sequences.{each_or_refused}
+use Rattle.rls_source.specs.Sequences.{each_or_refused}
 use Rattle.rls_dml.specs.Inserting.{allowed_or_denied}
 use Rattle.rls_dml.proofs.inserting.require_allowed.Given as goal
 

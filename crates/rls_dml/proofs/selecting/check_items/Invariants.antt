@@ -1,8 +1,8 @@
 use Rattle.std.proofs.Common.{◌≡◌}
 use Rattle.rls_expr.specs.Scopes.{tables_in}
-use Rattle.rls_guard.specs.Sequences.{each_of}
+use Rattle.rls_source.specs.Sequences.{each_of}
 use Rattle.rls_dml.specs.Selecting.{item_of}
-use Rattle.rls_guard.proofs.EachLemmas.{left}
+use Rattle.rls_source.proofs.EachLemmas.{left}
 use Rattle.rls_dml.proofs.selecting.check_items.Given as goal
 
 -- what is left, behind what is checked, gives what the whole gives

@@ -7,5 +7,5 @@ abbrev pub invariant-loop-stored : goal.invariant-loop-stored
 invariant-loop-stored l =
     record {
       decisions : l.decisions.items ≡ map (decision_on l.guard l.role) (take l.stored-index l.candidates);
-      rows : l.rows.items ++ hits l.guard l.query l.role (drop l.stored-index l.candidates) ≡ hits l.guard l.query l.role l.candidates;
+      rows : map (λ row. row.now) l.hits.items ++ hits l.guard l.query.condition l.role (drop l.stored-index l.candidates) ≡ hits l.guard l.query.condition l.role l.candidates;
     }

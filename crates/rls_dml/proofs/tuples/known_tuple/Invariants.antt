@@ -1,7 +1,7 @@
 use Rattle.std.proofs.Common.{◌≡◌}
-use Rattle.rls_guard.specs.Sequences.{each_of}
+use Rattle.rls_source.specs.Sequences.{each_of}
 use Rattle.rls_dml.specs.Inserting.{term_alone}
-use Rattle.rls_guard.proofs.EachLemmas.{left}
+use Rattle.rls_source.proofs.EachLemmas.{left}
 use Rattle.rls_dml.proofs.tuples.known_tuple.Given as goal
 
 -- what is left, behind what is found, gives what the whole gives

@@ -1,3 +1,0 @@
-pub mod HolderLemmas
-pub mod GrantorLaws
-pub mod MembershipLaws

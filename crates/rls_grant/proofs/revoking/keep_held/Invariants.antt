@@ -1,0 +1,10 @@
+use Rattle.std.proofs.Common.{◌≡◌, ◌++◌, filter}
+use Rattle.std.specs.Vec.Iter.{into_iter_items}
+use Rattle.std.specs.BTreeSet.{contains}
+use Rattle.rls_catalog.specs.State.{name_order}
+use Rattle.rls_grant.specs.Revoking.{stays}
+use Rattle.rls_grant.proofs.revoking.keep_held.Given as goal
+
+-- what is left leads to the whole
+abbrev pub invariant-loop-grant : goal.invariant-loop-grant
+invariant-loop-grant l = l.left ++ filter (stays (contains name_order l.holders) l.privilege) (into_iter_items l.grant-iterator) ≡ filter (stays (contains name_order l.holders) l.privilege) l.fn.grants

@@ -1,0 +1,132 @@
+-- GRANT of privileges on a table (PostgreSQL manual, GRANT): each privilege to each grantee, in one place each.
+use Rattle.std.specs.Prelude.{ℕ, List, [], ◌∷◌, Bool, false, ◌||◌, not, Result, Ok, Err, if◌then◌else◌, map}
+use Rattle.std.specs.List.{flat_map, list_any}
+use Rattle.std.specs.Ordering.{nat_cmp, ordering_then, is_eq, is_lt}
+use Rattle.std.specs.declared.cmp.Ordering.{Ordering}
+use Rattle.std.specs.declared.cmp.Ordering.TheVariants.{Less, Equal, Greater}
+use Rattle.rls_value.specs.Giving.{and_then}
+use Rattle.rls_value.specs.Names.{one_of}
+use Rattle.rls_value.specs.declared.verb.Privilege.{Privilege}
+use Rattle.rls_value.specs.declared.verb.Privilege.TheVariants as p
+use Rattle.rls_value.specs.declared.refusal.Refusal.{Refusal}
+use Rattle.rls_value.specs.declared.refusal.Refusal.TheVariants.{GrantOp}
+use Rattle.rls_value.specs.declared.refusal.GrantFault.TheVariants.{PublicOption, Back}
+use Rattle.rls_expr.specs.declared.table.TableDef.{TableDef}
+use Rattle.rls_expr.specs.declared.policy.Grantee.{Grantee}
+use Rattle.rls_expr.specs.declared.policy.Grantee.TheVariants as g
+use Rattle.rls_catalog.specs.declared.change.Change.{Change}
+use Rattle.rls_catalog.specs.declared.change.Change.TheVariants as change
+use Rattle.rls_catalog.specs.declared.grant.Grant.{Grant}
+use Rattle.rls_catalog.specs.GrantOptions.{without_options_of}
+use Rattle.rls_catalog.specs.State.{name_order}
+use Rattle.rls_source.specs.Asked.{asked_grants}
+use Rattle.rls_source.specs.Askings.{Asking, known, followed_by}
+use Rattle.rls_source.specs.Named.{table_or_undefined, grantees_or_undefined}
+use Rattle.rls_source.specs.Sequences.{each_or_refused, put_before}
+use Rattle.rls_statement.specs.declared.statement.GrantPrivileges.{GrantPrivileges}
+use Rattle.rls_role.specs.Reaching.{reach_of}
+use Rattle.rls_role.specs.declared.reach.Reach.{Reach}
+use Rattle.rls_grant.specs.declared.grantors.Grantor.{Grantor}
+use Rattle.rls_grant.specs.Grantors.{all_privileges, grantors}
+use Rattle.rls_grant.specs.Holders.{holders_of}
+
+-- ---- where a grant stands among the others
+
+-- the place of a privilege among the four
+abbrev pub place_of : Privilege → ℕ
+place_of p.Select = 0
+place_of p.Insert = 1
+place_of p.Update = 2
+place_of p.Delete = 3
+
+-- PUBLIC stands before every role
+abbrev pub grantee_order : Grantee → Grantee → Ordering
+grantee_order g.Public g.Public = Equal
+grantee_order g.Public (g.Role name) = Less
+grantee_order (g.Role name) g.Public = Greater
+grantee_order (g.Role name) (g.Role other) = name_order name other
+
+-- by privilege, then by grantee, then by grantor
+abbrev pub grant_order : Grant → Grant → Ordering
+grant_order grant other =
+    ordering_then (nat_cmp (place_of grant.privilege) (place_of other.privilege))
+    (ordering_then (grantee_order grant.grantee other.grantee) (name_order grant.grantor other.grantor))
+
+-- it is the same grant, its mark aside
+abbrev pub is_there : List Grant → Grant → Bool
+is_there grants grant = list_any (λ other. is_eq (grant_order other grant)) grants
+
+-- the mark of a grant that is there stays, and the mark of the new one is added
+abbrev pub with_mark : Grant → Grant → Grant
+with_mark grant other = if is_eq (grant_order other grant) then record other { option = other.option || grant.option } else other
+
+-- the grant in its place
+abbrev pub with_grant : List Grant → Grant → List Grant
+with_grant grants grant =
+    if is_there grants grant then map (with_mark grant) grants else put_before (λ other. is_lt (grant_order grant other)) grant grants
+
+-- grants put in, one after another
+abbrev pub with_grants : List Grant → List Grant → List Grant
+with_grants grants [] = grants
+with_grants grants (grant ∷ more) = with_grants (with_grant grants grant) more
+
+-- ---- what is granted
+
+abbrev pub new_grant : Bool → Privilege → Grantee → List ℕ → Grant
+new_grant option privilege grantee grantor = record { privilege = privilege; grantee = grantee; grantor = grantor; option = option }
+
+-- the owner's own grants, which a table has from the start
+abbrev pub own_grant : List ℕ → Privilege → Grant
+own_grant owner privilege = new_grant false privilege (g.Role owner) owner
+
+abbrev pub own_grants : List ℕ → List Grant
+own_grants owner = map (own_grant owner) all_privileges
+
+-- a privilege to each grantee
+abbrev pub grants_by : Bool → List Grantee → Grantor → List Grant
+grants_by option grantees grantor = map (λ grantee. new_grant option grantor.privilege grantee grantor.name) grantees
+
+-- ---- to whom the grant option may go
+
+-- without the grantee's own grant options the grantor wouldn't hold the option
+abbrev pub goes_back : List ℕ → List Grant → Privilege → List ℕ → List ℕ → Bool
+goes_back owner grants privilege grantor grantee = not (one_of (holders_of owner (without_options_of grantee grants) privilege) grantor)
+
+abbrev pub forth_or_refused : List ℕ → List Grant → List ℕ → Grantor → Result (Unit {0}) Refusal
+forth_or_refused owner grants grantee grantor = if goes_back owner grants grantor.privilege grantor.name grantee then Err (GrantOp (Back grantee)) else Ok tt
+
+-- not to PUBLIC, and not back to whom one of the grantors has it from
+abbrev pub optioned_or_refused : List ℕ → List Grant → List Grantor → Grantee → Result (Unit {0}) Refusal
+optioned_or_refused owner grants by g.Public = Err (GrantOp PublicOption)
+optioned_or_refused owner grants by (g.Role name) = each_or_refused (forth_or_refused owner grants name) by
+
+-- the grantees in order, by the grants that are there
+abbrev pub options_or_refused : Bool → List ℕ → List Grant → List Grantor → List Grantee → Result (Unit {0}) Refusal
+options_or_refused option owner grants by grantees = if option then each_or_refused (optioned_or_refused owner grants by) grantees else Ok tt
+
+-- ---- the statement
+
+-- all grants on the table, as they are from now on
+abbrev pub grants_written : List ℕ → List Grant → List Change
+grants_written table grants = change.Grants table grants ∷ []
+
+-- the grants that are there, with each privilege to each grantee
+abbrev pub grants_with : List Grant → List Grantor → GrantPrivileges → List Change
+grants_with grants by asked = grants_written asked.table (with_grants grants (flat_map (grants_by asked.with_option asked.to) by))
+
+unfoldable pub granted : TableDef → List Grant → List Grantor → GrantPrivileges → Result (List Change) Refusal
+granted table grants by asked = and_then (options_or_refused asked.with_option table.owner grants by asked.to) (λ _. Ok (grants_with grants by asked))
+
+-- each privilege has to have a grantor; then the grant option has to be one that may go to the grantees
+unfoldable pub grants_made : Reach → List ℕ → TableDef → List Grant → GrantPrivileges → Result (List Change) Refusal
+grants_made reach role table grants asked = and_then (grantors reach role asked.table table grants asked.privileges) (λ by. granted table grants by asked)
+
+-- the grants that are there, and whose privileges the role has
+unfoldable pub grant_on : List ℕ → TableDef → GrantPrivileges → Asking (List Change)
+grant_on role table asked = followed_by (asked_grants asked.table) (λ grants.
+    followed_by (reach_of role) (λ reach. known (grants_made reach role table grants asked)))
+
+-- the table and the grantees have to be there
+abbrev pub grant : List ℕ → GrantPrivileges → Asking (List Change)
+grant role asked = followed_by (table_or_undefined asked.table) (λ table.
+    followed_by (grantees_or_undefined asked.to) (λ _. grant_on role table asked))

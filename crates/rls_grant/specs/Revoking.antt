@@ -1,0 +1,80 @@
+-- REVOKE of privileges on a table (PostgreSQL manual, REVOKE): it takes the grants of the chosen grantors, or their grant
+-- options. What is left then has to have grantors who hold the grant option: CASCADE takes the rest too.
+use Rattle.std.specs.Prelude.{ℕ, List, [], ◌∷◌, Bool, ◌||◌, not, Result, Ok, Err, if◌then◌else◌, map, filter}
+use Rattle.std.specs.List.{list_any}
+use Rattle.rls_value.specs.Giving.{and_then}
+use Rattle.rls_value.specs.Names.{one_of}
+use Rattle.rls_value.specs.declared.verb.Privilege.{Privilege}
+use Rattle.rls_value.specs.declared.refusal.Refusal.{Refusal}
+use Rattle.rls_value.specs.declared.refusal.Refusal.TheVariants.{Dependent}
+use Rattle.rls_expr.specs.declared.table.TableDef.{TableDef}
+use Rattle.rls_expr.specs.declared.policy.Grantee.{Grantee}
+use Rattle.rls_catalog.specs.declared.change.Change.{Change}
+use Rattle.rls_catalog.specs.declared.grant.Grant.{Grant}
+use Rattle.rls_catalog.specs.GrantOptions.{is_grant_of, unmarked}
+use Rattle.rls_catalog.specs.Privileges.{is_same_privilege}
+use Rattle.rls_source.specs.Asked.{asked_grants}
+use Rattle.rls_source.specs.Askings.{Asking, known, followed_by}
+use Rattle.rls_source.specs.Named.{table_or_undefined, grantees_or_undefined}
+use Rattle.rls_statement.specs.declared.statement.RevokePrivileges.{RevokePrivileges}
+use Rattle.rls_role.specs.Reaching.{reach_of}
+use Rattle.rls_role.specs.declared.reach.Reach.{Reach}
+use Rattle.rls_grant.specs.declared.grantors.Grantor.{Grantor}
+use Rattle.rls_grant.specs.Granting.{grants_written}
+use Rattle.rls_grant.specs.Grantors.{grantors}
+use Rattle.rls_grant.specs.Holders.{holders_of}
+
+-- ---- what is taken
+
+-- the grant is by one of the grantors, of its privilege and to one of the grantees
+abbrev pub is_by : List Grantee → Grant → Grantor → Bool
+is_by grantees grant grantor = list_any (λ grantee. is_grant_of grantor.privilege grantee grantor.name grant) grantees
+
+abbrev pub is_taken : List Grantor → List Grantee → Grant → Bool
+is_taken by grantees grant = list_any (is_by grantees grant) by
+
+-- it goes, or its mark does
+abbrev pub without_mark : List Grantor → List Grantee → Grant → Grant
+without_mark by grantees grant = if is_taken by grantees grant then unmarked grant else grant
+
+abbrev pub without_taken : Bool → List Grantor → List Grantee → List Grant → List Grant
+without_taken option_only by grantees grants =
+    if option_only then map (without_mark by grantees) grants else filter (λ grant. not (is_taken by grantees grant)) grants
+
+-- ---- what is left of it
+
+-- a grant stays: it is of another privilege, or its grantor holds the grant option, as the test tells
+abbrev pub stays : (List ℕ → Bool) → Privilege → Grant → Bool
+stays holds privilege grant = not (is_same_privilege grant.privilege privilege) || holds grant.grantor
+
+-- of one privilege: CASCADE leaves the grants whose grantor holds the grant option, RESTRICT refuses where there are others
+abbrev pub left_or_refused : Bool → List ℕ → Privilege → (List ℕ → Bool) → List Grant → Result (List Grant) Refusal
+left_or_refused cascade table privilege holds grants =
+    if cascade then Ok (filter (stays holds privilege) grants)
+    else (if list_any (λ grant. not (stays holds privilege grant)) grants then Err (Dependent table) else Ok grants)
+
+-- of each privilege that was taken, in order
+abbrev pub left_after : Bool → List ℕ → List ℕ → List Grantor → List Grant → Result (List Grant) Refusal
+left_after cascade table owner [] grants = Ok grants
+left_after cascade table owner (grantor ∷ by) grants =
+    and_then (left_or_refused cascade table grantor.privilege (one_of (holders_of owner grants grantor.privilege)) grants) (λ left. left_after cascade table owner by left)
+
+-- ---- the statement
+
+unfoldable pub revoked : TableDef → List Grant → List Grantor → RevokePrivileges → Result (List Change) Refusal
+revoked table grants by asked =
+    and_then (left_after asked.cascade asked.table table.owner by (without_taken asked.option_only by asked.from grants)) (λ left. Ok (grants_written asked.table left))
+
+-- each privilege has to have a grantor
+unfoldable pub grants_revoked : Reach → List ℕ → TableDef → List Grant → RevokePrivileges → Result (List Change) Refusal
+grants_revoked reach role table grants asked = and_then (grantors reach role asked.table table grants asked.privileges) (λ by. revoked table grants by asked)
+
+-- the grants that are there, and whose privileges the role has
+unfoldable pub revoke_on : List ℕ → TableDef → RevokePrivileges → Asking (List Change)
+revoke_on role table asked = followed_by (asked_grants asked.table) (λ grants.
+    followed_by (reach_of role) (λ reach. known (grants_revoked reach role table grants asked)))
+
+-- the table and the grantees have to be there
+abbrev pub revoke : List ℕ → RevokePrivileges → Asking (List Change)
+revoke role asked = followed_by (table_or_undefined asked.table) (λ table.
+    followed_by (grantees_or_undefined asked.from) (λ _. revoke_on role table asked))

@@ -1,0 +1,302 @@
+//! GRANT of privileges on a table.
+
+ghost use Rattle.std.specs.Prelude.{◌≡◌, [], ◌∷◌, ◌++◌, ◌↔◌, ℕ, List, true, IfOk, OnOk};
+ghost use Rattle.std.specs.List.{flat_map};
+ghost use Rattle.rls_value.specs.Giving.{Gives};
+ghost use Rattle.rls_value.specs.declared.verb.Privilege.{Privilege as Kind};
+ghost use Rattle.rls_catalog.specs.GrantOptions.{GoesBack};
+ghost use Rattle.rls_catalog.specs.declared.grant.Grant.{Grant as Given};
+ghost use Rattle.rls_source.specs.Answering.{Answers};
+ghost use Rattle.rls_source.specs.Sequences.{each_or_refused};
+ghost use Rattle.rls_grant.specs.Granting as spec;
+ghost use Rattle.rls_grant.specs.Granting.{goes_back, grant_on, granted, grants_by, grants_made, grants_with};
+
+use crate::grantors::{Grantor, grantors_of};
+use crate::optioning::options_without;
+use crate::placing::put_grants;
+use rls_catalog::{Change, Delta, Grant};
+use rls_expr::{Grantee, TableDef};
+use rls_role::{Reach, noted_reach};
+use rls_source::{Reads, RowSource, noted_grants, require_grantees, table_named};
+use rls_statement::GrantPrivileges;
+use rls_value::{GrantFault, Items, Name, Privilege, Refusal};
+use std::alloc::{AllocError, Global};
+
+/// What it takes that the role grants the privileges to each grantee: all grants on the table (PostgreSQL manual, GRANT).
+/// Refused are, in this order: a table or grantee that isn't there; the first privilege that nobody may grant for the
+/// role; and, WITH GRANT OPTION, PUBLIC, or a grantee whose own option the grantor's stands on. In every state that agrees
+/// on what is read it is the same.
+#[tactic(auto, using(crate::proofs::GrantLaws::goes_back_is))]
+pub fn grant<'c, S: RowSource<'c>>(
+    alloc: Global,
+    source: &mut S,
+    notes: &mut Reads,
+    role: &Name,
+    grant: &GrantPrivileges,
+) -> Result<Delta, Refusal>
+    ensures answers { Answers S.state S.after (spec.grant role.now grant.now) source.old source.new notes.old notes.new result }
+    ensures back { (owner : List ℕ) (grants : List Given) (privilege : Kind) (grantor grantee : List ℕ) → (goes_back owner grants privilege grantor grantee ≡ true) ↔ GoesBack owner grants privilege grantor grantee }
+{
+    let table = table_named(alloc, source, notes, &grant.table)?;
+    require_grantees(alloc, source, notes, grant.to.as_slice())?;
+    grant_for(alloc, source, notes, role, table, grant)
+}
+
+#[tactic(auto, unfolding(crate::specs::Granting::grant_on))]
+fn grant_for<'c, S: RowSource<'c>>(
+    alloc: Global,
+    source: &mut S,
+    notes: &mut Reads,
+    role: &Name,
+    table: &TableDef,
+    grant: &GrantPrivileges,
+) -> Result<Delta, Refusal>
+    ensures { Answers S.state S.after (grant_on role.now table.now grant.now) source.old source.new notes.old notes.new result }
+{
+    let grants = noted_grants(alloc, source, notes, &grant.table)?;
+    let reach = noted_reach(alloc, source, notes, role)?;
+    let made = make_grants(alloc, &reach, role, table, grants, grant);
+    drop(reach);
+    made
+}
+
+#[tactic(auto, unfolding(crate::specs::Granting::grants_made))]
+fn make_grants(
+    alloc: Global,
+    reach: &Reach,
+    role: &Name,
+    table: &TableDef,
+    grants: &[Grant],
+    grant: &GrantPrivileges,
+) -> Result<Delta, Refusal>
+    ensures { Gives result (grants_made reach.now role.now table.now grants.now grant.now) }
+{
+    let named = &grant.privileges;
+    let grantors = grantors_of(alloc, reach, role, &grant.table, table, grants, named)?;
+    let made = grant_by(alloc, table, grants, grantors.as_slice(), grant);
+    drop(grantors);
+    made
+}
+
+#[tactic(auto, unfolding(crate::specs::Granting::granted))]
+fn grant_by(
+    alloc: Global,
+    table: &TableDef,
+    grants: &[Grant],
+    grantors: &[Grantor],
+    grant: &GrantPrivileges,
+) -> Result<Delta, Refusal>
+    ensures { Gives result (granted table.now grants.now grantors.now grant.now) }
+{
+    let to = grant.to.as_slice();
+    require_options(alloc, grant.with_option, &table.owner, grants, grantors, to)?;
+    Ok(written(alloc, grants, grantors, grant)?)
+}
+
+fn require_options(
+    alloc: Global,
+    with_option: bool,
+    owner: &Name,
+    grants: &[Grant],
+    grantors: &[Grantor],
+    grantees: &[Grantee],
+) -> Result<(), Refusal>
+    ensures { Gives result (spec.options_or_refused with_option owner.now grants.now grantors.now grantees.now) }
+{
+    if with_option {
+        require_each(alloc, owner, grants, grantors, grantees)
+    } else {
+        Ok(())
+    }
+}
+
+fn require_each(
+    alloc: Global,
+    owner: &Name,
+    grants: &[Grant],
+    grantors: &[Grantor],
+    grantees: &[Grantee],
+) -> Result<(), Refusal>
+    ensures { Gives result (each_or_refused (spec.optioned_or_refused owner.now grants.now grantors.now) grantees.now) }
+{
+    for grantee in grantees {
+        require_option(alloc, owner, grants, grantors, grantee)?;
+    }
+    Ok(())
+}
+
+fn require_option(
+    alloc: Global,
+    owner: &Name,
+    grants: &[Grant],
+    grantors: &[Grantor],
+    grantee: &Grantee,
+) -> Result<(), Refusal>
+    ensures { Gives result (spec.optioned_or_refused owner.now grants.now grantors.now grantee.now) }
+{
+    match grantee {
+        Grantee::Public => Err(Refusal::GrantOp(GrantFault::PublicOption)),
+        Grantee::Role(name) => require_forth(alloc, owner, grants, grantors, name),
+    }
+}
+
+/// Refused where the option of one of the grantors stands on those of the grantee.
+fn require_forth(
+    alloc: Global,
+    owner: &Name,
+    grants: &[Grant],
+    grantors: &[Grantor],
+    grantee: &Name,
+) -> Result<(), Refusal>
+    ensures { Gives result (each_or_refused (spec.forth_or_refused owner.now grants.now grantee.now) grantors.now) }
+{
+    for grantor in grantors {
+        require_one_forth(alloc, owner, grants, grantor, grantee)?;
+    }
+    Ok(())
+}
+
+fn require_one_forth(
+    alloc: Global,
+    owner: &Name,
+    grants: &[Grant],
+    grantor: &Grantor,
+    grantee: &Name,
+) -> Result<(), Refusal>
+    ensures { Gives result (spec.forth_or_refused owner.now grants.now grantee.now grantor.now) }
+{
+    if is_back(alloc, owner, grants, grantor, grantee)? {
+        return Err(Refusal::GrantOp(GrantFault::Back(grantee.copy()?)));
+    }
+    Ok(())
+}
+
+#[tactic(auto, using(crate::proofs::HolderLemmas::same_one))]
+fn is_back(
+    alloc: Global,
+    owner: &Name,
+    grants: &[Grant],
+    grantor: &Grantor,
+    grantee: &Name,
+) -> Result<bool, AllocError>
+    ensures { IfOk result (λ back. back ≡ goes_back owner.now grants.now grantor.now.privilege grantor.now.name grantee.now) }
+{
+    let holders = options_without(alloc, owner, grants, grantor.privilege, grantee)?;
+    let holds = holders.contains(&grantor.name);
+    drop(holders);
+    Ok(!holds)
+}
+
+fn written(
+    alloc: Global,
+    grants: &[Grant],
+    grantors: &[Grantor],
+    grant: &GrantPrivileges,
+) -> Result<Delta, AllocError>
+    ensures { IfOk result (λ delta. delta ≡ grants_with grants.now grantors.now grant.now) }
+{
+    let new = new_grants(alloc, grant.with_option, grantors, grant.to.as_slice())?;
+    let all = with_new(alloc, grants, new)?;
+    write_grants(alloc, &grant.table, all)
+}
+
+fn with_new(alloc: Global, grants: &[Grant], new: Items<Grant>) -> Result<Items<Grant>, AllocError>
+    ensures { IfOk result (λ all. all ≡ spec.with_grants grants.now new) }
+{
+    match Grant::copy_all(alloc, grants) {
+        Ok(grants) => put_grants(alloc, grants, new),
+        Err(refused) => {
+            drop(new);
+            Err(refused)
+        }
+    }
+}
+
+/// All grants on the table, as they are from now on.
+pub(crate) fn write_grants(
+    alloc: Global,
+    table: &Name,
+    grants: Items<Grant>,
+) -> Result<Delta, AllocError>
+    ensures { IfOk result (λ delta. delta ≡ spec.grants_written table.now grants) }
+{
+    match table.copy() {
+        Ok(table) => one_change(alloc, Change::Grants(table, grants)),
+        Err(refused) => {
+            drop(grants);
+            Err(refused)
+        }
+    }
+}
+
+fn one_change(alloc: Global, change: Change) -> Result<Delta, AllocError>
+    ensures { IfOk result (λ delta. delta ≡ change ∷ []) }
+{
+    let mut delta = Delta::new(alloc);
+    delta.push(change)?;
+    Ok(delta)
+}
+
+/// Each privilege to each grantee.
+fn new_grants(
+    alloc: Global,
+    option: bool,
+    grantors: &[Grantor],
+    grantees: &[Grantee],
+) -> Result<Items<Grant>, AllocError>
+    ensures { IfOk result (λ grants. grants ≡ flat_map (grants_by option grantees.now) grantors.now) }
+{
+    let mut grants = Items::new(alloc);
+    for grantor in grantors {
+        add_grants(&mut grants, option, grantor, grantees)?;
+    }
+    Ok(grants)
+}
+
+fn add_grants(
+    grants: &mut Items<Grant>,
+    option: bool,
+    grantor: &Grantor,
+    grantees: &[Grantee],
+) -> Result<(), AllocError>
+    ensures { OnOk result (grants.new ≡ grants.old ++ grants_by option grantees.now grantor.now) }
+{
+    for grantee in grantees {
+        grants.push(new_grant(option, grantor.privilege, grantee.copy()?, &grantor.name)?)?;
+    }
+    Ok(())
+}
+
+fn new_grant(
+    option: bool,
+    privilege: Privilege,
+    grantee: Grantee,
+    grantor: &Name,
+) -> Result<Grant, AllocError>
+    ensures { IfOk result (λ grant. grant ≡ spec.new_grant option privilege grantee grantor.now) }
+{
+    Ok(Grant {
+        privilege,
+        grantee,
+        grantor: grantor.copy()?,
+        option,
+    })
+}
+
+/// The owner's own grants of the four privileges, which a table has from the start.
+pub fn own_grants(alloc: Global, owner: &Name) -> Result<Items<Grant>, AllocError>
+    ensures { IfOk result (λ grants. grants ≡ spec.own_grants owner.now) }
+{
+    let mut grants = Items::new(alloc);
+    grants.push(own_grant(Privilege::Select, owner)?)?;
+    grants.push(own_grant(Privilege::Insert, owner)?)?;
+    grants.push(own_grant(Privilege::Update, owner)?)?;
+    grants.push(own_grant(Privilege::Delete, owner)?)?;
+    Ok(grants)
+}
+
+fn own_grant(privilege: Privilege, owner: &Name) -> Result<Grant, AllocError>
+    ensures { IfOk result (λ grant. grant ≡ spec.own_grant owner.now privilege) }
+{
+    new_grant(false, privilege, Grantee::Role(owner.copy()?), owner)
+}

@@ -1,0 +1,154 @@
+//! Who grants and revokes privileges.
+
+ghost use Rattle.std.specs.Prelude.{◌≡◌, None, filter, IfOk};
+ghost use Rattle.std.specs.BTreeSet.{contains};
+ghost use Rattle.std.specs.Option.{option_copied};
+ghost use Rattle.rls_value.specs.Giving.{Gives};
+ghost use Rattle.rls_value.specs.Names.{one_of};
+ghost use Rattle.rls_catalog.specs.State.{name_order};
+ghost use Rattle.rls_catalog.specs.Verdict.{least};
+ghost use Rattle.rls_source.specs.Sequences.{each_of};
+ghost use Rattle.rls_grant.specs.Grantors as spec;
+ghost use Rattle.rls_grant.specs.Grantors.{grantor_by};
+ghost use Rattle.rls_grant.specs.Holders.{holders_of};
+
+use crate::optioning::options;
+use rls_catalog::Grant;
+use rls_expr::TableDef;
+use rls_role::{Reach, lesser_name};
+use rls_statement::Privileges;
+use rls_value::{Items, Name, Privilege, Refusal, Why};
+use std::alloc::{AllocError, Global};
+use std::collections::BTreeSet;
+
+/// A privilege, and who grants it.
+#[derive(Drop)]
+pub struct Grantor {
+    pub privilege: Privilege,
+    pub name: Name,
+}
+
+/// Who grants each of the privileges that are named; the first that nobody grants is denied.
+#[tactic(auto, unfolding(crate::specs::Grantors::grantors))]
+pub(crate) fn grantors_of(
+    alloc: Global,
+    reach: &Reach,
+    role: &Name,
+    name: &Name,
+    table: &TableDef,
+    grants: &[Grant],
+    named: &Privileges,
+) -> Result<Items<Grantor>, Refusal>
+    ensures { Gives result (spec.grantors reach.now role.now name.now table.now grants.now named.now) }
+{
+    let named = named_privileges(alloc, named)?;
+    let grantors = grantor_of_each(alloc, reach, role, name, table, grants, &named);
+    drop(named);
+    grantors
+}
+
+/// The privileges that are named, in the order in which they are granted.
+fn named_privileges(alloc: Global, named: &Privileges) -> Result<Vec<Privilege>, AllocError>
+    ensures { IfOk result (λ privileges. privileges.items ≡ filter (spec.is_named named.now) spec.all_privileges) }
+{
+    let mut privileges = Vec::new(alloc);
+    if named.select {
+        privileges.push(Privilege::Select)?;
+    }
+    if named.insert {
+        privileges.push(Privilege::Insert)?;
+    }
+    if named.update {
+        privileges.push(Privilege::Update)?;
+    }
+    if named.delete {
+        privileges.push(Privilege::Delete)?;
+    }
+    Ok(privileges)
+}
+
+fn grantor_of_each(
+    alloc: Global,
+    reach: &Reach,
+    role: &Name,
+    name: &Name,
+    table: &TableDef,
+    grants: &[Grant],
+    privileges: &[Privilege],
+) -> Result<Items<Grantor>, Refusal>
+    ensures { Gives result (each_of (spec.granted_by reach.now role.now name.now table.now grants.now) privileges.now) }
+{
+    let mut grantors = Items::new(alloc);
+    for privilege in privileges {
+        let grantor = grantor_of(alloc, reach, role, name, table, grants, privilege)?;
+        grantors.push(grantor)?;
+    }
+    Ok(grantors)
+}
+
+fn grantor_of(
+    alloc: Global,
+    reach: &Reach,
+    role: &Name,
+    name: &Name,
+    table: &TableDef,
+    grants: &[Grant],
+    privilege: &Privilege,
+) -> Result<Grantor, Refusal>
+    ensures { Gives result (spec.granted_by reach.now role.now name.now table.now grants.now privilege.now) }
+{
+    let privilege = *privilege;
+    match grantor_name(alloc, reach, role, &table.owner, grants, privilege)? {
+        Some(name) => Ok(Grantor { privilege, name }),
+        None => Err(Refusal::Denied(Why::GrantOption(privilege, name.copy()?))),
+    }
+}
+
+/// The owner, where the role has its privileges; else the role itself, where it holds the grant option; else the
+/// byte-least role whose privileges it has and that holds it.
+#[tactic(auto, using(crate::proofs::HolderLemmas::grantor_same))]
+fn grantor_name(
+    alloc: Global,
+    reach: &Reach,
+    role: &Name,
+    owner: &Name,
+    grants: &[Grant],
+    privilege: Privilege,
+) -> Result<Option<Name>, AllocError>
+    ensures { IfOk result (λ name. name ≡ grantor_by reach.now role.now owner.now (one_of (holders_of owner.now grants.now privilege))) }
+{
+    let holders = options(alloc, owner, grants, privilege)?;
+    match grantor_among(reach, role, owner, &holders) {
+        Some(name) => Ok(Some(name.copy()?)),
+        None => Ok(None),
+    }
+}
+
+fn grantor_among<'a>(
+    reach: &'a Reach,
+    role: &'a Name,
+    owner: &'a Name,
+    holders: &BTreeSet<Name>,
+) -> Option<&'a Name>
+    ensures { option_copied result ≡ grantor_by reach.now role.now owner.now (contains name_order holders.now) }
+{
+    if reach.has(owner) {
+        return Some(owner);
+    }
+    if holders.contains(role) {
+        return Some(role);
+    }
+    least_common(reach.names.as_slice(), holders)
+}
+
+fn least_common<'a>(roles: &'a [Name], holders: &BTreeSet<Name>) -> Option<&'a Name>
+    ensures { option_copied result ≡ least None (filter (contains name_order holders.now) roles.now) }
+{
+    let mut best = None;
+    for role in roles {
+        if holders.contains(role) {
+            best = Some(lesser_name(best, role));
+        }
+    }
+    best
+}

@@ -1,0 +1,277 @@
+//! REVOKE of privileges on a table.
+
+ghost use Rattle.std.specs.Prelude.{◌≡◌, ◌↔◌, ℕ, List, true, not, map, filter, IfOk};
+ghost use Rattle.std.specs.BTreeSet.{contains};
+ghost use Rattle.std.specs.List.{list_any};
+ghost use Rattle.rls_value.specs.Giving.{Gives};
+ghost use Rattle.rls_value.specs.Names.{one_of};
+ghost use Rattle.rls_value.specs.declared.verb.Privilege.{Privilege as Kind};
+ghost use Rattle.rls_catalog.specs.GrantOptions.{HasDependents, LeftAfterRevoke, is_grant_of};
+ghost use Rattle.rls_catalog.specs.State.{name_order};
+ghost use Rattle.rls_catalog.specs.declared.grant.Grant.{Grant as Given};
+ghost use Rattle.rls_source.specs.Answering.{Answers};
+ghost use Rattle.rls_grant.specs.Holders.{holders_of};
+ghost use Rattle.rls_grant.specs.Revoking as spec;
+ghost use Rattle.rls_grant.specs.Revoking.{grants_revoked, is_by, is_taken, left_after, left_or_refused, revoke_on, without_mark, without_taken};
+
+use crate::granting::write_grants;
+use crate::grantors::{Grantor, grantors_of};
+use crate::holding::is_same_privilege;
+use crate::optioning::{is_same_grantee, options};
+use rls_catalog::{Delta, Grant};
+use rls_expr::{Grantee, TableDef};
+use rls_role::{Reach, noted_reach};
+use rls_source::{Reads, RowSource, noted_grants, require_grantees, table_named};
+use rls_statement::RevokePrivileges;
+use rls_value::{Items, Name, Privilege, Refusal};
+use std::alloc::{AllocError, Global};
+use std::collections::BTreeSet;
+
+/// What it takes that the role revokes the privileges, or their grant options, from each grantee: all grants that are left
+/// on the table (PostgreSQL manual, REVOKE). Refused are, in this order: a table or grantee that isn't there; the first
+/// privilege that nobody may revoke for the role; and, without CASCADE, what leaves a grant whose grantor doesn't hold the
+/// grant option any more. In every state that agrees on what is read it is the same.
+#[tactic(auto, using(crate::proofs::GrantLaws::left_is, crate::proofs::GrantLaws::dependents_are))]
+pub fn revoke<'c, S: RowSource<'c>>(
+    alloc: Global,
+    source: &mut S,
+    notes: &mut Reads,
+    role: &Name,
+    revoke: &RevokePrivileges,
+) -> Result<Delta, Refusal>
+    ensures answers { Answers S.state S.after (spec.revoke role.now revoke.now) source.old source.new notes.old notes.new result }
+    ensures left { (owner : List ℕ) (grants : List Given) (privilege : Kind) → LeftAfterRevoke owner grants privilege (filter (spec.stays (one_of (holders_of owner grants privilege)) privilege) grants) }
+    ensures dependents { (owner : List ℕ) (grants : List Given) (privilege : Kind) → (list_any (λ grant. not (spec.stays (one_of (holders_of owner grants privilege)) privilege grant)) grants ≡ true) ↔ HasDependents owner grants privilege }
+{
+    let table = table_named(alloc, source, notes, &revoke.table)?;
+    require_grantees(alloc, source, notes, revoke.from.as_slice())?;
+    revoke_for(alloc, source, notes, role, table, revoke)
+}
+
+#[tactic(auto, unfolding(crate::specs::Revoking::revoke_on))]
+fn revoke_for<'c, S: RowSource<'c>>(
+    alloc: Global,
+    source: &mut S,
+    notes: &mut Reads,
+    role: &Name,
+    table: &TableDef,
+    revoke: &RevokePrivileges,
+) -> Result<Delta, Refusal>
+    ensures { Answers S.state S.after (revoke_on role.now table.now revoke.now) source.old source.new notes.old notes.new result }
+{
+    let grants = noted_grants(alloc, source, notes, &revoke.table)?;
+    let reach = noted_reach(alloc, source, notes, role)?;
+    let left = leave_grants(alloc, &reach, role, table, grants, revoke);
+    drop(reach);
+    left
+}
+
+#[tactic(auto, unfolding(crate::specs::Revoking::grants_revoked))]
+fn leave_grants(
+    alloc: Global,
+    reach: &Reach,
+    role: &Name,
+    table: &TableDef,
+    grants: &[Grant],
+    revoke: &RevokePrivileges,
+) -> Result<Delta, Refusal>
+    ensures { Gives result (grants_revoked reach.now role.now table.now grants.now revoke.now) }
+{
+    let named = &revoke.privileges;
+    let grantors = grantors_of(alloc, reach, role, &revoke.table, table, grants, named)?;
+    let left = revoke_by(alloc, table, grants, grantors.as_slice(), revoke);
+    drop(grantors);
+    left
+}
+
+#[tactic(auto, unfolding(crate::specs::Revoking::revoked))]
+fn revoke_by(
+    alloc: Global,
+    table: &TableDef,
+    grants: &[Grant],
+    grantors: &[Grantor],
+    revoke: &RevokePrivileges,
+) -> Result<Delta, Refusal>
+    ensures { Gives result (spec.revoked table.now grants.now grantors.now revoke.now) }
+{
+    let (cascade, from) = (revoke.cascade, revoke.from.as_slice());
+    let rest = rest_of(alloc, revoke.option_only, grantors, from, grants)?;
+    let left = leave_after(alloc, cascade, &revoke.table, &table.owner, grantors, rest)?;
+    Ok(write_grants(alloc, &revoke.table, left)?)
+}
+
+/// The grants without those that are taken, or without their marks.
+fn rest_of(
+    alloc: Global,
+    option_only: bool,
+    grantors: &[Grantor],
+    grantees: &[Grantee],
+    grants: &[Grant],
+) -> Result<Items<Grant>, AllocError>
+    ensures { IfOk result (λ rest. rest ≡ without_taken option_only grantors.now grantees.now grants.now) }
+{
+    if option_only {
+        unmark_taken(alloc, grantors, grantees, grants)
+    } else {
+        drop_taken(alloc, grantors, grantees, grants)
+    }
+}
+
+fn unmark_taken(
+    alloc: Global,
+    grantors: &[Grantor],
+    grantees: &[Grantee],
+    grants: &[Grant],
+) -> Result<Items<Grant>, AllocError>
+    ensures { IfOk result (λ rest. rest ≡ map (without_mark grantors.now grantees.now) grants.now) }
+{
+    let mut rest = Items::new(alloc);
+    for grant in grants {
+        rest.push(unmark(grantors, grantees, grant)?)?;
+    }
+    Ok(rest)
+}
+
+fn unmark(grantors: &[Grantor], grantees: &[Grantee], grant: &Grant) -> Result<Grant, AllocError>
+    ensures { IfOk result (λ rest. rest ≡ without_mark grantors.now grantees.now grant.now) }
+{
+    let mut rest = grant.copy()?;
+    if takes(grantors, grantees, grant) {
+        rest.option = false;
+    }
+    Ok(rest)
+}
+
+fn drop_taken(
+    alloc: Global,
+    grantors: &[Grantor],
+    grantees: &[Grantee],
+    grants: &[Grant],
+) -> Result<Items<Grant>, AllocError>
+    ensures { IfOk result (λ rest. rest ≡ filter (λ grant. not (is_taken grantors.now grantees.now grant)) grants.now) }
+{
+    let mut rest = Items::new(alloc);
+    for grant in grants {
+        if !takes(grantors, grantees, grant) {
+            rest.push(grant.copy()?)?;
+        }
+    }
+    Ok(rest)
+}
+
+/// Whether the grant is by one of the grantors, of its privilege and to one of the grantees.
+fn takes(grantors: &[Grantor], grantees: &[Grantee], grant: &Grant) -> bool
+    ensures { result ≡ is_taken grantors.now grantees.now grant.now }
+{
+    grantors
+        .iter()
+        .any(|grantor| takes_by(grantees, grant, grantor))
+}
+
+fn takes_by(grantees: &[Grantee], grant: &Grant, grantor: &Grantor) -> bool
+    ensures { result ≡ is_by grantees.now grant.now grantor.now }
+{
+    grantees
+        .iter()
+        .any(|grantee| is_grant_to(grant, grantor, grantee))
+}
+
+fn is_grant_to(grant: &Grant, grantor: &Grantor, grantee: &Grantee) -> bool
+    ensures { result ≡ is_grant_of grantor.now.privilege grantee.now grantor.now.name grant.now }
+{
+    is_same_privilege(grant.privilege, grantor.privilege)
+        && is_same_grantee(&grant.grantee, grantee)
+        && grant.grantor.is(&grantor.name)
+}
+
+/// What is left of the grants of each privilege that was taken, in order.
+fn leave_after(
+    alloc: Global,
+    cascade: bool,
+    table: &Name,
+    owner: &Name,
+    grantors: &[Grantor],
+    grants: Items<Grant>,
+) -> Result<Items<Grant>, Refusal>
+    ensures { Gives result (left_after cascade table.now owner.now grantors.now grants) }
+{
+    let mut left = grants;
+    for grantor in grantors {
+        left = leave(alloc, cascade, table, owner, grantor.privilege, left)?;
+    }
+    Ok(left)
+}
+
+#[tactic(auto, using(crate::proofs::HolderLemmas::left_same))]
+fn leave(
+    alloc: Global,
+    cascade: bool,
+    table: &Name,
+    owner: &Name,
+    privilege: Privilege,
+    grants: Items<Grant>,
+) -> Result<Items<Grant>, Refusal>
+    ensures { Gives result (left_or_refused cascade table.now privilege (one_of (holders_of owner.now grants privilege)) grants) }
+{
+    match options(alloc, owner, grants.as_slice(), privilege) {
+        Ok(holders) => {
+            let left = leave_by(alloc, cascade, table, privilege, &holders, grants);
+            drop(holders);
+            left
+        }
+        Err(refused) => {
+            drop(grants);
+            Err(Refusal::from(refused))
+        }
+    }
+}
+
+fn leave_by(
+    alloc: Global,
+    cascade: bool,
+    table: &Name,
+    privilege: Privilege,
+    holders: &BTreeSet<Name>,
+    grants: Items<Grant>,
+) -> Result<Items<Grant>, Refusal>
+    ensures { Gives result (left_or_refused cascade table.now privilege (contains name_order holders.now) grants) }
+{
+    if cascade {
+        return Ok(keep_held(alloc, privilege, holders, grants)?);
+    }
+    if has_loose(privilege, holders, grants.as_slice()) {
+        drop(grants);
+        return Err(Refusal::Dependent(table.copy()?));
+    }
+    Ok(grants)
+}
+
+fn keep_held(
+    alloc: Global,
+    privilege: Privilege,
+    holders: &BTreeSet<Name>,
+    grants: Items<Grant>,
+) -> Result<Items<Grant>, AllocError>
+    ensures { IfOk result (λ left. left ≡ filter (spec.stays (contains name_order holders.now) privilege) grants) }
+{
+    let mut left = Items::new(alloc);
+    for grant in grants.into_vec() {
+        if stays(privilege, holders, &grant) {
+            left.push(grant)?;
+        }
+    }
+    Ok(left)
+}
+
+fn has_loose(privilege: Privilege, holders: &BTreeSet<Name>, grants: &[Grant]) -> bool
+    ensures { result ≡ list_any (λ grant. not (spec.stays (contains name_order holders.now) privilege grant)) grants.now }
+{
+    grants.iter().any(|grant| !stays(privilege, holders, grant))
+}
+
+/// Whether a grant may stay: it is of another privilege, or its grantor holds the grant option.
+fn stays(privilege: Privilege, holders: &BTreeSet<Name>, grant: &Grant) -> bool
+    ensures { result ≡ spec.stays (contains name_order holders.now) privilege grant.now }
+{
+    !is_same_privilege(grant.privilege, privilege) || holders.contains(&grant.grantor)
+}

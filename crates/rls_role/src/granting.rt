@@ -1,0 +1,327 @@
+//! GRANT of roles.
+
+ghost use Rattle.std.specs.Prelude.{◌≡◌, ◌≤◌, length, map, IfOk};
+ghost use Rattle.std.specs.List.{position_or_len};
+ghost use Rattle.std.specs.Ordering.{is_lt};
+ghost use Rattle.rls_value.specs.Giving.{Gives};
+ghost use Rattle.rls_catalog.specs.State.{name_order};
+ghost use Rattle.rls_source.specs.Answering.{Answers, Tells};
+ghost use Rattle.rls_source.specs.Sequences.{put_before};
+ghost use Rattle.rls_role.specs.Granting as spec;
+ghost use Rattle.rls_role.specs.Granting.{asked_path, each_granted, memberships_granted, pair_granted, pair_or_refused, role_granted, roles_granted};
+
+use crate::held_memberships::{held_of, write_held};
+use crate::holding::Held;
+use crate::managing::require_managed;
+use crate::names::is_among;
+use crate::noting::note_walk;
+use crate::walking::{Step, reached};
+use rls_catalog::{Delta, Membership};
+use rls_source::{Reads, RowSource, require_roles};
+use rls_statement::{GrantRoles, MembershipOptions};
+use rls_value::{GrantFault, Items, Name, Refusal};
+use std::alloc::{AllocError, Global};
+
+/// What it takes that the current role grants each of the roles to each of the members: all memberships of each member
+/// (PostgreSQL manual, GRANT). Refused are, in this order: a role that isn't there; one that the current role doesn't
+/// manage; a membership that would close a circle.
+pub fn grant_member<'c, S: RowSource<'c>>(
+    alloc: Global,
+    source: &mut S,
+    notes: &mut Reads,
+    current: &Name,
+    grant: &GrantRoles,
+) -> Result<Delta, Refusal>
+    ensures { Answers S.state S.after (spec.grant_member current.now grant.now) source.old source.new notes.old notes.new result }
+{
+    require_roles(alloc, source, notes, grant.roles.as_slice())?;
+    require_roles(alloc, source, notes, grant.to.as_slice())?;
+    grant_roles(alloc, source, notes, current, grant)
+}
+
+#[tactic(auto, unfolding(crate::specs::Granting::roles_granted))]
+fn grant_roles<'c, S: RowSource<'c>>(
+    alloc: Global,
+    source: &mut S,
+    notes: &mut Reads,
+    current: &Name,
+    grant: &GrantRoles,
+) -> Result<Delta, Refusal>
+    ensures { Answers S.state S.after (roles_granted current.now grant.now) source.old source.new notes.old notes.new result }
+{
+    require_managed(alloc, source, notes, current, grant.roles.as_slice())?;
+    grant_memberships(alloc, source, notes, grant)
+}
+
+#[tactic(auto, unfolding(crate::specs::Granting::memberships_granted))]
+fn grant_memberships<'c, S: RowSource<'c>>(
+    alloc: Global,
+    source: &mut S,
+    notes: &mut Reads,
+    grant: &GrantRoles,
+) -> Result<Delta, Refusal>
+    ensures { Answers S.state S.after (memberships_granted grant.now) source.old source.new notes.old notes.new result }
+{
+    let held = held_of(alloc, source, notes, grant.to.as_slice())?;
+    let (roles, to) = (grant.roles.as_slice(), grant.to.as_slice());
+    let held = grant_each(alloc, source, notes, grant.options, roles, to, held)?;
+    Ok(write_held(alloc, held)?)
+}
+
+/// Each of the roles to each of the members, pair by pair.
+fn grant_each<'c, S: RowSource<'c>>(
+    alloc: Global,
+    source: &mut S,
+    notes: &mut Reads,
+    written: MembershipOptions,
+    roles: &[Name],
+    members: &[Name],
+    held: Items<Held>,
+) -> Result<Items<Held>, Refusal>
+    ensures { Answers S.state S.after (each_granted written roles.now members.now held) source.old source.new notes.old notes.new result }
+{
+    let mut held = held;
+    for role in roles {
+        held = grant_role(alloc, source, notes, written, role, members, held)?;
+    }
+    Ok(held)
+}
+
+/// The role to each of the members.
+fn grant_role<'c, S: RowSource<'c>>(
+    alloc: Global,
+    source: &mut S,
+    notes: &mut Reads,
+    written: MembershipOptions,
+    role: &Name,
+    members: &[Name],
+    held: Items<Held>,
+) -> Result<Items<Held>, Refusal>
+    ensures { Answers S.state S.after (role_granted written role.now members.now held) source.old source.new notes.old notes.new result }
+{
+    let mut held = held;
+    for member in members {
+        held = grant_pair(alloc, source, notes, written, role, member, held)?;
+    }
+    Ok(held)
+}
+
+/// The role to the member, unless that closes a circle with the memberships that are there and those of earlier pairs.
+#[tactic(auto, unfolding(crate::specs::Granting::pair_granted))]
+fn grant_pair<'c, S: RowSource<'c>>(
+    alloc: Global,
+    source: &mut S,
+    notes: &mut Reads,
+    written: MembershipOptions,
+    role: &Name,
+    member: &Name,
+    held: Items<Held>,
+) -> Result<Items<Held>, Refusal>
+    ensures { Answers S.state S.after (pair_granted written role.now member.now held) source.old source.new notes.old notes.new result }
+{
+    let path = noted_path(alloc, source, notes, held.as_slice(), role)?;
+    let closes = is_among(path.as_slice(), member);
+    drop(path);
+    join(alloc, written, role, member, held, closes)
+}
+
+/// The role and those that it reaches over any memberships.
+#[tactic(auto, unfolding(crate::specs::Granting::path_in))]
+fn noted_path<'c, S: RowSource<'c>>(
+    alloc: Global,
+    source: &mut S,
+    notes: &mut Reads,
+    held: &[Held],
+    role: &Name,
+) -> Result<Items<Name>, AllocError>
+    ensures { Tells S.state S.after (asked_path held.now role.now) source.old source.new notes.old notes.new result }
+{
+    let path = reached(alloc, source, held, role, Step::Any)?;
+    match note_walk(notes, path.as_slice()) {
+        Ok(()) => Ok(path),
+        Err(refused) => {
+            drop(path);
+            Err(refused)
+        }
+    }
+}
+
+fn join(
+    alloc: Global,
+    written: MembershipOptions,
+    role: &Name,
+    member: &Name,
+    held: Items<Held>,
+    closes: bool,
+) -> Result<Items<Held>, Refusal>
+    ensures { Gives result (pair_or_refused written role.now member.now held closes) }
+{
+    if closes {
+        drop(held);
+        return Err(Refusal::GrantOp(cycle(role, member)?));
+    }
+    Ok(joined(alloc, written, role, member, held)?)
+}
+
+fn cycle(role: &Name, member: &Name) -> Result<GrantFault, AllocError>
+    ensures { IfOk result (λ fault. fault ≡ GrantFault.Cycle role.now member.now) }
+{
+    Ok(GrantFault::Cycle(role.copy()?, member.copy()?))
+}
+
+/// The memberships of all, the member having that of the role.
+fn joined(
+    alloc: Global,
+    written: MembershipOptions,
+    role: &Name,
+    member: &Name,
+    held: Items<Held>,
+) -> Result<Items<Held>, AllocError>
+    ensures { IfOk result (λ all. all ≡ spec.joined written role.now member.now held) }
+{
+    let mut all = Items::new(alloc);
+    for one in held.into_vec() {
+        all.push(joined_in(alloc, written, role, member, one)?)?;
+    }
+    Ok(all)
+}
+
+fn joined_in(
+    alloc: Global,
+    written: MembershipOptions,
+    role: &Name,
+    to: &Name,
+    held: Held,
+) -> Result<Held, AllocError>
+    ensures { IfOk result (λ one. one ≡ spec.joined_in written role.now to.now held) }
+{
+    if !held.member.is(to) {
+        return Ok(held);
+    }
+    let Held {
+        member,
+        memberships,
+    } = held;
+    match granted_to(alloc, written, role, memberships) {
+        Ok(memberships) => Ok(Held {
+            member,
+            memberships,
+        }),
+        Err(refused) => {
+            drop(member);
+            Err(refused)
+        }
+    }
+}
+
+/// The memberships with one of the role: its options that are written change, others stay.
+fn granted_to(
+    alloc: Global,
+    written: MembershipOptions,
+    role: &Name,
+    memberships: Items<Membership>,
+) -> Result<Items<Membership>, AllocError>
+    ensures { IfOk result (λ all. all ≡ spec.granted_to written role.now memberships) }
+{
+    if has_role(memberships.as_slice(), role) {
+        return changed(alloc, written, role, memberships);
+    }
+    match new_membership(written, role) {
+        Ok(membership) => put(memberships, membership),
+        Err(refused) => {
+            drop(memberships);
+            Err(refused)
+        }
+    }
+}
+
+fn has_role(memberships: &[Membership], role: &Name) -> bool
+    ensures { result ≡ spec.has_role memberships.now role.now }
+{
+    memberships
+        .iter()
+        .any(|membership| membership.role.is(role))
+}
+
+fn changed(
+    alloc: Global,
+    written: MembershipOptions,
+    role: &Name,
+    memberships: Items<Membership>,
+) -> Result<Items<Membership>, AllocError>
+    ensures { IfOk result (λ all. all ≡ map (spec.with_options written role.now) memberships) }
+{
+    let mut all = Items::new(alloc);
+    for membership in memberships.into_vec() {
+        all.push(with_options(written, role, membership))?;
+    }
+    Ok(all)
+}
+
+fn with_options(written: MembershipOptions, role: &Name, membership: Membership) -> Membership
+    ensures { result ≡ spec.with_options written role.now membership }
+{
+    if membership.role.is(role) {
+        membership_with(written, membership)
+    } else {
+        membership
+    }
+}
+
+fn membership_with(written: MembershipOptions, membership: Membership) -> Membership
+    ensures { result ≡ spec.membership_with written membership }
+{
+    let Membership {
+        role,
+        admin,
+        inherit,
+        set,
+    } = membership;
+    Membership {
+        role,
+        admin: written.admin.unwrap_or(admin),
+        inherit: written.inherit.unwrap_or(inherit),
+        set: written.set.unwrap_or(set),
+    }
+}
+
+/// A membership has the INHERIT and SET options, and not ADMIN, unless they are written.
+fn new_membership(written: MembershipOptions, role: &Name) -> Result<Membership, AllocError>
+    ensures { IfOk result (λ membership. membership ≡ spec.membership_with written (spec.new_membership role.now)) }
+{
+    Ok(Membership {
+        role: role.copy()?,
+        admin: written.admin.unwrap_or(false),
+        inherit: written.inherit.unwrap_or(true),
+        set: written.set.unwrap_or(true),
+    })
+}
+
+fn put(
+    memberships: Items<Membership>,
+    membership: Membership,
+) -> Result<Items<Membership>, AllocError>
+    ensures { IfOk result (λ all. all ≡ put_before (λ m. is_lt (name_order membership.role m.role)) membership memberships) }
+{
+    let mut memberships = memberships.into_vec();
+    let place = first_after(&memberships, &membership.role);
+    memberships.insert(place, membership)?;
+    Ok(Items::from_vec(memberships))
+}
+
+/// The place of the first membership of a role whose name is greater, or behind the last.
+fn first_after(memberships: &[Membership], role: &Name) -> usize
+    ensures place { result ≡ position_or_len (λ m. is_lt (name_order role.now m.role)) memberships.now }
+    ensures within { result ≤ length memberships.now }
+{
+    let mut place = 0;
+    let mut rest = memberships;
+    while let [membership, others @ ..] = rest {
+        if *role < membership.role {
+            break;
+        }
+        place += 1;
+        rest = others;
+    }
+    place
+}

@@ -1,0 +1,178 @@
+//! REVOKE of roles.
+
+ghost use Rattle.std.specs.Prelude.{◌≡◌, map, filter, not, IfOk};
+ghost use Rattle.rls_value.specs.Names.{one_of};
+ghost use Rattle.rls_source.specs.Answering.{Answers};
+ghost use Rattle.rls_role.specs.Granting.{members_written};
+ghost use Rattle.rls_role.specs.Revoking as spec;
+ghost use Rattle.rls_role.specs.Revoking.{memberships_revoked, roles_revoked, taken_in};
+
+use crate::held_memberships::{held_of, write_held};
+use crate::holding::Held;
+use crate::managing::require_managed;
+use crate::names::is_among;
+use rls_catalog::{Delta, Membership};
+use rls_source::{Reads, RowSource, require_roles};
+use rls_statement::{MembershipOption, RevokeRoles};
+use rls_value::{Items, Name, Refusal};
+use std::alloc::{AllocError, Global};
+
+/// What it takes that the current role takes each of the roles from each of the members, or one option of those
+/// memberships (PostgreSQL manual, REVOKE). What isn't there is written as it is. Refused are, in this order: a role that
+/// isn't there; one that the current role doesn't manage.
+pub fn revoke_member<'c, S: RowSource<'c>>(
+    alloc: Global,
+    source: &mut S,
+    notes: &mut Reads,
+    current: &Name,
+    revoke: &RevokeRoles,
+) -> Result<Delta, Refusal>
+    ensures { Answers S.state S.after (spec.revoke_member current.now revoke.now) source.old source.new notes.old notes.new result }
+{
+    require_roles(alloc, source, notes, revoke.roles.as_slice())?;
+    require_roles(alloc, source, notes, revoke.from.as_slice())?;
+    revoke_roles(alloc, source, notes, current, revoke)
+}
+
+#[tactic(auto, unfolding(crate::specs::Revoking::roles_revoked))]
+fn revoke_roles<'c, S: RowSource<'c>>(
+    alloc: Global,
+    source: &mut S,
+    notes: &mut Reads,
+    current: &Name,
+    revoke: &RevokeRoles,
+) -> Result<Delta, Refusal>
+    ensures { Answers S.state S.after (roles_revoked current.now revoke.now) source.old source.new notes.old notes.new result }
+{
+    require_managed(alloc, source, notes, current, revoke.roles.as_slice())?;
+    revoke_memberships(alloc, source, notes, revoke)
+}
+
+#[tactic(auto, unfolding(crate::specs::Revoking::memberships_revoked))]
+fn revoke_memberships<'c, S: RowSource<'c>>(
+    alloc: Global,
+    source: &mut S,
+    notes: &mut Reads,
+    revoke: &RevokeRoles,
+) -> Result<Delta, Refusal>
+    ensures { Answers S.state S.after (memberships_revoked revoke.now) source.old source.new notes.old notes.new result }
+{
+    let held = held_of(alloc, source, notes, revoke.from.as_slice())?;
+    Ok(revoked(alloc, revoke, held)?)
+}
+
+fn revoked(alloc: Global, revoke: &RevokeRoles, held: Items<Held>) -> Result<Delta, AllocError>
+    ensures { IfOk result (λ delta. delta ≡ members_written (map (taken_in revoke.now.option revoke.now.roles) held)) }
+{
+    let held = taken(alloc, revoke.option, revoke.roles.as_slice(), held)?;
+    write_held(alloc, held)
+}
+
+/// The memberships that are left to each.
+fn taken(
+    alloc: Global,
+    option: Option<MembershipOption>,
+    roles: &[Name],
+    held: Items<Held>,
+) -> Result<Items<Held>, AllocError>
+    ensures { IfOk result (λ all. all ≡ map (taken_in option roles.now) held) }
+{
+    let mut all = Items::new(alloc);
+    for one in held.into_vec() {
+        all.push(taken_of(alloc, option, roles, one)?)?;
+    }
+    Ok(all)
+}
+
+fn taken_of(
+    alloc: Global,
+    option: Option<MembershipOption>,
+    roles: &[Name],
+    held: Held,
+) -> Result<Held, AllocError>
+    ensures { IfOk result (λ one. one ≡ taken_in option roles.now held) }
+{
+    let Held {
+        member,
+        memberships,
+    } = held;
+    match taken_from(alloc, option, roles, memberships) {
+        Ok(memberships) => Ok(Held {
+            member,
+            memberships,
+        }),
+        Err(refused) => {
+            drop(member);
+            Err(refused)
+        }
+    }
+}
+
+fn taken_from(
+    alloc: Global,
+    option: Option<MembershipOption>,
+    roles: &[Name],
+    memberships: Items<Membership>,
+) -> Result<Items<Membership>, AllocError>
+    ensures { IfOk result (λ left. left ≡ spec.taken_from option roles.now memberships) }
+{
+    match option {
+        Some(option) => lessened(alloc, option, roles, memberships),
+        None => left(alloc, roles, memberships),
+    }
+}
+
+fn lessened(
+    alloc: Global,
+    option: MembershipOption,
+    roles: &[Name],
+    memberships: Items<Membership>,
+) -> Result<Items<Membership>, AllocError>
+    ensures { IfOk result (λ all. all ≡ map (spec.without_option option roles.now) memberships) }
+{
+    let mut all = Items::new(alloc);
+    for membership in memberships.into_vec() {
+        all.push(without_option(option, roles, membership))?;
+    }
+    Ok(all)
+}
+
+fn without_option(option: MembershipOption, roles: &[Name], membership: Membership) -> Membership
+    ensures { result ≡ spec.without_option option roles.now membership }
+{
+    if is_among(roles, &membership.role) {
+        without(option, membership)
+    } else {
+        membership
+    }
+}
+
+fn without(option: MembershipOption, membership: Membership) -> Membership
+    ensures { result ≡ spec.without option membership }
+{
+    let mut membership = membership;
+    match option {
+        MembershipOption::Admin => membership.admin = false,
+        MembershipOption::Inherit => membership.inherit = false,
+        MembershipOption::Set => membership.set = false,
+    }
+    membership
+}
+
+fn left(
+    alloc: Global,
+    roles: &[Name],
+    memberships: Items<Membership>,
+) -> Result<Items<Membership>, AllocError>
+    ensures { IfOk result (λ left. left ≡ filter (λ m. not (one_of roles.now m.role)) memberships) }
+{
+    let mut left = Items::new(alloc);
+    for membership in memberships.into_vec() {
+        if is_among(roles, &membership.role) {
+            drop(membership);
+        } else {
+            left.push(membership)?;
+        }
+    }
+    Ok(left)
+}
