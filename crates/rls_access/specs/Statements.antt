@@ -23,6 +23,8 @@ use Rattle.rls_ddl.specs.SettingRoles.{set_role}
 use Rattle.rls_ddl.specs.CreatingTables.{create_table}
 use Rattle.rls_ddl.specs.AlteringTables.{alter_table}
 use Rattle.rls_ddl.specs.CreatingPolicies.{create_policy}
+use Rattle.rls_ddl.specs.AlteringPolicies.{alter_policy}
+use Rattle.rls_ddl.specs.DroppingPolicies.{drop_policy}
 use Rattle.rls_ddl.specs.Granting.{grant, grant_roles, revoke, revoke_roles}
 use Rattle.rls_dml.specs.Inserting.{insert}
 use Rattle.rls_dml.specs.Selecting.{select}
@@ -42,6 +44,8 @@ done_by ctx (statement.AlterRole asked) = alter_role ctx asked
 done_by ctx (statement.CreateTable asked) = create_table ctx asked
 done_by ctx (statement.AlterTable asked) = alter_table ctx asked
 done_by ctx (statement.CreatePolicy asked) = create_policy ctx asked
+done_by ctx (statement.AlterPolicy asked) = alter_policy ctx asked
+done_by ctx (statement.DropPolicy asked) = drop_policy ctx asked
 done_by ctx (statement.Grant asked) = grant ctx asked
 done_by ctx (statement.GrantRoles asked) = grant_roles ctx asked
 done_by ctx (statement.Revoke asked) = revoke ctx asked

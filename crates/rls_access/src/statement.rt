@@ -10,8 +10,9 @@ ghost use Rattle.rls_access.specs.Statements.{effect_in, step, mode_or_refused};
 
 use crate::outcome::Outcome;
 use rls_ddl::{
-    run_alter_role, run_alter_table, run_create_policy, run_create_role, run_create_table,
-    run_grant, run_grant_roles, run_revoke, run_revoke_roles, run_set_role,
+    run_alter_policy, run_alter_role, run_alter_table, run_create_policy, run_create_role,
+    run_create_table, run_drop_policy, run_grant, run_grant_roles, run_revoke, run_revoke_roles,
+    run_set_role,
 };
 use rls_dml::{run_insert, run_select};
 use rls_guard::{Ctx, Effect, Mode};
@@ -128,6 +129,8 @@ fn done_by<'c, S: RowSource<'c>>(
         Statement::CreateTable(create) => run_create_table(alloc, source, notes, ctx, create),
         Statement::AlterTable(alter) => run_alter_table(alloc, source, notes, ctx, alter),
         Statement::CreatePolicy(create) => run_create_policy(alloc, source, notes, ctx, create),
+        Statement::AlterPolicy(alter) => run_alter_policy(alloc, source, notes, ctx, alter),
+        Statement::DropPolicy(drop) => run_drop_policy(alloc, source, notes, ctx, drop),
         Statement::Grant(grant) => run_grant(alloc, source, notes, ctx, grant),
         Statement::GrantRoles(grant) => run_grant_roles(alloc, source, notes, ctx, grant),
         Statement::Revoke(revoke) => run_revoke(alloc, source, notes, ctx, revoke),

@@ -1,8 +1,6 @@
 -- CREATE POLICY (PostgreSQL manual, CREATE POLICY): names, then that none of the name is there, then types, then how many
 -- there are, then that the role is one that owns the table.
-use Rattle.std.specs.Prelude.{ℕ, List, [], ◌∷◌, Option, Some, None, Bool, nat_lt, Result, Ok, Err, length, if◌then◌else◌}
-use Rattle.std.specs.List.{list_any}
-use Rattle.std.specs.Str.{bytes_eq}
+use Rattle.std.specs.Prelude.{ℕ, List, [], ◌∷◌, nat_lt, Result, Ok, Err, length, if◌then◌else◌}
 use Rattle.std.specs.Ordering.{is_lt}
 use Rattle.rls_value.specs.declared.refusal.Refusal.{Refusal}
 use Rattle.rls_value.specs.declared.refusal.Refusal.TheVariants.{Duplicate, Limit}
@@ -10,9 +8,6 @@ use Rattle.rls_value.specs.declared.refusal.DefinedKind.TheVariants as kind
 use Rattle.rls_value.specs.declared.refusal.Limit.TheVariants as limit
 use Rattle.rls_value.specs.Giving.{and_then}
 use Rattle.rls_expr.specs.declared.table.TableDef.{TableDef}
-use Rattle.rls_expr.specs.Terms.{Term}
-use Rattle.rls_expr.specs.Resolving.{resolved}
-use Rattle.rls_expr.specs.Typing.{condition_checked}
 use Rattle.rls_expr.specs.declared.policy.Policy.{Policy}
 use Rattle.rls_catalog.specs.declared.change.Change.TheVariants as change
 use Rattle.rls_catalog.specs.State.{name_order}
@@ -22,28 +17,11 @@ use Rattle.rls_source.specs.Askings.{Asking, known, followed_by}
 use Rattle.rls_source.specs.Sequences.{put_before}
 use Rattle.rls_source.specs.Asked.{asked_policies}
 use Rattle.rls_source.specs.Named.{table_or_undefined, grantees_or_undefined}
-use Rattle.rls_guard.specs.Checks.{known_or_undefined}
 use Rattle.rls_guard.specs.Standings.{ownership}
 use Rattle.rls_guard.specs.declared.effect.Effect.{Effect}
 use Rattle.rls_guard.specs.Effects.{writes}
-
--- its columns have to be known, if there is one
-abbrev pub names_known : List TableDef → Option Term → Result (Unit {0}) Refusal
-names_known tables None = Ok tt
-names_known tables (Some term) = and_then (known_or_undefined (resolved term tables)) (λ _. Ok tt)
-
--- it has to be a boolean, if there is one
-abbrev pub condition_fits : List TableDef → Option Term → Result (Unit {0}) Refusal
-condition_fits tables None = Ok tt
-condition_fits tables (Some term) = and_then (condition_checked term tables) (λ _. Ok tt)
-
--- USING, then WITH CHECK
-abbrev pub both_conditions : (Option Term → Result (Unit {0}) Refusal) → Policy → Result (Unit {0}) Refusal
-both_conditions test policy = and_then (test policy.using) (λ _. test policy.check)
-
--- whether a policy of that name is there
-abbrev pub has_policy : List Policy → List ℕ → Bool
-has_policy policies name = list_any (λ policy. bytes_eq policy.name name) policies
+use Rattle.rls_ddl.specs.Conditions.{names_known, condition_fits, both_conditions}
+use Rattle.rls_ddl.specs.NamedPolicies.{has_policy}
 
 -- a policy of the name may not be there
 abbrev pub new_or_duplicate : List Policy → List ℕ → Result (Unit {0}) Refusal
@@ -61,7 +39,7 @@ with_policy policies policy = put_before (λ other. is_lt (name_order policy.nam
 abbrev pub policy_or_refused : TableDef → List Policy → Policy → Result (Unit {0}) Refusal
 policy_or_refused table policies policy =
     and_then (new_or_duplicate policies policy.name) (λ _.
-    and_then (both_conditions (condition_fits (table ∷ [])) policy) (λ _. room_for_policy policies))
+    and_then (both_conditions (condition_fits (table ∷ [])) policy.using policy.check) (λ _. room_for_policy policies))
 
 -- the policy is made where the role has the privileges of the table's owner
 unfoldable pub policy_made : List ℕ → List ℕ → TableDef → List Policy → Policy → Asking Effect
@@ -76,7 +54,7 @@ policy_added role name table policy = followed_by (asked_policies name) (λ poli
 -- the roles have to be there, and the columns to be known
 unfoldable pub policy_on : List ℕ → List ℕ → TableDef → Policy → Asking Effect
 policy_on role name table policy = followed_by (grantees_or_undefined policy.to) (λ _.
-    followed_by (known (both_conditions (names_known (table ∷ [])) policy)) (λ _. policy_added role name table policy))
+    followed_by (known (both_conditions (names_known (table ∷ [])) policy.using policy.check)) (λ _. policy_added role name table policy))
 
 -- the table has to be there
 abbrev pub create_policy : Ctx → CreatePolicy → Asking Effect

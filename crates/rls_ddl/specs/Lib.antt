@@ -3,5 +3,10 @@ pub mod AlteringRoles
 pub mod SettingRoles
 pub mod CreatingTables
 pub mod AlteringTables
+pub mod Conditions
+pub mod NamedPolicies
 pub mod CreatingPolicies
+pub mod AlteringPolicies
+pub mod DroppingPolicies
+pub mod PolicyOrder
 pub mod Granting

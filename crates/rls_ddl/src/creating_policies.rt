@@ -4,16 +4,17 @@ ghost use Rattle.std.specs.Prelude.{◌≡◌, ◌≤◌, ◌∷◌, [], length,
 ghost use Rattle.std.specs.List.{position_or_len};
 ghost use Rattle.std.specs.Ordering.{is_lt};
 ghost use Rattle.rls_value.specs.Giving.{Gives};
-ghost use Rattle.rls_expr.specs.Scopes.{tables_in};
 ghost use Rattle.rls_catalog.specs.State.{name_order};
 ghost use Rattle.rls_source.specs.Answering.{Answers};
 ghost use Rattle.rls_guard.specs.Effects.{writes};
 ghost use Rattle.rls_ddl.specs.CreatingPolicies as spec;
-ghost use Rattle.rls_ddl.specs.CreatingPolicies.{create_policy, policy_added, policy_made, policy_or_refused, both_conditions, names_known, condition_fits};
+ghost use Rattle.rls_ddl.specs.CreatingPolicies.{create_policy, policy_added, policy_made, policy_or_refused};
 
+use crate::conditions::{require_booleans, require_names};
+use crate::named_policies::has_policy;
 use rls_catalog::Change;
-use rls_expr::{Expr, FromTable, Policy, Scope, check_condition};
-use rls_guard::{Ctx, Effect, known_term, require_ownership};
+use rls_expr::{FromTable, Policy};
+use rls_guard::{Ctx, Effect, require_ownership};
 use rls_source::{Reads, RowSource, noted_policies, require_grantees, table_named};
 use rls_statement::CreatePolicy;
 use rls_value::{DefinedKind, Items, Limit, Name, Refusal};
@@ -22,7 +23,7 @@ use std::alloc::{AllocError, Global};
 /// The most policies that a table has.
 const MAX_POLICIES: usize = 64;
 
-/// Adds a policy of the table.
+/// Adds a policy of the table (PostgreSQL manual, CREATE POLICY).
 pub fn run_create_policy<'c, S: RowSource<'c>>(
     alloc: Global,
     source: &mut S,
@@ -52,7 +53,7 @@ fn policy_on<'c, 'x, S: RowSource<'c>>(
     ensures { Answers S.state S.after (spec.policy_on role.now from.entry.name.now from.entry.table.now policy.now) source.old source.new notes.old notes.new result }
 {
     require_grantees(alloc, source, notes, policy.to.as_slice())?;
-    require_names(alloc, policy, from)?;
+    require_names(alloc, &policy.using, &policy.check, from)?;
     add_policy(alloc, source, notes, role, from, policy)
 }
 
@@ -103,25 +104,6 @@ fn policies_changed(
     Effect::changed(alloc, Change::Policies(table.copy()?, policies))
 }
 
-/// The first unknown column of USING, then of WITH CHECK, is undefined.
-fn require_names(alloc: Global, policy: &Policy, from: FromTable) -> Result<(), Refusal>
-    ensures { Gives result (both_conditions (names_known (from.entry.table.now ∷ [])) policy.now) }
-{
-    let tables = [from];
-    let scope = Scope { tables: &tables };
-    require_known(alloc, &policy.using, &scope)?;
-    require_known(alloc, &policy.check, &scope)
-}
-
-fn require_known(alloc: Global, condition: &Option<Expr>, scope: &Scope) -> Result<(), Refusal>
-    ensures { Gives result (names_known (tables_in scope.now) condition.now) }
-{
-    if let Some(expr) = condition {
-        known_term(alloc, expr, scope)?;
-    }
-    Ok(())
-}
-
 /// The policy's name has to be new, its conditions to be booleans, and there to be room for it.
 fn require_policy(
     alloc: Global,
@@ -134,36 +116,11 @@ fn require_policy(
     if has_policy(policies, &policy.name) {
         return Err(Refusal::Duplicate(DefinedKind::Policy, policy.name.copy()?));
     }
-    require_conditions(alloc, policy, from)?;
+    require_booleans(alloc, &policy.using, &policy.check, from)?;
     if policies.len() >= MAX_POLICIES {
         return Err(Refusal::Limit(Limit::Policies));
     }
     Ok(())
-}
-
-/// USING and WITH CHECK have to be booleans.
-fn require_conditions(alloc: Global, policy: &Policy, from: FromTable) -> Result<(), Refusal>
-    ensures { Gives result (both_conditions (condition_fits (from.entry.table.now ∷ [])) policy.now) }
-{
-    let tables = [from];
-    let scope = Scope { tables: &tables };
-    require_boolean(alloc, &policy.using, &scope)?;
-    require_boolean(alloc, &policy.check, &scope)
-}
-
-fn require_boolean(alloc: Global, condition: &Option<Expr>, scope: &Scope) -> Result<(), Refusal>
-    ensures { Gives result (condition_fits (tables_in scope.now) condition.now) }
-{
-    if let Some(expr) = condition {
-        check_condition(alloc, expr, scope)?;
-    }
-    Ok(())
-}
-
-fn has_policy(policies: &[Policy], name: &Name) -> bool
-    ensures { result ≡ spec.has_policy policies.now name.now }
-{
-    policies.iter().any(|policy| policy.name.is(name))
 }
 
 /// The policies with one more, in byte order of their names.

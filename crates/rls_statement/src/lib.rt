@@ -4,7 +4,8 @@
 mod statement;
 
 pub use statement::{
-    AlterRole, AlterTable, Attributes, CreatePolicy, CreateRole, CreateTable, GrantPrivileges,
-    GrantRoles, Insert, MembershipOption, MembershipOptions, Privileges, RevokePrivileges,
-    RevokeRoles, RowSecurity, Select, Selected, SetRole, Statement,
+    AlterPolicy, AlterRole, AlterTable, Attributes, CreatePolicy, CreateRole, CreateTable,
+    DropPolicy, GrantPrivileges, GrantRoles, Insert, MarkedColumn, MembershipOption,
+    MembershipOptions, Privileges, RevokePrivileges, RevokeRoles, RowSecurity, Select, Selected,
+    SetRole, Statement,
 };

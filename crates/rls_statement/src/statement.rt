@@ -15,6 +15,8 @@ pub enum Statement {
     CreateTable(CreateTable),
     AlterTable(AlterTable),
     CreatePolicy(CreatePolicy),
+    AlterPolicy(AlterPolicy),
+    DropPolicy(DropPolicy),
     Grant(GrantPrivileges),
     GrantRoles(GrantRoles),
     Revoke(RevokePrivileges),
@@ -46,10 +48,22 @@ pub struct AlterRole {
     pub attributes: Attributes,
 }
 
+/// `CREATE TABLE`. At most one primary key is written: the marks of one column, or a constraint.
 #[derive(Drop)]
 pub struct CreateTable {
     pub name: Name,
-    pub columns: Items<Column>,
+    pub columns: Items<MarkedColumn>,
+    /// `PRIMARY KEY (..)` behind the columns.
+    pub key: Option<Items<Name>>,
+}
+
+/// A column with its marks.
+#[derive(Drop)]
+pub struct MarkedColumn {
+    /// With `NOT NULL`, if that is written.
+    pub column: Column,
+    /// `PRIMARY KEY`.
+    pub is_key: bool,
 }
 
 #[derive(Drop)]
@@ -62,12 +76,31 @@ pub struct AlterTable {
 #[derive(Clone, Copy, PartialEq, Eq)]
 pub enum RowSecurity {
     Enable,
+    Disable,
+    Force,
+    NoForce,
 }
 
 #[derive(Drop)]
 pub struct CreatePolicy {
     pub table: Name,
     pub policy: Policy,
+}
+
+/// `ALTER POLICY`: the parts that are written change, the others stay. At least one is written.
+#[derive(Drop)]
+pub struct AlterPolicy {
+    pub name: Name,
+    pub table: Name,
+    pub to: Option<Items<Grantee>>,
+    pub using: Option<Expr>,
+    pub check: Option<Expr>,
+}
+
+#[derive(Drop)]
+pub struct DropPolicy {
+    pub name: Name,
+    pub table: Name,
 }
 
 /// `GRANT` of privileges on a table.
@@ -178,6 +211,8 @@ impl Statement {
             Statement::CreateTable(_) => Tag::CreateTable,
             Statement::AlterTable(_) => Tag::AlterTable,
             Statement::CreatePolicy(_) => Tag::CreatePolicy,
+            Statement::AlterPolicy(_) => Tag::AlterPolicy,
+            Statement::DropPolicy(_) => Tag::DropPolicy,
             Statement::Grant(_) => Tag::Grant,
             Statement::GrantRoles(_) => Tag::GrantRole,
             Statement::Revoke(_) => Tag::Revoke,
@@ -198,6 +233,8 @@ impl Statement {
             Statement::CreateTable(table) => Ok(Statement::CreateTable(table.copy(alloc)?)),
             Statement::AlterTable(change) => Ok(Statement::AlterTable(change.copy()?)),
             Statement::CreatePolicy(policy) => Ok(Statement::CreatePolicy(policy.copy(alloc)?)),
+            Statement::AlterPolicy(alter) => Ok(Statement::AlterPolicy(alter.copy(alloc)?)),
+            Statement::DropPolicy(drop) => Ok(Statement::DropPolicy(drop.copy()?)),
             Statement::Grant(grant) => Ok(Statement::Grant(grant.copy(alloc)?)),
             Statement::GrantRoles(grant) => Ok(Statement::GrantRoles(grant.copy(alloc)?)),
             Statement::Revoke(revoke) => Ok(Statement::Revoke(revoke.copy(alloc)?)),
@@ -300,7 +337,41 @@ impl CreateTable {
     {
         Ok(CreateTable {
             name: self.name.copy()?,
-            columns: Column::copy_all(alloc, self.columns.as_slice())?,
+            columns: copy_columns(alloc, self.columns.as_slice())?,
+            key: copy_key(alloc, &self.key)?,
+        })
+    }
+}
+
+fn copy_columns(alloc: Global, columns: &[MarkedColumn]) -> Result<Items<MarkedColumn>, AllocError>
+    ensures { IfOk result (λ copies. copies ≡ columns.now) }
+{
+    let mut copies = Vec::with_capacity(alloc, columns.len())?;
+    for column in columns {
+        copies.push(column.copy()?)?;
+    }
+    Ok(Items::from_vec(copies))
+}
+
+fn copy_key(alloc: Global, key: &Option<Items<Name>>) -> Result<Option<Items<Name>>, AllocError>
+    ensures { IfOk result (λ copy. copy ≡ key.now) }
+{
+    match key {
+        Some(names) => match copy_names(alloc, names.as_slice()) {
+            Ok(names) => Ok(Some(names)),
+            Err(refused) => Err(refused),
+        },
+        None => Ok(None),
+    }
+}
+
+impl MarkedColumn {
+    pub fn copy(&self) -> Result<MarkedColumn, AllocError>
+        ensures { IfOk result (λ column. column ≡ self.now) }
+    {
+        Ok(MarkedColumn {
+            column: self.column.copy()?,
+            is_key: self.is_key,
         })
     }
 }
@@ -323,6 +394,58 @@ impl CreatePolicy {
         Ok(CreatePolicy {
             table: self.table.copy()?,
             policy: self.policy.copy(alloc)?,
+        })
+    }
+}
+
+impl AlterPolicy {
+    pub fn copy(&self, alloc: Global) -> Result<AlterPolicy, AllocError>
+        ensures { IfOk result (λ alter. alter ≡ self.now) }
+    {
+        Ok(AlterPolicy {
+            name: self.name.copy()?,
+            table: self.table.copy()?,
+            to: copy_grantees(alloc, &self.to)?,
+            using: copy_condition(alloc, &self.using)?,
+            check: copy_condition(alloc, &self.check)?,
+        })
+    }
+}
+
+fn copy_grantees(
+    alloc: Global,
+    to: &Option<Items<Grantee>>,
+) -> Result<Option<Items<Grantee>>, AllocError>
+    ensures { IfOk result (λ copy. copy ≡ to.now) }
+{
+    match to {
+        Some(to) => match Grantee::copy_all(alloc, to.as_slice()) {
+            Ok(to) => Ok(Some(to)),
+            Err(refused) => Err(refused),
+        },
+        None => Ok(None),
+    }
+}
+
+fn copy_condition(alloc: Global, condition: &Option<Expr>) -> Result<Option<Expr>, AllocError>
+    ensures { IfOk result (λ copy. copy ≡ condition.now) }
+{
+    match condition {
+        Some(condition) => match condition.copy(alloc) {
+            Ok(condition) => Ok(Some(condition)),
+            Err(refused) => Err(refused),
+        },
+        None => Ok(None),
+    }
+}
+
+impl DropPolicy {
+    pub fn copy(&self) -> Result<DropPolicy, AllocError>
+        ensures { IfOk result (λ drop. drop ≡ self.now) }
+    {
+        Ok(DropPolicy {
+            name: self.name.copy()?,
+            table: self.table.copy()?,
         })
     }
 }

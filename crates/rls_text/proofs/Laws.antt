@@ -150,17 +150,37 @@ module _ (k : ℕ) (i i' : Cut tree_of expr_heads expr_more false) (I : Within k
   unfolding g.check
   check_within = perhaps_within k _ _ (after_within k _ _ _ (after_within k _ _ _ parenthesized_within))
 
+  conditions_within : Within k (g.conditions i).rule.spells (g.conditions i').rule.spells
+  unfolding g.conditions
+  conditions_within = both_within k _ _ _ _ using_within check_within
+
+  description_within : Within k (g.proper_description i).rule.spells (g.proper_description i').rule.spells
+  unfolding g.proper_description g.description
+  description_within = checked_within k _ _ _ (both_within k _ _ _ _ (same_lang k _) (both_within k _ _ _ _ (same_lang k _) conditions_within))
+
   policy_within : Within k (g.policy i).rule.spells (g.policy i').rule.spells
   unfolding g.policy
-  policy_within = mapped_within k _ _ _ (both_within k _ _ _ _ (same_lang k _) (after_within k _ _ _ (both_within k _ _ _ _ (same_lang k _) (both_within k _ _ _ _ (same_lang k _) (both_within k _ _ _ _ using_within check_within)))))
+  policy_within = mapped_within k _ _ _ (both_within k _ _ _ _ (same_lang k _) description_within)
 
   create_within : Within k (g.create i).rule.spells (g.create i').rule.spells
   unfolding g.create g.role g.table
   create_within = after_within k _ _ _ (either_within k _ _ _ _ (same_lang k _) (either_within k _ _ _ _ (same_lang k _) (either_within k _ _ _ _ (same_lang k _) (after_within k _ _ _ policy_within))))
 
+  change_within : Within k (g.proper_change i).rule.spells (g.proper_change i').rule.spells
+  unfolding g.proper_change g.policy_change
+  change_within = checked_within k _ _ _ (both_within k _ _ _ _ (same_lang k _) conditions_within)
+
+  altered_policy_within : Within k (g.altered_policy i).rule.spells (g.altered_policy i').rule.spells
+  unfolding g.altered_policy
+  altered_policy_within = mapped_within k _ _ _ (both_within k _ _ _ _ (same_lang k _) change_within)
+
+  alter_within : Within k (g.alter i).rule.spells (g.alter i').rule.spells
+  unfolding g.alter
+  alter_within = after_within k _ _ _ (either_within k _ _ _ _ (same_lang k _) (either_within k _ _ _ _ (same_lang k _) (after_within k _ _ _ altered_policy_within)))
+
   body_within : Within k (g.body i).rule.spells (g.body i').rule.spells
   unfolding g.body
-  body_within = either_within k _ _ _ _ select_within (either_within k _ _ _ _ insert_within (either_within k _ _ _ _ create_within (same_lang k _)))
+  body_within = either_within k _ _ _ _ select_within (either_within k _ _ _ _ insert_within (either_within k _ _ _ _ create_within (either_within k _ _ _ _ alter_within (same_lang k _))))
 
 statement_within : (depth k : ℕ) → Within k (g.statement depth).rule.spells (g.statement (suc k)).rule.spells
 unfolding g.statement
@@ -220,6 +240,8 @@ columns_kept : (x : Statement) → columns_of (draft_of x).0 ≡ columns_of x
 columns_kept (st.Select x) = refl
 columns_kept (st.Insert x) = refl
 columns_kept (st.CreatePolicy x) = refl
+columns_kept (st.AlterPolicy x) = refl
+columns_kept (st.DropPolicy x) = refl
 columns_kept (st.CreateRole x) = refl
 columns_kept (st.CreateTable x) = refl
 columns_kept (st.AlterTable x) = refl

@@ -1,5 +1,5 @@
 pub mod Loops
 pub mod Wording
 pub mod Laws
-pub mod Columns
+pub mod Distinct
 pub mod Printed

@@ -3,6 +3,7 @@ use Rattle.std.specs.Prelude.{◌≡◌, ℕ, true, false, negsuc, List, [], ◌
 use Rattle.rls_value.specs.Names.{reserved}
 use Rattle.rls_value.specs.declared.value.Value.TheVariants as v
 use Rattle.rls_value.specs.declared.value.ColType.TheVariants as k
+use Rattle.rls_value.specs.declared.verb.Kind.TheVariants as command
 use Rattle.rls_value.specs.declared.verb.PolicyKind.TheVariants as kind
 use Rattle.rls_expr.specs.Terms.{Term}
 use Rattle.rls_expr.specs.Terms as e
@@ -23,6 +24,7 @@ use Rattle.rls_text.specs.Parses.{read_many}
 use Rattle.rls_text.specs.Rule.{with_comma}
 use Rattle.rls_text.specs.Cut as cut
 use Rattle.rls_text.specs.Grammar as g
+use Rattle.rls_text.specs.Elements.{with_element}
 use Rattle.rls_text.specs.Values.{with_privilege}
 use Rattle.rls_text.specs.Gives.{whole_of}
 use Rattle.rls_text.specs.Printing.{IsWritten}
@@ -74,75 +76,112 @@ role_written : (g.statement 1).rule.prints.writes (st.CreateRole record { name =
 unfolding reserved g.statement g.body g.select g.insert g.create g.role g.name g.attributes_of_role g.attributes_if_any g.attributes g.first_and_more g.attribute
 role_written = refl
 
--- CREATE TABLE t (a INTEGER, b BOOLEAN)
-table_written : (g.statement 1).rule.prints.writes (st.CreateTable record { name = codes "t"; columns = record { name = codes "a"; kind = k.Integer; not_null = false } ∷ record { name = codes "b"; kind = k.Boolean; not_null = false } ∷ [] }) ≡ Some
-    (Word (codes "create") ∷ Word (codes "table") ∷ Word (codes "t") ∷ t.Symbol s.LParen ∷ Word (codes "a") ∷ Word (codes "integer") ∷ t.Symbol s.Comma ∷ Word (codes "b") ∷ Word (codes "boolean") ∷ t.Symbol s.RParen ∷ [])
-unfolding reserved g.statement g.body g.select g.insert g.create g.role g.table g.distinct_columns g.definitions g.column_definition g.column_type with_comma g.name
+-- CREATE TABLE t (a INTEGER NOT NULL, b BOOLEAN, PRIMARY KEY (b, a))
+table_written : (g.statement 1).rule.prints.writes (st.CreateTable record {
+  name = codes "t";
+  columns = record { column = record { name = codes "a"; kind = k.Integer; not_null = true }; is_key = false } ∷ record { column = record { name = codes "b"; kind = k.Boolean; not_null = false }; is_key = false } ∷ [];
+  key = Some (codes "b" ∷ codes "a" ∷ []);
+}) ≡ Some
+    (Word (codes "create") ∷ Word (codes "table") ∷ Word (codes "t") ∷ t.Symbol s.LParen ∷ Word (codes "a") ∷ Word (codes "integer") ∷ Word (codes "not") ∷ Word (codes "null") ∷ t.Symbol s.Comma ∷ Word (codes "b") ∷ Word (codes "boolean") ∷ t.Symbol s.Comma
+    ∷ Word (codes "primary") ∷ Word (codes "key") ∷ t.Symbol s.LParen ∷ Word (codes "b") ∷ t.Symbol s.Comma ∷ Word (codes "a") ∷ t.Symbol s.RParen ∷ t.Symbol s.RParen ∷ [])
+unfolding reserved g.statement g.body g.select g.insert g.create g.role g.table g.proper_elements g.columns_and_key g.listed_elements g.table_elements g.table_element g.column_definition g.column_type g.column_marks g.all_marks g.column_mark g.primary_key g.distinct_names g.names with_comma g.name
 table_written = refl
+
+-- CREATE TABLE t (a TEXT NOT NULL PRIMARY KEY)
+marks_written : (g.statement 1).rule.prints.writes (st.CreateTable record { name = codes "t"; columns = record { column = record { name = codes "a"; kind = k.Text; not_null = true }; is_key = true } ∷ []; key = None }) ≡ Some
+    (Word (codes "create") ∷ Word (codes "table") ∷ Word (codes "t") ∷ t.Symbol s.LParen ∷ Word (codes "a") ∷ Word (codes "text") ∷ Word (codes "not") ∷ Word (codes "null") ∷ Word (codes "primary") ∷ Word (codes "key") ∷ t.Symbol s.RParen ∷ [])
+unfolding reserved g.statement g.body g.select g.insert g.create g.role g.table g.proper_elements g.columns_and_key g.listed_elements g.table_elements g.table_element g.column_definition g.column_type g.column_marks g.all_marks g.column_mark with_comma g.name
+marks_written = refl
 
 -- ALTER TABLE t ENABLE ROW LEVEL SECURITY
 alter_written : (g.statement 1).rule.prints.writes (st.AlterTable record { table = codes "t"; change = change.Enable }) ≡ Some
     (Word (codes "alter") ∷ Word (codes "table") ∷ Word (codes "t") ∷ Word (codes "enable") ∷ Word (codes "row") ∷ Word (codes "level") ∷ Word (codes "security") ∷ [])
-unfolding reserved g.statement g.body g.select g.insert g.create g.role g.table g.policy g.flat_body g.alter g.altered_role g.altered_table g.name
+unfolding reserved g.statement g.body g.select g.insert g.create g.role g.table g.policy g.alter g.altered_role g.altered_table g.row_change g.name
 alter_written = refl
 
--- CREATE POLICY p ON t TO PUBLIC WITH CHECK (a)
+-- ALTER TABLE t NO FORCE ROW LEVEL SECURITY
+no_force_written : (g.statement 1).rule.prints.writes (st.AlterTable record { table = codes "t"; change = change.NoForce }) ≡ Some
+    (Word (codes "alter") ∷ Word (codes "table") ∷ Word (codes "t") ∷ Word (codes "no") ∷ Word (codes "force") ∷ Word (codes "row") ∷ Word (codes "level") ∷ Word (codes "security") ∷ [])
+unfolding reserved g.statement g.body g.select g.insert g.create g.role g.table g.policy g.alter g.altered_role g.altered_table g.row_change g.name
+no_force_written = refl
+
+-- CREATE POLICY p ON t AS PERMISSIVE FOR ALL TO PUBLIC WITH CHECK (a)
 policy_written : (g.statement 2).rule.prints.writes (st.CreatePolicy record { table = codes "t"; policy = record { name = codes "p"; permissive = true; kind = kind.All; to = to.Public ∷ []; using = None; check = Some (e.Column (codes "a")) } }) ≡ Some
-    (Word (codes "create") ∷ Word (codes "policy") ∷ Word (codes "p") ∷ Word (codes "on") ∷ Word (codes "t") ∷ Word (codes "to") ∷ Word (codes "public")
+    (Word (codes "create") ∷ Word (codes "policy") ∷ Word (codes "p") ∷ Word (codes "on") ∷ Word (codes "t") ∷ Word (codes "as") ∷ Word (codes "permissive") ∷ Word (codes "for") ∷ Word (codes "all") ∷ Word (codes "to") ∷ Word (codes "public")
     ∷ Word (codes "with") ∷ Word (codes "check") ∷ t.Symbol s.LParen ∷ Word (codes "a") ∷ t.Symbol s.RParen ∷ [])
-unfolding reserved g.statement g.body g.select g.insert g.create g.role g.table g.policy g.for_grantees g.to_grantees g.grantees g.grantee g.using g.check g.parenthesized with_comma g.expr g.or g.or_next g.and g.and_next g.not_ g.nots g.is g.null_test g.cmp g.comparison g.prim g.name g.literal g.constant g.text g.number g.digits
+unfolding reserved g.statement g.body g.select g.insert g.create g.role g.table g.policy g.proper_description g.description g.policy_on g.policy_options g.permissive g.for_commands g.policy_kind g.command_type g.for_grantees g.to_grantees g.grantees g.grantee g.conditions g.using g.check g.parenthesized with_comma g.expr g.or g.or_next g.and g.and_next g.not_ g.nots g.is g.null_test g.cmp g.comparison g.prim g.name g.literal g.constant g.text g.number g.digits
 policy_written = refl
+
+-- CREATE POLICY p ON t AS RESTRICTIVE FOR DELETE TO r USING (a)
+restrictive_written : (g.statement 2).rule.prints.writes (st.CreatePolicy record { table = codes "t"; policy = record { name = codes "p"; permissive = false; kind = kind.Only command.Delete; to = to.Role (codes "r") ∷ []; using = Some (e.Column (codes "a")); check = None } }) ≡ Some
+    (Word (codes "create") ∷ Word (codes "policy") ∷ Word (codes "p") ∷ Word (codes "on") ∷ Word (codes "t") ∷ Word (codes "as") ∷ Word (codes "restrictive") ∷ Word (codes "for") ∷ Word (codes "delete") ∷ Word (codes "to") ∷ Word (codes "r")
+    ∷ Word (codes "using") ∷ t.Symbol s.LParen ∷ Word (codes "a") ∷ t.Symbol s.RParen ∷ [])
+unfolding reserved g.statement g.body g.select g.insert g.create g.role g.table g.policy g.proper_description g.description g.policy_on g.policy_options g.permissive g.for_commands g.policy_kind g.command_type g.for_grantees g.to_grantees g.grantees g.grantee g.conditions g.using g.check g.parenthesized with_comma g.expr g.or g.or_next g.and g.and_next g.not_ g.nots g.is g.null_test g.cmp g.comparison g.prim g.name g.literal g.constant g.text g.number g.digits
+restrictive_written = refl
+
+-- ALTER POLICY p ON t TO r, PUBLIC WITH CHECK (a)
+altered_policy_written : (g.statement 2).rule.prints.writes (st.AlterPolicy record { name = codes "p"; table = codes "t"; to = Some (to.Role (codes "r") ∷ to.Public ∷ []); using = None; check = Some (e.Column (codes "a")) }) ≡ Some
+    (Word (codes "alter") ∷ Word (codes "policy") ∷ Word (codes "p") ∷ Word (codes "on") ∷ Word (codes "t") ∷ Word (codes "to") ∷ Word (codes "r") ∷ t.Symbol s.Comma ∷ Word (codes "public")
+    ∷ Word (codes "with") ∷ Word (codes "check") ∷ t.Symbol s.LParen ∷ Word (codes "a") ∷ t.Symbol s.RParen ∷ [])
+unfolding reserved g.statement g.body g.select g.insert g.create g.role g.table g.policy g.alter g.altered_role g.altered_table g.altered_policy g.policy_on g.proper_change g.policy_change g.grantees_if_any g.to_grantees g.grantees g.grantee g.conditions g.using g.check g.parenthesized with_comma g.expr g.or g.or_next g.and g.and_next g.not_ g.nots g.is g.null_test g.cmp g.comparison g.prim g.name g.literal g.constant g.text g.number g.digits
+altered_policy_written = refl
+
+-- DROP POLICY p ON t
+dropped_policy_written : (g.statement 1).rule.prints.writes (st.DropPolicy record { name = codes "p"; table = codes "t" }) ≡ Some
+    (Word (codes "drop") ∷ Word (codes "policy") ∷ Word (codes "p") ∷ Word (codes "on") ∷ Word (codes "t") ∷ [])
+unfolding reserved g.statement g.body g.select g.insert g.create g.role g.table g.policy g.alter g.altered_role g.altered_table g.altered_policy g.flat_body g.dropped_policy g.policy_on g.name
+dropped_policy_written = refl
 
 -- GRANT INSERT, DELETE ON t TO r, PUBLIC
 grant_written : (g.statement 1).rule.prints.writes (st.Grant record { privileges = record { select = false; insert = true; update = false; delete = true }; table = codes "t"; to = to.Role (codes "r") ∷ to.Public ∷ []; with_option = false }) ≡ Some
     (Word (codes "grant") ∷ Word (codes "insert") ∷ t.Symbol s.Comma ∷ Word (codes "delete") ∷ Word (codes "on") ∷ Word (codes "t") ∷ Word (codes "to") ∷ Word (codes "r") ∷ t.Symbol s.Comma ∷ Word (codes "public") ∷ [])
-unfolding reserved g.statement g.body g.select g.insert g.create g.role g.table g.policy g.flat_body g.alter g.altered_role g.altered_table g.grant g.granted_privileges g.privileges_on g.privileges g.named_privileges g.privilege g.table_name g.granted_to g.to_grantees g.grantees g.grantee g.with_option with_comma g.name
+unfolding reserved g.statement g.body g.select g.insert g.create g.role g.table g.policy g.alter g.altered_role g.altered_table g.altered_policy g.flat_body g.dropped_policy g.grant g.granted_privileges g.privileges_on g.privileges g.named_privileges g.privilege g.table_name g.granted_to g.to_grantees g.grantees g.grantee g.with_option with_comma g.name
 grant_written = refl
 
 -- GRANT ALL ON t TO r WITH GRANT OPTION
 grant_option_written : (g.statement 1).rule.prints.writes (st.Grant record { privileges = record { select = true; insert = true; update = true; delete = true }; table = codes "t"; to = to.Role (codes "r") ∷ []; with_option = true }) ≡ Some
     (Word (codes "grant") ∷ Word (codes "all") ∷ Word (codes "on") ∷ Word (codes "t") ∷ Word (codes "to") ∷ Word (codes "r") ∷ Word (codes "with") ∷ Word (codes "grant") ∷ Word (codes "option") ∷ [])
-unfolding reserved g.statement g.body g.select g.insert g.create g.role g.table g.policy g.flat_body g.alter g.altered_role g.altered_table g.grant g.granted_privileges g.privileges_on g.privileges g.named_privileges g.privilege g.table_name g.granted_to g.to_grantees g.grantees g.grantee g.with_option with_comma g.name
+unfolding reserved g.statement g.body g.select g.insert g.create g.role g.table g.policy g.alter g.altered_role g.altered_table g.altered_policy g.flat_body g.dropped_policy g.grant g.granted_privileges g.privileges_on g.privileges g.named_privileges g.privilege g.table_name g.granted_to g.to_grantees g.grantees g.grantee g.with_option with_comma g.name
 grant_option_written = refl
 
 -- REVOKE SELECT ON t FROM r; RESTRICT isn't written
 revoke_written : (g.statement 1).rule.prints.writes (st.Revoke record { option_only = false; privileges = record { select = true; insert = false; update = false; delete = false }; table = codes "t"; from = to.Role (codes "r") ∷ []; cascade = false }) ≡ Some
     (Word (codes "revoke") ∷ Word (codes "select") ∷ Word (codes "on") ∷ Word (codes "t") ∷ Word (codes "from") ∷ Word (codes "r") ∷ [])
-unfolding reserved g.statement g.body g.select g.insert g.create g.role g.table g.policy g.flat_body g.alter g.altered_role g.altered_table g.grant g.granted_privileges g.granted_roles g.revoke g.revoked_privileges g.option_only g.privileges_on g.privileges g.named_privileges g.privilege g.table_name g.revoked_from g.grantees g.grantee g.cascade with_comma g.name
+unfolding reserved g.statement g.body g.select g.insert g.create g.role g.table g.policy g.alter g.altered_role g.altered_table g.altered_policy g.flat_body g.dropped_policy g.grant g.granted_privileges g.granted_roles g.revoke g.revoked_privileges g.option_only g.privileges_on g.privileges g.named_privileges g.privilege g.table_name g.revoked_from g.grantees g.grantee g.cascade with_comma g.name
 revoke_written = refl
 
 -- REVOKE GRANT OPTION FOR UPDATE ON t FROM PUBLIC CASCADE
 revoke_option_written : (g.statement 1).rule.prints.writes (st.Revoke record { option_only = true; privileges = record { select = false; insert = false; update = true; delete = false }; table = codes "t"; from = to.Public ∷ []; cascade = true }) ≡ Some
     (Word (codes "revoke") ∷ Word (codes "grant") ∷ Word (codes "option") ∷ Word (codes "for") ∷ Word (codes "update") ∷ Word (codes "on") ∷ Word (codes "t") ∷ Word (codes "from") ∷ Word (codes "public") ∷ Word (codes "cascade") ∷ [])
-unfolding reserved g.statement g.body g.select g.insert g.create g.role g.table g.policy g.flat_body g.alter g.altered_role g.altered_table g.grant g.granted_privileges g.granted_roles g.revoke g.revoked_privileges g.option_only g.privileges_on g.privileges g.named_privileges g.privilege g.table_name g.revoked_from g.grantees g.grantee g.cascade with_comma g.name
+unfolding reserved g.statement g.body g.select g.insert g.create g.role g.table g.policy g.alter g.altered_role g.altered_table g.altered_policy g.flat_body g.dropped_policy g.grant g.granted_privileges g.granted_roles g.revoke g.revoked_privileges g.option_only g.privileges_on g.privileges g.named_privileges g.privilege g.table_name g.revoked_from g.grantees g.grantee g.cascade with_comma g.name
 revoke_option_written = refl
 
 -- ALTER ROLE x LOGIN NOBYPASSRLS
 alter_role_written : (g.statement 1).rule.prints.writes (st.AlterRole record { name = codes "x"; attributes = record { superuser = None; login = Some true; bypass_rls = Some false } }) ≡ Some
     (Word (codes "alter") ∷ Word (codes "role") ∷ Word (codes "x") ∷ Word (codes "login") ∷ Word (codes "nobypassrls") ∷ [])
-unfolding reserved g.statement g.body g.select g.insert g.create g.role g.table g.policy g.flat_body g.alter g.altered_role g.altered_table g.written_attributes g.attributes g.first_and_more g.attribute g.name
+unfolding reserved g.statement g.body g.select g.insert g.create g.role g.table g.policy g.alter g.altered_role g.altered_table g.written_attributes g.attributes g.first_and_more g.attribute g.name
 alter_role_written = refl
 
 -- GRANT a, b TO c WITH ADMIN TRUE, SET FALSE
 grant_roles_written : (g.statement 1).rule.prints.writes (st.GrantRoles record { roles = codes "a" ∷ codes "b" ∷ []; to = codes "c" ∷ []; options = record { admin = Some true; inherit = None; set = Some false } }) ≡ Some
     (Word (codes "grant") ∷ Word (codes "a") ∷ t.Symbol s.Comma ∷ Word (codes "b") ∷ Word (codes "to") ∷ Word (codes "c") ∷ Word (codes "with")
     ∷ Word (codes "admin") ∷ Word (codes "true") ∷ t.Symbol s.Comma ∷ Word (codes "set") ∷ Word (codes "false") ∷ [])
-unfolding reserved g.statement g.body g.select g.insert g.create g.role g.table g.policy g.flat_body g.alter g.altered_role g.altered_table g.grant g.granted_privileges g.granted_roles g.names g.options g.settings_if_any g.settings g.all_settings g.setting g.option g.flag with_comma g.name
+unfolding reserved g.statement g.body g.select g.insert g.create g.role g.table g.policy g.alter g.altered_role g.altered_table g.altered_policy g.flat_body g.dropped_policy g.grant g.granted_privileges g.granted_roles g.names g.options g.settings_if_any g.settings g.all_settings g.setting g.option g.flag with_comma g.name
 grant_roles_written = refl
 
 -- REVOKE ADMIN OPTION FOR a FROM b, c
 revoke_roles_written : (g.statement 1).rule.prints.writes (st.RevokeRoles record { option = Some m.Admin; roles = codes "a" ∷ []; from = codes "b" ∷ codes "c" ∷ [] }) ≡ Some
     (Word (codes "revoke") ∷ Word (codes "admin") ∷ Word (codes "option") ∷ Word (codes "for") ∷ Word (codes "a") ∷ Word (codes "from") ∷ Word (codes "b") ∷ t.Symbol s.Comma ∷ Word (codes "c") ∷ [])
-unfolding reserved g.statement g.body g.select g.insert g.create g.role g.table g.policy g.flat_body g.alter g.altered_role g.altered_table g.grant g.granted_privileges g.granted_roles g.revoke g.revoked_privileges g.revoked_memberships g.revoked_option g.option_for g.option g.roles_from g.members g.names with_comma g.name
+unfolding reserved g.statement g.body g.select g.insert g.create g.role g.table g.policy g.alter g.altered_role g.altered_table g.altered_policy g.flat_body g.dropped_policy g.grant g.granted_privileges g.granted_roles g.revoke g.revoked_privileges g.revoked_memberships g.revoked_option g.option_for g.option g.roles_from g.members g.names with_comma g.name
 revoke_roles_written = refl
 
 -- SET ROLE NONE, and RESET ROLE
 set_role_written : (g.statement 1).rule.prints.writes (st.SetRole sr.None) ≡ Some (Word (codes "set") ∷ Word (codes "role") ∷ Word (codes "none") ∷ [])
-unfolding reserved g.statement g.body g.select g.insert g.create g.role g.table g.policy g.flat_body g.alter g.altered_role g.altered_table g.grant g.granted_privileges g.granted_roles g.revoke g.revoked_privileges g.revoked_memberships g.revoked_option g.revoked_roles g.set_role g.role_change g.role_set g.role_reset g.chosen_role
+unfolding reserved g.statement g.body g.select g.insert g.create g.role g.table g.policy g.alter g.altered_role g.altered_table g.altered_policy g.flat_body g.dropped_policy g.grant g.granted_privileges g.granted_roles g.revoke g.revoked_privileges g.revoked_memberships g.revoked_option g.revoked_roles g.set_role g.role_change g.role_set g.role_reset g.chosen_role
 set_role_written = refl
 
 reset_role_written : (g.statement 1).rule.prints.writes (st.SetRole sr.Reset) ≡ Some (Word (codes "reset") ∷ Word (codes "role") ∷ [])
-unfolding reserved g.statement g.body g.select g.insert g.create g.role g.table g.policy g.flat_body g.alter g.altered_role g.altered_table g.grant g.granted_privileges g.granted_roles g.revoke g.revoked_privileges g.revoked_memberships g.revoked_option g.revoked_roles g.set_role g.role_change g.role_set g.role_reset g.chosen_role g.name
+unfolding reserved g.statement g.body g.select g.insert g.create g.role g.table g.policy g.alter g.altered_role g.altered_table g.altered_policy g.flat_body g.dropped_policy g.grant g.granted_privileges g.granted_roles g.revoke g.revoked_privileges g.revoked_memberships g.revoked_option g.revoked_roles g.set_role g.role_change g.role_set g.role_reset g.chosen_role g.name
 reset_role_written = refl
 
 -- GRANT insert TO r WITH INHERIT OPTION is of a role called insert, and OPTION is TRUE.
@@ -176,3 +215,82 @@ count_is_a_column = refl
 count_of_a_column : g.items.parses.read (Word (codes "count") ∷ t.Symbol s.LParen ∷ Word (codes "a") ∷ t.Symbol s.RParen ∷ []) ≡ None
 unfolding g.items g.count
 count_of_a_column = refl
+
+-- Words of keys and policies that aren't reserved are names: CREATE TABLE force (key TEXT PRIMARY KEY NOT NULL).
+key_is_a_column : g.table.parses.read (Word (codes "force") ∷ t.Symbol s.LParen ∷ Word (codes "key") ∷ Word (codes "text") ∷ Word (codes "primary") ∷ Word (codes "key") ∷ Word (codes "not") ∷ Word (codes "null") ∷ t.Symbol s.RParen ∷ []) ≡ Some
+    (st.CreateTable record { name = codes "force"; columns = record { column = record { name = codes "key"; kind = k.Text; not_null = true }; is_key = true } ∷ []; key = None }, [])
+unfolding reserved read_many g.table g.proper_elements g.columns_and_key g.listed_elements g.table_elements g.table_element g.column_definition g.column_type g.column_marks g.all_marks g.column_mark g.primary_key g.distinct_names g.names with_element with_comma g.name
+key_is_a_column = refl
+
+-- PRIMARY KEY may name what is no column.
+key_of_no_column : g.table.parses.read (Word (codes "t") ∷ t.Symbol s.LParen ∷ Word (codes "a") ∷ Word (codes "int") ∷ t.Symbol s.Comma ∷ Word (codes "primary") ∷ Word (codes "key") ∷ t.Symbol s.LParen ∷ Word (codes "b") ∷ t.Symbol s.RParen ∷ t.Symbol s.RParen ∷ []) ≡ Some
+    (st.CreateTable record { name = codes "t"; columns = record { column = record { name = codes "a"; kind = k.Integer; not_null = false }; is_key = false } ∷ []; key = Some (codes "b" ∷ []) }, [])
+unfolding reserved read_many g.table g.proper_elements g.columns_and_key g.listed_elements g.table_elements g.table_element g.column_definition g.column_type g.column_marks g.all_marks g.column_mark g.primary_key g.distinct_names g.names with_element with_comma g.name
+key_of_no_column = refl
+
+-- A mark twice is nothing,
+mark_twice : g.table.parses.read (Word (codes "t") ∷ t.Symbol s.LParen ∷ Word (codes "a") ∷ Word (codes "int") ∷ Word (codes "not") ∷ Word (codes "null") ∷ Word (codes "not") ∷ Word (codes "null") ∷ t.Symbol s.RParen ∷ []) ≡ None
+unfolding reserved read_many g.table g.proper_elements g.columns_and_key g.listed_elements g.table_elements g.table_element g.column_definition g.column_type g.column_marks g.all_marks g.column_mark g.primary_key g.distinct_names g.names with_element with_comma g.name
+mark_twice = refl
+
+-- nor two columns that are marked as the key,
+two_marked : g.table.parses.read (Word (codes "t") ∷ t.Symbol s.LParen ∷ Word (codes "a") ∷ Word (codes "int") ∷ Word (codes "primary") ∷ Word (codes "key") ∷ t.Symbol s.Comma ∷ Word (codes "b") ∷ Word (codes "int") ∷ Word (codes "primary") ∷ Word (codes "key") ∷ t.Symbol s.RParen ∷ []) ≡ None
+unfolding reserved read_many g.table g.proper_elements g.columns_and_key g.listed_elements g.table_elements g.table_element g.column_definition g.column_type g.column_marks g.all_marks g.column_mark g.primary_key g.distinct_names g.names with_element with_comma g.name
+two_marked = refl
+
+-- nor a mark and the constraint,
+marked_and_constrained : g.table.parses.read (Word (codes "t") ∷ t.Symbol s.LParen ∷ Word (codes "a") ∷ Word (codes "int") ∷ Word (codes "primary") ∷ Word (codes "key") ∷ t.Symbol s.Comma ∷ Word (codes "primary") ∷ Word (codes "key") ∷ t.Symbol s.LParen ∷ Word (codes "a") ∷ t.Symbol s.RParen ∷ t.Symbol s.RParen ∷ []) ≡ None
+unfolding reserved read_many g.table g.proper_elements g.columns_and_key g.listed_elements g.table_elements g.table_element g.column_definition g.column_type g.column_marks g.all_marks g.column_mark g.primary_key g.distinct_names g.names with_element with_comma g.name
+marked_and_constrained = refl
+
+-- nor two constraints,
+two_constraints : g.table.parses.read (Word (codes "t") ∷ t.Symbol s.LParen ∷ Word (codes "a") ∷ Word (codes "int") ∷ t.Symbol s.Comma ∷ Word (codes "primary") ∷ Word (codes "key") ∷ t.Symbol s.LParen ∷ Word (codes "a") ∷ t.Symbol s.RParen ∷ t.Symbol s.Comma ∷ Word (codes "primary") ∷ Word (codes "key") ∷ t.Symbol s.LParen ∷ Word (codes "a") ∷ t.Symbol s.RParen ∷ t.Symbol s.RParen ∷ []) ≡ None
+unfolding reserved read_many g.table g.proper_elements g.columns_and_key g.listed_elements g.table_elements g.table_element g.column_definition g.column_type g.column_marks g.all_marks g.column_mark g.primary_key g.distinct_names g.names with_element with_comma g.name
+two_constraints = refl
+
+-- nor a column behind the constraint,
+key_not_last : g.table.parses.read (Word (codes "t") ∷ t.Symbol s.LParen ∷ Word (codes "a") ∷ Word (codes "int") ∷ t.Symbol s.Comma ∷ Word (codes "primary") ∷ Word (codes "key") ∷ t.Symbol s.LParen ∷ Word (codes "a") ∷ t.Symbol s.RParen ∷ t.Symbol s.Comma ∷ Word (codes "b") ∷ Word (codes "int") ∷ t.Symbol s.RParen ∷ []) ≡ None
+unfolding reserved read_many g.table g.proper_elements g.columns_and_key g.listed_elements g.table_elements g.table_element g.column_definition g.column_type g.column_marks g.all_marks g.column_mark g.primary_key g.distinct_names g.names with_element with_comma g.name
+key_not_last = refl
+
+-- nor a name twice in it,
+twice_in_the_key : g.table.parses.read (Word (codes "t") ∷ t.Symbol s.LParen ∷ Word (codes "a") ∷ Word (codes "int") ∷ t.Symbol s.Comma ∷ Word (codes "primary") ∷ Word (codes "key") ∷ t.Symbol s.LParen ∷ Word (codes "a") ∷ t.Symbol s.Comma ∷ Word (codes "a") ∷ t.Symbol s.RParen ∷ t.Symbol s.RParen ∷ []) ≡ None
+unfolding reserved read_many g.table g.proper_elements g.columns_and_key g.listed_elements g.table_elements g.table_element g.column_definition g.column_type g.column_marks g.all_marks g.column_mark g.primary_key g.distinct_names g.names with_element with_comma g.name
+twice_in_the_key = refl
+
+-- nor two columns of one name.
+column_twice : g.table.parses.read (Word (codes "t") ∷ t.Symbol s.LParen ∷ Word (codes "a") ∷ Word (codes "int") ∷ t.Symbol s.Comma ∷ Word (codes "a") ∷ Word (codes "text") ∷ t.Symbol s.RParen ∷ []) ≡ None
+unfolding reserved read_many g.table g.proper_elements g.columns_and_key g.listed_elements g.table_elements g.table_element g.column_definition g.column_type g.column_marks g.all_marks g.column_mark g.primary_key g.distinct_names g.names with_element with_comma g.name
+column_twice = refl
+
+-- Without AS, FOR and TO a policy is permissive, for all commands, for PUBLIC.
+defaults : (g.policy (g.expr 1)).rule.parses.read (Word (codes "p") ∷ Word (codes "on") ∷ Word (codes "t") ∷ Word (codes "using") ∷ t.Symbol s.LParen ∷ Word (codes "a") ∷ t.Symbol s.RParen ∷ []) ≡ Some
+    (st.CreatePolicy record { table = codes "t"; policy = record { name = codes "p"; permissive = true; kind = kind.All; to = to.Public ∷ []; using = Some (e.Column (codes "a")); check = None } }, [])
+unfolding reserved read_many g.policy g.proper_description g.description g.policy_on g.policy_options g.permissive g.for_commands g.policy_kind g.command_type g.for_grantees g.to_grantees g.grantees g.grantee g.conditions g.using g.check g.parenthesized with_comma g.expr g.or g.or_next g.and g.and_next g.not_ g.nots g.is g.null_test g.cmp g.comparison g.prim g.name g.literal g.constant g.text g.number g.digits
+defaults = refl
+
+-- A role may be called restrictive, a policy permissive.
+restrictive_is_a_role : (g.policy (g.expr 1)).rule.parses.read (Word (codes "permissive") ∷ Word (codes "on") ∷ Word (codes "no") ∷ Word (codes "as") ∷ Word (codes "restrictive") ∷ Word (codes "for") ∷ Word (codes "insert") ∷ Word (codes "to") ∷ Word (codes "restrictive") ∷ Word (codes "with") ∷ Word (codes "check") ∷ t.Symbol s.LParen ∷ Word (codes "a") ∷ t.Symbol s.RParen ∷ []) ≡ Some
+    (st.CreatePolicy record { table = codes "no"; policy = record { name = codes "permissive"; permissive = false; kind = kind.Only command.Insert; to = to.Role (codes "restrictive") ∷ []; using = None; check = Some (e.Column (codes "a")) } }, [])
+unfolding reserved read_many g.policy g.proper_description g.description g.policy_on g.policy_options g.permissive g.for_commands g.policy_kind g.command_type g.for_grantees g.to_grantees g.grantees g.grantee g.conditions g.using g.check g.parenthesized with_comma g.expr g.or g.or_next g.and g.and_next g.not_ g.nots g.is g.null_test g.cmp g.comparison g.prim g.name g.literal g.constant g.text g.number g.digits
+restrictive_is_a_role = refl
+
+-- A policy for SELECT has no WITH CHECK,
+checked_select : (g.policy (g.expr 1)).rule.parses.read (Word (codes "p") ∷ Word (codes "on") ∷ Word (codes "t") ∷ Word (codes "for") ∷ Word (codes "select") ∷ Word (codes "with") ∷ Word (codes "check") ∷ t.Symbol s.LParen ∷ Word (codes "a") ∷ t.Symbol s.RParen ∷ []) ≡ None
+unfolding reserved read_many g.policy g.proper_description g.description g.policy_on g.policy_options g.permissive g.for_commands g.policy_kind g.command_type g.for_grantees g.to_grantees g.grantees g.grantee g.conditions g.using g.check g.parenthesized with_comma g.expr g.or g.or_next g.and g.and_next g.not_ g.nots g.is g.null_test g.cmp g.comparison g.prim g.name g.literal g.constant g.text g.number g.digits
+checked_select = refl
+
+-- nor has one for DELETE,
+checked_delete : (g.policy (g.expr 1)).rule.parses.read (Word (codes "p") ∷ Word (codes "on") ∷ Word (codes "t") ∷ Word (codes "for") ∷ Word (codes "delete") ∷ Word (codes "using") ∷ t.Symbol s.LParen ∷ Word (codes "a") ∷ t.Symbol s.RParen ∷ Word (codes "with") ∷ Word (codes "check") ∷ t.Symbol s.LParen ∷ Word (codes "a") ∷ t.Symbol s.RParen ∷ []) ≡ None
+unfolding reserved read_many g.policy g.proper_description g.description g.policy_on g.policy_options g.permissive g.for_commands g.policy_kind g.command_type g.for_grantees g.to_grantees g.grantees g.grantee g.conditions g.using g.check g.parenthesized with_comma g.expr g.or g.or_next g.and g.and_next g.not_ g.nots g.is g.null_test g.cmp g.comparison g.prim g.name g.literal g.constant g.text g.number g.digits
+checked_delete = refl
+
+-- and one for INSERT no USING.
+used_insert : (g.policy (g.expr 1)).rule.parses.read (Word (codes "p") ∷ Word (codes "on") ∷ Word (codes "t") ∷ Word (codes "for") ∷ Word (codes "insert") ∷ Word (codes "using") ∷ t.Symbol s.LParen ∷ Word (codes "a") ∷ t.Symbol s.RParen ∷ []) ≡ None
+unfolding reserved read_many g.policy g.proper_description g.description g.policy_on g.policy_options g.permissive g.for_commands g.policy_kind g.command_type g.for_grantees g.to_grantees g.grantees g.grantee g.conditions g.using g.check g.parenthesized with_comma g.expr g.or g.or_next g.and g.and_next g.not_ g.nots g.is g.null_test g.cmp g.comparison g.prim g.name g.literal g.constant g.text g.number g.digits
+used_insert = refl
+
+-- ALTER POLICY changes something.
+nothing_altered : (g.altered_policy (g.expr 1)).rule.parses.read (Word (codes "p") ∷ Word (codes "on") ∷ Word (codes "t") ∷ []) ≡ None
+unfolding reserved read_many g.altered_policy g.policy_on g.proper_change g.policy_change g.grantees_if_any g.to_grantees g.grantees g.grantee g.conditions g.using g.check g.parenthesized with_comma g.expr g.or g.or_next g.and g.and_next g.not_ g.nots g.is g.null_test g.cmp g.comparison g.prim g.name g.literal g.constant g.text g.number g.digits
+nothing_altered = refl

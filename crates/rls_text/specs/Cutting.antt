@@ -1,6 +1,6 @@
 -- What is kept of an expression: the expression with its height, or what stands for one that is too high; and that the
 -- builders of trees keep it so.
-use Rattle.std.specs.Prelude.{◌≡◌, ℕ, zero, suc, ◌+◌, ◌≤◌, ◌<◌, max, nat_lt, nat_eq, Bool, true, false, ◌&&◌, if◌then◌else◌, List, [], ◌∷◌, ◌++◌, length, map, Option, Some, None, refl}
+use Rattle.std.specs.Prelude.{◌≡◌, ℕ, zero, suc, ◌+◌, ◌≤◌, ◌<◌, max, nat_lt, nat_eq, Bool, true, false, ◌&&◌, if◌then◌else◌, List, [], ◌∷◌, ◌++◌, length, map, Option, Some, None, is_some, refl}
 use Rattle.std.proofs.Common.{arith, sym, ap, ◌∙◌, append_assoc}
 use Rattle.std.proofs.lemmas.Bool.{ltb-true, ltb-false, lt-ltb, le-ltb}
 use Rattle.rls_expr.specs.declared.expr.Comparison.{Comparison}
@@ -12,7 +12,7 @@ use Rattle.rls_text.specs.declared.tree.Operands.TheVariants.{Several}
 use Rattle.rls_text.specs.Cut.{of_some}
 use Rattle.rls_text.specs.Heights.{height, heights, height_if, highest, height_of}
 use Rattle.rls_text.specs.Lang.{put_in}
-use Rattle.rls_text.specs.Trees.{Tree, Tuple, Tuples, Draft, cut, above, null_test_of, with_operand, operands, with_part, tuple_of, with_tuple, tuples_of, parted}
+use Rattle.rls_text.specs.Trees.{Tree, Tuple, Tuples, Draft, cut, above, null_test_of, with_operand, operands, with_part, tuple_of, with_tuple, tuples_of, parted, deeper}
 use Rattle.rls_text.specs.Trees as t
 use Rattle.rls_text.specs.Values as values
 use Rattle.rls_text.specs.Writes.{append_end}
@@ -44,13 +44,29 @@ deepest_tuple (x ∷ xs) = max (deepest x) (deepest_tuple xs)
 abbrev pub tuples_kept : List (List Term) → Tuples
 tuples_kept xs = (map terms_kept xs, deepest_tuple xs)
 
+-- USING and WITH CHECK
+abbrev pub conditions_kept : Option Term × Option Term → Option Tree × Option Tree
+conditions_kept r = (of_some tree_of r.0, of_some tree_of r.1)
+
+-- what a policy is described by
+abbrev pub description_kept : values.Description Term → values.Description Tree
+description_kept r = (r.0, (r.1.0, conditions_kept r.1.1))
+
+-- what changes of a policy
+abbrev pub change_kept : values.PolicyChange Term → values.PolicyChange Tree
+change_kept r = (r.0, conditions_kept r.1)
+
 -- a statement, with the depth of its deepest expression
 abbrev pub draft_of : Statement → Draft
 draft_of (st.Select x) = t.select_of (x.items, (x.table, of_some tree_of x.condition))
 draft_of (st.Insert x) = t.insert_of (x.table, tuples_kept x.tuples)
 draft_of (st.CreatePolicy x) = (
   st.CreatePolicy record { table = x.table; policy = record x.policy { using = (parted (of_some tree_of x.policy.using)).0; check = (parted (of_some tree_of x.policy.check)).0 } },
-  max (parted (of_some tree_of x.policy.using)).1 (parted (of_some tree_of x.policy.check)).1,
+  deeper (conditions_kept (x.policy.using, x.policy.check)),
+)
+draft_of (st.AlterPolicy x) = (
+  st.AlterPolicy record x { using = (parted (of_some tree_of x.using)).0; check = (parted (of_some tree_of x.check)).0 },
+  deeper (conditions_kept (x.using, x.check)),
 )
 draft_of x = t.flat x
 
@@ -225,6 +241,16 @@ pub even_kept : (xs : List (List Term)) → values.are_even (tuples_kept xs).0 �
 even_kept [] = refl
 even_kept (x ∷ xs) = ap (λ n. values.have_length n (map terms_kept xs)) (length_kept x) ∙ lengths_kept (length x) xs
 
+there_kept : (o : Option Term) → is_some (of_some tree_of o) ≡ is_some o
+there_kept None = refl
+there_kept (Some x) = refl
+
+pub is_policy_kept : (r : values.Description Term) → values.is_policy (description_kept r) ≡ values.is_policy r
+is_policy_kept r = rw (there_kept r.1.1.0, there_kept r.1.1.1) refl
+
+pub is_change_kept : (r : values.PolicyChange Term) → values.is_change (change_kept r) ≡ values.is_change r
+is_change_kept r = rw (there_kept r.1.0, there_kept r.1.1) refl
+
 -- ---- a statement that isn't too high is kept as it is
 
 pub if_low : (o : Option Term) → (parted (of_some tree_of o)).1 ≤ 64 → ((parted (of_some tree_of o)).0 ≡ o) × ((parted (of_some tree_of o)).1 ≡ height_if o)
@@ -245,6 +271,13 @@ draft_low (st.CreatePolicy x) h =
           ∙ ap (λ z. st.CreatePolicy record { table = x.table; policy = record x.policy { check = z } }) j.0,
       rw (k.1, j.1) refl,
     )
+draft_low (st.AlterPolicy x) h =
+    let k = if_low x.using (omega (arith, h)) in
+    let j = if_low x.check (omega (arith, h)) in (
+      ap (λ z. st.AlterPolicy record x { using = z; check = (parted (of_some tree_of x.check)).0 }) k.0 ∙ ap (λ z. st.AlterPolicy record x { check = z }) j.0,
+      rw (k.1, j.1) refl,
+    )
+draft_low (st.DropPolicy x) h = (refl, refl)
 draft_low (st.CreateRole x) h = (refl, refl)
 draft_low (st.CreateTable x) h = (refl, refl)
 draft_low (st.AlterTable x) h = (refl, refl)
@@ -255,16 +288,21 @@ draft_low (st.Revoke x) h = (refl, refl)
 draft_low (st.RevokeRoles x) h = (refl, refl)
 draft_low (st.SetRole x) h = (refl, refl)
 
+either_high : (using check : Option Term) → 64 < deeper (conditions_kept (using, check)) → 64 < max (height_if using) (height_if check)
+either_high using check h = go (nat_lt 64 (parted (of_some tree_of using)).1) refl
+  where
+    go : (b : Bool) → nat_lt 64 (parted (of_some tree_of using)).1 ≡ b → 64 < max (height_if using) (height_if check)
+    go true p = let k = if_high using (ltb-true 64 (parted (of_some tree_of using)).1 p) in omega (arith, k)
+    go false p =
+        let low : (parted (of_some tree_of using)).1 ≤ 64 = ltb-false 64 (parted (of_some tree_of using)).1 p in
+        let k = if_high check (omega (arith, h, low)) in omega (arith, k)
+
 pub draft_high : (x : Statement) → 64 < (draft_of x).1 → 64 < height_of x
 draft_high (st.Select x) h = if_high x.condition h
 draft_high (st.Insert x) h = tuples_high x.tuples h
-draft_high (st.CreatePolicy x) h = go (nat_lt 64 (parted (of_some tree_of x.policy.using)).1) refl
-  where
-    go : (b : Bool) → nat_lt 64 (parted (of_some tree_of x.policy.using)).1 ≡ b → 64 < max (height_if x.policy.using) (height_if x.policy.check)
-    go true p = let k = if_high x.policy.using (ltb-true 64 (parted (of_some tree_of x.policy.using)).1 p) in omega (arith, k)
-    go false p =
-        let low : (parted (of_some tree_of x.policy.using)).1 ≤ 64 = ltb-false 64 (parted (of_some tree_of x.policy.using)).1 p in
-        let k = if_high x.policy.check (omega (arith, h, low)) in omega (arith, k)
+draft_high (st.CreatePolicy x) h = either_high x.policy.using x.policy.check h
+draft_high (st.AlterPolicy x) h = either_high x.using x.check h
+draft_high (st.DropPolicy x) h = absurd (omega (arith, h))
 draft_high (st.CreateRole x) h = absurd (omega (arith, h))
 draft_high (st.CreateTable x) h = absurd (omega (arith, h))
 draft_high (st.AlterTable x) h = absurd (omega (arith, h))

@@ -45,13 +45,25 @@ attribute_heads = Keyword (codes "superuser") ∷ Keyword (codes "nosuperuser") 
 abbrev pub role_more : List Head
 role_more = Keyword (codes "with") ∷ attribute_heads
 
+-- a mark of a column
+abbrev pub mark_heads : List Head
+mark_heads = Keyword (codes "not") ∷ Keyword (codes "primary") ∷ []
+
+-- behind what changes of a policy
+abbrev pub change_more : List Head
+change_more = Sign s.Comma ∷ Keyword (codes "to") ∷ Keyword (codes "using") ∷ Keyword (codes "with") ∷ []
+
 -- behind a new policy
 abbrev pub policy_more : List Head
-policy_more = Sign s.Comma ∷ Keyword (codes "to") ∷ Keyword (codes "using") ∷ Keyword (codes "with") ∷ []
+policy_more = Keyword (codes "as") ∷ Keyword (codes "for") ∷ change_more
 
 -- behind what is created
 abbrev pub create_more : List Head
-create_more = role_more ++ Sign s.Comma ∷ Keyword (codes "to") ∷ Keyword (codes "using") ∷ []
+create_more = attribute_heads ++ policy_more
+
+-- behind what is altered
+abbrev pub alter_more : List Head
+alter_more = attribute_heads ++ change_more
 
 -- a privilege
 abbrev pub privilege_heads : List Head
@@ -75,15 +87,15 @@ revoked_more = Sign s.Comma ∷ Keyword (codes "cascade") ∷ Keyword (codes "re
 
 -- a statement without an expression
 abbrev pub flat_heads : List Head
-flat_heads = Keyword (codes "alter") ∷ Keyword (codes "grant") ∷ Keyword (codes "revoke") ∷ Keyword (codes "set") ∷ Keyword (codes "reset") ∷ []
+flat_heads = Keyword (codes "drop") ∷ Keyword (codes "grant") ∷ Keyword (codes "revoke") ∷ Keyword (codes "set") ∷ Keyword (codes "reset") ∷ []
 
 -- behind one
 abbrev pub flat_more : List Head
-flat_more = attribute_heads ++ Keyword (codes "with") ∷ revoked_more
+flat_more = Keyword (codes "with") ∷ revoked_more
 
 -- a statement
 abbrev pub body_heads : List Head
-body_heads = Keyword (codes "select") ∷ Keyword (codes "insert") ∷ Keyword (codes "create") ∷ flat_heads
+body_heads = Keyword (codes "select") ∷ Keyword (codes "insert") ∷ Keyword (codes "create") ∷ Keyword (codes "alter") ∷ flat_heads
 
 -- behind a statement
 abbrev pub body_more : List Head
@@ -104,6 +116,10 @@ not_apart = refl
 pub public_apart : apart (Keyword (codes "public") ∷ []) (Names ∷ []) ≡ true
 unfolding reserved
 public_apart = refl
+
+pub primary_apart : apart (Names ∷ []) (Keyword (codes "primary") ∷ []) ≡ true
+unfolding reserved
+primary_apart = refl
 
 pub table_apart : apart (Keyword (codes "table") ∷ []) (Names ∷ []) ≡ true
 unfolding reserved

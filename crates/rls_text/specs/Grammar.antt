@@ -7,20 +7,26 @@ use Rattle.rls_value.specs.declared.value.Value.{Value}
 use Rattle.rls_value.specs.declared.value.Value.TheVariants as v
 use Rattle.rls_value.specs.declared.value.ColType.{ColType}
 use Rattle.rls_value.specs.declared.value.ColType.TheVariants as k
+use Rattle.rls_value.specs.declared.verb.Kind.{Kind}
+use Rattle.rls_value.specs.declared.verb.Kind.TheVariants as command
+use Rattle.rls_value.specs.declared.verb.PolicyKind.{PolicyKind}
+use Rattle.rls_value.specs.declared.verb.PolicyKind.TheVariants as kind
 use Rattle.rls_value.specs.declared.verb.Privilege.{Privilege}
 use Rattle.rls_value.specs.declared.verb.Privilege.TheVariants as p
 use Rattle.rls_expr.specs.Terms.{Term}
 use Rattle.rls_expr.specs.Terms as e
-use Rattle.rls_expr.specs.declared.table.Column.{Column}
 use Rattle.rls_expr.specs.declared.expr.Comparison.{Comparison}
 use Rattle.rls_expr.specs.declared.expr.Comparison.TheVariants as c
 use Rattle.rls_expr.specs.declared.policy.Grantee.{Grantee}
 use Rattle.rls_expr.specs.declared.policy.Grantee.TheVariants as to
 use Rattle.rls_statement.specs.declared.statement.Attributes.{Attributes}
+use Rattle.rls_statement.specs.declared.statement.MarkedColumn.{MarkedColumn}
 use Rattle.rls_statement.specs.declared.statement.MembershipOption.{MembershipOption}
 use Rattle.rls_statement.specs.declared.statement.MembershipOption.TheVariants as m
 use Rattle.rls_statement.specs.declared.statement.MembershipOptions.{MembershipOptions}
 use Rattle.rls_statement.specs.declared.statement.Privileges.{Privileges}
+use Rattle.rls_statement.specs.declared.statement.RowSecurity.{RowSecurity}
+use Rattle.rls_statement.specs.declared.statement.RowSecurity.TheVariants as change
 use Rattle.rls_statement.specs.declared.statement.Selected.{Selected}
 use Rattle.rls_statement.specs.declared.statement.Selected.TheVariants as selected
 use Rattle.rls_statement.specs.declared.statement.SetRole.{SetRole}
@@ -33,26 +39,38 @@ use Rattle.rls_text.specs.declared.token.Token.TheVariants.{Word}
 use Rattle.rls_text.specs.declared.token.Token.TheVariants as tokens
 use Rattle.rls_text.specs.declared.attributes.RoleAttribute.{RoleAttribute}
 use Rattle.rls_text.specs.declared.attributes.RoleAttribute.TheVariants as a
+use Rattle.rls_text.specs.declared.columns.ColumnMark.{ColumnMark}
+use Rattle.rls_text.specs.declared.columns.ColumnMark.TheVariants as marks
+use Rattle.rls_text.specs.declared.tables.TableElement.{TableElement}
+use Rattle.rls_text.specs.declared.tables.TableElement.TheVariants as element
+use Rattle.rls_text.specs.declared.tables.TableElements.{TableElements}
 use Rattle.std.proofs.Common.{inl, inr}
 use Rattle.rls_text.specs.Heads.{Names, Numbers, Texts, Keyword, Sign, begins, sees}
-use Rattle.rls_text.specs.FirstSets.{constant_heads, literal_heads, prim_heads, comparison_heads, is_more, expr_heads, expr_more, condition_more, attribute_heads, role_more, policy_more, create_more, privilege_heads, privileges_heads, option_heads, granted_more, revoked_more, flat_heads, flat_more, body_heads, body_more, literal_apart, name_apart, not_apart, public_apart, table_apart, none_apart, on_apart, to_apart}
+use Rattle.rls_text.specs.FirstSets.{constant_heads, literal_heads, prim_heads, comparison_heads, is_more, expr_heads, expr_more, condition_more, attribute_heads, role_more, mark_heads, change_more, policy_more, create_more, alter_more, privilege_heads, privileges_heads, option_heads, granted_more, revoked_more, flat_heads, flat_more, body_heads, body_more, literal_apart, name_apart, not_apart, public_apart, primary_apart, table_apart, none_apart, on_apart, to_apart}
 use Rattle.rls_text.specs.Ahead.{on_comes_first, second_is, Skips, both_skips, mapped_skips, either_skips, perhaps_skips, many_skips, token_skips, one_skips, decided_at, decided_before, decided_behind, Alone, only_alone, mapped_alone, either_alone}
-use Rattle.rls_text.specs.Lang.{only, Both, Many, put_in}
+use Rattle.rls_text.specs.Elements.{elements_of}
+use Rattle.rls_text.specs.Elements as elements
+use Rattle.rls_text.specs.Lang.{only, Both, Mapped, Perhaps, Many, put_in}
 use Rattle.rls_text.specs.Parses.{unseen_parts}
 use Rattle.rls_text.specs.Trees as t
 use Rattle.rls_text.specs.Writes.{through, without_second, without_first}
-use Rattle.rls_text.specs.Rule.{Rule, word, sign, one, both, mapped, after_as, before_as, after, before, in_parentheses, either, either_by, perhaps, many, checked, widened, with_comma, as_list, list_law, listed, word_for, sign_for}
+use Rattle.rls_text.specs.Rule.{Rule, word, sign, one, both, mapped, after_as, before_as, after, before, in_parentheses, either, either_by, perhaps, many, checked, widened, with_comma, as_list, list_law, listed, spelled_as, standing_for, word_for, sign_for}
 use Rattle.rls_text.specs.Cut.{Cut, of_some}
 use Rattle.rls_text.specs.Cut as cut
-use Rattle.rls_text.specs.Cutting.{tree_of, tuple_kept, tuples_kept, draft_of, compared_kept, tested_kept, negated_kept, and_kept, or_kept, tuple_is_kept, tuples_are_kept, even_kept}
+use Rattle.rls_text.specs.Cutting.{tree_of, tuple_kept, tuples_kept, draft_of, compared_kept, tested_kept, negated_kept, and_kept, or_kept, tuple_is_kept, tuples_are_kept, even_kept, conditions_kept, description_kept, change_kept, is_policy_kept, is_change_kept}
 use Rattle.rls_text.specs.Values as g
 use Rattle.rls_text.specs.WaysBack as back
+use Rattle.rls_text.specs.TablesBack as tables
 
 -- ---- names and literals
 
 -- a word that isn't reserved, of 63 bytes at most
 unfoldable pub name : Rule (List ℕ) (Names ∷ []) [] false
 name = one g.name_of back.name_begins back.as_name back.name_law
+
+-- name {"," name}
+unfoldable pub names : Rule (List (List ℕ)) (Names ∷ []) (Sign s.Comma ∷ []) false
+names = listed name
 
 -- TRUE | FALSE | NULL
 unfoldable pub constant : Rule Value constant_heads [] false
@@ -269,38 +287,108 @@ altered_role = mapped g.altering_of back.as_altering back.altering_law (both nam
 
 -- INTEGER | INT | BIGINT | TEXT | BOOLEAN | BOOL, of which INTEGER and BOOLEAN are written
 unfoldable pub column_type : Rule ColType (Keyword (codes "integer") ∷ Keyword (codes "int") ∷ Keyword (codes "bigint") ∷ Keyword (codes "text") ∷ Keyword (codes "boolean") ∷ Keyword (codes "bool") ∷ []) [] false
-column_type = either (word_for back.column_types k.Integer (codes "integer")) (either (word_for back.column_types k.Integer (codes "int")) (either (word_for back.column_types k.BigInt (codes "bigint"))
-    (either (word_for back.column_types k.Text (codes "text")) (either (word_for back.column_types k.Boolean (codes "boolean")) (word_for back.column_types k.Boolean (codes "bool")) refl) refl) refl) refl) refl
+column_type = either (word_for tables.column_types k.Integer (codes "integer")) (either (word_for tables.column_types k.Integer (codes "int")) (either (word_for tables.column_types k.BigInt (codes "bigint"))
+    (either (word_for tables.column_types k.Text (codes "text")) (either (word_for tables.column_types k.Boolean (codes "boolean")) (word_for tables.column_types k.Boolean (codes "bool")) refl) refl) refl) refl) refl
 
--- name type
-unfoldable pub column_definition : Rule Column (Names ∷ []) [] false
-column_definition = mapped g.column_of back.as_definition back.definition_law (both name column_type refl)
+-- NOT NULL | PRIMARY KEY
+unfoldable pub column_mark : Rule ColumnMark mark_heads [] false
+column_mark = either (standing_for tables.column_marks marks.NotNull (after (word (codes "not")) (word (codes "null")) refl)) (standing_for tables.column_marks marks.PrimaryKey (after (word (codes "primary")) (word (codes "key")) refl)) refl
 
--- column {"," column}
-unfoldable pub definitions : Rule (List Column) (Names ∷ []) (Sign s.Comma ∷ []) false
-definitions = listed column_definition
+-- {mark}
+unfoldable pub all_marks : Rule (List ColumnMark) mark_heads mark_heads true
+all_marks = many column_mark refl
 
--- column {"," column}, no two of one name
-unfoldable pub distinct_columns : Rule (List Column) (Names ∷ []) (Sign s.Comma ∷ []) false
-distinct_columns = checked g.are_distinct definitions
+-- {mark}, each once at most
+unfoldable pub column_marks : Rule (List ColumnMark) mark_heads mark_heads true
+column_marks = checked g.marked_once all_marks
 
--- name "(" columns ")"
+-- name type {mark}
+unfoldable pub column_definition : Rule MarkedColumn (Names ∷ []) mark_heads false
+column_definition = mapped g.column_of tables.as_definition tables.definition_law (both (both name column_type refl) column_marks refl)
+
+-- name {"," name}, no name twice
+unfoldable pub distinct_names : Rule (List (List ℕ)) (Names ∷ []) (Sign s.Comma ∷ []) false
+distinct_names = checked g.are_distinct names
+
+-- PRIMARY KEY "(" names ")"
+unfoldable pub primary_key : Rule (List (List ℕ)) (Keyword (codes "primary") ∷ []) [] false
+primary_key = after (word (codes "primary")) (after (word (codes "key")) (in_parentheses distinct_names refl) refl) refl
+
+-- column | key
+unfoldable pub table_element : Rule TableElement (Names ∷ Keyword (codes "primary") ∷ []) mark_heads false
+table_element = either (mapped element.Column tables.as_column tables.column_law column_definition) (mapped element.Key tables.as_key tables.key_law primary_key) primary_apart
+
+-- column {"," element}
+unfoldable pub table_elements : Rule TableElements (Names ∷ []) (Sign s.Comma ∷ mark_heads) false
+table_elements = widened (mapped elements_of tables.as_elements tables.elements_law (both column_definition (many (with_comma table_element) refl) refl)) refl refl
+
+-- column {"," element}, where the key comes last
+unfoldable pub listed_elements : Rule TableElements (Names ∷ []) (Sign s.Comma ∷ mark_heads) false
+listed_elements = checked (λ x. x.key_last) table_elements
+
+-- column {"," column} ["," key]
+abbrev pub ColumnsAndKey : List Token → TableElements → Type 0
+ColumnsAndKey = Mapped g.elements_with (Both (Mapped (λ r. r.0 ∷ r.1) (Both column_definition.spells (Many (with_comma column_definition).spells))) (Perhaps (with_comma primary_key).spells))
+
+pub are_columns : (ts : List Token) (x : TableElements) → listed_elements.spells ts x → ColumnsAndKey ts x
+unfolding listed_elements table_elements table_element with_comma
+are_columns = elements.are_columns column_definition.spells primary_key.spells
+
+pub are_listed : (ts : List Token) (x : TableElements) → ColumnsAndKey ts x → listed_elements.spells ts x
+unfolding listed_elements table_elements table_element with_comma
+are_listed = elements.are_listed column_definition.spells primary_key.spells
+
+-- column {"," column} ["," key]; since a comma goes on with either, elements are read
+unfoldable pub columns_and_key : Rule TableElements (Names ∷ []) (Sign s.Comma ∷ mark_heads) false
+columns_and_key = spelled_as ColumnsAndKey listed_elements are_columns are_listed
+
+-- the same, with one primary key at most and no two columns of one name
+unfoldable pub proper_elements : Rule TableElements (Names ∷ []) (Sign s.Comma ∷ mark_heads) false
+proper_elements = checked g.is_table columns_and_key
+
+-- name "(" columns_and_key ")"
 unfoldable pub table : Rule Statement (Names ∷ []) [] false
-table = mapped g.table_of back.as_table back.table_law (both name (in_parentheses distinct_columns refl) refl)
+table = mapped g.table_of tables.as_table tables.table_law (both name (in_parentheses proper_elements refl) refl)
 
--- name ENABLE ROW LEVEL SECURITY
+-- ENABLE | DISABLE | FORCE | NO FORCE
+unfoldable pub row_change : Rule RowSecurity (Keyword (codes "enable") ∷ Keyword (codes "disable") ∷ Keyword (codes "force") ∷ Keyword (codes "no") ∷ []) [] false
+row_change = either (word_for tables.row_changes change.Enable (codes "enable")) (either (word_for tables.row_changes change.Disable (codes "disable"))
+    (either (word_for tables.row_changes change.Force (codes "force")) (standing_for tables.row_changes change.NoForce (after (word (codes "no")) (word (codes "force")) refl)) refl) refl) refl
+
+-- name change ROW LEVEL SECURITY
 unfoldable pub altered_table : Rule Statement (Names ∷ []) [] false
-altered_table = mapped g.enabling back.as_enabling back.enabling_law (before name (after (word (codes "enable")) (after (word (codes "row")) (after (word (codes "level")) (word (codes "security")) refl) refl) refl) refl)
-
--- ALTER (ROLE role | TABLE table)
-unfoldable pub alter : Rule Statement (Keyword (codes "alter") ∷ []) attribute_heads false
-alter = widened (after (word (codes "alter")) (either (after (word (codes "role")) altered_role refl) (after (word (codes "table")) altered_table refl) refl) refl) refl refl
+altered_table = mapped g.altering_table_of tables.as_altering_table tables.altering_table_law (both name (before row_change (after (word (codes "row")) (after (word (codes "level")) (word (codes "security")) refl) refl) refl) refl)
 
 -- ---- policies
 
+-- name ON name
+unfoldable pub policy_on : Rule (List ℕ × List ℕ) (Names ∷ []) [] false
+policy_on = both name (after (word (codes "on")) name refl) refl
+
+-- [AS (PERMISSIVE | RESTRICTIVE)], without which it is permissive; it is always written
+unfoldable pub permissive : Rule Bool (Keyword (codes "as") ∷ []) (Keyword (codes "as") ∷ []) true
+permissive = mapped g.or_permissive tables.as_permissive tables.permissive_law (perhaps (after (word (codes "as")) (either (word_for back.flags true (codes "permissive")) (word_for back.flags false (codes "restrictive")) refl) refl))
+
+-- SELECT | INSERT | UPDATE | DELETE
+unfoldable pub command_type : Rule Kind privilege_heads [] false
+command_type = either (word_for tables.commands command.Select (codes "select")) (either (word_for tables.commands command.Insert (codes "insert"))
+    (either (word_for tables.commands command.Update (codes "update")) (word_for tables.commands command.Delete (codes "delete")) refl) refl) refl
+
+-- ALL | command
+unfoldable pub policy_kind : Rule PolicyKind privileges_heads [] false
+policy_kind = either (mapped (λ _. kind.All) tables.as_all tables.all_law (word (codes "all"))) (mapped kind.Only tables.as_only tables.only_law command_type) refl
+
+-- [FOR kind], without which it is for all commands; it is always written
+unfoldable pub for_commands : Rule PolicyKind (Keyword (codes "for") ∷ []) (Keyword (codes "for") ∷ []) true
+for_commands = mapped g.or_all tables.as_commands tables.commands_law (perhaps (after (word (codes "for")) policy_kind refl))
+
+-- [AS ..] [FOR ..]
+unfoldable pub policy_options : Rule (Bool × PolicyKind) (Keyword (codes "as") ∷ Keyword (codes "for") ∷ []) (Keyword (codes "for") ∷ Keyword (codes "as") ∷ []) true
+policy_options = both permissive for_commands refl
+
 -- PUBLIC | name
 unfoldable pub grantee : Rule Grantee (Keyword (codes "public") ∷ Names ∷ []) [] false
-grantee = either (mapped (λ _. to.Public) back.as_public back.public_law (word (codes "public"))) (mapped to.Role back.as_grantee back.grantee_law name) public_apart
+grantee = either (mapped (λ _. to.Public) tables.as_public tables.public_law (word (codes "public"))) (mapped to.Role tables.as_grantee tables.grantee_law name) public_apart
 
 -- grantee {"," grantee}
 unfoldable pub grantees : Rule (List Grantee) (Keyword (codes "public") ∷ Names ∷ []) (Sign s.Comma ∷ []) false
@@ -312,9 +400,19 @@ to_grantees = after (word (codes "to")) grantees refl
 
 -- [TO grantees], without which it is for PUBLIC; it is always written
 unfoldable pub for_grantees : Rule (List Grantee) (Keyword (codes "to") ∷ []) (Sign s.Comma ∷ Keyword (codes "to") ∷ []) true
-for_grantees = mapped g.or_public back.as_for back.grantees_law (perhaps to_grantees)
+for_grantees = mapped g.or_public tables.as_for tables.grantees_law (perhaps to_grantees)
 
--- what is created without an expression is kept as it is
+-- [TO grantees], where there may be none
+unfoldable pub grantees_if_any : Rule (Option (List Grantee)) (Keyword (codes "to") ∷ []) (Sign s.Comma ∷ Keyword (codes "to") ∷ []) true
+grantees_if_any = perhaps to_grantees
+
+-- DROP POLICY name ON name
+unfoldable pub dropped_policy : Rule Statement (Keyword (codes "drop") ∷ []) [] false
+dropped_policy = mapped g.dropping_policy_of tables.as_dropping_policy tables.dropping_policy_law (after (word (codes "drop")) (after (word (codes "policy")) policy_on refl) refl)
+
+-- ---- CREATE and ALTER
+
+-- what is created or altered without an expression is kept as it is
 pub role_kept : (is_user : Bool) (ts : List Token) (x : Statement) → (role is_user).spells ts x → draft_of x ≡ t.flat x
 unfolding role
 role_kept is_user ts x h = rw (h.value) refl
@@ -323,9 +421,17 @@ pub table_kept : (ts : List Token) (x : Statement) → table.spells ts x → dra
 unfolding table
 table_kept ts x h = rw (h.value) refl
 
-pub alter_kept : (ts : List Token) (x : Statement) → alter.spells ts x → draft_of x ≡ t.flat x
-unfolding alter altered_role altered_table
-alter_kept ts x h = rw (h.value) (elim h.spelled.other [ inl y ↦ rw (y.value, y.spelled.other.value) refl | inr y ↦ rw (y.value, y.spelled.other.value) refl ])
+pub altered_role_kept : (ts : List Token) (x : Statement) → altered_role.spells ts x → draft_of x ≡ t.flat x
+unfolding altered_role
+altered_role_kept ts x h = rw (h.value) refl
+
+pub altered_table_kept : (ts : List Token) (x : Statement) → altered_table.spells ts x → draft_of x ≡ t.flat x
+unfolding altered_table
+altered_table_kept ts x h = rw (h.value) refl
+
+pub dropped_policy_kept : (ts : List Token) (x : Statement) → dropped_policy.spells ts x → draft_of x ≡ t.flat x
+unfolding dropped_policy
+dropped_policy_kept ts x h = rw (h.value) refl
 
 module _ (inner : Cut tree_of expr_heads expr_more false) where
   -- [USING "(" expr ")"]
@@ -336,16 +442,44 @@ module _ (inner : Cut tree_of expr_heads expr_more false) where
   unfoldable pub check : Cut (of_some tree_of) (Keyword (codes "with") ∷ []) (Keyword (codes "with") ∷ []) true
   check = cut.perhaps (cut.after (word (codes "with")) (cut.after (word (codes "check")) (parenthesized inner) refl) refl)
 
-  -- name ON name [TO grantees] [USING ..] [WITH CHECK ..]
+  -- [USING ..] [WITH CHECK ..]
+  unfoldable pub conditions : Cut conditions_kept (Keyword (codes "using") ∷ Keyword (codes "with") ∷ []) (Keyword (codes "with") ∷ Keyword (codes "using") ∷ []) true
+  conditions = cut.both using check refl
+
+  -- [AS ..] [FOR ..] [TO grantees] [USING ..] [WITH CHECK ..]
+  unfoldable pub description : Cut description_kept policy_more policy_more true
+  description = cut.widened (cut.both (cut.plain policy_options) (cut.both (cut.plain for_grantees) conditions refl) refl) refl refl
+
+  -- the same, where a policy of this kind may have these expressions
+  unfoldable pub proper_description : Cut description_kept policy_more policy_more true
+  proper_description = cut.checked g.is_policy g.is_policy is_policy_kept description
+
+  -- name ON name description
   unfoldable pub policy : Cut draft_of (Names ∷ []) policy_more false
-  policy = cut.widened (cut.mapped draft_of g.policy_of t.policy_of (λ r. refl) back.as_policy back.policy_law
-      (cut.both (cut.plain name) (cut.after (word (codes "on")) (cut.both (cut.plain name) (cut.both (cut.plain for_grantees) (cut.both using check refl) refl) refl) refl) refl)) refl refl
+  policy = cut.mapped draft_of g.policy_of t.policy_of (λ r. refl) tables.as_policy tables.policy_law (cut.both (cut.plain policy_on) proper_description refl)
+
+  -- [TO grantees] [USING ..] [WITH CHECK ..]
+  unfoldable pub policy_change : Cut change_kept change_more change_more true
+  policy_change = cut.widened (cut.both (cut.plain grantees_if_any) conditions refl) refl refl
+
+  -- the same, one of them at least
+  unfoldable pub proper_change : Cut change_kept change_more change_more true
+  proper_change = cut.checked g.is_change g.is_change is_change_kept policy_change
+
+  -- name ON name change
+  unfoldable pub altered_policy : Cut draft_of (Names ∷ []) change_more false
+  altered_policy = cut.mapped draft_of g.altering_policy_of t.altering_policy_of (λ r. refl) tables.as_altering_policy tables.altering_policy_law (cut.both (cut.plain policy_on) proper_change refl)
 
   -- CREATE (ROLE role | USER role | TABLE table | POLICY policy), of which USER isn't written
   unfoldable pub create : Cut draft_of (Keyword (codes "create") ∷ []) create_more false
   create = cut.widened (cut.after (word (codes "create")) (cut.either (cut.after (word (codes "role")) (cut.kept_as draft_of t.flat (role false) (role_kept false)) refl)
       (cut.either (cut.after (word (codes "user")) (cut.kept_as draft_of t.flat (role true) (role_kept true)) refl)
       (cut.either (cut.after (word (codes "table")) (cut.kept_as draft_of t.flat table table_kept) refl) (cut.after (word (codes "policy")) policy refl) refl) refl) refl) refl) refl refl
+
+  -- ALTER (ROLE role | TABLE table | POLICY policy)
+  unfoldable pub alter : Cut draft_of (Keyword (codes "alter") ∷ []) alter_more false
+  alter = cut.widened (cut.after (word (codes "alter")) (cut.either (cut.after (word (codes "role")) (cut.kept_as draft_of t.flat altered_role altered_role_kept) refl)
+      (cut.either (cut.after (word (codes "table")) (cut.kept_as draft_of t.flat altered_table altered_table_kept) refl) (cut.after (word (codes "policy")) altered_policy refl) refl) refl) refl) refl refl
 
 -- ---- GRANT and REVOKE of privileges
 
@@ -399,10 +533,6 @@ unfoldable pub revoked_privileges : Rule Statement (Keyword (codes "grant") ∷ 
 revoked_privileges = widened (mapped g.revoke_of back.as_revoke back.revoke_law (both option_only (both privileges_on revoked_from refl) refl)) refl refl
 
 -- ---- memberships
-
--- name {"," name}
-unfoldable pub names : Rule (List (List ℕ)) (Names ∷ []) (Sign s.Comma ∷ []) false
-names = listed name
 
 -- ADMIN | INHERIT | SET
 unfoldable pub option : Rule MembershipOption option_heads [] false
@@ -613,18 +743,18 @@ set_role_kept ts x h = rw (h.value) refl
 
 -- ---- statements
 
--- alter | grant | revoke | set_role
+-- dropped_policy | grant | revoke | set_role
 unfoldable pub flat_body : Rule Statement flat_heads flat_more false
-flat_body = widened (either alter (either grant (either revoke set_role refl) refl) refl) refl refl
+flat_body = widened (either dropped_policy (either grant (either revoke set_role refl) refl) refl) refl refl
 
 -- what has no expression is kept as it is
 pub flat_kept : (ts : List Token) (x : Statement) → flat_body.spells ts x → draft_of x ≡ t.flat x
 unfolding flat_body
-flat_kept ts x h = elim h [ inl y ↦ alter_kept ts x y | inr y ↦ elim y [ inl z ↦ grant_kept ts x z | inr z ↦ elim z [ inl u ↦ revoke_kept ts x u | inr u ↦ set_role_kept ts x u ] ] ]
+flat_kept ts x h = elim h [ inl y ↦ dropped_policy_kept ts x y | inr y ↦ elim y [ inl z ↦ grant_kept ts x z | inr z ↦ elim z [ inl u ↦ revoke_kept ts x u | inr u ↦ set_role_kept ts x u ] ] ]
 
--- select | insert | create | flat_body
+-- select | insert | create | alter | flat_body
 unfoldable pub body : (inner : Cut tree_of expr_heads expr_more false) → Cut draft_of body_heads body_more false
-body inner = cut.widened (cut.either (select inner) (cut.either (insert inner) (cut.either (create inner) (cut.kept_as draft_of t.flat flat_body flat_kept) refl) refl) refl) refl refl
+body inner = cut.widened (cut.either (select inner) (cut.either (insert inner) (cut.either (create inner) (cut.either (alter inner) (cut.kept_as draft_of t.flat flat_body flat_kept) refl) refl) refl) refl) refl refl
 
 -- body [";"], with parentheses to this depth; the semicolon isn't written
 unfoldable pub statement : (depth : ℕ) → Cut draft_of body_heads (Sign s.Semicolon ∷ body_more) false

@@ -39,4 +39,5 @@ abbrev pub height_of : Statement → ℕ
 height_of (st.Select select) = height_if select.condition
 height_of (st.Insert insert) = highest insert.tuples
 height_of (st.CreatePolicy create) = max (height_if create.policy.using) (height_if create.policy.check)
+height_of (st.AlterPolicy alter) = max (height_if alter.using) (height_if alter.check)
 height_of _ = 0

@@ -9,7 +9,9 @@ pub mod Rule
 pub mod Trees
 pub mod Cut
 pub mod Cutting
+pub mod Elements
 pub mod WaysBack
+pub mod TablesBack
 pub mod Heads
 pub mod FirstSets
 pub mod Parses

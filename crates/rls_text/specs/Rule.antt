@@ -126,6 +126,10 @@ checked test P = record { spells = Checked test P.spells; parses = p.checked tes
 abbrev pub widened : {A : Type 0} {h m h' m' : List Head} {e : Bool} → Rule A h m e → within h h' ≡ true → within m m' ≡ true → Rule A h' m' e
 widened P u v = record { spells = P.spells; parses = p.widened P.parses u v; prints = P.prints }
 
+-- what q spells, read and written as by P, which spells the same
+abbrev pub spelled_as : {A : Type 0} {h m : List Head} {e : Bool} → (q : List Token → A → Type 0) → (P : Rule A h m e) → ((ts : List Token) (a : A) → P.spells ts a → q ts a) → ((ts : List Token) (a : A) → q ts a → P.spells ts a) → Rule A h m e
+spelled_as {h = h} {m = m} {e = e} q P to back = record { spells = q; parses = p.transferred _ q h m e P.parses to back; prints = through P.prints to }
+
 -- ---- lists with commas
 
 -- "," P

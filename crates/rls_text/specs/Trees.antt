@@ -1,18 +1,17 @@
 -- Trees of limited depth: an expression with its depth, where a leaf counts one. For one that is deeper than 64
 -- a null stands, with a depth above the limit.
-use Rattle.std.specs.Prelude.{ℕ, zero, suc, true, ◌+◌, max, nat_lt, if◌then◌else◌, List, [], ◌∷◌, ◌++◌, Option, Some, None}
+use Rattle.std.specs.Prelude.{ℕ, zero, suc, ◌+◌, max, nat_lt, if◌then◌else◌, List, [], ◌∷◌, ◌++◌, Option, Some, None}
 use Rattle.rls_value.specs.declared.value.Value.TheVariants.{Null}
 use Rattle.rls_expr.specs.declared.expr.Comparison.{Comparison}
 use Rattle.rls_expr.specs.Terms.{Term, terms_of}
 use Rattle.rls_expr.specs.Terms as t
-use Rattle.rls_value.specs.declared.verb.PolicyKind.TheVariants as kind
-use Rattle.rls_expr.specs.declared.policy.Grantee.{Grantee}
 use Rattle.rls_statement.specs.declared.statement.Selected.{Selected}
 use Rattle.rls_statement.specs.declared.statement.Statement.{Statement}
 use Rattle.rls_statement.specs.declared.statement.Statement.TheVariants as st
 use Rattle.rls_text.specs.declared.tree.Operands.{Operands}
 use Rattle.rls_text.specs.declared.tree.Operands.TheVariants.{One, Several}
 use Rattle.rls_text.specs.Lang.{put_in}
+use Rattle.rls_text.specs.Values.{Description, PolicyChange}
 
 -- an expression, or what stands for it, with its depth
 abbrev pub Tree : Type 0
@@ -117,12 +116,20 @@ select_of r = (st.Select record { items = r.0; table = r.1.0; condition = (parte
 abbrev pub insert_of : List ℕ × Tuples → Draft
 insert_of r = (st.Insert record { table = r.0; tuples = r.1.0 }, r.1.1)
 
+-- the depth of the deeper of two conditions that may be left out
+abbrev pub deeper : Option Tree × Option Tree → ℕ
+deeper r = max (parted r.0).1 (parted r.1).1
+
 -- CREATE POLICY, of its parts
-abbrev pub policy_of : List ℕ × (List ℕ × (List Grantee × (Option Tree × Option Tree))) → Draft
+abbrev pub policy_of : (List ℕ × List ℕ) × Description Tree → Draft
 policy_of r = (
   st.CreatePolicy record {
-    table = r.1.0;
-    policy = record { name = r.0; permissive = true; kind = kind.All; to = r.1.1.0; using = (parted r.1.1.1.0).0; check = (parted r.1.1.1.1).0 };
+    table = r.0.1;
+    policy = record { name = r.0.0; permissive = r.1.0.0; kind = r.1.0.1; to = r.1.1.0; using = (parted r.1.1.1.0).0; check = (parted r.1.1.1.1).0 };
   },
-  max (parted r.1.1.1.0).1 (parted r.1.1.1.1).1,
+  deeper r.1.1.1,
 )
+
+-- ALTER POLICY, of its parts
+abbrev pub altering_policy_of : (List ℕ × List ℕ) × PolicyChange Tree → Draft
+altering_policy_of r = (st.AlterPolicy record { name = r.0.0; table = r.0.1; to = r.1.0; using = (parted r.1.1.0).0; check = (parted r.1.1.1).0 }, deeper r.1.1)

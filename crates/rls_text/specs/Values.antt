@@ -1,5 +1,5 @@
 -- What the phrases of the grammar stand for, each by what its parts stand for.
-use Rattle.std.specs.Prelude.{ℕ, zero, suc, nat_le, nat_eq, pos, ◌-ℤ◌, ◌-◌, ◌^◌, Bool, true, false, not, ◌&&◌, if◌then◌else◌, List, [], ◌∷◌, length, Option, Some, None}
+use Rattle.std.specs.Prelude.{ℕ, zero, suc, nat_le, nat_eq, pos, ◌-ℤ◌, ◌-◌, ◌^◌, Bool, true, false, not, ◌&&◌, ◌||◌, if◌then◌else◌, List, [], ◌∷◌, length, map, Option, Some, None, is_some}
 use Rattle.std.specs.List.{list_any}
 use Rattle.std.specs.Str.{bytes_eq}
 use denote.Enum.Bare.{sameb}
@@ -9,10 +9,11 @@ use Rattle.rls_value.specs.declared.value.Value.TheVariants as v
 use Rattle.rls_value.specs.declared.value.ColType.{ColType}
 use Rattle.rls_value.specs.declared.verb.Privilege.{Privilege}
 use Rattle.rls_value.specs.declared.verb.Privilege.TheVariants as p
+use Rattle.rls_value.specs.declared.verb.Kind.TheVariants as command
+use Rattle.rls_value.specs.declared.verb.PolicyKind.{PolicyKind}
 use Rattle.rls_value.specs.declared.verb.PolicyKind.TheVariants as kind
 use Rattle.rls_expr.specs.Terms.{Term, terms_of}
 use Rattle.rls_expr.specs.Terms as e
-use Rattle.rls_expr.specs.declared.table.Column.{Column}
 use Rattle.rls_expr.specs.declared.expr.Comparison.{Comparison}
 use Rattle.rls_expr.specs.declared.policy.Grantee.{Grantee}
 use Rattle.rls_expr.specs.declared.policy.Grantee.TheVariants as to
@@ -20,13 +21,18 @@ use Rattle.rls_text.specs.declared.token.Token.{Token}
 use Rattle.rls_text.specs.declared.token.Token.TheVariants.{Word, Number, Text}
 use Rattle.rls_text.specs.declared.attributes.RoleAttribute.{RoleAttribute}
 use Rattle.rls_text.specs.declared.attributes.RoleAttribute.TheVariants as a
+use Rattle.rls_text.specs.declared.columns.ColumnMark.{ColumnMark}
+use Rattle.rls_text.specs.declared.columns.ColumnMark.TheVariants as marks
+use Rattle.rls_text.specs.contracts.columns.ColumnMark as column_mark
+use Rattle.rls_text.specs.declared.tables.TableElements.{TableElements}
 use Rattle.rls_statement.specs.declared.statement.Attributes.{Attributes}
 use Rattle.rls_statement.specs.contracts.statement.MembershipOption as option
 use Rattle.rls_statement.specs.declared.statement.MembershipOption.{MembershipOption}
+use Rattle.rls_statement.specs.declared.statement.MarkedColumn.{MarkedColumn}
 use Rattle.rls_statement.specs.declared.statement.MembershipOption.TheVariants as m
 use Rattle.rls_statement.specs.declared.statement.MembershipOptions.{MembershipOptions}
 use Rattle.rls_statement.specs.declared.statement.Privileges.{Privileges}
-use Rattle.rls_statement.specs.declared.statement.RowSecurity.TheVariants as change
+use Rattle.rls_statement.specs.declared.statement.RowSecurity.{RowSecurity}
 use Rattle.rls_statement.specs.declared.statement.Selected.{Selected}
 use Rattle.rls_statement.specs.declared.statement.Statement.{Statement}
 use Rattle.rls_statement.specs.declared.statement.Statement.TheVariants as st
@@ -156,38 +162,123 @@ attributes_from is_user written = put_in with_attribute (opening is_user) (or_em
 abbrev pub altering_of : List ℕ × Attributes → Statement
 altering_of r = st.AlterRole record { name = r.0; attributes = r.1 }
 
--- a column that takes nulls
-abbrev pub column_of : List ℕ × ColType → Column
-column_of r = record { name = r.0; kind = r.1; not_null = false }
+-- ---- tables
 
--- one of them has that name
-abbrev pub has_column : List ℕ → List Column → Bool
-has_column name columns = list_any (λ column. bytes_eq column.name name) columns
+-- the mark is among them
+abbrev pub has_mark : ColumnMark → List ColumnMark → Bool
+has_mark x [] = false
+has_mark x (y ∷ ys) = sameb column_mark.the_type x y || has_mark x ys
 
--- no two of one name
-abbrev pub are_distinct : List Column → Bool
+-- no two are one
+abbrev pub marked_once : List ColumnMark → Bool
+marked_once [] = true
+marked_once (x ∷ xs) = not (has_mark x xs) && marked_once xs
+
+-- a column, of its name, its type and its marks
+abbrev pub column_of : (List ℕ × ColType) × List ColumnMark → MarkedColumn
+column_of r = record { column = record { name = r.0.0; kind = r.0.1; not_null = has_mark marks.NotNull r.1 }; is_key = has_mark marks.PrimaryKey r.1 }
+
+-- one of them is that name
+abbrev pub has_name : List ℕ → List (List ℕ) → Bool
+has_name name names = list_any (λ other. bytes_eq other name) names
+
+-- no two are one
+abbrev pub are_distinct : List (List ℕ) → Bool
 are_distinct [] = true
-are_distinct (column ∷ columns) = not (has_column column.name columns) && are_distinct columns
+are_distinct (name ∷ names) = not (has_name name names) && are_distinct names
+
+-- a table's columns and its key, if there is one; it comes last
+abbrev pub elements_with : List MarkedColumn × Option (List (List ℕ)) → TableElements
+elements_with r = record { columns = r.0; key = r.1; key_last = true }
+
+-- none is marked as the key
+abbrev pub has_no_key : List MarkedColumn → Bool
+has_no_key [] = true
+has_no_key (x ∷ xs) = not x.is_key && has_no_key xs
+
+-- at most one is marked as the key
+abbrev pub has_one_key : List MarkedColumn → Bool
+has_one_key [] = true
+has_one_key (x ∷ xs) = if x.is_key then has_no_key xs else has_one_key xs
+
+-- at most one primary key is written, as the mark of a column or as the constraint
+abbrev pub keyed_once : List MarkedColumn → Option (List (List ℕ)) → Bool
+keyed_once columns None = has_one_key columns
+keyed_once columns (Some names) = has_no_key columns
+
+-- the names of columns
+abbrev pub column_names : List MarkedColumn → List (List ℕ)
+column_names = map (λ x. x.column.name)
+
+-- there is one primary key at most, and no two columns have one name
+abbrev pub is_table : TableElements → Bool
+is_table x = keyed_once x.columns x.key && are_distinct (column_names x.columns)
 
 -- CREATE TABLE, of its parts
-abbrev pub table_of : List ℕ × List Column → Statement
-table_of r = st.CreateTable record { name = r.0; columns = r.1 }
+abbrev pub table_of : List ℕ × TableElements → Statement
+table_of r = st.CreateTable record { name = r.0; columns = r.1.columns; key = r.1.key }
 
--- ALTER TABLE .. ENABLE ROW LEVEL SECURITY
-abbrev pub enabling : List ℕ → Statement
-enabling table = st.AlterTable record { table = table; change = change.Enable }
+-- ALTER TABLE .. ROW LEVEL SECURITY, of its parts
+abbrev pub altering_table_of : List ℕ × RowSecurity → Statement
+altering_table_of r = st.AlterTable record { table = r.0; change = r.1 }
+
+-- ---- policies
 
 -- without TO it is for PUBLIC
 abbrev pub or_public : Option (List Grantee) → List Grantee
 or_public None = to.Public ∷ []
 or_public (Some all) = all
 
--- CREATE POLICY, of its parts; it is permissive and for all commands
-abbrev pub policy_of : List ℕ × (List ℕ × (List Grantee × (Option Term × Option Term))) → Statement
+-- without AS it is permissive
+abbrev pub or_permissive : Option Bool → Bool
+or_permissive None = true
+or_permissive (Some permissive) = permissive
+
+-- without FOR it is for all commands
+abbrev pub or_all : Option PolicyKind → PolicyKind
+or_all None = kind.All
+or_all (Some commands) = commands
+
+-- Which expressions a policy may have: one for SELECT or DELETE has no WITH CHECK, one for INSERT no USING.
+abbrev pub may_have : PolicyKind → (using check : Bool) → Bool
+may_have (kind.Only command.Select) using check = not check
+may_have (kind.Only command.Insert) using check = not using
+may_have (kind.Only command.Update) using check = true
+may_have (kind.Only command.Delete) using check = not check
+may_have kind.All using check = true
+
+-- what a policy is described by: AS, FOR, TO, USING, WITH CHECK
+abbrev pub Description : Type 0 → Type 0
+Description A = (Bool × PolicyKind) × (List Grantee × (Option A × Option A))
+
+-- the policy may have its expressions
+abbrev pub is_policy : {A : Type 0} → Description A → Bool
+is_policy r = may_have r.0.1 (is_some r.1.1.0) (is_some r.1.1.1)
+
+-- CREATE POLICY, of its parts; the policy's name stands before the table's
+abbrev pub policy_of : (List ℕ × List ℕ) × Description Term → Statement
 policy_of r = st.CreatePolicy record {
-  table = r.1.0;
-  policy = record { name = r.0; permissive = true; kind = kind.All; to = r.1.1.0; using = r.1.1.1.0; check = r.1.1.1.1 };
+  table = r.0.1;
+  policy = record { name = r.0.0; permissive = r.1.0.0; kind = r.1.0.1; to = r.1.1.0; using = r.1.1.1.0; check = r.1.1.1.1 };
 }
+
+-- what changes of a policy: TO, USING, WITH CHECK
+abbrev pub PolicyChange : Type 0 → Type 0
+PolicyChange A = Option (List Grantee) × (Option A × Option A)
+
+-- something does
+abbrev pub is_change : {A : Type 0} → PolicyChange A → Bool
+is_change r = is_some r.0 || (is_some r.1.0 || is_some r.1.1)
+
+-- ALTER POLICY, of its parts
+abbrev pub altering_policy_of : (List ℕ × List ℕ) × PolicyChange Term → Statement
+altering_policy_of r = st.AlterPolicy record { name = r.0.0; table = r.0.1; to = r.1.0; using = r.1.1.0; check = r.1.1.1 }
+
+-- DROP POLICY, of its parts
+abbrev pub dropping_policy_of : List ℕ × List ℕ → Statement
+dropping_policy_of r = st.DropPolicy record { name = r.0; table = r.1 }
+
+-- ---- GRANT and REVOKE of privileges
 
 -- none of the four
 abbrev pub no_privileges : Privileges

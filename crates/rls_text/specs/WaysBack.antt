@@ -9,28 +9,20 @@ use denote.Enum.Bare.{sameb, same_true}
 use Rattle.rls_value.specs.Names.{reserved}
 use Rattle.rls_value.specs.declared.value.Value.{Value}
 use Rattle.rls_value.specs.declared.value.Value.TheVariants as v
-use Rattle.rls_value.specs.declared.value.ColType.{ColType}
-use Rattle.rls_value.specs.contracts.value.ColType as col_type
 use Rattle.rls_value.specs.declared.verb.Privilege.{Privilege}
 use Rattle.rls_value.specs.contracts.verb.Privilege as privilege
 use Rattle.rls_value.specs.declared.verb.Privilege.TheVariants as p
-use Rattle.rls_value.specs.declared.verb.PolicyKind.{PolicyKind}
-use Rattle.rls_value.specs.declared.verb.PolicyKind.TheVariants as kind
 use Rattle.rls_expr.specs.Terms.{Term, Terms, terms_of}
 use Rattle.rls_expr.specs.Terms as e
-use Rattle.rls_expr.specs.declared.table.Column.{Column}
 use Rattle.rls_expr.specs.declared.expr.Comparison.{Comparison}
 use Rattle.rls_expr.specs.contracts.expr.Comparison as comparison
 use Rattle.rls_expr.specs.declared.policy.Grantee.{Grantee}
-use Rattle.rls_expr.specs.declared.policy.Grantee.TheVariants as to
 use Rattle.rls_statement.specs.declared.statement.Attributes.{Attributes}
 use Rattle.rls_statement.specs.contracts.statement.MembershipOption as option
 use Rattle.rls_statement.specs.declared.statement.MembershipOption.{MembershipOption}
 use Rattle.rls_statement.specs.declared.statement.MembershipOption.TheVariants as m
 use Rattle.rls_statement.specs.declared.statement.MembershipOptions.{MembershipOptions}
 use Rattle.rls_statement.specs.declared.statement.Privileges.{Privileges}
-use Rattle.rls_statement.specs.declared.statement.RowSecurity.{RowSecurity}
-use Rattle.rls_statement.specs.declared.statement.RowSecurity.TheVariants as change
 use Rattle.rls_statement.specs.declared.statement.Selected.{Selected}
 use Rattle.rls_statement.specs.declared.statement.Selected.TheVariants as selected
 use Rattle.rls_statement.specs.declared.statement.SetRole.{SetRole}
@@ -387,103 +379,6 @@ as_altering _ = None
 pub altering_law : (b : Statement) (a : List ℕ × Attributes) → as_altering b ≡ Some a → b ≡ g.altering_of a
 altering_law (st.AlterRole x) a h = ap g.altering_of (some_is (x.name, x.attributes) a h)
 altering_law _ a h = cc
-
--- ---- tables
-
--- types, told apart
-abbrev pub column_types : Telling ColType
-column_types = record { are_same = sameb col_type.the_type; same_is = same_true col_type.the_type tt }
-
--- name and type of a column that takes nulls
-abbrev pub as_definition : Column → Option (List ℕ × ColType)
-as_definition x = given_if (not x.not_null) (x.name, x.kind)
-
-pub definition_law : (b : Column) (a : List ℕ × ColType) → as_definition b ≡ Some a → b ≡ g.column_of a
-definition_law b a h =
-    let k = given_was (not b.not_null) (b.name, b.kind) a h in
-    ap (λ z. record { name = b.name; kind = b.kind; not_null = z }) (takes_nulls b.not_null k.0) ∙ ap g.column_of k.1
-  where
-    takes_nulls : (x : Bool) → not x ≡ true → x ≡ false
-    takes_nulls true h = cc
-    takes_nulls false h = refl
-
--- name, columns
-abbrev pub as_table : Statement → Option (List ℕ × List Column)
-as_table (st.CreateTable x) = Some (x.name, x.columns)
-as_table _ = None
-
-pub table_law : (b : Statement) (a : List ℕ × List Column) → as_table b ≡ Some a → b ≡ g.table_of a
-table_law (st.CreateTable x) a h = ap g.table_of (some_is (x.name, x.columns) a h)
-table_law _ a h = cc
-
--- the table whose row security is enabled
-abbrev pub as_enabling : Statement → Option (List ℕ)
-as_enabling (st.AlterTable x) = Some x.table
-as_enabling _ = None
-
-is_enabling : (x : RowSecurity) → x ≡ change.Enable
-is_enabling change.Enable = refl
-
-pub enabling_law : (b : Statement) (a : List ℕ) → as_enabling b ≡ Some a → b ≡ g.enabling a
-enabling_law (st.AlterTable x) a h = ap (λ z. st.AlterTable record { table = x.table; change = z }) (is_enabling x.change) ∙ ap g.enabling (some_is x.table a h)
-enabling_law _ a h = cc
-
--- ---- policies
-
--- PUBLIC
-abbrev pub as_public : Grantee → Option (Unit {0})
-as_public to.Public = Some tt
-as_public _ = None
-
-pub public_law : (b : Grantee) (a : Unit {0}) → as_public b ≡ Some a → b ≡ to.Public
-public_law to.Public a h = refl
-public_law _ a h = cc
-
--- a role that is a grantee
-abbrev pub as_grantee : Grantee → Option (List ℕ)
-as_grantee (to.Role x) = Some x
-as_grantee _ = None
-
-pub grantee_law : (b : Grantee) (a : List ℕ) → as_grantee b ≡ Some a → b ≡ to.Role a
-grantee_law (to.Role x) a h = ap to.Role (some_is x a h)
-grantee_law _ a h = cc
-
--- TO is always written
-abbrev pub as_for : List Grantee → Option (Option (List Grantee))
-as_for all = Some (Some all)
-
-pub grantees_law : (b : List Grantee) (a : Option (List Grantee)) → as_for b ≡ Some a → b ≡ g.or_public a
-grantees_law b a h = ap g.or_public (some_is (Some b) a h)
-
--- for all commands
-abbrev pub is_all : PolicyKind → Bool
-is_all kind.All = true
-is_all _ = false
-
-all_is : (x : PolicyKind) → is_all x ≡ true → x ≡ kind.All
-all_is kind.All h = refl
-all_is _ h = cc
-
--- name, table, grantees, USING, WITH CHECK, of a policy that is permissive and for all commands
-abbrev pub as_policy : Statement → Option (List ℕ × (List ℕ × (List Grantee × (Option Term × Option Term))))
-as_policy (st.CreatePolicy x) =
-    given_if (x.policy.permissive && is_all x.policy.kind) (x.policy.name, (x.table, (x.policy.to, (x.policy.using, x.policy.check))))
-as_policy _ = None
-
-policy_back : (name table : List ℕ) (permissive : Bool) (commands : PolicyKind) (grantees : List Grantee) (using check : Option Term)
-    → (permissive && is_all commands) ≡ true
-    → st.CreatePolicy record { table = table; policy = record { name = name; permissive = permissive; kind = commands; to = grantees; using = using; check = check } }
-    ≡ g.policy_of (name, (table, (grantees, (using, check))))
-policy_back name table permissive commands grantees using check h =
-    let k = both_true permissive (is_all commands) h in
-    rw (k.0, all_is commands k.1) refl
-
-pub policy_law : (b : Statement) (a : List ℕ × (List ℕ × (List Grantee × (Option Term × Option Term)))) → as_policy b ≡ Some a → b ≡ g.policy_of a
-policy_law (st.CreatePolicy x) a h =
-    let y = x.policy in
-    let k = given_was (y.permissive && is_all y.kind) (y.name, (x.table, (y.to, (y.using, y.check)))) a h in
-    policy_back y.name x.table y.permissive y.kind y.to y.using y.check k.0 ∙ ap g.policy_of k.1
-policy_law _ a h = cc
 
 -- ---- GRANT and REVOKE of privileges
 

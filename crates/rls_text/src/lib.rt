@@ -2,6 +2,7 @@
 #![tactic(auto)]
 
 mod attributes;
+mod columns;
 mod creating;
 mod expression;
 mod fault;
@@ -9,10 +10,13 @@ mod granting;
 mod limits;
 mod memberships;
 mod parsing;
+mod policies;
+mod policy_parts;
 mod read_back;
 mod reading;
 mod revoking;
 mod selecting;
+mod tables;
 mod token;
 mod tree;
 mod words;

@@ -167,7 +167,7 @@ fn chosen_role(alloc: Global, tokens: &[Token]) -> Result<(SetRole, &[Token]), F
 }
 
 #[tactic(auto, unfolding(crate::specs::Grammar::names, crate::specs::Gives::with_front))]
-fn names(alloc: Global, tokens: &[Token]) -> Result<(Items<Name>, &[Token]), Fault>
+pub fn names(alloc: Global, tokens: &[Token]) -> Result<(Items<Name>, &[Token]), Fault>
     ensures { Gives result (g.names.parses.read tokens.now) }
 {
     let (first, rest) = name(alloc, tokens)?;

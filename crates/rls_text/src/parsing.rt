@@ -13,6 +13,7 @@ use crate::fault::Fault;
 use crate::granting::grant;
 use crate::limits::first_limit;
 use crate::memberships::set_role;
+use crate::policies::dropped_policy;
 use crate::reading::{sees_word, symbol};
 use crate::revoking::revoke;
 use crate::selecting::{insert, select};
@@ -115,6 +116,8 @@ fn body(alloc: Global, depth: usize, tokens: &[Token]) -> Result<(Draft, &[Token
         insert(alloc, depth, tokens)
     } else if sees_word(tokens, b"create") {
         create(alloc, depth, tokens)
+    } else if sees_word(tokens, b"alter") {
+        alter(alloc, depth, tokens)
     } else {
         let (statement, rest) = flat_body(alloc, tokens)?;
         Ok(((statement, 0), rest))
@@ -126,8 +129,8 @@ fn body(alloc: Global, depth: usize, tokens: &[Token]) -> Result<(Draft, &[Token
 fn flat_body(alloc: Global, tokens: &[Token]) -> Result<(Statement, &[Token]), Fault>
     ensures { Gives result (g.flat_body.parses.read tokens.now) }
 {
-    if sees_word(tokens, b"alter") {
-        alter(alloc, tokens)
+    if sees_word(tokens, b"drop") {
+        dropped_policy(alloc, tokens)
     } else if sees_word(tokens, b"grant") {
         grant(alloc, tokens)
     } else if sees_word(tokens, b"revoke") {

@@ -1,0 +1,2 @@
+pub mod PolicyOrderLaws
+pub mod PrimaryKeyLaws

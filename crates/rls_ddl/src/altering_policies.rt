@@ -1,0 +1,219 @@
+//! ALTER POLICY.
+
+ghost use Rattle.std.specs.Prelude.{◌≡◌, [], ◌∷◌, IfOk, unwrap_or};
+ghost use Rattle.std.specs.Option.{option_or};
+ghost use Rattle.rls_value.specs.Giving.{Gives};
+ghost use Rattle.rls_source.specs.Answering.{Answers};
+ghost use Rattle.rls_guard.specs.Effects.{writes};
+ghost use Rattle.rls_ddl.specs.AlteringPolicies as spec;
+ghost use Rattle.rls_ddl.specs.AlteringPolicies.{alter_policy, alteration_on, alteration_of, alteration_made, conditions_or_refused, roles_or_undefined};
+
+use crate::conditions::{require_booleans, require_names};
+use crate::named_policies::policy_named;
+use rls_catalog::Change;
+use rls_expr::{Expr, FromTable, Grantee, Policy, TableDef};
+use rls_guard::{Ctx, Effect, require_ownership};
+use rls_source::{Reads, RowSource, noted_policies, require_grantees, table_named};
+use rls_statement::AlterPolicy;
+use rls_value::{Items, Kind, Name, PolicyKind, Refusal};
+use std::alloc::{AllocError, Global};
+
+/// Changes the parts of a policy that are written; the others stay (PostgreSQL manual, ALTER POLICY).
+pub fn run_alter_policy<'c, S: RowSource<'c>>(
+    alloc: Global,
+    source: &mut S,
+    notes: &mut Reads,
+    ctx: &Ctx,
+    alter: &AlterPolicy,
+) -> Result<Effect, Refusal>
+    ensures { Answers S.state S.after (alter_policy ctx.now alter.now) source.old source.new notes.old notes.new result }
+{
+    let table = table_named(alloc, source, notes, &alter.table)?;
+    alter_on(alloc, source, notes, &ctx.role, table, alter)
+}
+
+/// Alters the policy of that name, where the table has one.
+#[tactic(auto, unfolding(crate::specs::AlteringPolicies::alteration_on))]
+fn alter_on<'c, S: RowSource<'c>>(
+    alloc: Global,
+    source: &mut S,
+    notes: &mut Reads,
+    role: &Name,
+    table: &TableDef,
+    alter: &AlterPolicy,
+) -> Result<Effect, Refusal>
+    ensures { Answers S.state S.after (alteration_on role.now table.now alter.now) source.old source.new notes.old notes.new result }
+{
+    let policies = noted_policies(alloc, source, notes, &alter.table)?;
+    let policy = policy_named(policies, &alter.name)?;
+    alter_named(alloc, source, notes, role, table, policies, policy, alter)
+}
+
+/// Alters the policy where what is written is right for it.
+#[tactic(auto, unfolding(crate::specs::AlteringPolicies::alteration_of))]
+fn alter_named<'c, S: RowSource<'c>>(
+    alloc: Global,
+    source: &mut S,
+    notes: &mut Reads,
+    role: &Name,
+    table: &TableDef,
+    policies: &[Policy],
+    policy: &Policy,
+    alter: &AlterPolicy,
+) -> Result<Effect, Refusal>
+    ensures { Answers S.state S.after (alteration_of role.now table.now policies.now policy.now alter.now) source.old source.new notes.old notes.new result }
+{
+    require_roles(alloc, source, notes, &alter.to)?;
+    require_conditions(alloc, table, policy.kind, alter)?;
+    make_alteration(alloc, source, notes, role, table, policies, alter)
+}
+
+/// Alters the policy where the role has the privileges of the table's owner.
+#[tactic(auto, unfolding(crate::specs::AlteringPolicies::alteration_made))]
+fn make_alteration<'c, S: RowSource<'c>>(
+    alloc: Global,
+    source: &mut S,
+    notes: &mut Reads,
+    role: &Name,
+    table: &TableDef,
+    policies: &[Policy],
+    alter: &AlterPolicy,
+) -> Result<Effect, Refusal>
+    ensures { Answers S.state S.after (alteration_made role.now table.now policies.now alter.now) source.old source.new notes.old notes.new result }
+{
+    require_ownership(alloc, source, notes, role, &alter.table, table)?;
+    Ok(policies_changed(alloc, policies, alter)?)
+}
+
+/// The first of the roles behind TO that isn't there is undefined.
+fn require_roles<'c, S: RowSource<'c>>(
+    alloc: Global,
+    source: &mut S,
+    notes: &mut Reads,
+    to: &Option<Items<Grantee>>,
+) -> Result<(), Refusal>
+    ensures { Answers S.state S.after (roles_or_undefined to.now) source.old source.new notes.old notes.new result }
+{
+    match to {
+        Some(to) => require_grantees(alloc, source, notes, to.as_slice()),
+        None => Ok(()),
+    }
+}
+
+/// What is written has to name columns of the table, to be booleans, and to have a place in a policy of that kind.
+fn require_conditions(
+    alloc: Global,
+    table: &TableDef,
+    kind: PolicyKind,
+    alter: &AlterPolicy,
+) -> Result<(), Refusal>
+    ensures { Gives result (conditions_or_refused table.now kind alter.now) }
+{
+    let from = FromTable {
+        name: &alter.table,
+        table,
+    };
+    require_names(alloc, &alter.using, &alter.check, from)?;
+    require_booleans(alloc, &alter.using, &alter.check, from)?;
+    if has_no_place_for(kind, alter) {
+        return Err(Refusal::Unsupported);
+    }
+    Ok(())
+}
+
+fn has_no_place_for(kind: PolicyKind, alter: &AlterPolicy) -> bool
+    ensures { result ≡ spec.has_no_place_for kind alter.now }
+{
+    match kind {
+        PolicyKind::Only(Kind::Insert) => alter.using.is_some(),
+        PolicyKind::Only(Kind::Select | Kind::Delete) => alter.check.is_some(),
+        PolicyKind::All | PolicyKind::Only(Kind::Update) => false,
+    }
+}
+
+fn policies_changed(
+    alloc: Global,
+    policies: &[Policy],
+    alter: &AlterPolicy,
+) -> Result<Effect, AllocError>
+    ensures { IfOk result (λ effect. effect ≡ writes (Change.Policies alter.now.table (spec.with_altered alter.now policies.now) ∷ [])) }
+{
+    let policies = with_altered(alloc, policies, alter)?;
+    match alter.table.copy() {
+        Ok(table) => Effect::changed(alloc, Change::Policies(table, policies)),
+        Err(refused) => {
+            drop(policies);
+            Err(refused)
+        }
+    }
+}
+
+fn with_altered(
+    alloc: Global,
+    policies: &[Policy],
+    alter: &AlterPolicy,
+) -> Result<Items<Policy>, AllocError>
+    ensures { IfOk result (λ all. all ≡ spec.with_altered alter.now policies.now) }
+{
+    let mut all = Vec::with_capacity(alloc, policies.len())?;
+    for policy in policies {
+        all.push(altered_if_named(alloc, policy, alter)?)?;
+    }
+    Ok(Items::from_vec(all))
+}
+
+fn altered_if_named(
+    alloc: Global,
+    policy: &Policy,
+    alter: &AlterPolicy,
+) -> Result<Policy, AllocError>
+    ensures { IfOk result (λ altered. altered ≡ spec.altered_if_named alter.now policy.now) }
+{
+    if policy.name.is(&alter.name) {
+        altered(alloc, policy, alter)
+    } else {
+        policy.copy(alloc)
+    }
+}
+
+fn altered(alloc: Global, policy: &Policy, alter: &AlterPolicy) -> Result<Policy, AllocError>
+    ensures { IfOk result (λ altered. altered ≡ spec.altered alter.now policy.now) }
+{
+    Ok(Policy {
+        name: policy.name.copy()?,
+        permissive: policy.permissive,
+        kind: policy.kind,
+        to: to_after(alloc, &alter.to, &policy.to)?,
+        using: condition_after(alloc, &alter.using, &policy.using)?,
+        check: condition_after(alloc, &alter.check, &policy.check)?,
+    })
+}
+
+fn to_after(
+    alloc: Global,
+    written: &Option<Items<Grantee>>,
+    before: &Items<Grantee>,
+) -> Result<Items<Grantee>, AllocError>
+    ensures { IfOk result (λ after. after ≡ unwrap_or written.now before.now) }
+{
+    match written {
+        Some(to) => Grantee::copy_all(alloc, to.as_slice()),
+        None => Grantee::copy_all(alloc, before.as_slice()),
+    }
+}
+
+fn condition_after(
+    alloc: Global,
+    written: &Option<Expr>,
+    before: &Option<Expr>,
+) -> Result<Option<Expr>, AllocError>
+    ensures { IfOk result (λ after. after ≡ option_or written.now before.now) }
+{
+    match (written, before) {
+        (Some(condition), _) | (None, Some(condition)) => match condition.copy(alloc) {
+            Ok(condition) => Ok(Some(condition)),
+            Err(refused) => Err(refused),
+        },
+        (None, None) => Ok(None),
+    }
+}

@@ -1,0 +1,59 @@
+//! The conditions of a policy, over its table.
+
+ghost use Rattle.std.specs.Prelude.{[], ◌∷◌};
+ghost use Rattle.rls_value.specs.Giving.{Gives};
+ghost use Rattle.rls_expr.specs.Scopes.{tables_in};
+ghost use Rattle.rls_ddl.specs.Conditions.{both_conditions, names_known, condition_fits};
+
+use rls_expr::{Expr, FromTable, Scope, check_condition};
+use rls_guard::known_term;
+use rls_value::Refusal;
+use std::alloc::Global;
+
+/// The first unknown column of USING, then of WITH CHECK, is undefined.
+pub fn require_names(
+    alloc: Global,
+    using: &Option<Expr>,
+    check: &Option<Expr>,
+    from: FromTable,
+) -> Result<(), Refusal>
+    ensures { Gives result (both_conditions (names_known (from.entry.table.now ∷ [])) «using».now check.now) }
+{
+    let tables = [from];
+    let scope = Scope { tables: &tables };
+    require_known(alloc, using, &scope)?;
+    require_known(alloc, check, &scope)
+}
+
+fn require_known(alloc: Global, condition: &Option<Expr>, scope: &Scope) -> Result<(), Refusal>
+    ensures { Gives result (names_known (tables_in scope.now) condition.now) }
+{
+    if let Some(expr) = condition {
+        known_term(alloc, expr, scope)?;
+    }
+    Ok(())
+}
+
+/// USING and WITH CHECK have to be booleans.
+pub fn require_booleans(
+    alloc: Global,
+    using: &Option<Expr>,
+    check: &Option<Expr>,
+    from: FromTable,
+) -> Result<(), Refusal>
+    ensures { Gives result (both_conditions (condition_fits (from.entry.table.now ∷ [])) «using».now check.now) }
+{
+    let tables = [from];
+    let scope = Scope { tables: &tables };
+    require_boolean(alloc, using, &scope)?;
+    require_boolean(alloc, check, &scope)
+}
+
+fn require_boolean(alloc: Global, condition: &Option<Expr>, scope: &Scope) -> Result<(), Refusal>
+    ensures { Gives result (condition_fits (tables_in scope.now) condition.now) }
+{
+    if let Some(expr) = condition {
+        check_condition(alloc, expr, scope)?;
+    }
+    Ok(())
+}

@@ -1,0 +1,97 @@
+//! DROP POLICY.
+
+ghost use Rattle.std.specs.Prelude.{◌≡◌, [], ◌∷◌, IfOk};
+ghost use Rattle.rls_source.specs.Answering.{Answers};
+ghost use Rattle.rls_guard.specs.Effects.{writes};
+ghost use Rattle.rls_ddl.specs.DroppingPolicies as spec;
+ghost use Rattle.rls_ddl.specs.DroppingPolicies.{drop_policy, drop_on, policy_dropped};
+
+use crate::named_policies::policy_named;
+use rls_catalog::Change;
+use rls_expr::{Policy, TableDef};
+use rls_guard::{Ctx, Effect, require_ownership};
+use rls_source::{Reads, RowSource, noted_policies, table_named};
+use rls_statement::DropPolicy;
+use rls_value::{Items, Name, Refusal};
+use std::alloc::{AllocError, Global};
+
+/// Takes a policy away from the table; the others stay (PostgreSQL manual, DROP POLICY).
+pub fn run_drop_policy<'c, S: RowSource<'c>>(
+    alloc: Global,
+    source: &mut S,
+    notes: &mut Reads,
+    ctx: &Ctx,
+    drop: &DropPolicy,
+) -> Result<Effect, Refusal>
+    ensures { Answers S.state S.after (drop_policy ctx.now drop.now) source.old source.new notes.old notes.new result }
+{
+    let table = table_named(alloc, source, notes, &drop.table)?;
+    drop_on(alloc, source, notes, &ctx.role, table, drop)
+}
+
+/// Takes the policy of that name away, where the table has one.
+#[tactic(auto, unfolding(crate::specs::DroppingPolicies::drop_on))]
+fn drop_on<'c, S: RowSource<'c>>(
+    alloc: Global,
+    source: &mut S,
+    notes: &mut Reads,
+    role: &Name,
+    table: &TableDef,
+    drop: &DropPolicy,
+) -> Result<Effect, Refusal>
+    ensures { Answers S.state S.after (spec.drop_on role.now table.now drop.now) source.old source.new notes.old notes.new result }
+{
+    let policies = noted_policies(alloc, source, notes, &drop.table)?;
+    policy_named(policies, &drop.name)?;
+    drop_named(alloc, source, notes, role, table, policies, drop)
+}
+
+/// Takes the policy away where the role has the privileges of the table's owner.
+#[tactic(auto, unfolding(crate::specs::DroppingPolicies::policy_dropped))]
+fn drop_named<'c, S: RowSource<'c>>(
+    alloc: Global,
+    source: &mut S,
+    notes: &mut Reads,
+    role: &Name,
+    table: &TableDef,
+    policies: &[Policy],
+    drop: &DropPolicy,
+) -> Result<Effect, Refusal>
+    ensures { Answers S.state S.after (policy_dropped role.now table.now policies.now drop.now) source.old source.new notes.old notes.new result }
+{
+    require_ownership(alloc, source, notes, role, &drop.table, table)?;
+    Ok(policies_changed(alloc, policies, drop)?)
+}
+
+fn policies_changed(
+    alloc: Global,
+    policies: &[Policy],
+    dropped: &DropPolicy,
+) -> Result<Effect, AllocError>
+    ensures { IfOk result (λ effect. effect ≡ writes (Change.Policies dropped.now.table (spec.without_policy policies.now dropped.now.name) ∷ [])) }
+{
+    let policies = without_policy(alloc, policies, &dropped.name)?;
+    match dropped.table.copy() {
+        Ok(table) => Effect::changed(alloc, Change::Policies(table, policies)),
+        Err(refused) => {
+            drop(policies);
+            Err(refused)
+        }
+    }
+}
+
+fn without_policy(
+    alloc: Global,
+    policies: &[Policy],
+    name: &Name,
+) -> Result<Items<Policy>, AllocError>
+    ensures { IfOk result (λ left. left ≡ spec.without_policy policies.now name.now) }
+{
+    let mut left = Items::new(alloc);
+    for policy in policies {
+        if !policy.name.is(name) {
+            left.push(policy.copy(alloc)?)?;
+        }
+    }
+    Ok(left)
+}

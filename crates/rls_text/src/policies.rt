@@ -1,0 +1,193 @@
+//! CREATE, ALTER and DROP of policies from tokens.
+
+ghost use Rattle.std.specs.Prelude.{◌≡◌};
+ghost use Rattle.rls_text.specs.Gives.{Gives};
+ghost use Rattle.rls_text.specs.Trees as trees;
+ghost use Rattle.rls_text.specs.Grammar as g;
+ghost use Rattle.rls_text.specs.Values as values;
+
+use crate::fault::Fault;
+use crate::policy_parts::{Conditions, conditions, for_grantees, grantees_if_any, policy_options};
+use crate::reading::{name, past_word};
+use crate::token::Token;
+use crate::tree::{Draft, parted};
+use rls_expr::{Grantee, Policy};
+use rls_statement::{AlterPolicy, CreatePolicy, DropPolicy, Statement};
+use rls_value::{Items, Kind, Name, PolicyKind};
+use std::alloc::Global;
+
+/// AS, FOR, TO, USING and WITH CHECK of a policy.
+type Description = ((bool, PolicyKind), (Items<Grantee>, Conditions));
+
+/// TO, USING and WITH CHECK, each as it is written, if it is.
+type PolicyChange = (Option<Items<Grantee>>, Conditions);
+
+/// What stands behind CREATE POLICY.
+#[tactic(auto, unfolding(crate::specs::Grammar::policy))]
+pub fn policy(alloc: Global, depth: usize, tokens: &[Token]) -> Result<(Draft, &[Token]), Fault>
+    ensures { Gives result ((g.policy (g.expr depth)).read tokens.now) }
+{
+    let (names, rest) = policy_on(alloc, tokens)?;
+    let (description, rest) = proper_description(alloc, depth, rest)?;
+    Ok((created(names, description), rest))
+}
+
+fn created(names: (Name, Name), description: Description) -> Draft
+    ensures { result ≡ trees.policy_of (names, description) }
+{
+    let (name, table) = names;
+    let ((permissive, kind), (to, (using, check))) = description;
+    let (using, using_depth) = parted(using);
+    let (check, check_depth) = parted(check);
+    let policy = Policy {
+        name,
+        permissive,
+        kind,
+        to,
+        using,
+        check,
+    };
+    (
+        Statement::CreatePolicy(CreatePolicy { table, policy }),
+        using_depth.max(check_depth),
+    )
+}
+
+/// What stands behind ALTER POLICY.
+#[tactic(auto, unfolding(crate::specs::Grammar::altered_policy))]
+pub fn altered_policy(
+    alloc: Global,
+    depth: usize,
+    tokens: &[Token],
+) -> Result<(Draft, &[Token]), Fault>
+    ensures { Gives result ((g.altered_policy (g.expr depth)).read tokens.now) }
+{
+    let (names, rest) = policy_on(alloc, tokens)?;
+    let (change, rest) = proper_change(alloc, depth, rest)?;
+    Ok((altered(names, change), rest))
+}
+
+fn altered(names: (Name, Name), change: PolicyChange) -> Draft
+    ensures { result ≡ trees.altering_policy_of (names, change) }
+{
+    let (name, table) = names;
+    let (to, (using, check)) = change;
+    let (using, using_depth) = parted(using);
+    let (check, check_depth) = parted(check);
+    let alter = AlterPolicy {
+        name,
+        table,
+        to,
+        using,
+        check,
+    };
+    (Statement::AlterPolicy(alter), using_depth.max(check_depth))
+}
+
+/// DROP POLICY, whole.
+#[tactic(auto, unfolding(crate::specs::Grammar::dropped_policy))]
+pub fn dropped_policy(alloc: Global, tokens: &[Token]) -> Result<(Statement, &[Token]), Fault>
+    ensures { Gives result (g.dropped_policy.parses.read tokens.now) }
+{
+    let rest = past_word(tokens, b"drop")?;
+    let rest = past_word(rest, b"policy")?;
+    let ((name, table), rest) = policy_on(alloc, rest)?;
+    Ok((Statement::DropPolicy(DropPolicy { name, table }), rest))
+}
+
+/// The names of a policy and of its table.
+#[tactic(auto, unfolding(crate::specs::Grammar::policy_on))]
+fn policy_on(alloc: Global, tokens: &[Token]) -> Result<((Name, Name), &[Token]), Fault>
+    ensures { Gives result (g.policy_on.parses.read tokens.now) }
+{
+    let (policy, rest) = name(alloc, tokens)?;
+    let rest = past_word(rest, b"on")?;
+    let (table, rest) = name(alloc, rest)?;
+    Ok(((policy, table), rest))
+}
+
+/// What describes a policy; one of its kind may have its expressions.
+#[tactic(auto, unfolding(crate::specs::Grammar::proper_description))]
+fn proper_description(
+    alloc: Global,
+    depth: usize,
+    tokens: &[Token],
+) -> Result<(Description, &[Token]), Fault>
+    ensures { Gives result ((g.proper_description (g.expr depth)).read tokens.now) }
+{
+    let (description, rest) = description(alloc, depth, tokens)?;
+    if is_policy(&description) {
+        Ok((description, rest))
+    } else {
+        Err(Fault::Syntax)
+    }
+}
+
+fn is_policy(description: &Description) -> bool
+    ensures { result ≡ values.is_policy description.now }
+{
+    let ((_, kind), (_, (using, check))) = description;
+    may_have(*kind, using.is_some(), check.is_some())
+}
+
+/// Whether a policy of this kind may have USING and WITH CHECK, where it has them.
+fn may_have(kind: PolicyKind, has_using: bool, has_check: bool) -> bool
+    ensures { result ≡ values.may_have kind has_using has_check }
+{
+    match kind {
+        PolicyKind::Only(Kind::Select | Kind::Delete) => !has_check,
+        PolicyKind::Only(Kind::Insert) => !has_using,
+        PolicyKind::Only(Kind::Update) | PolicyKind::All => true,
+    }
+}
+
+#[tactic(auto, unfolding(crate::specs::Grammar::description))]
+fn description(
+    alloc: Global,
+    depth: usize,
+    tokens: &[Token],
+) -> Result<(Description, &[Token]), Fault>
+    ensures { Gives result ((g.description (g.expr depth)).read tokens.now) }
+{
+    let (options, rest) = policy_options(tokens)?;
+    let (to, rest) = for_grantees(alloc, rest)?;
+    let (conditions, rest) = conditions(alloc, depth, rest)?;
+    Ok(((options, (to, conditions)), rest))
+}
+
+/// What changes of a policy; something does.
+#[tactic(auto, unfolding(crate::specs::Grammar::proper_change))]
+fn proper_change(
+    alloc: Global,
+    depth: usize,
+    tokens: &[Token],
+) -> Result<(PolicyChange, &[Token]), Fault>
+    ensures { Gives result ((g.proper_change (g.expr depth)).read tokens.now) }
+{
+    let (change, rest) = policy_change(alloc, depth, tokens)?;
+    if is_change(&change) {
+        Ok((change, rest))
+    } else {
+        Err(Fault::Syntax)
+    }
+}
+
+fn is_change(change: &PolicyChange) -> bool
+    ensures { result ≡ values.is_change change.now }
+{
+    let (to, (using, check)) = change;
+    to.is_some() || using.is_some() || check.is_some()
+}
+
+#[tactic(auto, unfolding(crate::specs::Grammar::policy_change))]
+fn policy_change(
+    alloc: Global,
+    depth: usize,
+    tokens: &[Token],
+) -> Result<(PolicyChange, &[Token]), Fault>
+    ensures { Gives result ((g.policy_change (g.expr depth)).read tokens.now) }
+{
+    let (to, rest) = grantees_if_any(alloc, tokens)?;
+    let (conditions, rest) = conditions(alloc, depth, rest)?;
+    Ok(((to, conditions), rest))
+}
