@@ -27,6 +27,8 @@ use Rattle.rls_ddl.specs.AlteringPolicies.{alter_policy}
 use Rattle.rls_ddl.specs.DroppingPolicies.{drop_policy}
 use Rattle.rls_ddl.specs.Granting.{grant, grant_roles, revoke, revoke_roles}
 use Rattle.rls_dml.specs.Inserting.{insert}
+use Rattle.rls_dml.specs.Updating.{update}
+use Rattle.rls_dml.specs.Deleting.{delete}
 use Rattle.rls_dml.specs.Selecting.{select}
 
 -- a transaction that only reads takes SELECT, SET ROLE and RESET ROLE alone
@@ -52,6 +54,8 @@ done_by ctx (statement.Revoke asked) = revoke ctx asked
 done_by ctx (statement.RevokeRoles asked) = revoke_roles ctx asked
 done_by ctx (statement.SetRole asked) = set_role ctx asked
 done_by ctx (statement.Insert asked) = insert ctx asked
+done_by ctx (statement.Update asked) = update ctx asked
+done_by ctx (statement.Delete asked) = delete ctx asked
 done_by ctx (statement.Select asked) = select ctx asked
 
 -- the mode comes first

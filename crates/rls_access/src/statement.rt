@@ -14,7 +14,7 @@ use rls_ddl::{
     run_create_table, run_drop_policy, run_grant, run_grant_roles, run_revoke, run_revoke_roles,
     run_set_role,
 };
-use rls_dml::{run_insert, run_select};
+use rls_dml::{run_delete, run_insert, run_select, run_update};
 use rls_guard::{Ctx, Effect, Mode};
 use rls_source::{Footprint, Reads, RowSource};
 use rls_statement::Statement;
@@ -137,6 +137,8 @@ fn done_by<'c, S: RowSource<'c>>(
         Statement::RevokeRoles(revoke) => run_revoke_roles(alloc, source, notes, ctx, revoke),
         Statement::SetRole(set) => run_set_role(alloc, source, notes, ctx, set),
         Statement::Insert(insert) => run_insert(alloc, source, notes, ctx, insert),
+        Statement::Update(update) => run_update(alloc, source, notes, ctx, update),
+        Statement::Delete(delete) => run_delete(alloc, source, notes, ctx, delete),
         Statement::Select(select) => run_select(alloc, source, notes, ctx, select),
     }
 }

@@ -1,5 +1,5 @@
--- ALTER POLICY (PostgreSQL manual, ALTER POLICY): that the policy is there, names, then types, then what a policy of its
--- kind has no place for, then that the role is one that owns the table. What is written changes, the rest stays.
+-- ALTER POLICY (PostgreSQL manual, ALTER POLICY): that the policy is there, names, then types, then sums, and what a policy
+-- of its kind has no place for, then that the role is one that owns the table. What is written changes, the rest stays.
 use Rattle.std.specs.Prelude.{ℕ, List, [], ◌∷◌, Option, Some, None, Bool, false, Result, Ok, Err, is_some, unwrap_or, map, if◌then◌else◌}
 use Rattle.std.specs.Option.{option_or}
 use Rattle.rls_value.specs.declared.refusal.Refusal.{Refusal}
@@ -20,7 +20,7 @@ use Rattle.rls_source.specs.Named.{table_or_undefined, grantees_or_undefined}
 use Rattle.rls_guard.specs.Standings.{ownership}
 use Rattle.rls_guard.specs.declared.effect.Effect.{Effect}
 use Rattle.rls_guard.specs.Effects.{writes}
-use Rattle.rls_ddl.specs.Conditions.{names_known, condition_fits, both_conditions}
+use Rattle.rls_ddl.specs.Conditions.{names_known, condition_fits, no_sum, both_conditions}
 use Rattle.rls_ddl.specs.NamedPolicies.{is_named, policy_or_undefined}
 
 -- the roles that are written behind TO have to be there
@@ -43,7 +43,8 @@ placed_or_unsupported kind alter = if has_no_place_for kind alter then Err Unsup
 abbrev pub conditions_or_refused : TableDef → PolicyKind → AlterPolicy → Result (Unit {0}) Refusal
 conditions_or_refused table kind alter =
     and_then (both_conditions (names_known (table ∷ [])) alter.using alter.check) (λ _.
-    and_then (both_conditions (condition_fits (table ∷ [])) alter.using alter.check) (λ _. placed_or_unsupported kind alter))
+    and_then (both_conditions (condition_fits (table ∷ [])) alter.using alter.check) (λ _.
+    and_then (both_conditions no_sum alter.using alter.check) (λ _. placed_or_unsupported kind alter)))
 
 -- the policy with what is written
 abbrev pub altered : AlterPolicy → Policy → Policy

@@ -1,5 +1,5 @@
--- CREATE POLICY (PostgreSQL manual, CREATE POLICY): names, then that none of the name is there, then types, then how many
--- there are, then that the role is one that owns the table.
+-- CREATE POLICY (PostgreSQL manual, CREATE POLICY): names, then that none of the name is there, then types, then that no sum
+-- stands in it, then how many there are, then that the role is one that owns the table.
 use Rattle.std.specs.Prelude.{ℕ, List, [], ◌∷◌, nat_lt, Result, Ok, Err, length, if◌then◌else◌}
 use Rattle.std.specs.Ordering.{is_lt}
 use Rattle.rls_value.specs.declared.refusal.Refusal.{Refusal}
@@ -20,7 +20,7 @@ use Rattle.rls_source.specs.Named.{table_or_undefined, grantees_or_undefined}
 use Rattle.rls_guard.specs.Standings.{ownership}
 use Rattle.rls_guard.specs.declared.effect.Effect.{Effect}
 use Rattle.rls_guard.specs.Effects.{writes}
-use Rattle.rls_ddl.specs.Conditions.{names_known, condition_fits, both_conditions}
+use Rattle.rls_ddl.specs.Conditions.{names_known, condition_fits, no_sum, both_conditions}
 use Rattle.rls_ddl.specs.NamedPolicies.{has_policy}
 
 -- a policy of the name may not be there
@@ -39,7 +39,8 @@ with_policy policies policy = put_before (λ other. is_lt (name_order policy.nam
 abbrev pub policy_or_refused : TableDef → List Policy → Policy → Result (Unit {0}) Refusal
 policy_or_refused table policies policy =
     and_then (new_or_duplicate policies policy.name) (λ _.
-    and_then (both_conditions (condition_fits (table ∷ [])) policy.using policy.check) (λ _. room_for_policy policies))
+    and_then (both_conditions (condition_fits (table ∷ [])) policy.using policy.check) (λ _.
+    and_then (both_conditions no_sum policy.using policy.check) (λ _. room_for_policy policies)))
 
 -- the policy is made where the role has the privileges of the table's owner
 unfoldable pub policy_made : List ℕ → List ℕ → TableDef → List Policy → Policy → Asking Effect

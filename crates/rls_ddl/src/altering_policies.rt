@@ -8,7 +8,7 @@ ghost use Rattle.rls_guard.specs.Effects.{writes};
 ghost use Rattle.rls_ddl.specs.AlteringPolicies as spec;
 ghost use Rattle.rls_ddl.specs.AlteringPolicies.{alter_policy, alteration_on, alteration_of, alteration_made, conditions_or_refused, roles_or_undefined};
 
-use crate::conditions::{require_booleans, require_names};
+use crate::conditions::{require_booleans, require_names, require_no_sums};
 use crate::named_policies::policy_named;
 use rls_catalog::Change;
 use rls_expr::{Expr, FromTable, Grantee, Policy, TableDef};
@@ -100,7 +100,8 @@ fn require_roles<'c, S: RowSource<'c>>(
     }
 }
 
-/// What is written has to name columns of the table, to be booleans, and to have a place in a policy of that kind.
+/// What is written has to name columns of the table, to be booleans without sums, and to have a place in a policy of that
+/// kind.
 fn require_conditions(
     alloc: Global,
     table: &TableDef,
@@ -115,6 +116,7 @@ fn require_conditions(
     };
     require_names(alloc, &alter.using, &alter.check, from)?;
     require_booleans(alloc, &alter.using, &alter.check, from)?;
+    require_no_sums(&alter.using, &alter.check)?;
     if has_no_place_for(kind, alter) {
         return Err(Refusal::Unsupported);
     }

@@ -3,9 +3,9 @@
 ghost use Rattle.std.specs.Prelude.{[], ◌∷◌};
 ghost use Rattle.rls_value.specs.Giving.{Gives};
 ghost use Rattle.rls_expr.specs.Scopes.{tables_in};
-ghost use Rattle.rls_ddl.specs.Conditions.{both_conditions, names_known, condition_fits};
+ghost use Rattle.rls_ddl.specs.Conditions.{both_conditions, names_known, condition_fits, no_sum};
 
-use rls_expr::{Expr, FromTable, Scope, check_condition};
+use rls_expr::{Expr, FromTable, Scope, check_condition, has_sum};
 use rls_guard::known_term;
 use rls_value::Refusal;
 use std::alloc::Global;
@@ -56,4 +56,21 @@ fn require_boolean(alloc: Global, condition: &Option<Expr>, scope: &Scope) -> Re
         check_condition(alloc, expr, scope)?;
     }
     Ok(())
+}
+
+/// No sum may stand in USING or in WITH CHECK.
+pub fn require_no_sums(using: &Option<Expr>, check: &Option<Expr>) -> Result<(), Refusal>
+    ensures { Gives result (both_conditions no_sum «using».now check.now) }
+{
+    require_no_sum(using)?;
+    require_no_sum(check)
+}
+
+fn require_no_sum(condition: &Option<Expr>) -> Result<(), Refusal>
+    ensures { Gives result (no_sum condition.now) }
+{
+    match condition {
+        Some(expr) if has_sum(expr) => Err(Refusal::Unsupported),
+        _ => Ok(()),
+    }
 }

@@ -10,7 +10,7 @@ ghost use Rattle.rls_guard.specs.Effects.{writes};
 ghost use Rattle.rls_ddl.specs.CreatingPolicies as spec;
 ghost use Rattle.rls_ddl.specs.CreatingPolicies.{create_policy, policy_added, policy_made, policy_or_refused};
 
-use crate::conditions::{require_booleans, require_names};
+use crate::conditions::{require_booleans, require_names, require_no_sums};
 use crate::named_policies::has_policy;
 use rls_catalog::Change;
 use rls_expr::{FromTable, Policy};
@@ -104,7 +104,7 @@ fn policies_changed(
     Effect::changed(alloc, Change::Policies(table.copy()?, policies))
 }
 
-/// The policy's name has to be new, its conditions to be booleans, and there to be room for it.
+/// The policy's name has to be new, its conditions to be booleans without sums, and there to be room for it.
 fn require_policy(
     alloc: Global,
     policies: &[Policy],
@@ -117,6 +117,7 @@ fn require_policy(
         return Err(Refusal::Duplicate(DefinedKind::Policy, policy.name.copy()?));
     }
     require_booleans(alloc, &policy.using, &policy.check, from)?;
+    require_no_sums(&policy.using, &policy.check)?;
     if policies.len() >= MAX_POLICIES {
         return Err(Refusal::Limit(Limit::Policies));
     }

@@ -11,7 +11,7 @@ use Rattle.std.specs.BTreeSet.{insert_key}
 use Rattle.std.proofs.Math.Seq.{take-length}
 use Rattle.rls_value.specs.declared.value.Value.{Value}
 use Rattle.rls_value.specs.Values.{listed}
-use Rattle.rls_dml.specs.Inserting.{is_among, has_doubles}
+use Rattle.rls_dml.specs.Writing.{is_among, has_doubles}
 
 -- the order of borrowed keys
 abbrev pub key_order : Bor (List Value) → Bor (List Value) → Ordering

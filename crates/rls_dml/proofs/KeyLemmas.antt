@@ -5,27 +5,28 @@ use Rattle.rls_value.specs.declared.refusal.Refusal.{Refusal}
 use Rattle.rls_value.specs.declared.object.Object.{Object}
 use Rattle.rls_value.specs.declared.object.Object.TheVariants as o
 use Rattle.rls_value.specs.declared.value.Value.{Value}
+use Rattle.rls_catalog.specs.declared.stored.Stored.{Stored}
 use Rattle.rls_catalog.specs.State.{State}
 use Rattle.rls_source.specs.Readings.{unread, next_reads}
-use Rattle.rls_dml.specs.Inserting.{keys_taken}
+use Rattle.rls_dml.specs.Writing.{keys_taken}
 
 none_next : {A B : Type 0} (given : Result A Refusal) (settle : A → Result B Refusal) → next_reads given (λ a. unread (settle a)) ≡ []
 none_next (Ok a) settle = refl
 none_next (Err refusal) settle = refl
 
 -- one key more is one read more
-pub taken_reads : (s : State) (table : List ℕ) (key : List Value) (keys : List (List Value))
-    → ((keys_taken table (key ∷ keys)).in_state s).reads ≡ o.Key table key ∷ ((keys_taken table keys).in_state s).reads
-taken_reads s table key keys =
-    ap (λ more. o.Key table key ∷ (((keys_taken table keys).in_state s).reads ++ more)) (none_next ((keys_taken table keys).in_state s).gives _)
-    ∙ ap (λ reads. o.Key table key ∷ reads) (append-nil ((keys_taken table keys).in_state s).reads)
+pub taken_reads : (s : State) (table : List ℕ) (replaced : List Stored) (key : List Value) (keys : List (List Value))
+    → ((keys_taken table replaced (key ∷ keys)).in_state s).reads ≡ o.Key table key ∷ ((keys_taken table replaced keys).in_state s).reads
+taken_reads s table replaced key keys =
+    ap (λ more. o.Key table key ∷ (((keys_taken table replaced keys).in_state s).reads ++ more)) (none_next ((keys_taken table replaced keys).in_state s).gives _)
+    ∙ ap (λ reads. o.Key table key ∷ reads) (append-nil ((keys_taken table replaced keys).in_state s).reads)
 
 -- the source after a key's read and the others' is the one after them all
 pub taken_next : {S : Type 0} (after : S → List Object → S) → ((s : S) (os more : List Object) → after (after s os) more ≡ after s (os ++ more))
-    → (now : State) (table : List ℕ) (key : List Value) (keys left : List (List Value)) (source new : S) (whole : S) → left ≡ key ∷ keys → new ≡ after source (o.Key table key ∷ [])
-    → after source ((keys_taken table left).in_state now).reads ≡ whole → after new ((keys_taken table keys).in_state now).reads ≡ whole
-taken_next after after_more now table key keys left source new whole is read rest =
-    ap (λ s. after s ((keys_taken table keys).in_state now).reads) read
-    ∙ after_more source (o.Key table key ∷ []) ((keys_taken table keys).in_state now).reads
-    ∙ ap (after source) (sym (ap (λ ks. ((keys_taken table ks).in_state now).reads) is ∙ taken_reads now table key keys))
+    → (now : State) (table : List ℕ) (replaced : List Stored) (key : List Value) (keys left : List (List Value)) (source new : S) (whole : S) → left ≡ key ∷ keys → new ≡ after source (o.Key table key ∷ [])
+    → after source ((keys_taken table replaced left).in_state now).reads ≡ whole → after new ((keys_taken table replaced keys).in_state now).reads ≡ whole
+taken_next after after_more now table replaced key keys left source new whole is read rest =
+    ap (λ s. after s ((keys_taken table replaced keys).in_state now).reads) read
+    ∙ after_more source (o.Key table key ∷ []) ((keys_taken table replaced keys).in_state now).reads
+    ∙ ap (after source) (sym (ap (λ ks. ((keys_taken table replaced ks).in_state now).reads) is ∙ taken_reads now table replaced key keys))
     ∙ rest

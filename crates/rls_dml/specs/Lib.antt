@@ -1,3 +1,12 @@
 pub mod Listings
+pub mod Checking
+pub mod Judging
+pub mod Candidates
+pub mod Keys
+pub mod Numbers
+pub mod Writing
 pub mod Inserting
+pub mod Updating
+pub mod Deleting
 pub mod Selecting
+pub mod Fitting

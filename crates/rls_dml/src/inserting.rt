@@ -1,22 +1,29 @@
 //! INSERT.
 
-ghost use Rattle.std.specs.Prelude.{◌≡◌, ◌+◌, ◌≤◌, None, length, map, IfOk, OnOk};
+ghost use Rattle.std.specs.Prelude.{◌≡◌, ◌+◌, ◌≤◌, [], ◌∷◌, None, length, map, IfOk};
 ghost use Rattle.rls_value.specs.Giving.{Gives};
 ghost use Rattle.rls_source.specs.Answering.{Answers, Tells};
-ghost use Rattle.rls_source.specs.Sequences.{each_or_refused};
+ghost use Rattle.rls_source.specs.Sequences.{each_of};
+ghost use Rattle.rls_dml.specs.Listings.{reply_of as spec_reply_of};
+ghost use Rattle.rls_guard.specs.Eval.{alone};
+ghost use Rattle.rls_guard.specs.Guards.{watches_for};
+ghost use Rattle.rls_dml.specs.Checking.{returning_reads as spec_returning_reads};
+ghost use Rattle.rls_dml.specs.Writing.{assigned, rows_or_refused, order_of as spec_order_of};
 ghost use Rattle.rls_dml.specs.Inserting as spec;
-ghost use Rattle.rls_dml.specs.Listings.{decision_by};
 
-use crate::keys::{key_at, require_unique};
-use crate::tuples::{check_tuples, require_range, require_values, rows_of};
-use rls_catalog::{Change, Delta, Keyed, RowChange, Side, Stored, Verdict};
-use rls_expr::{Column, Expr, FromTable};
-use rls_guard::{
-    Ctx, Decision, Effect, Guard, Judgement, Reply, Standing, guard_of, standing_of, verdict_on,
-};
+use crate::addition::{Addition, check_addition};
+use crate::checking::returning_reads;
+use crate::judging::judged;
+use crate::keys::key_at;
+use crate::replaced::Replaced;
+use crate::replying::reply_of_new;
+use crate::writing::{given_alone, order_of, put_value, require_privileges, require_rows};
+use rls_catalog::{Change, Delta, Keyed, RowChange, Side, Stored};
+use rls_expr::{Column, Expr, FromTable, TableDef};
+use rls_guard::{Ctx, Decision, Effect, Standing, Watch, standing_of, watches_of};
 use rls_source::{Reads, RowSource, table_named};
-use rls_statement::Insert;
-use rls_value::{Items, Kind, Limit, Name, Privilege, Refusal, Row, RowId, Why};
+use rls_statement::{Insert, Selected};
+use rls_value::{Items, Kind, Name, Privilege, Refusal, Row, RowId, Value};
 use std::alloc::{AllocError, Global};
 
 /// Adds the rows of the tuples.
@@ -34,40 +41,10 @@ pub fn run_insert<'c, S: RowSource<'c>>(
         name: &insert.table,
         table,
     };
-    let rows = new_rows(
-        alloc,
-        ctx,
-        table.columns.as_slice(),
-        insert.tuples.as_slice(),
-    )?;
-    insert_into(alloc, source, notes, ctx, from, rows.into_vec())
-}
-
-/// The rows of the tuples, where names and types are right and numbers are left.
-fn new_rows(
-    alloc: Global,
-    ctx: &Ctx,
-    columns: &[Column],
-    tuples: &[Items<Expr>],
-) -> Result<Items<Row>, Refusal>
-    ensures given { Gives result (spec.new_rows ctx.now columns.now tuples.now) }
-    ensures room { IfOk result (λ rows. ctx.now.next + length rows ≤ 4294967295) }
-{
-    let tuples = check_tuples(alloc, tuples, columns)?;
-    require_room(ctx.next, tuples.len())?;
-    let rows = rows_of(alloc, tuples.as_slice(), columns, &ctx.role)?;
-    Ok(rows)
-}
-
-/// A transaction gives at most `u32::MAX` numbers.
-fn require_room(next: u32, count: usize) -> Result<(), Refusal>
-    ensures { Gives result (spec.room_or_limit next count) }
-{
-    if count > (u32::MAX - next) as usize {
-        Err(Refusal::Limit(Limit::Inserts))
-    } else {
-        Ok(())
-    }
+    let addition = check_addition(alloc, ctx, insert, from)?;
+    let inserted = insert_into(alloc, source, notes, ctx, from, &addition);
+    drop(addition);
+    inserted
 }
 
 /// Who the role is, and then the rows.
@@ -78,13 +55,13 @@ fn insert_into<'c, 'x, S: RowSource<'c>>(
     notes: &mut Reads,
     ctx: &Ctx,
     from: FromTable<'x>,
-    rows: Vec<Row>,
+    addition: &Addition,
 ) -> Result<Effect, Refusal>
-    requires { ctx.now.next + length rows.items ≤ 4294967295 }
-    ensures { Answers S.state S.after (spec.insert_into ctx.now from.entry.name.now from.entry.table.now rows.items) source.old source.new notes.old notes.new result }
+    requires { ctx.now.next + length addition.now.tuples ≤ 4294967295 }
+    ensures { Answers S.state S.after (spec.insert_into ctx.now from.entry.name.now from.entry.table.now addition.now) source.old source.new notes.old notes.new result }
 {
     let standing = standing_of(alloc, source, notes, &ctx.role)?;
-    let inserted = insert_as(alloc, source, notes, ctx, from, &standing, rows);
+    let inserted = insert_as(alloc, source, notes, ctx, from, &standing, addition);
     drop(standing);
     inserted
 }
@@ -98,26 +75,51 @@ fn insert_as<'c, 'x, S: RowSource<'c>>(
     ctx: &Ctx,
     from: FromTable<'x>,
     standing: &Standing,
-    rows: Vec<Row>,
+    addition: &Addition,
 ) -> Result<Effect, Refusal>
-    requires { ctx.now.next + length rows.items ≤ 4294967295 }
-    ensures { Answers S.state S.after (spec.insert_as ctx.now from.entry.name.now from.entry.table.now standing.now rows.items) source.old source.new notes.old notes.new result }
+    requires { ctx.now.next + length addition.now.tuples ≤ 4294967295 }
+    ensures { Answers S.state S.after (spec.insert_as ctx.now from.entry.name.now from.entry.table.now standing.now addition.now) source.old source.new notes.old notes.new result }
 {
-    let guard = guard_of(
+    let watches = watches(alloc, source, notes, standing, from, addition)?;
+    let inserted = insert_guarded(
+        alloc,
+        source,
+        notes,
+        ctx,
+        from,
+        standing,
+        watches.as_slice(),
+        addition,
+    );
+    drop(watches);
+    inserted
+}
+
+/// What guards the new rows from the role.
+fn watches<'c, 'x, S: RowSource<'c>>(
+    alloc: Global,
+    source: &mut S,
+    notes: &mut Reads,
+    standing: &Standing,
+    from: FromTable<'x>,
+    addition: &Addition,
+) -> Result<Items<Watch<'c>>, AllocError>
+    ensures { Tells S.state S.after (watches_for standing.now from.entry.name.now from.entry.table.now Kind.Insert (spec_returning_reads addition.now.returning) (Side.New ∷ [])) source.old source.new notes.old notes.new result }
+{
+    let reads = returning_reads(&addition.returning);
+    watches_of(
         alloc,
         source,
         notes,
         standing,
         from,
         Kind::Insert,
-        Side::New,
-    )?;
-    let inserted = insert_guarded(alloc, source, notes, ctx, from, standing, &guard, rows);
-    drop(guard);
-    inserted
+        reads,
+        &[Side::New],
+    )
 }
 
-/// The privilege, the ranges, and then the rows.
+/// The privileges, the ranges, and then the rows.
 #[tactic(auto, unfolding(crate::specs::Inserting::insert_guarded))]
 fn insert_guarded<'c, 'x, S: RowSource<'c>>(
     alloc: Global,
@@ -126,16 +128,106 @@ fn insert_guarded<'c, 'x, S: RowSource<'c>>(
     ctx: &Ctx,
     from: FromTable<'x>,
     standing: &Standing,
-    guard: &Guard<'c>,
-    rows: Vec<Row>,
+    watches: &[Watch<'c>],
+    addition: &Addition,
 ) -> Result<Effect, Refusal>
-    requires { ctx.now.next + length rows.items ≤ 4294967295 }
-    ensures { Answers S.state S.after (spec.insert_guarded ctx.now from.entry.name.now from.entry.table.now standing.now guard.now rows.items) source.old source.new notes.old notes.new result }
+    requires { ctx.now.next + length addition.now.tuples ≤ 4294967295 }
+    ensures { Answers S.state S.after (spec.insert_guarded ctx.now from.entry.name.now from.entry.table.now standing.now watches.now addition.now) source.old source.new notes.old notes.new result }
 {
-    standing.require_privilege(alloc, source, notes, Privilege::Insert, from.name)?;
-    require_range(&rows, from.table.columns.as_slice())?;
-    let rows = numbered(alloc, ctx, from.table.key.as_slice(), rows)?;
-    Ok(insert_rows(alloc, source, notes, &ctx.role, from, guard, rows)?)
+    let reads = returning_reads(&addition.returning);
+    require_privileges(
+        alloc,
+        source,
+        notes,
+        standing,
+        Privilege::Insert,
+        reads,
+        from.name,
+    )?;
+    let rows = new_rows(alloc, ctx, from.table, addition)?;
+    Ok(insert_rows(
+        alloc, source, notes, &ctx.role, from, watches, addition, rows,
+    )?)
+}
+
+/// The rows of the tuples, whose values are in range, with their numbers.
+fn new_rows(
+    alloc: Global,
+    ctx: &Ctx,
+    table: &TableDef,
+    addition: &Addition,
+) -> Result<Items<Stored>, Refusal>
+    requires { ctx.now.next + length addition.now.tuples ≤ 4294967295 }
+    ensures { Gives result (spec.new_rows ctx.now table.now addition.now) }
+{
+    let rows = rows_of(
+        alloc,
+        addition.tuples.as_slice(),
+        table,
+        addition.places.as_slice(),
+        &ctx.role,
+    )?;
+    Ok(numbered(alloc, ctx, table.key.as_slice(), rows.into_vec())?)
+}
+
+fn rows_of(
+    alloc: Global,
+    tuples: &[Items<Expr>],
+    table: &TableDef,
+    places: &[usize],
+    role: &Name,
+) -> Result<Items<Row>, Refusal>
+    ensures given { Gives result (each_of (spec.row_of_tuple table.now places.now role.now) tuples.now) }
+    ensures count { IfOk result (λ rows. length rows ≡ length tuples.now) }
+{
+    let mut rows = Items::new(alloc);
+    for tuple in tuples {
+        let row = row_of(
+            alloc,
+            tuple.as_slice(),
+            table.columns.as_slice(),
+            places,
+            role,
+        )?;
+        rows.push(row)?;
+    }
+    Ok(rows)
+}
+
+/// The row of a tuple; columns without a value are null.
+fn row_of(
+    alloc: Global,
+    mut tuple: &[Expr],
+    columns: &[Column],
+    mut places: &[usize],
+    role: &Name,
+) -> Result<Row, Refusal>
+    ensures { Gives result (assigned columns.now (alone role.now) places.entry.now tuple.entry.now (spec.nulls columns.now)) }
+{
+    let mut values = nulls(alloc, columns)?;
+    while let [expr, rest @ ..] = tuple {
+        match places {
+            [place, others @ ..] => {
+                let value = given_alone(alloc, columns, *place, expr, role)?;
+                put_value(&mut values, *place, value);
+                places = others;
+            }
+            [] => return Ok(Row::new(values)),
+        }
+        tuple = rest;
+    }
+    Ok(Row::new(values))
+}
+
+/// A null for each column.
+fn nulls(alloc: Global, columns: &[Column]) -> Result<Vec<Value>, AllocError>
+    ensures { IfOk result (λ values. values.items ≡ spec.nulls columns.now) }
+{
+    let mut values = Vec::with_capacity(alloc, columns.len())?;
+    for _column in columns {
+        values.push(Value::Null)?;
+    }
+    Ok(values)
 }
 
 /// The rows with their keys, numbered on from the transaction's next.
@@ -167,128 +259,67 @@ fn insert_rows<'c, 'x, S: RowSource<'c>>(
     notes: &mut Reads,
     role: &Name,
     from: FromTable<'x>,
-    guard: &Guard<'c>,
+    watches: &[Watch<'c>],
+    addition: &Addition,
     rows: Items<Stored>,
 ) -> Result<Effect, AllocError>
-    ensures { Tells S.state S.after (spec.insert_rows role.now from.entry.name.now from.entry.table.now guard.now rows) source.old source.new notes.old notes.new result }
+    ensures { Tells S.state S.after (spec.insert_rows role.now from.entry.name.now from.entry.table.now watches.now addition.now rows) source.old source.new notes.old notes.new result }
 {
-    let decisions = judge(alloc, guard, role, rows.as_slice())?;
-    match require_rows(
+    let decisions = judged(alloc, watches, role, rows.as_slice())?;
+    match require_inserted(
         alloc,
         source,
         notes,
         from,
-        decisions.as_slice(),
+        addition.places.as_slice(),
+        &decisions,
         rows.as_slice(),
     ) {
-        Ok(()) => inserted(alloc, from.name, rows, decisions),
+        Ok(()) => inserted(alloc, from.name, &addition.returning, role, rows, decisions),
         Err(Refusal::NoMemory) => Err(AllocError),
-        Err(refusal) => Ok(Effect::Refused(refusal, decisions)),
+        Err(refusal) => Ok(Effect::Refused(refusal, Items::from_vec(decisions))),
     }
 }
 
-fn judge<'c>(
-    alloc: Global,
-    guard: &Guard<'c>,
-    role: &Name,
-    rows: &[Stored],
-) -> Result<Items<Decision>, AllocError>
-    ensures { IfOk result (λ decisions. decisions ≡ map (decision_by Side.New Kind.Insert guard.now role.now) rows.now) }
-{
-    let mut decisions = Vec::with_capacity(alloc, rows.len())?;
-    let mut judgements = Vec::new(alloc);
-    for stored in rows {
-        decisions.push(decision_on(&mut judgements, guard, role, stored)?)?;
-    }
-    Ok(Items::from_vec(decisions))
-}
-
-fn decision_on<'c>(
-    judgements: &mut Vec<Judgement<'c>>,
-    guard: &Guard<'c>,
-    role: &Name,
-    stored: &Stored,
-) -> Result<Decision, AllocError>
-    ensures { IfOk result (λ decision. decision ≡ decision_by Side.New Kind.Insert guard.now role.now stored.now) }
-{
-    Ok(Decision {
-        id: stored.id,
-        side: Side::New,
-        kind: Kind::Insert,
-        verdict: verdict_on(judgements, guard, role, &stored.row)?,
-    })
-}
-
-/// The first denied row, then the first null where none may be, then a key that is taken.
-#[tactic(auto, unfolding(crate::specs::Inserting::rows_or_refused))]
-fn require_rows<'c, 'x, S: RowSource<'c>>(
+/// What the new rows are refused for.
+fn require_inserted<'c, 'x, S: RowSource<'c>>(
     alloc: Global,
     source: &mut S,
     notes: &mut Reads,
     from: FromTable<'x>,
+    places: &[usize],
     decisions: &[Decision],
     rows: &[Stored],
 ) -> Result<(), Refusal>
-    ensures { Answers S.state S.after (spec.rows_or_refused from.entry.name.now from.entry.table.now.columns decisions.now rows.now) source.old source.new notes.old notes.new result }
+    ensures { Answers S.state S.after (rows_or_refused from.entry.name.now from.entry.table.now.columns (spec_order_of places.now from.entry.table.now.columns) decisions.now [] rows.now) source.old source.new notes.old notes.new result }
 {
-    require_allowed(from.name, decisions)?;
-    require_constraints(alloc, source, notes, from, rows)
-}
-
-/// The first null where none may be, then a key that is taken.
-#[tactic(auto, unfolding(crate::specs::Inserting::constraints_or_refused))]
-fn require_constraints<'c, 'x, S: RowSource<'c>>(
-    alloc: Global,
-    source: &mut S,
-    notes: &mut Reads,
-    from: FromTable<'x>,
-    rows: &[Stored],
-) -> Result<(), Refusal>
-    ensures { Answers S.state S.after (spec.constraints_or_refused from.entry.name.now from.entry.table.now.columns rows.now) source.old source.new notes.old notes.new result }
-{
-    require_values(rows, from.table.columns.as_slice())?;
-    require_unique(alloc, source, notes, from.name, rows)
-}
-
-fn require_allowed(table: &Name, decisions: &[Decision]) -> Result<(), Refusal>
-    ensures { Gives result (each_or_refused (spec.allowed_or_denied table.now) decisions.now) }
-{
-    for decision in decisions {
-        require_verdict(table, decision)?;
-    }
-    Ok(())
-}
-
-fn require_verdict(table: &Name, decision: &Decision) -> Result<(), Refusal>
-    ensures { Gives result (spec.allowed_or_denied table.now decision.now) }
-{
-    match &decision.verdict {
-        Verdict::Exempt | Verdict::By(_) => Ok(()),
-        Verdict::NoPermissive => Err(Refusal::Denied(Why::NoPermissive(
-            table.copy()?,
-            decision.kind,
-        ))),
-        Verdict::Restrictive(policy) => Err(Refusal::Denied(Why::Restrictive(
-            policy.copy()?,
-            table.copy()?,
-        ))),
-    }
+    let order = order_of(alloc, places, from.table.columns.as_slice())?;
+    let replaced = Replaced::new(alloc, &[])?;
+    let found = require_rows(
+        alloc, source, notes, from, &order, decisions, &replaced, rows,
+    );
+    drop(replaced);
+    drop(order);
+    found
 }
 
 /// The new rows go over into the changes.
 fn inserted(
     alloc: Global,
     table: &Name,
+    returning: &Option<Selected>,
+    role: &Name,
     rows: Items<Stored>,
-    decisions: Items<Decision>,
+    decisions: Vec<Decision>,
 ) -> Result<Effect, AllocError>
-    ensures { IfOk result (λ effect. effect ≡ Effect.Done (Reply.Count (length rows)) decisions (map (spec.inserted_row table.now) rows) None) }
+    ensures { IfOk result (λ effect. effect ≡ Effect.Done (spec_reply_of returning.now role.now (map (λ stored. stored.row) rows)) decisions.items (map (spec.inserted_row table.now) rows) None) }
 {
-    let count = rows.len() as u64;
+    let reply = reply_of_new(alloc, returning, role, rows.as_slice())?;
     match put_in(alloc, table, rows.into_vec()) {
-        Ok(delta) => Ok(Effect::Done(Reply::Count(count), decisions, delta, None)),
+        Ok(delta) => Ok(Effect::Done(reply, Items::from_vec(decisions), delta, None)),
         Err(refused) => {
             drop(decisions);
+            drop(reply);
             Err(refused)
         }
     }

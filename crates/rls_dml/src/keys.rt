@@ -4,9 +4,10 @@ ghost use Rattle.std.specs.Prelude.{◌≡◌, map, IfOk};
 ghost use Rattle.std.specs.List.{list_any};
 ghost use Rattle.rls_value.specs.Values.{is_null};
 ghost use Rattle.rls_source.specs.Answering.{Answers, Tells};
-ghost use Rattle.rls_dml.specs.Inserting as spec;
-ghost use Rattle.rls_dml.specs.Inserting.{unique_or_refused, keys_taken, has_doubles};
+ghost use Rattle.rls_dml.specs.Writing as spec;
+ghost use Rattle.rls_dml.specs.Writing.{unique_or_refused, keys_taken, has_doubles};
 
+use crate::replaced::Replaced;
 use rls_catalog::{Lent, Stored};
 use rls_source::{Reads, RowSource, noted_key};
 use rls_value::{Name, Refusal, Row, Value};
@@ -24,18 +25,19 @@ pub fn key_at(alloc: Global, places: &[usize], row: &Row) -> Result<Row, AllocEr
     Ok(Row::new(values))
 }
 
-/// Refused where a key is that of a row that is there, or of two new rows. A key with a null is nobody's.
+/// Refused where a key is that of a row that stays, or of two new rows. A key with a null is nobody's.
 pub fn require_unique<'c, S: RowSource<'c>>(
     alloc: Global,
     source: &mut S,
     notes: &mut Reads,
     name: &Name,
+    replaced: &Replaced<'_, 'c>,
     rows: &[Stored],
 ) -> Result<(), Refusal>
-    ensures { Answers S.state S.after (unique_or_refused name.now (spec.keys_of rows.now)) source.old source.new notes.old notes.new result }
+    ensures { Answers S.state S.after (unique_or_refused name.now replaced.now (spec.keys_of rows.now)) source.old source.new notes.old notes.new result }
 {
     let keys = whole_keys(alloc, rows)?;
-    let taken = are_taken(alloc, source, notes, name, &keys)?;
+    let taken = are_taken(alloc, source, notes, name, replaced, &keys)?;
     if taken || have_doubles(alloc, &keys)? {
         return Err(Refusal::Unique(name.copy()?));
     }
@@ -71,31 +73,30 @@ fn have_null(values: &[Value]) -> bool
     values.iter().any(|value| value.is_null())
 }
 
-/// Whether a row of the table has one of the keys. All are looked up.
+/// Whether a row of the table that stays has one of the keys. All are looked up.
 fn are_taken<'c, S: RowSource<'c>>(
     alloc: Global,
     source: &mut S,
     notes: &mut Reads,
     name: &Name,
+    replaced: &Replaced<'_, 'c>,
     keys: &[Row],
 ) -> Result<bool, AllocError>
-    ensures { Tells S.state S.after (keys_taken name.now keys.now) source.old source.new notes.old notes.new result }
+    ensures { Tells S.state S.after (keys_taken name.now replaced.now keys.now) source.old source.new notes.old notes.new result }
 {
     let mut taken = false;
     for key in keys {
         let found = noted_key(alloc, source, notes, name, key)?;
-        taken = taken || is_any(found.as_slice());
+        taken = taken || stays_any(replaced, found.as_slice());
     }
     Ok(taken)
 }
 
-fn is_any(rows: &[Lent<'_>]) -> bool
-    ensures { result ≡ spec.is_any rows.now }
+/// Whether one of the rows stays.
+fn stays_any(replaced: &Replaced<'_, '_>, rows: &[Lent<'_>]) -> bool
+    ensures { result ≡ spec.stays_any replaced.now rows.now }
 {
-    match rows {
-        [] => false,
-        _ => true,
-    }
+    rows.iter().any(|row| !replaced.has(row.id()))
 }
 
 /// Whether two keys are the same.

@@ -1,11 +1,28 @@
-//! Statements over rows: SELECT, INSERT.
+//! Statements over rows: SELECT, INSERT, UPDATE, DELETE.
 #![tactic(auto)]
 
+mod addition;
+mod candidates;
+mod changes_laws;
+mod checking;
+mod deleting;
 mod inserting;
+mod judging;
 mod keys;
+mod laws;
 mod listing;
+mod replaced;
+mod replying;
+mod revision;
 mod selecting;
-mod tuples;
+mod updating;
+mod writing;
 
+pub use addition::Addition;
+pub use changes_laws::{changes_fit, changes_overwrite};
+pub use deleting::{Removal, run_delete};
 pub use inserting::run_insert;
+pub use laws::pinned_key_means_rows;
+pub use revision::Revision;
 pub use selecting::{Query, run_select};
+pub use updating::run_update;

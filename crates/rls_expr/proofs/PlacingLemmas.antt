@@ -2,7 +2,7 @@
 use Rattle.std.proofs.Common.{◌≡◌, ℕ, ◌+◌, ◌<◌, List, [], ◌∷◌, ◌++◌, ap, sym, ◌∙◌, drop, length, get_or}
 use Rattle.std.proofs.Math.Seq.{drop-length}
 use Rattle.rls_expr.specs.declared.table.TableDef.{TableDef}
-use Rattle.rls_expr.specs.Terms.{Term, Terms, More, End, terms_of}
+use Rattle.rls_expr.specs.Terms.{Term, Terms, More, terms_of}
 use Rattle.rls_expr.specs.Resolving.{in_front}
 use Rattle.rls_expr.specs.Placing.{placed, placed_all}
 use Rattle.rls_expr.proofs.ResolvingLemmas.{in_front-push, in_front-end, drop_next}

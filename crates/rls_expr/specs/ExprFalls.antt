@@ -1,5 +1,5 @@
 -- Each part of an expression has a smaller term.
-use Rattle.std.specs.Prelude.{ℕ, ◌+◌, ◌≤◌, max, List, [], ◌∷◌}
+use Rattle.std.specs.Prelude.{◌+◌, ◌≤◌, max, List, [], ◌∷◌}
 use Rattle.std.proofs.Common.{arith}
 use denote.Param.Weighed.{most}
 use Rattle.rls_expr.specs.declared.expr.Node.{Node}
@@ -25,3 +25,6 @@ falls (n.Or es) = omega (arith, most_le es.items)
 falls (n.Not e) = omega arith
 falls (n.IsNull e) = omega arith
 falls (n.IsNotNull e) = omega arith
+falls (n.Among e es) = omega (arith, most_le es.items)
+falls (n.NotAmong e es) = omega (arith, most_le es.items)
+falls (n.Sum signs es) = omega (arith, most_le es.items)

@@ -16,3 +16,6 @@ term_of (n.Or es) = t.Or (terms_of es.items)
 term_of (n.Not e) = t.Not e.value
 term_of (n.IsNull e) = t.IsNull e.value
 term_of (n.IsNotNull e) = t.IsNotNull e.value
+term_of (n.Among e es) = t.Among e.value (terms_of es.items)
+term_of (n.NotAmong e es) = t.NotAmong e.value (terms_of es.items)
+term_of (n.Sum signs es) = t.Sum signs.items (terms_of es.items)

@@ -8,3 +8,5 @@ pub mod Resolving
 pub mod Typing
 pub mod TermSizes
 pub mod Placing
+pub mod Parts
+pub mod Pinning

@@ -1,8 +1,8 @@
 -- Columns by their places, where they are there: for expressions that were checked against another table, or none.
-use Rattle.std.specs.Prelude.{ℕ, List, [], ◌∷◌, Option, Some, None}
+use Rattle.std.specs.Prelude.{ℕ, List, Option, Some, None}
 use Rattle.rls_expr.specs.declared.table.TableDef.{TableDef}
 use Rattle.rls_expr.specs.Scopes.{place_in}
-use Rattle.rls_expr.specs.Terms.{Term, Terms, Literal, Column, Place, CurrentUser, Compare, And, Or, Not, IsNull, IsNotNull, End, More}
+use Rattle.rls_expr.specs.Terms.{Term, Terms, Literal, Column, Place, CurrentUser, Compare, And, Or, Not, IsNull, IsNotNull, Among, NotAmong, Sum, End, More}
 
 -- the column by its place, or by its name where it isn't there
 abbrev pub column_placed : List ℕ → Option (ℕ × ℕ) → Term
@@ -22,6 +22,9 @@ abbrev mutual
   placed (Not t) tables = Not (placed t tables)
   placed (IsNull t) tables = IsNull (placed t tables)
   placed (IsNotNull t) tables = IsNotNull (placed t tables)
+  placed (Among t ts) tables = Among (placed t tables) (placed_all ts tables)
+  placed (NotAmong t ts) tables = NotAmong (placed t tables) (placed_all ts tables)
+  placed (Sum signs ts) tables = Sum signs (placed_all ts tables)
 
   -- the same of a list of terms
   pub placed_all : Terms → List TableDef → Terms

@@ -2,11 +2,10 @@
 use Rattle.std.specs.Prelude.{◌≡◌, ℕ, List, [], ◌∷◌, Option, Some, None, Result, Ok, Err}
 use Rattle.rls_value.specs.declared.refusal.Refusal.{Refusal}
 use Rattle.rls_value.specs.declared.refusal.Refusal.TheVariants.{NoMemory, Undefined}
-use Rattle.rls_value.specs.declared.refusal.NameKind.{NameKind}
 use Rattle.rls_value.specs.declared.refusal.NameKind.TheVariants as kind
 use Rattle.rls_expr.specs.declared.table.TableDef.{TableDef}
 use Rattle.rls_expr.specs.Scopes.{place_in}
-use Rattle.rls_expr.specs.Terms.{Term, Terms, Literal, Column, Place, CurrentUser, Compare, And, Or, Not, IsNull, IsNotNull, End, More, terms_of}
+use Rattle.rls_expr.specs.Terms.{Term, Terms, Literal, Column, Place, CurrentUser, Compare, And, Or, Not, IsNull, IsNotNull, Among, NotAmong, Sum, End, More, terms_of}
 
 -- what is found, or the name that is not: the first one stands
 abbrev pub and_then : {A B : Type 0} → Result A (List ℕ) → (A → Result B (List ℕ)) → Result B (List ℕ)
@@ -31,6 +30,9 @@ abbrev mutual
   resolved (Not t) tables = and_then (resolved t tables) (λ u. Ok (Not u))
   resolved (IsNull t) tables = and_then (resolved t tables) (λ u. Ok (IsNull u))
   resolved (IsNotNull t) tables = and_then (resolved t tables) (λ u. Ok (IsNotNull u))
+  resolved (Among t ts) tables = and_then (resolved t tables) (λ u. and_then (resolved_all ts tables) (λ us. Ok (Among u us)))
+  resolved (NotAmong t ts) tables = and_then (resolved t tables) (λ u. and_then (resolved_all ts tables) (λ us. Ok (NotAmong u us)))
+  resolved (Sum signs ts) tables = and_then (resolved_all ts tables) (λ us. Ok (Sum signs us))
 
   -- the same of a list of terms
   pub resolved_all : Terms → List TableDef → Result Terms (List ℕ)

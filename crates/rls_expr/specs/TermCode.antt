@@ -1,10 +1,11 @@
 -- The code of terms, by which proofs tell them apart.
-use Rattle.std.specs.Prelude.{◌≡◌, ℕ, zero, suc, List, [], ◌∷◌}
+use Rattle.std.specs.Prelude.{◌≡◌}
 use Rattle.std.proofs.Common.{ap, arith}
 use base.Stored.{Coded, Gv, gnil, gnum, gcons, num, coded_list, coded_ℕ}
 use Rattle.rls_value.specs.contracts.value.Value as value
 use Rattle.rls_expr.specs.contracts.expr.Comparison as comparison
-use Rattle.rls_expr.specs.Terms.{Term, Terms, Literal, Column, Place, CurrentUser, Compare, And, Or, Not, IsNull, IsNotNull, End, More}
+use Rattle.rls_expr.specs.contracts.expr.Sign as sign
+use Rattle.rls_expr.specs.Terms.{Term, Terms, Literal, Column, Place, CurrentUser, Compare, And, Or, Not, IsNull, IsNotNull, Among, NotAmong, Sum, End, More}
 
 -- the first part of a pair
 abbrev pub first : Gv → Gv
@@ -30,6 +31,9 @@ abbrev mutual
   code_t (Not t) = gcons (gnum 7) (code_t t)
   code_t (IsNull t) = gcons (gnum 8) (code_t t)
   code_t (IsNotNull t) = gcons (gnum 9) (code_t t)
+  code_t (Among t ts) = gcons (gnum 10) (gcons (code_t t) (code_ts ts))
+  code_t (NotAmong t ts) = gcons (gnum 11) (gcons (code_t t) (code_ts ts))
+  code_t (Sum signs ts) = gcons (gnum 12) (gcons ((coded_list sign.the_row.coded).code signs) (code_ts ts))
 
   pub code_ts : Terms → Gv
   code_ts End = gcons (gnum 0) gnil
@@ -47,6 +51,9 @@ mutual
   inj_t (Not t) (Not u) p = λ i. Not (inj_t t u (ap rest p) i)
   inj_t (IsNull t) (IsNull u) p = λ i. IsNull (inj_t t u (ap rest p) i)
   inj_t (IsNotNull t) (IsNotNull u) p = λ i. IsNotNull (inj_t t u (ap rest p) i)
+  inj_t (Among t ts) (Among u us) p = λ i. Among (inj_t t u (ap (λ g. first (rest g)) p) i) (inj_ts ts us (ap (λ g. rest (rest g)) p) i)
+  inj_t (NotAmong t ts) (NotAmong u us) p = λ i. NotAmong (inj_t t u (ap (λ g. first (rest g)) p) i) (inj_ts ts us (ap (λ g. rest (rest g)) p) i)
+  inj_t (Sum signs ts) (Sum others us) p = λ i. Sum ((coded_list sign.the_row.coded).inj signs others (ap (λ g. first (rest g)) p) i) (inj_ts ts us (ap (λ g. rest (rest g)) p) i)
   inj_t x y p = absurd (omega (arith, ap (λ g. num (first g)) p))
 
   pub inj_ts : (x y : Terms) → code_ts x ≡ code_ts y → x ≡ y

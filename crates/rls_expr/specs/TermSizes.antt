@@ -1,6 +1,6 @@
 -- A part of a list of terms is no larger than the list.
-use Rattle.std.proofs.Common.{◌≡◌, ℕ, zero, suc, ◌+◌, ◌<◌, ◌≤◌, List, [], ◌∷◌, length, get_or, arith, ap, sym, refl}
-use Rattle.rls_expr.specs.Terms.{Term, Terms, term_size, terms_size, terms_of}
+use Rattle.std.proofs.Common.{◌≡◌, ℕ, zero, suc, ◌<◌, ◌≤◌, List, [], ◌∷◌, length, get_or, arith, ap}
+use Rattle.rls_expr.specs.Terms.{Term, term_size, terms_size, terms_of}
 
 size_get : (es : List Term) (i : ℕ) (d : Term) → i < length es → term_size (get_or es i d) ≤ terms_size (terms_of es)
 size_get [] i d h = absurd (omega arith)

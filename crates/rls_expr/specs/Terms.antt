@@ -2,6 +2,7 @@
 use Rattle.std.specs.Prelude.{ℕ, ◌+◌, List, [], ◌∷◌}
 use Rattle.rls_value.specs.declared.value.Value.{Value}
 use Rattle.rls_expr.specs.declared.expr.Comparison.{Comparison}
+use Rattle.rls_expr.specs.declared.expr.Sign.{Sign}
 
 mutual
   pub data Term : Type 0 where
@@ -17,6 +18,11 @@ mutual
     Not : Term → Term
     IsNull : Term → Term
     IsNotNull : Term → Term
+    -- IN, and NOT IN, with a list
+    Among : Term → Terms → Term
+    NotAmong : Term → Terms → Term
+    -- a sum, with the signs between its parts
+    Sum : List Sign → Terms → Term
 
   pub data Terms : Type 0 where
     End : Terms
@@ -39,6 +45,9 @@ abbrev mutual
   term_size (Not t) = term_size t + 1
   term_size (IsNull t) = term_size t + 1
   term_size (IsNotNull t) = term_size t + 1
+  term_size (Among t ts) = term_size t + terms_size ts + 1
+  term_size (NotAmong t ts) = term_size t + terms_size ts + 1
+  term_size (Sum signs ts) = terms_size ts + 1
 
   pub terms_size : Terms → ℕ
   terms_size End = 0

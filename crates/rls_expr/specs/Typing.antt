@@ -1,12 +1,12 @@
 -- The types of expressions: both sides of a comparison are whole numbers, or both text, or both boolean;
--- AND, OR, NOT and conditions take booleans; null goes with each.
-use Rattle.std.specs.Prelude.{◌≡◌, ℕ, Bool, true, false, ◌&&◌, List, Option, Some, None, Result, Ok, Err, slice_get, map}
+-- AND, OR, NOT and conditions take booleans; sums take whole numbers; null goes with each.
+use Rattle.std.specs.Prelude.{ℕ, Bool, true, false, ◌&&◌, List, Option, Some, None, Result, Ok, Err, slice_get}
 use Rattle.rls_value.specs.declared.value.Value.{Value}
 use Rattle.rls_value.specs.declared.value.Value.TheVariants as v
 use Rattle.rls_value.specs.declared.value.ColType.{ColType}
 use Rattle.rls_value.specs.declared.value.ColType.TheVariants as c
 use Rattle.rls_value.specs.declared.refusal.Refusal.{Refusal}
-use Rattle.rls_value.specs.declared.refusal.Refusal.TheVariants.{NoMemory, Undefined, TypeFault}
+use Rattle.rls_value.specs.declared.refusal.Refusal.TheVariants.{Undefined, TypeFault}
 use Rattle.rls_value.specs.declared.refusal.NameKind.TheVariants as kind
 use Rattle.rls_expr.specs.declared.table.TableDef.{TableDef}
 use Rattle.rls_expr.specs.declared.table.Column.{Column}
@@ -15,7 +15,7 @@ use Rattle.rls_expr.specs.declared.typing.Category.TheVariants as t
 use Rattle.rls_expr.specs.declared.typing.Typing.{Typing}
 use Rattle.rls_expr.specs.declared.typing.Typing.TheVariants.{Fault, Null, Of}
 use Rattle.rls_expr.specs.declared.typing.Typed.{Typed}
-use Rattle.rls_expr.specs.Terms.{Term, Terms, Literal, Place, CurrentUser, Compare, And, Or, Not, IsNull, IsNotNull, End, More}
+use Rattle.rls_expr.specs.Terms.{Term, Terms, Literal, Place, CurrentUser, Compare, And, Or, Not, IsNull, IsNotNull, Among, NotAmong, Sum, End, More}
 use Rattle.rls_expr.specs.Terms as term
 use Rattle.rls_expr.specs.Resolving.{resolved}
 
@@ -79,6 +79,22 @@ takes_boolean Fault = false
 takes_boolean Null = true
 takes_boolean (Of type) = same_type type t.Boolean
 
+-- whether it may stand where a whole number is wanted
+abbrev pub takes_number : Typing → Bool
+takes_number Fault = false
+takes_number Null = true
+takes_number (Of type) = same_type type t.Number
+
+-- a whole number, if types fit
+abbrev pub number_if : Bool → Typing
+number_if true = Of t.Number
+number_if false = Fault
+
+-- of two that have to fit, the first fault stands
+abbrev pub with_fitting : Typing → Typing → Typing
+with_fitting Fault others = Fault
+with_fitting one others = others
+
 abbrev mutual
   -- the type of a resolved term, over these tables
   pub type_of : Term → List TableDef → Typing
@@ -92,11 +108,24 @@ abbrev mutual
   type_of (Not u) tables = boolean_if (takes_boolean (type_of u tables))
   type_of (IsNull u) tables = tested (type_of u tables)
   type_of (IsNotNull u) tables = tested (type_of u tables)
+  type_of (Among u us) tables = among_type (type_of u tables) us tables
+  type_of (NotAmong u us) tables = among_type (type_of u tables) us tables
+  type_of (Sum signs us) tables = number_if (all_numbers us tables)
 
   -- each of them may stand where a boolean is wanted
   pub all_booleans : Terms → List TableDef → Bool
   all_booleans End tables = true
   all_booleans (More u us) tables = takes_boolean (type_of u tables) && all_booleans us tables
+
+  -- each of them may stand where a whole number is wanted
+  pub all_numbers : Terms → List TableDef → Bool
+  all_numbers End tables = true
+  all_numbers (More u us) tables = takes_number (type_of u tables) && all_numbers us tables
+
+  -- IN compares with each of the list
+  pub among_type : Typing → Terms → List TableDef → Typing
+  among_type left End tables = tested left
+  among_type left (More u us) tables = with_fitting (goes_with left (type_of u tables)) (among_type left us tables)
 
 -- whether a column takes values of what was typed, their range aside
 abbrev pub goes_into : Typing → ColType → Bool

@@ -30,6 +30,19 @@ pub enum Node {
     Not(Box<Expr>),
     IsNull(Box<Expr>),
     IsNotNull(Box<Expr>),
+    /// `IN` with a list.
+    Among(Box<Expr>, Vec<Expr>),
+    /// `NOT IN` with a list.
+    NotAmong(Box<Expr>, Vec<Expr>),
+    /// A sum: the signs between the parts, and the parts.
+    Sum(Vec<Sign>, Vec<Expr>),
+}
+
+/// Whether a part of a sum is added or taken off.
+#[derive(Clone, Copy, PartialEq, Eq)]
+pub enum Sign {
+    Plus,
+    Minus,
 }
 
 /// A comparison operator (PostgreSQL manual, 9.2).
@@ -77,6 +90,7 @@ impl Expr {
         &self.node
     }
 
+    #[cycle(copying)]
     pub fn copy(&self, alloc: Global) -> Result<Expr, AllocError>
         ensures { IfOk result (λ expr. expr ≡ self.now) }
     {
@@ -85,31 +99,52 @@ impl Expr {
             Node::Column(name) => Node::Column(name.copy()?),
             Node::Place(out, column) => Node::Place(*out, *column),
             Node::CurrentUser => Node::CurrentUser,
-            Node::Compare(how, left, right) => Node::Compare(
-                *how,
-                boxed(alloc, left.copy(alloc)?)?,
-                boxed(alloc, right.copy(alloc)?)?,
-            ),
-            Node::And(parts) => {
-                let mut copies = Vec::with_capacity(alloc, parts.len())?;
-                for part in parts {
-                    copies.push(part.copy(alloc)?)?;
-                }
-                Node::And(copies)
+            Node::Compare(how, left, right) => {
+                let left = copy_boxed(alloc, left)?;
+                let right = copy_boxed(alloc, right)?;
+                Node::Compare(*how, left, right)
             }
-            Node::Or(parts) => {
-                let mut copies = Vec::with_capacity(alloc, parts.len())?;
-                for part in parts {
-                    copies.push(part.copy(alloc)?)?;
-                }
-                Node::Or(copies)
+            Node::And(parts) => Node::And(copy_parts(alloc, parts)?),
+            Node::Or(parts) => Node::Or(copy_parts(alloc, parts)?),
+            Node::Not(operand) => Node::Not(copy_boxed(alloc, operand)?),
+            Node::IsNull(operand) => Node::IsNull(copy_boxed(alloc, operand)?),
+            Node::IsNotNull(operand) => Node::IsNotNull(copy_boxed(alloc, operand)?),
+            Node::Among(left, list) => {
+                let left = copy_boxed(alloc, left)?;
+                let list = copy_parts(alloc, list)?;
+                Node::Among(left, list)
             }
-            Node::Not(operand) => Node::Not(boxed(alloc, operand.copy(alloc)?)?),
-            Node::IsNull(operand) => Node::IsNull(boxed(alloc, operand.copy(alloc)?)?),
-            Node::IsNotNull(operand) => Node::IsNotNull(boxed(alloc, operand.copy(alloc)?)?),
+            Node::NotAmong(left, list) => {
+                let left = copy_boxed(alloc, left)?;
+                let list = copy_parts(alloc, list)?;
+                Node::NotAmong(left, list)
+            }
+            Node::Sum(signs, parts) => {
+                let signs = signs.as_slice().to_vec(alloc)?;
+                let parts = copy_parts(alloc, parts)?;
+                Node::Sum(signs, parts)
+            }
         };
         Ok(Expr { node })
     }
+}
+
+#[cycle(copying)]
+fn copy_boxed(alloc: Global, expr: &Expr) -> Result<Box<Expr>, AllocError>
+    ensures { IfOk result (λ copy. copy.value ≡ expr.now) }
+{
+    boxed(alloc, expr.copy(alloc)?)
+}
+
+#[cycle(copying)]
+fn copy_parts(alloc: Global, parts: &[Expr]) -> Result<Vec<Expr>, AllocError>
+    ensures { IfOk result (λ copies. copies.items ≡ parts.now) }
+{
+    let mut copies = Vec::with_capacity(alloc, parts.len())?;
+    for part in parts {
+        copies.push(part.copy(alloc)?)?;
+    }
+    Ok(copies)
 }
 
 /// The expression on the heap.

@@ -2,6 +2,8 @@
 #![tactic(auto)]
 
 mod expr;
+mod parts;
+mod pinning;
 mod placing;
 mod policy;
 mod resolving;
@@ -9,7 +11,9 @@ mod scope;
 mod table;
 mod typing;
 
-pub use expr::{Comparison, Expr, Node};
+pub use expr::{Comparison, Expr, Node, Sign};
+pub use parts::{has_sum, reads_column_of};
+pub use pinning::pin_of;
 pub use placing::place_columns;
 pub use policy::{Grantee, Policy};
 pub use resolving::resolve;

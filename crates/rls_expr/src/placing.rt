@@ -36,6 +36,20 @@ pub fn place_columns(alloc: Global, expr: &Expr, scope: &Scope) -> Result<Expr, 
         Node::IsNotNull(operand) => {
             Node::IsNotNull(boxed(alloc, place_columns(alloc, operand, scope)?)?)
         }
+        Node::Among(left, list) => {
+            let left = boxed(alloc, place_columns(alloc, left, scope)?)?;
+            let list = place_all(alloc, list, scope)?;
+            Node::Among(left, list.into_vec())
+        }
+        Node::NotAmong(left, list) => {
+            let left = boxed(alloc, place_columns(alloc, left, scope)?)?;
+            let list = place_all(alloc, list, scope)?;
+            Node::NotAmong(left, list.into_vec())
+        }
+        Node::Sum(signs, parts) => {
+            let parts = place_all(alloc, parts, scope)?;
+            Node::Sum(signs.as_slice().to_vec(alloc)?, parts.into_vec())
+        }
     };
     Ok(Expr::new(node))
 }

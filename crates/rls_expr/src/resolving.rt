@@ -33,6 +33,20 @@ pub fn resolve(alloc: Global, expr: &Expr, scope: &Scope) -> Result<Expr, Refusa
         Node::Not(operand) => Node::Not(boxed(alloc, resolve(alloc, operand, scope)?)?),
         Node::IsNull(operand) => Node::IsNull(boxed(alloc, resolve(alloc, operand, scope)?)?),
         Node::IsNotNull(operand) => Node::IsNotNull(boxed(alloc, resolve(alloc, operand, scope)?)?),
+        Node::Among(left, list) => {
+            let left = boxed(alloc, resolve(alloc, left, scope)?)?;
+            let list = resolve_all(alloc, list, scope)?;
+            Node::Among(left, list.into_vec())
+        }
+        Node::NotAmong(left, list) => {
+            let left = boxed(alloc, resolve(alloc, left, scope)?)?;
+            let list = resolve_all(alloc, list, scope)?;
+            Node::NotAmong(left, list.into_vec())
+        }
+        Node::Sum(signs, parts) => {
+            let parts = resolve_all(alloc, parts, scope)?;
+            Node::Sum(signs.as_slice().to_vec(alloc)?, parts.into_vec())
+        }
     };
     Ok(Expr::new(node))
 }

@@ -3,7 +3,7 @@
 ghost use Rattle.std.specs.Prelude.{◌≡◌, take, IfOk};
 ghost use Rattle.rls_value.specs.Giving.{Gives};
 ghost use Rattle.rls_expr.specs.Typing as spec;
-ghost use Rattle.rls_expr.specs.Typing.{type_of, all_booleans, goes_with, goes_into, takes_boolean, category_of, checked, condition_checked};
+ghost use Rattle.rls_expr.specs.Typing.{type_of, all_booleans, all_numbers, among_type, takes_number, goes_with, goes_into, takes_boolean, category_of, checked, condition_checked};
 ghost use Rattle.rls_expr.specs.Scopes.{tables_in};
 ghost use Rattle.rls_expr.specs.Terms.{terms_of};
 
@@ -111,6 +111,10 @@ pub fn typing_of(expr: &Expr, scope: &Scope) -> Typing
         Node::And(parts) | Node::Or(parts) => boolean_if(are_booleans(parts, scope)),
         Node::Not(operand) => boolean_if(is_boolean(typing_of(operand, scope))),
         Node::IsNull(operand) | Node::IsNotNull(operand) => tested(typing_of(operand, scope)),
+        Node::Among(left, list) | Node::NotAmong(left, list) => {
+            among_typing(typing_of(left, scope), list, scope)
+        }
+        Node::Sum(_, parts) => number_if(are_numbers(parts, scope)),
     }
 }
 
@@ -124,6 +128,31 @@ fn are_booleans(parts: &[Expr], scope: &Scope) -> bool
         }
     }
     true
+}
+
+#[cycle(typing)]
+fn are_numbers(parts: &[Expr], scope: &Scope) -> bool
+    ensures { result ≡ all_numbers (terms_of parts.now) (tables_in scope.now) }
+{
+    for part in parts {
+        if !is_number(typing_of(part, scope)) {
+            return false;
+        }
+    }
+    true
+}
+
+/// The type of IN, where what stands to its left is of that type.
+#[cycle(typing)]
+fn among_typing(left: Typing, list: &[Expr], scope: &Scope) -> Typing
+    ensures { result ≡ among_type left (terms_of list.now) (tables_in scope.now) }
+{
+    for part in list {
+        if compared(left, typing_of(part, scope)) == Typing::Fault {
+            return Typing::Fault;
+        }
+    }
+    tested(left)
 }
 
 fn literal_typing(value: &Value) -> Typing
@@ -174,6 +203,25 @@ fn is_boolean(operand: Typing) -> bool
     match operand {
         Typing::Null | Typing::Of(Category::Boolean) => true,
         Typing::Fault | Typing::Of(Category::Number) | Typing::Of(Category::Text) => false,
+    }
+}
+
+fn is_number(operand: Typing) -> bool
+    ensures { result ≡ takes_number operand }
+{
+    match operand {
+        Typing::Null | Typing::Of(Category::Number) => true,
+        Typing::Fault | Typing::Of(Category::Text) | Typing::Of(Category::Boolean) => false,
+    }
+}
+
+fn number_if(fits: bool) -> Typing
+    ensures { result ≡ spec.number_if fits }
+{
+    if fits {
+        Typing::Of(Category::Number)
+    } else {
+        Typing::Fault
     }
 }
 

@@ -1,1 +1,2 @@
+pub mod EvaluationLemmas
 pub mod StandingLaws

@@ -1,5 +1,5 @@
 -- What the standing of a role tells is what the rules over a state say.
-use Rattle.std.specs.Prelude.{◌≡◌, refl, ℕ, List, Bool, ◌||◌}
+use Rattle.std.specs.Prelude.{◌≡◌, refl, ℕ, List, ◌||◌}
 use Rattle.rls_value.specs.declared.verb.Privilege.{Privilege}
 use Rattle.rls_value.specs.declared.verb.Kind.{Kind}
 use Rattle.rls_expr.specs.declared.table.TableDef.{TableDef}

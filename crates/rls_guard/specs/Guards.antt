@@ -1,8 +1,9 @@
 -- Row security of a table: what is read for it, and what the policies that apply say of a row.
-use Rattle.std.specs.Prelude.{ℕ, List, [], ◌∷◌, Bool, true, false, Option, Some, None, Ok, map}
+use Rattle.std.specs.Prelude.{ℕ, List, [], ◌∷◌, ◌++◌, Bool, true, false, Option, Some, None, Ok, map, if◌then◌else◌}
 use Rattle.rls_value.specs.declared.value.Value.{Value}
 use Rattle.rls_value.specs.declared.truth.Truth.{Truth}
 use Rattle.rls_value.specs.declared.verb.Kind.{Kind}
+use Rattle.rls_value.specs.declared.verb.Kind.TheVariants as kinds
 use Rattle.rls_value.specs.Values.{truth_in}
 use Rattle.rls_expr.specs.declared.table.TableDef.{TableDef}
 use Rattle.rls_expr.specs.declared.policy.Policy.{Policy}
@@ -14,6 +15,7 @@ use Rattle.rls_catalog.specs.declared.verdict.Verdict.TheVariants as v
 use Rattle.rls_catalog.specs.Verdict.{verdict_of, exempts, chosen, expression_of}
 use Rattle.rls_guard.specs.declared.standing.Standing.{Standing}
 use Rattle.rls_guard.specs.declared.guard.Guard.{Guard}
+use Rattle.rls_guard.specs.declared.guard.Watch.{Watch}
 use Rattle.rls_guard.specs.declared.guard.Guard.TheVariants.{Exempt, Policies}
 use Rattle.rls_source.specs.Askings.{Asking, known, asked_if, followed_by}
 use Rattle.rls_source.specs.Asked.{asked_policies}
@@ -34,11 +36,31 @@ conditions_of kind side table (policy ∷ policies) = with_condition table polic
 abbrev pub guard_by : Standing → Kind → Side → TableDef → List Policy → Guard
 guard_by standing kind side table policies = Policies (conditions_of kind side table (chosen standing.reach.superuser standing.reach.names kind side policies))
 
--- what guards the rows of a table from the role
-abbrev pub guard_for : Standing → List ℕ → TableDef → Kind → Side → Asking Guard
-guard_for standing name table kind side =
-    asked_if (exempts standing.attributes table (has_owner standing table)) (known (Ok Exempt))
-    (followed_by (asked_policies name) (λ policies. known (Ok (guard_by standing kind side table policies))))
+-- the same, unless no policy counts, since the role is exempt
+abbrev pub guard_from : Standing → Kind → Side → TableDef → Option (List Policy) → Guard
+guard_from standing kind side table None = Exempt
+guard_from standing kind side table (Some policies) = guard_by standing kind side table policies
+
+-- what guards the rows of one side from the role, for a type of command
+abbrev pub watch_by : Standing → Kind → Side → TableDef → Option (List Policy) → Watch
+watch_by standing kind side table policies = record { kind = kind; side = side; guard = guard_from standing kind side table policies }
+
+-- for a command, and for reading where it reads
+abbrev pub watches_on : Standing → Kind → Bool → TableDef → Option (List Policy) → Side → List Watch
+watches_on standing kind reads table policies side =
+    watch_by standing kind side table policies ∷ (if reads then watch_by standing kinds.Select side table policies ∷ [] else [])
+
+-- on each of the sides
+abbrev pub watches_by : Standing → Kind → Bool → TableDef → Option (List Policy) → List Side → List Watch
+watches_by standing kind reads table policies [] = []
+watches_by standing kind reads table policies (side ∷ sides) = watches_on standing kind reads table policies side ++ watches_by standing kind reads table policies sides
+
+-- what guards the rows of a table from the role that a command judges: on these sides, for its own type and, where it
+-- reads, for SELECT
+abbrev pub watches_for : Standing → List ℕ → TableDef → Kind → Bool → List Side → Asking (List Watch)
+watches_for standing name table kind reads sides =
+    asked_if (exempts standing.attributes table (has_owner standing table)) (known (Ok (watches_by standing kind reads table None sides)))
+    (followed_by (asked_policies name) (λ policies. known (Ok (watches_by standing kind reads table (Some policies) sides))))
 
 -- the truth value of a condition for the row
 abbrev pub truth_on : List ℕ → List Value → Term → Truth

@@ -1,13 +1,17 @@
 //! The value of a checked expression, whose text is lent. Nothing is allocated for it.
 
-ghost use Rattle.std.specs.Prelude.{◌≡◌, IfOk};
-ghost use Rattle.rls_value.specs.Values.{equal_values, is_null, less_values, truth_in, value_at, value_of_truth};
+ghost use Rattle.std.specs.Prelude.{◌≡◌, IfOk, IfSome, not};
+ghost use Rattle.rls_value.specs.declared.value.Value.TheVariants.{Bool as Flag};
+ghost use Rattle.rls_value.specs.Giving.{Gives};
+ghost use Rattle.rls_value.specs.Values.{equal_values, fits_type, is_null, less_values, truth_in, value_at, value_of_truth};
+ghost use Rattle.rls_value.specs.Truths.{negation_of};
 ghost use Rattle.rls_expr.specs.Terms.{terms_of};
-ghost use Rattle.rls_guard.specs.Eval.{value_of, all_of, any_of, compared, row_at, over, alone};
+ghost use Rattle.rls_guard.specs.Eval as spec;
+ghost use Rattle.rls_guard.specs.Eval.{value_of, all_of, any_of, among_of, sum_of, assigned_value, compared, row_at, over, alone};
 ghost use Rattle.rls_guard.specs.Envs.{env_of, held_value, rows_in};
 
-use rls_expr::{Comparison, Expr, Node};
-use rls_value::{Name, Row, Text, Truth, Value};
+use rls_expr::{Column, Comparison, Expr, Node, Sign};
+use rls_value::{ColType, Name, Refusal, Row, Text, Truth, Value};
 use std::alloc::{AllocError, Global};
 use std::cmp::Ordering;
 
@@ -15,7 +19,8 @@ use std::cmp::Ordering;
 #[derive(Clone, Copy)]
 enum Held<'a> {
     Null,
-    Int(i64),
+    /// A whole number of 128 bits: sums of numbers of 64 bits are exact.
+    Int(i128),
     Text(&'a str),
     Bool(bool),
 }
@@ -34,7 +39,8 @@ struct Env<'a> {
     rows: Scoped<'a>,
 }
 
-/// The value of the expression for the one row in scope.
+/// The value of the expression for the one row in scope. A number beyond 64 bits, which only a sum can be, is answered
+/// as want of memory.
 pub fn value_over<'x>(
     alloc: Global,
     expr: &'x Expr,
@@ -48,24 +54,29 @@ pub fn value_over<'x>(
         user,
         rows: Scoped::Over(row, &nothing),
     };
-    let held = eval(expr, &env);
+    let held = eval(expr, &env)?;
     held.to_value(alloc)
 }
 
-/// The truth value of a condition for the one row in scope.
-pub fn truth_over<'x>(condition: &'x Expr, user: &'x Name, row: &'x Row) -> Truth
-    ensures { result ≡ truth_in (value_of condition.now (over user.now row.now)) }
+/// The truth value of a condition for the one row in scope. It fails only at a sum beyond 128 bits, which no text spells.
+pub fn truth_over<'x>(
+    condition: &'x Expr,
+    user: &'x Name,
+    row: &'x Row,
+) -> Result<Truth, AllocError>
+    ensures { IfOk result (λ truth. truth ≡ truth_in (value_of condition.now (over user.now row.now))) }
 {
     let nothing = Scoped::Nothing;
     let env = Env {
         user,
         rows: Scoped::Over(row, &nothing),
     };
-    let held = eval(condition, &env);
-    held.truth()
+    let held = eval(condition, &env)?;
+    Ok(held.truth())
 }
 
-/// The value of an expression that no row is in scope of.
+/// The value of an expression that no row is in scope of. A number beyond 64 bits, which only a sum can be, is answered
+/// as want of memory.
 pub fn value_alone<'x>(alloc: Global, expr: &'x Expr, user: &'x Name) -> Result<Value, AllocError>
     ensures { IfOk result (λ value. value ≡ value_of expr.now (alone user.now)) }
 {
@@ -73,64 +84,228 @@ pub fn value_alone<'x>(alloc: Global, expr: &'x Expr, user: &'x Name) -> Result<
         user,
         rows: Scoped::Nothing,
     };
-    let held = eval(expr, &env);
+    let held = eval(expr, &env)?;
     held.to_value(alloc)
+}
+
+/// The value of the expression for the one row in scope, to be given to the column: refused where it is out of the
+/// column's range.
+pub fn assigned_over<'x>(
+    alloc: Global,
+    expr: &'x Expr,
+    user: &'x Name,
+    row: &'x Row,
+    column: &Column,
+) -> Result<Value, Refusal>
+    ensures { Gives result (assigned_value column.now (value_of expr.now (over user.now row.now))) }
+{
+    let nothing = Scoped::Nothing;
+    let env = Env {
+        user,
+        rows: Scoped::Over(row, &nothing),
+    };
+    let held = eval(expr, &env)?;
+    held.to_column(alloc, column)
+}
+
+/// The value of an expression that no row is in scope of, to be given to the column: refused where it is out of the
+/// column's range.
+pub fn assigned_alone<'x>(
+    alloc: Global,
+    expr: &'x Expr,
+    user: &'x Name,
+    column: &Column,
+) -> Result<Value, Refusal>
+    ensures { Gives result (assigned_value column.now (value_of expr.now (alone user.now))) }
+{
+    let env = Env {
+        user,
+        rows: Scoped::Nothing,
+    };
+    let held = eval(expr, &env)?;
+    held.to_column(alloc, column)
 }
 
 /// The value of the expression. Nothing is cut short: every part is evaluated.
 #[cycle(eval)]
-fn eval<'a>(expr: &'a Expr, env: &Env<'a>) -> Held<'a>
-    ensures { held_value result ≡ value_of expr.now (env_of env.now) }
+fn eval<'a>(expr: &'a Expr, env: &Env<'a>) -> Result<Held<'a>, AllocError>
+    ensures { IfOk result (λ held. held_value held ≡ value_of expr.now (env_of env.now)) }
 {
     match expr.node() {
-        Node::Literal(value) => held_of(value),
-        Node::Column(_) => Held::Null,
-        Node::Place(out, column) => column_value(&env.rows, *out, *column),
-        Node::CurrentUser => Held::Text(env.user.as_str()),
-        Node::Compare(how, left, right) => {
-            let left = eval(left, env);
-            let right = eval(right, env);
-            held_truth(compare(*how, left, right))
-        }
-        Node::And(parts) => held_truth(all(parts, env)),
-        Node::Or(parts) => held_truth(any(parts, env)),
-        Node::Not(operand) => {
-            let held = eval(operand, env);
-            held_truth(held.truth().not())
-        }
-        Node::IsNull(operand) => {
-            let held = eval(operand, env);
-            Held::Bool(held.is_null())
-        }
-        Node::IsNotNull(operand) => {
-            let held = eval(operand, env);
-            Held::Bool(!held.is_null())
-        }
+        Node::Literal(value) => Ok(held_of(value)),
+        Node::Column(_) => Ok(Held::Null),
+        Node::Place(out, column) => Ok(column_value(&env.rows, *out, *column)),
+        Node::CurrentUser => Ok(Held::Text(env.user.as_str())),
+        Node::Compare(how, left, right) => comparison(*how, left, right, env),
+        Node::And(parts) => all(parts, env),
+        Node::Or(parts) => any(parts, env),
+        Node::Not(operand) => negation(operand, env),
+        Node::IsNull(operand) => null_test(operand, env),
+        Node::IsNotNull(operand) => not_null_test(operand, env),
+        Node::Among(operand, list) => among(operand, list, env),
+        Node::NotAmong(operand, list) => not_among(operand, list, env),
+        Node::Sum(signs, parts) => sum(signs, parts, env),
     }
 }
 
+/// Both sides compared.
 #[cycle(eval)]
-fn all<'a>(parts: &'a [Expr], env: &Env<'a>) -> Truth
-    ensures { result ≡ all_of (terms_of parts.now) (env_of env.now) }
+fn comparison<'a>(
+    how: Comparison,
+    left: &'a Expr,
+    right: &'a Expr,
+    env: &Env<'a>,
+) -> Result<Held<'a>, AllocError>
+    ensures { IfOk result (λ held. held_value held ≡ value_of_truth (compared how (value_of left.now (env_of env.now)) (value_of right.now (env_of env.now)))) }
+{
+    let left = eval(left, env)?;
+    let right = eval(right, env)?;
+    Ok(held_truth(compare(how, left, right)))
+}
+
+/// AND of the parts.
+#[cycle(eval)]
+fn all<'a>(parts: &'a [Expr], env: &Env<'a>) -> Result<Held<'a>, AllocError>
+    ensures { IfOk result (λ held. held_value held ≡ value_of_truth (all_of (terms_of parts.now) (env_of env.now))) }
 {
     let mut so_far = Truth::True;
     for part in parts {
-        let held = eval(part, env);
+        let held = eval(part, env)?;
         so_far = so_far.and(held.truth());
     }
-    so_far
+    Ok(held_truth(so_far))
 }
 
+/// OR of the parts.
 #[cycle(eval)]
-fn any<'a>(parts: &'a [Expr], env: &Env<'a>) -> Truth
-    ensures { result ≡ any_of (terms_of parts.now) (env_of env.now) }
+fn any<'a>(parts: &'a [Expr], env: &Env<'a>) -> Result<Held<'a>, AllocError>
+    ensures { IfOk result (λ held. held_value held ≡ value_of_truth (any_of (terms_of parts.now) (env_of env.now))) }
 {
     let mut so_far = Truth::False;
     for part in parts {
-        let held = eval(part, env);
+        let held = eval(part, env)?;
         so_far = so_far.or(held.truth());
     }
-    so_far
+    Ok(held_truth(so_far))
+}
+
+/// NOT.
+#[cycle(eval)]
+fn negation<'a>(operand: &'a Expr, env: &Env<'a>) -> Result<Held<'a>, AllocError>
+    ensures { IfOk result (λ held. held_value held ≡ value_of_truth (negation_of (truth_in (value_of operand.now (env_of env.now))))) }
+{
+    let held = eval(operand, env)?;
+    Ok(held_truth(held.truth().not()))
+}
+
+/// `IS NULL`.
+#[cycle(eval)]
+fn null_test<'a>(operand: &'a Expr, env: &Env<'a>) -> Result<Held<'a>, AllocError>
+    ensures { IfOk result (λ held. held_value held ≡ Flag (is_null (value_of operand.now (env_of env.now)))) }
+{
+    let held = eval(operand, env)?;
+    Ok(Held::Bool(held.is_null()))
+}
+
+/// `IS NOT NULL`.
+#[cycle(eval)]
+fn not_null_test<'a>(operand: &'a Expr, env: &Env<'a>) -> Result<Held<'a>, AllocError>
+    ensures { IfOk result (λ held. held_value held ≡ Flag (not (is_null (value_of operand.now (env_of env.now))))) }
+{
+    let held = eval(operand, env)?;
+    Ok(Held::Bool(!held.is_null()))
+}
+
+/// `IN` with a list.
+#[cycle(eval)]
+fn among<'a>(operand: &'a Expr, list: &'a [Expr], env: &Env<'a>) -> Result<Held<'a>, AllocError>
+    ensures { IfOk result (λ held. held_value held ≡ value_of_truth (among_of (value_of operand.now (env_of env.now)) (terms_of list.now) (env_of env.now))) }
+{
+    let held = eval(operand, env)?;
+    let truth = is_one_of(held, list, env)?;
+    Ok(held_truth(truth))
+}
+
+/// `NOT IN` with a list.
+#[cycle(eval)]
+fn not_among<'a>(operand: &'a Expr, list: &'a [Expr], env: &Env<'a>) -> Result<Held<'a>, AllocError>
+    ensures { IfOk result (λ held. held_value held ≡ value_of_truth (negation_of (among_of (value_of operand.now (env_of env.now)) (terms_of list.now) (env_of env.now)))) }
+{
+    let held = eval(operand, env)?;
+    let truth = is_one_of(held, list, env)?;
+    Ok(held_truth(truth.not()))
+}
+
+/// Whether the value is equal to one of the list.
+#[cycle(eval)]
+fn is_one_of<'a>(value: Held<'a>, list: &'a [Expr], env: &Env<'a>) -> Result<Truth, AllocError>
+    ensures { IfOk result (λ truth. truth ≡ among_of (held_value value.entry) (terms_of list.now) (env_of env.now)) }
+{
+    let mut so_far = Truth::False;
+    for part in list {
+        let held = eval(part, env)?;
+        so_far = so_far.or(equals(value, held));
+    }
+    Ok(so_far)
+}
+
+/// The first part, and each further one by the sign before it.
+#[cycle(eval)]
+fn sum<'a>(signs: &'a [Sign], parts: &'a [Expr], env: &Env<'a>) -> Result<Held<'a>, AllocError>
+    ensures { IfOk result (λ held. held_value held ≡ sum_of signs.now (terms_of parts.now) (env_of env.now)) }
+{
+    match parts {
+        [] => Ok(Held::Null),
+        [first, further @ ..] => {
+            let held = eval(first, env)?;
+            sum_from(held.number_or_null(), signs, further, env)
+        }
+    }
+}
+
+/// The sum so far with the parts that have a sign.
+#[cycle(eval)]
+fn sum_from<'a>(
+    first: Held<'a>,
+    signs: &'a [Sign],
+    parts: &'a [Expr],
+    env: &Env<'a>,
+) -> Result<Held<'a>, AllocError>
+    ensures { IfOk result (λ held. held_value held ≡ spec.sum_from (held_value first.entry) signs.now (terms_of parts.now) (env_of env.now)) }
+{
+    let mut so_far = first;
+    let mut signs_left = signs;
+    let mut parts_left = parts;
+    while let ([sign, other_signs @ ..], [part, other_parts @ ..]) = (signs_left, parts_left) {
+        let held = eval(part, env)?;
+        so_far = joined(*sign, so_far, held)?;
+        signs_left = other_signs;
+        parts_left = other_parts;
+    }
+    Ok(so_far)
+}
+
+/// The sum so far and its next part. It fails beyond 128 bits.
+fn joined<'a>(sign: Sign, so_far: Held<'a>, part: Held<'a>) -> Result<Held<'a>, AllocError>
+    ensures { IfOk result (λ held. held_value held ≡ spec.joined sign (held_value so_far.entry) (held_value part.entry)) }
+{
+    match (so_far, part) {
+        (Held::Int(so_far), Held::Int(part)) => match by_sign(sign, so_far, part) {
+            Some(number) => Ok(Held::Int(number)),
+            None => Err(AllocError),
+        },
+        (_, _) => Ok(Held::Null),
+    }
+}
+
+/// The sum of the two, or their difference; none beyond 128 bits.
+fn by_sign(sign: Sign, left: i128, right: i128) -> Option<i128>
+    ensures { IfSome result (λ number. number ≡ spec.by_sign sign left right) }
+{
+    match sign {
+        Sign::Plus => left.checked_add(right),
+        Sign::Minus => left.checked_sub(right),
+    }
 }
 
 /// A column of the row that lies so many rows out; null where there is none.
@@ -163,7 +338,7 @@ fn held_of(value: &Value) -> Held<'_>
 {
     match value {
         Value::Null => Held::Null,
-        Value::Int(number) => Held::Int(*number),
+        Value::Int(number) => Held::Int(i128::from(*number)),
         Value::Text(text) => Held::Text(text.as_str()),
         Value::Bool(flag) => Held::Bool(*flag),
     }
@@ -199,12 +374,51 @@ impl<'a> Held<'a> {
         }
     }
 
+    fn number_or_null(self) -> Held<'a>
+        ensures { held_value result ≡ spec.number_or_null (held_value self.entry) }
+    {
+        match self {
+            Held::Int(number) => Held::Int(number),
+            Held::Null | Held::Text(_) | Held::Bool(_) => Held::Null,
+        }
+    }
+
+    /// The value for the column: refused where it is out of the column's range.
+    fn to_column(self, alloc: Global, column: &Column) -> Result<Value, Refusal>
+        ensures { Gives result (assigned_value column.now (held_value self.entry)) }
+    {
+        if !self.fits(column.kind) {
+            return Err(Refusal::Range(column.name.copy()?));
+        }
+        Ok(self.to_value(alloc)?)
+    }
+
+    fn fits(self, column: ColType) -> bool
+        ensures { result ≡ fits_type (held_value self.entry) column }
+    {
+        match (self, column) {
+            (Held::Null, _) => true,
+            (Held::Int(number), ColType::Integer) => {
+                -2147483648 <= number && number <= 2147483647
+            }
+            (Held::Int(number), ColType::BigInt) => {
+                -9223372036854775808 <= number && number <= 9223372036854775807
+            }
+            (Held::Text(_), ColType::Text) => true,
+            (Held::Bool(_), ColType::Boolean) => true,
+            (_, _) => false,
+        }
+    }
+
     fn to_value(self, alloc: Global) -> Result<Value, AllocError>
         ensures { IfOk result (λ value. value ≡ held_value self.entry) }
     {
         match self {
             Held::Null => Ok(Value::Null),
-            Held::Int(number) => Ok(Value::Int(number)),
+            Held::Int(number) => match i64::try_from(number) {
+                Ok(number) => Ok(Value::Int(number)),
+                Err(_) => Err(AllocError),
+            },
             Held::Text(text) => Ok(Value::Text(Text::new(alloc, text)?)),
             Held::Bool(flag) => Ok(Value::Bool(flag)),
         }

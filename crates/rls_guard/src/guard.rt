@@ -1,6 +1,7 @@
 //! Row security of one table for one type of command: which policies are asked, and what they say of a row.
 
 ghost use Rattle.std.specs.Prelude.{◌≡◌, [], ◌∷◌, map, IfOk, OnOk};
+ghost use Rattle.std.specs.Option.{option_copied};
 ghost use Rattle.rls_expr.specs.Placing.{placed};
 ghost use Rattle.rls_source.specs.Answering.{Tells};
 ghost use Rattle.rls_guard.specs.Guards as spec;
@@ -23,24 +24,72 @@ pub enum Guard<'c> {
     Policies(Items<(Loan<'c, Policy>, Expr)>),
 }
 
-/// The guard of the table for the role, the type of command and the side of a row. It reads the policies, unless the
-/// role is exempt.
-pub fn guard_of<'c, 'x, S: RowSource<'c>>(
+/// What guards the rows of one side, before or after, for a type of command.
+#[derive(Drop)]
+pub struct Watch<'c> {
+    pub kind: Kind,
+    pub side: Side,
+    pub guard: Guard<'c>,
+}
+
+/// What guards the table's rows on these sides from the role: for the type of command and, where it reads, for SELECT
+/// too (PostgreSQL manual, CREATE POLICY, "Policies Applied by Command Type"). It reads the policies, unless the role is
+/// exempt.
+pub fn watches_of<'c, 'x, S: RowSource<'c>>(
     alloc: Global,
     source: &mut S,
     notes: &mut Reads,
     standing: &Standing,
     from: FromTable<'x>,
     kind: Kind,
-    side: Side,
-) -> Result<Guard<'c>, AllocError>
-    ensures { Tells S.state S.after (spec.guard_for standing.now from.entry.name.now from.entry.table.now kind side) source.old source.new notes.old notes.new result }
+    reads: bool,
+    sides: &[Side],
+) -> Result<Items<Watch<'c>>, AllocError>
+    ensures { Tells S.state S.after (spec.watches_for standing.now from.entry.name.now from.entry.table.now kind reads sides.now) source.old source.new notes.old notes.new result }
 {
     if standing.is_exempt(from.table) {
-        return Ok(Guard::Exempt);
+        return watches_by(alloc, standing, from, kind, reads, None, sides);
     }
     let policies = noted_policies(alloc, source, notes, from.name)?;
-    guard_by(alloc, standing, from, kind, side, policies)
+    watches_by(alloc, standing, from, kind, reads, Some(policies), sides)
+}
+
+fn watches_by<'c, 'x>(
+    alloc: Global,
+    standing: &Standing,
+    from: FromTable<'x>,
+    kind: Kind,
+    reads: bool,
+    policies: Option<&'c [Policy]>,
+    sides: &[Side],
+) -> Result<Items<Watch<'c>>, AllocError>
+    ensures { IfOk result (λ watches. watches ≡ spec.watches_by standing.now kind reads from.entry.table.now (option_copied policies.entry) sides.now) }
+{
+    let mut watches = Items::new(alloc);
+    for side in sides {
+        watches.push(watch_by(alloc, standing, from, kind, *side, policies)?)?;
+        if reads {
+            watches.push(watch_by(alloc, standing, from, Kind::Select, *side, policies)?)?;
+        }
+    }
+    Ok(watches)
+}
+
+fn watch_by<'c, 'x>(
+    alloc: Global,
+    standing: &Standing,
+    from: FromTable<'x>,
+    kind: Kind,
+    side: Side,
+    policies: Option<&'c [Policy]>,
+) -> Result<Watch<'c>, AllocError>
+    ensures { IfOk result (λ watch. watch ≡ spec.watch_by standing.now kind side from.entry.table.now (option_copied policies.entry)) }
+{
+    let guard = match policies {
+        None => Guard::Exempt,
+        Some(policies) => guard_by(alloc, standing, from, kind, side, policies)?,
+    };
+    Ok(Watch { kind, side, guard })
 }
 
 fn guard_by<'c>(
@@ -118,7 +167,7 @@ fn put_judgements<'c>(
 {
     judgements.clear();
     for (policy, condition) in conditions {
-        judgements.push((Loan::new(policy.get()), truth_over(condition, user, row)))?;
+        judgements.push((Loan::new(policy.get()), truth_over(condition, user, row)?))?;
     }
     Ok(())
 }

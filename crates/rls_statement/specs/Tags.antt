@@ -22,4 +22,6 @@ tag_of (s.SetRole (sr.To _)) = t.Set
 tag_of (s.SetRole sr.None) = t.Set
 tag_of (s.SetRole sr.Reset) = t.Reset
 tag_of (s.Insert _) = t.Insert
+tag_of (s.Update _) = t.Update
+tag_of (s.Delete _) = t.Delete
 tag_of (s.Select _) = t.Select

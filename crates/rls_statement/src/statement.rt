@@ -3,6 +3,7 @@
 ghost use Rattle.std.specs.Prelude.{◌≡◌, IfOk};
 ghost use Rattle.rls_statement.specs.Tags.{tag_of};
 
+use crate::changing::{Delete, Update};
 use rls_expr::{Column, Expr, Grantee, Policy};
 use rls_value::{Items, Name, Tag};
 use std::alloc::{AllocError, Global};
@@ -23,6 +24,8 @@ pub enum Statement {
     RevokeRoles(RevokeRoles),
     SetRole(SetRole),
     Insert(Insert),
+    Update(Update),
+    Delete(Delete),
     Select(Select),
 }
 
@@ -177,11 +180,15 @@ pub struct Privileges {
     pub delete: bool,
 }
 
-/// `INSERT`; the tuples have one length, which is at least 1.
+/// `INSERT`; the tuples have one length, which is at least 1, and that of the list of columns, where one is written.
 #[derive(Drop)]
 pub struct Insert {
     pub table: Name,
+    /// The columns that are written; else the values are those of the table's first columns.
+    pub columns: Option<Items<Name>>,
     pub tuples: Items<Items<Expr>>,
+    /// `RETURNING`: what is answered of the new rows. The grammar has no `count(*)` there.
+    pub returning: Option<Selected>,
 }
 
 #[derive(Drop)]
@@ -220,6 +227,8 @@ impl Statement {
             Statement::SetRole(SetRole::To(_) | SetRole::None) => Tag::Set,
             Statement::SetRole(SetRole::Reset) => Tag::Reset,
             Statement::Insert(_) => Tag::Insert,
+            Statement::Update(_) => Tag::Update,
+            Statement::Delete(_) => Tag::Delete,
             Statement::Select(_) => Tag::Select,
         }
     }
@@ -241,6 +250,8 @@ impl Statement {
             Statement::RevokeRoles(revoke) => Ok(Statement::RevokeRoles(revoke.copy(alloc)?)),
             Statement::SetRole(set) => Ok(Statement::SetRole(set.copy()?)),
             Statement::Insert(insert) => Ok(Statement::Insert(insert.copy(alloc)?)),
+            Statement::Update(update) => Ok(Statement::Update(update.copy(alloc)?)),
+            Statement::Delete(delete) => Ok(Statement::Delete(delete.copy(alloc)?)),
             Statement::Select(select) => Ok(Statement::Select(select.copy(alloc)?)),
         }
     }
@@ -338,7 +349,7 @@ impl CreateTable {
         Ok(CreateTable {
             name: self.name.copy()?,
             columns: copy_columns(alloc, self.columns.as_slice())?,
-            key: copy_key(alloc, &self.key)?,
+            key: copy_written(alloc, &self.key)?,
         })
     }
 }
@@ -353,10 +364,13 @@ fn copy_columns(alloc: Global, columns: &[MarkedColumn]) -> Result<Items<MarkedC
     Ok(Items::from_vec(copies))
 }
 
-fn copy_key(alloc: Global, key: &Option<Items<Name>>) -> Result<Option<Items<Name>>, AllocError>
-    ensures { IfOk result (λ copy. copy ≡ key.now) }
+fn copy_written(
+    alloc: Global,
+    written: &Option<Items<Name>>,
+) -> Result<Option<Items<Name>>, AllocError>
+    ensures { IfOk result (λ copy. copy ≡ written.now) }
 {
-    match key {
+    match written {
         Some(names) => match copy_names(alloc, names.as_slice()) {
             Ok(names) => Ok(Some(names)),
             Err(refused) => Err(refused),
@@ -427,7 +441,10 @@ fn copy_grantees(
     }
 }
 
-fn copy_condition(alloc: Global, condition: &Option<Expr>) -> Result<Option<Expr>, AllocError>
+pub(crate) fn copy_condition(
+    alloc: Global,
+    condition: &Option<Expr>,
+) -> Result<Option<Expr>, AllocError>
     ensures { IfOk result (λ copy. copy ≡ condition.now) }
 {
     match condition {
@@ -483,8 +500,25 @@ impl Insert {
     {
         Ok(Insert {
             table: self.table.copy()?,
+            columns: copy_written(alloc, &self.columns)?,
             tuples: Items::from_vec(copy_tuples(alloc, self.tuples.as_slice())?),
+            returning: copy_returning(alloc, &self.returning)?,
         })
+    }
+}
+
+pub(crate) fn copy_returning(
+    alloc: Global,
+    returning: &Option<Selected>,
+) -> Result<Option<Selected>, AllocError>
+    ensures { IfOk result (λ copy. copy ≡ returning.now) }
+{
+    match returning {
+        Some(selected) => match selected.copy(alloc) {
+            Ok(selected) => Ok(Some(selected)),
+            Err(refused) => Err(refused),
+        },
+        None => Ok(None),
     }
 }
 

@@ -86,14 +86,35 @@ module _ {A : Type 0} (k : ℕ) (test : A → Bool) (p p' : List Token → A →
   checked_within : Within k p p' → Within k (Checked test p) (Checked test p')
   checked_within P = record { take = λ ts a h x. record { spelled = P.take ts a h x.spelled; passes = x.passes } }
 
+module _ (k : ℕ) (i i' : Cut tree_of expr_heads expr_more false) (I : Within k i.rule.spells i'.rule.spells) where
+  parts_within : Within k (g.parts i).rule.spells (g.parts i').rule.spells
+  unfolding g.parts cut.with_comma
+  parts_within = mapped_within k _ _ _ (both_within k _ _ _ _ I (many_within k _ _ (after_within k _ _ _ I)))
+
+  tuple_within : Within k (g.tuple i).rule.spells (g.tuple i').rule.spells
+  unfolding g.tuple
+  tuple_within = after_within k _ _ _ (before_within k _ _ _ parts_within)
+
 module _ (k : ℕ) (i i' : Cut tree_of expr_heads expr_more false) (I : (j : ℕ) → j < k → Within j i.rule.spells i'.rule.spells) where
   pub prim_within : Within k (g.prim i).rule.spells (g.prim i').rule.spells
   unfolding g.prim
   prim_within = either_within k _ _ _ _ (same_lang k _) (either_within k _ _ _ _ (same_lang k _) (either_within k _ _ _ _ (same_lang k _) (shorter_within _ k _ _ (λ j h. mapped_within j _ _ _ (both_within j _ _ _ _ (I j h) (same_lang j _))))))
 
+  sum_within : Within k (g.sum i).rule.spells (g.sum i').rule.spells
+  unfolding g.sum g.sum_next
+  sum_within = mapped_within k _ _ _ (both_within k _ _ _ _ prim_within (many_within k _ _ (both_within k _ _ _ _ (same_lang k _) prim_within)))
+
+  list_within : Within k (g.tuple i).rule.spells (g.tuple i').rule.spells
+  unfolding g.tuple
+  list_within = shorter_within _ k _ _ (λ j h. before_within j _ _ _ (parts_within j i i' (I j h)))
+
+  memb_within : Within k (g.memb i).rule.spells (g.memb i').rule.spells
+  unfolding g.memb g.in_list
+  memb_within = mapped_within k _ _ _ (both_within k _ _ _ _ sum_within (perhaps_within k _ _ (both_within k _ _ _ _ (same_lang k _) list_within)))
+
   cmp_within : Within k (g.cmp i).rule.spells (g.cmp i').rule.spells
   unfolding g.cmp
-  cmp_within = mapped_within k _ _ _ (both_within k _ _ _ _ prim_within (perhaps_within k _ _ (both_within k _ _ _ _ (same_lang k _) prim_within)))
+  cmp_within = mapped_within k _ _ _ (both_within k _ _ _ _ memb_within (perhaps_within k _ _ (both_within k _ _ _ _ (same_lang k _) memb_within)))
 
   is_within : Within k (g.is i).rule.spells (g.is i').rule.spells
   unfolding g.is
@@ -130,17 +151,37 @@ module _ (k : ℕ) (i i' : Cut tree_of expr_heads expr_more false) (I : Within k
   unfolding g.select g.condition
   select_within = mapped_within k _ _ _ (after_within k _ _ _ (both_within k _ _ _ _ (same_lang k _) (after_within k _ _ _ (both_within k _ _ _ _ (same_lang k _) (perhaps_within k _ _ (after_within k _ _ _ I))))))
 
-  tuple_within : Within k (g.tuple i).rule.spells (g.tuple i').rule.spells
-  unfolding g.tuple g.parts cut.with_comma
-  tuple_within = after_within k _ _ _ (before_within k _ _ _ (mapped_within k _ _ _ (both_within k _ _ _ _ I (many_within k _ _ (after_within k _ _ _ I)))))
-
   tuples_within : Within k (g.even_tuples i).rule.spells (g.even_tuples i').rule.spells
   unfolding g.even_tuples g.tuples cut.with_comma
-  tuples_within = checked_within k _ _ _ (mapped_within k _ _ _ (both_within k _ _ _ _ tuple_within (many_within k _ _ (after_within k _ _ _ tuple_within))))
+  tuples_within = checked_within k _ _ _ (mapped_within k _ _ _ (both_within k _ _ _ _ (tuple_within k i i' I) (many_within k _ _ (after_within k _ _ _ (tuple_within k i i' I)))))
+
+  rows_within : Within k (g.proper_rows i).rule.spells (g.proper_rows i').rule.spells
+  unfolding g.proper_rows g.rows
+  rows_within = checked_within k _ _ _ (both_within k _ _ _ _ (same_lang k _) (after_within k _ _ _ tuples_within))
 
   insert_within : Within k (g.insert i).rule.spells (g.insert i').rule.spells
   unfolding g.insert
-  insert_within = mapped_within k _ _ _ (after_within k _ _ _ (after_within k _ _ _ (both_within k _ _ _ _ (same_lang k _) (after_within k _ _ _ tuples_within))))
+  insert_within = mapped_within k _ _ _ (after_within k _ _ _ (after_within k _ _ _ (both_within k _ _ _ _ (same_lang k _) (both_within k _ _ _ _ rows_within (same_lang k _)))))
+
+  set_column_within : Within k (g.set_column i).rule.spells (g.set_column i').rule.spells
+  unfolding g.set_column
+  set_column_within = mapped_within k _ _ _ (both_within k _ _ _ _ (same_lang k _) (after_within k _ _ _ I))
+
+  set_columns_within : Within k (g.set_columns i).rule.spells (g.set_columns i').rule.spells
+  unfolding g.set_columns g.all_set_columns cut.with_comma
+  set_columns_within = checked_within k _ _ _ (mapped_within k _ _ _ (both_within k _ _ _ _ set_column_within (many_within k _ _ (after_within k _ _ _ set_column_within))))
+
+  ending_within : Within k (g.ending i).rule.spells (g.ending i').rule.spells
+  unfolding g.ending g.condition
+  ending_within = both_within k _ _ _ _ (perhaps_within k _ _ (after_within k _ _ _ I)) (same_lang k _)
+
+  update_within : Within k (g.update i).rule.spells (g.update i').rule.spells
+  unfolding g.update
+  update_within = mapped_within k _ _ _ (after_within k _ _ _ (both_within k _ _ _ _ (same_lang k _) (after_within k _ _ _ (both_within k _ _ _ _ set_columns_within ending_within))))
+
+  delete_within : Within k (g.delete i).rule.spells (g.delete i').rule.spells
+  unfolding g.delete
+  delete_within = mapped_within k _ _ _ (after_within k _ _ _ (after_within k _ _ _ (both_within k _ _ _ _ (same_lang k _) ending_within)))
 
   using_within : Within k (g.using i).rule.spells (g.using i').rule.spells
   unfolding g.using
@@ -180,7 +221,7 @@ module _ (k : ℕ) (i i' : Cut tree_of expr_heads expr_more false) (I : Within k
 
   body_within : Within k (g.body i).rule.spells (g.body i').rule.spells
   unfolding g.body
-  body_within = either_within k _ _ _ _ select_within (either_within k _ _ _ _ insert_within (either_within k _ _ _ _ create_within (either_within k _ _ _ _ alter_within (same_lang k _))))
+  body_within = either_within k _ _ _ _ select_within (either_within k _ _ _ _ insert_within (either_within k _ _ _ _ update_within (either_within k _ _ _ _ delete_within (either_within k _ _ _ _ create_within (either_within k _ _ _ _ alter_within (same_lang k _))))))
 
 statement_within : (depth k : ℕ) → Within k (g.statement depth).rule.spells (g.statement (suc k)).rule.spells
 unfolding g.statement
@@ -239,6 +280,8 @@ whole_spelled ts x h = whole_is ts ∙ ap finds (reading_complete ts x h)
 columns_kept : (x : Statement) → columns_of (draft_of x).0 ≡ columns_of x
 columns_kept (st.Select x) = refl
 columns_kept (st.Insert x) = refl
+columns_kept (st.Update x) = refl
+columns_kept (st.Delete x) = refl
 columns_kept (st.CreatePolicy x) = refl
 columns_kept (st.AlterPolicy x) = refl
 columns_kept (st.DropPolicy x) = refl

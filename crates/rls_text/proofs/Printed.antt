@@ -1,5 +1,5 @@
 -- What is written for a statement spells it, and is read back; an example of each statement.
-use Rattle.std.specs.Prelude.{◌≡◌, ℕ, true, false, negsuc, List, [], ◌∷◌, ◌++◌, Some, None, codes, refl}
+use Rattle.std.specs.Prelude.{◌≡◌, ℕ, true, false, pos, negsuc, List, [], ◌∷◌, ◌++◌, Some, None, codes, refl}
 use Rattle.rls_value.specs.Names.{reserved}
 use Rattle.rls_value.specs.declared.value.Value.TheVariants as v
 use Rattle.rls_value.specs.declared.value.ColType.TheVariants as k
@@ -8,6 +8,7 @@ use Rattle.rls_value.specs.declared.verb.PolicyKind.TheVariants as kind
 use Rattle.rls_expr.specs.Terms.{Term}
 use Rattle.rls_expr.specs.Terms as e
 use Rattle.rls_expr.specs.declared.expr.Comparison.TheVariants as c
+use Rattle.rls_expr.specs.declared.expr.Sign.TheVariants as part
 use Rattle.rls_expr.specs.declared.policy.Grantee.TheVariants as to
 use Rattle.rls_statement.specs.declared.statement.MembershipOption.TheVariants as m
 use Rattle.rls_statement.specs.declared.statement.RowSecurity.TheVariants as change
@@ -49,31 +50,104 @@ example = e.And (e.More (e.IsNull (e.Compare c.Equal (e.Column (codes "a")) (e.L
 written : (g.expr 6).rule.prints.writes example ≡ Some
     (t.Symbol s.LParen ∷ t.Symbol s.LParen ∷ Word (codes "a") ∷ t.Symbol s.Equal ∷ t.Symbol s.Minus ∷ Number 5 ∷ t.Symbol s.RParen ∷ Word (codes "is") ∷ Word (codes "null") ∷ t.Symbol s.RParen
     ∷ Word (codes "and") ∷ t.Symbol s.LParen ∷ Word (codes "not") ∷ t.Symbol s.LParen ∷ Word (codes "not") ∷ Word (codes "b") ∷ t.Symbol s.RParen ∷ t.Symbol s.RParen ∷ [])
-unfolding reserved g.expr g.or g.or_next g.and g.and_next g.not_ g.nots g.is g.null_test g.cmp g.comparison g.prim g.name g.literal g.constant g.text g.number g.digits
+unfolding reserved g.expr g.or g.or_next g.and g.and_next g.not_ g.nots g.is g.null_test g.cmp g.memb g.sum g.comparison g.prim g.name g.literal g.constant g.text g.number g.digits
 written = refl
+
+-- (a - -5 + b) NOT IN (1, NOT b) = (c IN (d))
+abbrev pub list_example : Term
+list_example = e.Compare c.Equal
+    (e.NotAmong (e.Sum (part.Minus ∷ part.Plus ∷ []) (e.More (e.Column (codes "a")) (e.More (e.Literal (v.Int (negsuc 4))) (e.More (e.Column (codes "b")) e.End)))) (e.More (e.Literal (v.Int (pos 1))) (e.More (e.Not (e.Column (codes "b"))) e.End)))
+    (e.Among (e.Column (codes "c")) (e.More (e.Column (codes "d")) e.End))
+
+list_written : (g.expr 6).rule.prints.writes list_example ≡ Some
+    (t.Symbol s.LParen ∷ t.Symbol s.LParen ∷ Word (codes "a") ∷ t.Symbol s.Minus ∷ t.Symbol s.Minus ∷ Number 5 ∷ t.Symbol s.Plus ∷ Word (codes "b") ∷ t.Symbol s.RParen ∷ Word (codes "not") ∷ Word (codes "in")
+    ∷ t.Symbol s.LParen ∷ Number 1 ∷ t.Symbol s.Comma ∷ Word (codes "not") ∷ Word (codes "b") ∷ t.Symbol s.RParen ∷ t.Symbol s.RParen ∷ t.Symbol s.Equal
+    ∷ t.Symbol s.LParen ∷ Word (codes "c") ∷ Word (codes "in") ∷ t.Symbol s.LParen ∷ Word (codes "d") ∷ t.Symbol s.RParen ∷ t.Symbol s.RParen ∷ [])
+unfolding reserved g.sum_next g.part_sign g.in_list g.in_word g.tuple g.parts cut.with_comma g.expr g.or g.or_next g.and g.and_next g.not_ g.nots g.is g.null_test g.cmp g.memb g.sum g.comparison g.prim g.name g.literal g.constant g.text g.number g.digits
+list_written = refl
+
+-- Behind an operand a minus is the sum's: a - 5.
+sign_read : (g.expr 1).rule.parses.read (Word (codes "a") ∷ t.Symbol s.Minus ∷ Number 5 ∷ []) ≡ Some (e.Sum (part.Minus ∷ []) (e.More (e.Column (codes "a")) (e.More (e.Literal (v.Int (pos 5))) e.End)), [])
+unfolding reserved read_many g.sum_next g.part_sign g.expr g.or g.or_next g.and g.and_next g.not_ g.nots g.is g.null_test g.cmp g.memb g.sum g.comparison g.prim g.name g.literal g.constant g.text g.number g.digits
+sign_read = refl
+
+-- So the number has none in a - 9223372036854775808, and is out of range.
+number_over : (g.expr 1).rule.parses.read (Word (codes "a") ∷ t.Symbol s.Minus ∷ Number 9223372036854775808 ∷ []) ≡ None
+unfolding reserved read_many g.sum_next g.part_sign g.expr g.or g.or_next g.and g.and_next g.not_ g.nots g.is g.null_test g.cmp g.memb g.sum g.comparison g.prim g.name g.literal g.constant g.text g.number g.digits
+number_over = refl
+
+-- The list behind IN isn't empty.
+list_empty : (g.expr 1).rule.parses.read (Word (codes "a") ∷ Word (codes "in") ∷ t.Symbol s.LParen ∷ t.Symbol s.RParen ∷ []) ≡ None
+unfolding reserved read_many g.in_list g.in_word g.tuple g.parts cut.with_comma g.expr g.or g.or_next g.and g.and_next g.not_ g.nots g.is g.null_test g.cmp g.memb g.sum g.comparison g.prim g.name g.literal g.constant g.text g.number g.digits
+list_empty = refl
 
 -- SELECT a, b FROM t WHERE a
 select_written : (g.statement 2).rule.prints.writes (st.Select record { items = selected.Items (e.Column (codes "a") ∷ e.Column (codes "b") ∷ []); table = codes "t"; condition = Some (e.Column (codes "a")) }) ≡ Some
     (Word (codes "select") ∷ Word (codes "a") ∷ t.Symbol s.Comma ∷ Word (codes "b") ∷ Word (codes "from") ∷ Word (codes "t") ∷ Word (codes "where") ∷ Word (codes "a") ∷ [])
-unfolding reserved g.statement g.body g.select g.items g.count g.column_items g.columns g.column g.condition with_comma g.expr g.or g.or_next g.and g.and_next g.not_ g.nots g.is g.null_test g.cmp g.comparison g.prim g.name g.literal g.constant g.text g.number g.digits
+unfolding reserved g.statement g.body g.select g.items g.count g.column_items g.columns g.column g.condition with_comma g.expr g.or g.or_next g.and g.and_next g.not_ g.nots g.is g.null_test g.cmp g.memb g.sum g.comparison g.prim g.name g.literal g.constant g.text g.number g.digits
 select_written = refl
 
 -- SELECT COUNT(*) FROM t WHERE a
 count_written : (g.statement 2).rule.prints.writes (st.Select record { items = selected.Count; table = codes "t"; condition = Some (e.Column (codes "a")) }) ≡ Some
     (Word (codes "select") ∷ Word (codes "count") ∷ t.Symbol s.LParen ∷ t.Symbol s.Star ∷ t.Symbol s.RParen ∷ Word (codes "from") ∷ Word (codes "t") ∷ Word (codes "where") ∷ Word (codes "a") ∷ [])
-unfolding reserved g.statement g.body g.select g.items g.count g.condition g.expr g.or g.or_next g.and g.and_next g.not_ g.nots g.is g.null_test g.cmp g.comparison g.prim g.name g.literal g.constant g.text g.number g.digits
+unfolding reserved g.statement g.body g.select g.items g.count g.condition g.expr g.or g.or_next g.and g.and_next g.not_ g.nots g.is g.null_test g.cmp g.memb g.sum g.comparison g.prim g.name g.literal g.constant g.text g.number g.digits
 count_written = refl
 
 -- INSERT INTO t VALUES (-1, NOT b)
-insert_written : (g.statement 2).rule.prints.writes (st.Insert record { table = codes "t"; tuples = (e.Literal (v.Int (negsuc 0)) ∷ e.Not (e.Column (codes "b")) ∷ []) ∷ [] }) ≡ Some
+insert_written : (g.statement 2).rule.prints.writes (st.Insert record { table = codes "t"; columns = None; tuples = (e.Literal (v.Int (negsuc 0)) ∷ e.Not (e.Column (codes "b")) ∷ []) ∷ []; returning = None }) ≡ Some
     (Word (codes "insert") ∷ Word (codes "into") ∷ Word (codes "t") ∷ Word (codes "values") ∷ t.Symbol s.LParen ∷ t.Symbol s.Minus ∷ Number 1 ∷ t.Symbol s.Comma ∷ Word (codes "not") ∷ Word (codes "b") ∷ t.Symbol s.RParen ∷ [])
-unfolding reserved g.statement g.body g.select g.insert g.even_tuples g.tuples g.tuple g.parts cut.with_comma g.expr g.or g.or_next g.and g.and_next g.not_ g.nots g.is g.null_test g.cmp g.comparison g.prim g.name g.literal g.constant g.text g.number g.digits
+unfolding reserved g.statement g.body g.select g.insert g.proper_rows g.rows g.columns_if_any g.distinct_names g.names g.even_tuples g.tuples g.tuple g.parts g.returning g.returned g.columns g.column with_comma cut.with_comma g.expr g.or g.or_next g.and g.and_next g.not_ g.nots g.is g.null_test g.cmp g.memb g.sum g.comparison g.prim g.name g.literal g.constant g.text g.number g.digits
 insert_written = refl
+
+-- INSERT INTO t (a, b) VALUES (1, 2) RETURNING a
+insert_columns_written : (g.statement 2).rule.prints.writes (st.Insert record { table = codes "t"; columns = Some (codes "a" ∷ codes "b" ∷ []); tuples = (e.Literal (v.Int (pos 1)) ∷ e.Literal (v.Int (pos 2)) ∷ []) ∷ []; returning = Some (selected.Items (e.Column (codes "a") ∷ [])) }) ≡ Some
+    (Word (codes "insert") ∷ Word (codes "into") ∷ Word (codes "t") ∷ t.Symbol s.LParen ∷ Word (codes "a") ∷ t.Symbol s.Comma ∷ Word (codes "b") ∷ t.Symbol s.RParen ∷ Word (codes "values") ∷ t.Symbol s.LParen ∷ Number 1 ∷ t.Symbol s.Comma ∷ Number 2 ∷ t.Symbol s.RParen ∷ Word (codes "returning") ∷ Word (codes "a") ∷ [])
+unfolding reserved g.statement g.body g.select g.insert g.proper_rows g.rows g.columns_if_any g.distinct_names g.names g.even_tuples g.tuples g.tuple g.parts g.returning g.returned g.columns g.column with_comma cut.with_comma g.expr g.or g.or_next g.and g.and_next g.not_ g.nots g.is g.null_test g.cmp g.memb g.sum g.comparison g.prim g.name g.literal g.constant g.text g.number g.digits
+insert_columns_written = refl
+
+-- UPDATE t SET a = 1, b = NOT c WHERE a = 2 RETURNING *
+update_written : (g.statement 2).rule.prints.writes (st.Update record {
+  table = codes "t";
+  settings = record { column = codes "a"; value = e.Literal (v.Int (pos 1)) } ∷ record { column = codes "b"; value = e.Not (e.Column (codes "c")) } ∷ [];
+  condition = Some (e.Compare c.Equal (e.Column (codes "a")) (e.Literal (v.Int (pos 2))));
+  returning = Some selected.All;
+}) ≡ Some
+    (Word (codes "update") ∷ Word (codes "t") ∷ Word (codes "set") ∷ Word (codes "a") ∷ t.Symbol s.Equal ∷ Number 1 ∷ t.Symbol s.Comma ∷ Word (codes "b") ∷ t.Symbol s.Equal ∷ Word (codes "not") ∷ Word (codes "c") ∷ Word (codes "where") ∷ Word (codes "a") ∷ t.Symbol s.Equal ∷ Number 2 ∷ Word (codes "returning") ∷ t.Symbol s.Star ∷ [])
+unfolding reserved g.statement g.body g.select g.insert g.update g.set_columns g.all_set_columns g.set_column g.ending g.condition g.returning g.returned g.columns g.column with_comma cut.with_comma g.expr g.or g.or_next g.and g.and_next g.not_ g.nots g.is g.null_test g.cmp g.memb g.sum g.comparison g.prim g.name g.literal g.constant g.text g.number g.digits
+update_written = refl
+
+-- UPDATE t SET a = a + 1, b = (c - 1) NOT IN (a + 2, d) WHERE c IN (1, 2) RETURNING *
+update_list_written : (g.statement 3).rule.prints.writes (st.Update record {
+  table = codes "t";
+  settings = record { column = codes "a"; value = e.Sum (part.Plus ∷ []) (e.More (e.Column (codes "a")) (e.More (e.Literal (v.Int (pos 1))) e.End)) } ∷ record {
+    column = codes "b";
+    value = e.NotAmong (e.Sum (part.Minus ∷ []) (e.More (e.Column (codes "c")) (e.More (e.Literal (v.Int (pos 1))) e.End)))
+        (e.More (e.Sum (part.Plus ∷ []) (e.More (e.Column (codes "a")) (e.More (e.Literal (v.Int (pos 2))) e.End))) (e.More (e.Column (codes "d")) e.End));
+  } ∷ [];
+  condition = Some (e.Among (e.Column (codes "c")) (e.More (e.Literal (v.Int (pos 1))) (e.More (e.Literal (v.Int (pos 2))) e.End)));
+  returning = Some selected.All;
+}) ≡ Some
+    (Word (codes "update") ∷ Word (codes "t") ∷ Word (codes "set") ∷ Word (codes "a") ∷ t.Symbol s.Equal ∷ Word (codes "a") ∷ t.Symbol s.Plus ∷ Number 1 ∷ t.Symbol s.Comma ∷ Word (codes "b") ∷ t.Symbol s.Equal
+    ∷ t.Symbol s.LParen ∷ Word (codes "c") ∷ t.Symbol s.Minus ∷ Number 1 ∷ t.Symbol s.RParen ∷ Word (codes "not") ∷ Word (codes "in") ∷ t.Symbol s.LParen ∷ Word (codes "a") ∷ t.Symbol s.Plus ∷ Number 2 ∷ t.Symbol s.Comma ∷ Word (codes "d") ∷ t.Symbol s.RParen
+    ∷ Word (codes "where") ∷ Word (codes "c") ∷ Word (codes "in") ∷ t.Symbol s.LParen ∷ Number 1 ∷ t.Symbol s.Comma ∷ Number 2 ∷ t.Symbol s.RParen ∷ Word (codes "returning") ∷ t.Symbol s.Star ∷ [])
+unfolding reserved g.statement g.body g.select g.insert g.update g.set_columns g.all_set_columns g.set_column g.ending g.condition g.returning g.returned g.columns g.column with_comma cut.with_comma g.sum_next g.part_sign g.in_list g.in_word g.tuple g.parts g.expr g.or g.or_next g.and g.and_next g.not_ g.nots g.is g.null_test g.cmp g.memb g.sum g.comparison g.prim g.name g.literal g.constant g.text g.number g.digits
+update_list_written = refl
+
+-- DELETE FROM t WHERE NOT a RETURNING b, c
+delete_written : (g.statement 2).rule.prints.writes (st.Delete record { table = codes "t"; condition = Some (e.Not (e.Column (codes "a"))); returning = Some (selected.Items (e.Column (codes "b") ∷ e.Column (codes "c") ∷ [])) }) ≡ Some
+    (Word (codes "delete") ∷ Word (codes "from") ∷ Word (codes "t") ∷ Word (codes "where") ∷ Word (codes "not") ∷ Word (codes "a") ∷ Word (codes "returning") ∷ Word (codes "b") ∷ t.Symbol s.Comma ∷ Word (codes "c") ∷ [])
+unfolding reserved g.statement g.body g.select g.insert g.update g.delete g.ending g.condition g.returning g.returned g.columns g.column with_comma g.expr g.or g.or_next g.and g.and_next g.not_ g.nots g.is g.null_test g.cmp g.memb g.sum g.comparison g.prim g.name g.literal g.constant g.text g.number g.digits
+delete_written = refl
+
+-- COUNT(*) isn't written behind RETURNING.
+count_not_returned : g.returning.prints.writes (Some selected.Count) ≡ None
+unfolding g.returning g.returned
+count_not_returned = refl
 
 -- CREATE ROLE x NOSUPERUSER BYPASSRLS
 role_written : (g.statement 1).rule.prints.writes (st.CreateRole record { name = codes "x"; attributes = record { superuser = Some false; login = None; bypass_rls = Some true } }) ≡ Some
     (Word (codes "create") ∷ Word (codes "role") ∷ Word (codes "x") ∷ Word (codes "nosuperuser") ∷ Word (codes "bypassrls") ∷ [])
-unfolding reserved g.statement g.body g.select g.insert g.create g.role g.name g.attributes_of_role g.attributes_if_any g.attributes g.first_and_more g.attribute
+unfolding reserved g.statement g.body g.select g.insert g.update g.delete g.create g.role g.name g.attributes_of_role g.attributes_if_any g.attributes g.first_and_more g.attribute
 role_written = refl
 
 -- CREATE TABLE t (a INTEGER NOT NULL, b BOOLEAN, PRIMARY KEY (b, a))
@@ -84,104 +158,104 @@ table_written : (g.statement 1).rule.prints.writes (st.CreateTable record {
 }) ≡ Some
     (Word (codes "create") ∷ Word (codes "table") ∷ Word (codes "t") ∷ t.Symbol s.LParen ∷ Word (codes "a") ∷ Word (codes "integer") ∷ Word (codes "not") ∷ Word (codes "null") ∷ t.Symbol s.Comma ∷ Word (codes "b") ∷ Word (codes "boolean") ∷ t.Symbol s.Comma
     ∷ Word (codes "primary") ∷ Word (codes "key") ∷ t.Symbol s.LParen ∷ Word (codes "b") ∷ t.Symbol s.Comma ∷ Word (codes "a") ∷ t.Symbol s.RParen ∷ t.Symbol s.RParen ∷ [])
-unfolding reserved g.statement g.body g.select g.insert g.create g.role g.table g.proper_elements g.columns_and_key g.listed_elements g.table_elements g.table_element g.column_definition g.column_type g.column_marks g.all_marks g.column_mark g.primary_key g.distinct_names g.names with_comma g.name
+unfolding reserved g.statement g.body g.select g.insert g.update g.delete g.create g.role g.table g.proper_elements g.columns_and_key g.listed_elements g.table_elements g.table_element g.column_definition g.column_type g.column_marks g.all_marks g.column_mark g.primary_key g.distinct_names g.names with_comma g.name
 table_written = refl
 
 -- CREATE TABLE t (a TEXT NOT NULL PRIMARY KEY)
 marks_written : (g.statement 1).rule.prints.writes (st.CreateTable record { name = codes "t"; columns = record { column = record { name = codes "a"; kind = k.Text; not_null = true }; is_key = true } ∷ []; key = None }) ≡ Some
     (Word (codes "create") ∷ Word (codes "table") ∷ Word (codes "t") ∷ t.Symbol s.LParen ∷ Word (codes "a") ∷ Word (codes "text") ∷ Word (codes "not") ∷ Word (codes "null") ∷ Word (codes "primary") ∷ Word (codes "key") ∷ t.Symbol s.RParen ∷ [])
-unfolding reserved g.statement g.body g.select g.insert g.create g.role g.table g.proper_elements g.columns_and_key g.listed_elements g.table_elements g.table_element g.column_definition g.column_type g.column_marks g.all_marks g.column_mark with_comma g.name
+unfolding reserved g.statement g.body g.select g.insert g.update g.delete g.create g.role g.table g.proper_elements g.columns_and_key g.listed_elements g.table_elements g.table_element g.column_definition g.column_type g.column_marks g.all_marks g.column_mark with_comma g.name
 marks_written = refl
 
 -- ALTER TABLE t ENABLE ROW LEVEL SECURITY
 alter_written : (g.statement 1).rule.prints.writes (st.AlterTable record { table = codes "t"; change = change.Enable }) ≡ Some
     (Word (codes "alter") ∷ Word (codes "table") ∷ Word (codes "t") ∷ Word (codes "enable") ∷ Word (codes "row") ∷ Word (codes "level") ∷ Word (codes "security") ∷ [])
-unfolding reserved g.statement g.body g.select g.insert g.create g.role g.table g.policy g.alter g.altered_role g.altered_table g.row_change g.name
+unfolding reserved g.statement g.body g.select g.insert g.update g.delete g.create g.role g.table g.policy g.alter g.altered_role g.altered_table g.row_change g.name
 alter_written = refl
 
 -- ALTER TABLE t NO FORCE ROW LEVEL SECURITY
 no_force_written : (g.statement 1).rule.prints.writes (st.AlterTable record { table = codes "t"; change = change.NoForce }) ≡ Some
     (Word (codes "alter") ∷ Word (codes "table") ∷ Word (codes "t") ∷ Word (codes "no") ∷ Word (codes "force") ∷ Word (codes "row") ∷ Word (codes "level") ∷ Word (codes "security") ∷ [])
-unfolding reserved g.statement g.body g.select g.insert g.create g.role g.table g.policy g.alter g.altered_role g.altered_table g.row_change g.name
+unfolding reserved g.statement g.body g.select g.insert g.update g.delete g.create g.role g.table g.policy g.alter g.altered_role g.altered_table g.row_change g.name
 no_force_written = refl
 
 -- CREATE POLICY p ON t AS PERMISSIVE FOR ALL TO PUBLIC WITH CHECK (a)
 policy_written : (g.statement 2).rule.prints.writes (st.CreatePolicy record { table = codes "t"; policy = record { name = codes "p"; permissive = true; kind = kind.All; to = to.Public ∷ []; using = None; check = Some (e.Column (codes "a")) } }) ≡ Some
     (Word (codes "create") ∷ Word (codes "policy") ∷ Word (codes "p") ∷ Word (codes "on") ∷ Word (codes "t") ∷ Word (codes "as") ∷ Word (codes "permissive") ∷ Word (codes "for") ∷ Word (codes "all") ∷ Word (codes "to") ∷ Word (codes "public")
     ∷ Word (codes "with") ∷ Word (codes "check") ∷ t.Symbol s.LParen ∷ Word (codes "a") ∷ t.Symbol s.RParen ∷ [])
-unfolding reserved g.statement g.body g.select g.insert g.create g.role g.table g.policy g.proper_description g.description g.policy_on g.policy_options g.permissive g.for_commands g.policy_kind g.command_type g.for_grantees g.to_grantees g.grantees g.grantee g.conditions g.using g.check g.parenthesized with_comma g.expr g.or g.or_next g.and g.and_next g.not_ g.nots g.is g.null_test g.cmp g.comparison g.prim g.name g.literal g.constant g.text g.number g.digits
+unfolding reserved g.statement g.body g.select g.insert g.update g.delete g.create g.role g.table g.policy g.proper_description g.description g.policy_on g.policy_options g.permissive g.for_commands g.policy_kind g.command_type g.for_grantees g.to_grantees g.grantees g.grantee g.conditions g.using g.check g.parenthesized with_comma g.expr g.or g.or_next g.and g.and_next g.not_ g.nots g.is g.null_test g.cmp g.memb g.sum g.comparison g.prim g.name g.literal g.constant g.text g.number g.digits
 policy_written = refl
 
 -- CREATE POLICY p ON t AS RESTRICTIVE FOR DELETE TO r USING (a)
 restrictive_written : (g.statement 2).rule.prints.writes (st.CreatePolicy record { table = codes "t"; policy = record { name = codes "p"; permissive = false; kind = kind.Only command.Delete; to = to.Role (codes "r") ∷ []; using = Some (e.Column (codes "a")); check = None } }) ≡ Some
     (Word (codes "create") ∷ Word (codes "policy") ∷ Word (codes "p") ∷ Word (codes "on") ∷ Word (codes "t") ∷ Word (codes "as") ∷ Word (codes "restrictive") ∷ Word (codes "for") ∷ Word (codes "delete") ∷ Word (codes "to") ∷ Word (codes "r")
     ∷ Word (codes "using") ∷ t.Symbol s.LParen ∷ Word (codes "a") ∷ t.Symbol s.RParen ∷ [])
-unfolding reserved g.statement g.body g.select g.insert g.create g.role g.table g.policy g.proper_description g.description g.policy_on g.policy_options g.permissive g.for_commands g.policy_kind g.command_type g.for_grantees g.to_grantees g.grantees g.grantee g.conditions g.using g.check g.parenthesized with_comma g.expr g.or g.or_next g.and g.and_next g.not_ g.nots g.is g.null_test g.cmp g.comparison g.prim g.name g.literal g.constant g.text g.number g.digits
+unfolding reserved g.statement g.body g.select g.insert g.update g.delete g.create g.role g.table g.policy g.proper_description g.description g.policy_on g.policy_options g.permissive g.for_commands g.policy_kind g.command_type g.for_grantees g.to_grantees g.grantees g.grantee g.conditions g.using g.check g.parenthesized with_comma g.expr g.or g.or_next g.and g.and_next g.not_ g.nots g.is g.null_test g.cmp g.memb g.sum g.comparison g.prim g.name g.literal g.constant g.text g.number g.digits
 restrictive_written = refl
 
 -- ALTER POLICY p ON t TO r, PUBLIC WITH CHECK (a)
 altered_policy_written : (g.statement 2).rule.prints.writes (st.AlterPolicy record { name = codes "p"; table = codes "t"; to = Some (to.Role (codes "r") ∷ to.Public ∷ []); using = None; check = Some (e.Column (codes "a")) }) ≡ Some
     (Word (codes "alter") ∷ Word (codes "policy") ∷ Word (codes "p") ∷ Word (codes "on") ∷ Word (codes "t") ∷ Word (codes "to") ∷ Word (codes "r") ∷ t.Symbol s.Comma ∷ Word (codes "public")
     ∷ Word (codes "with") ∷ Word (codes "check") ∷ t.Symbol s.LParen ∷ Word (codes "a") ∷ t.Symbol s.RParen ∷ [])
-unfolding reserved g.statement g.body g.select g.insert g.create g.role g.table g.policy g.alter g.altered_role g.altered_table g.altered_policy g.policy_on g.proper_change g.policy_change g.grantees_if_any g.to_grantees g.grantees g.grantee g.conditions g.using g.check g.parenthesized with_comma g.expr g.or g.or_next g.and g.and_next g.not_ g.nots g.is g.null_test g.cmp g.comparison g.prim g.name g.literal g.constant g.text g.number g.digits
+unfolding reserved g.statement g.body g.select g.insert g.update g.delete g.create g.role g.table g.policy g.alter g.altered_role g.altered_table g.altered_policy g.policy_on g.proper_change g.policy_change g.grantees_if_any g.to_grantees g.grantees g.grantee g.conditions g.using g.check g.parenthesized with_comma g.expr g.or g.or_next g.and g.and_next g.not_ g.nots g.is g.null_test g.cmp g.memb g.sum g.comparison g.prim g.name g.literal g.constant g.text g.number g.digits
 altered_policy_written = refl
 
 -- DROP POLICY p ON t
 dropped_policy_written : (g.statement 1).rule.prints.writes (st.DropPolicy record { name = codes "p"; table = codes "t" }) ≡ Some
     (Word (codes "drop") ∷ Word (codes "policy") ∷ Word (codes "p") ∷ Word (codes "on") ∷ Word (codes "t") ∷ [])
-unfolding reserved g.statement g.body g.select g.insert g.create g.role g.table g.policy g.alter g.altered_role g.altered_table g.altered_policy g.flat_body g.dropped_policy g.policy_on g.name
+unfolding reserved g.statement g.body g.select g.insert g.update g.delete g.create g.role g.table g.policy g.alter g.altered_role g.altered_table g.altered_policy g.flat_body g.dropped_policy g.policy_on g.name
 dropped_policy_written = refl
 
 -- GRANT INSERT, DELETE ON t TO r, PUBLIC
 grant_written : (g.statement 1).rule.prints.writes (st.Grant record { privileges = record { select = false; insert = true; update = false; delete = true }; table = codes "t"; to = to.Role (codes "r") ∷ to.Public ∷ []; with_option = false }) ≡ Some
     (Word (codes "grant") ∷ Word (codes "insert") ∷ t.Symbol s.Comma ∷ Word (codes "delete") ∷ Word (codes "on") ∷ Word (codes "t") ∷ Word (codes "to") ∷ Word (codes "r") ∷ t.Symbol s.Comma ∷ Word (codes "public") ∷ [])
-unfolding reserved g.statement g.body g.select g.insert g.create g.role g.table g.policy g.alter g.altered_role g.altered_table g.altered_policy g.flat_body g.dropped_policy g.grant g.granted_privileges g.privileges_on g.privileges g.named_privileges g.privilege g.table_name g.granted_to g.to_grantees g.grantees g.grantee g.with_option with_comma g.name
+unfolding reserved g.statement g.body g.select g.insert g.update g.delete g.create g.role g.table g.policy g.alter g.altered_role g.altered_table g.altered_policy g.flat_body g.dropped_policy g.grant g.granted_privileges g.privileges_on g.privileges g.named_privileges g.privilege g.table_name g.granted_to g.to_grantees g.grantees g.grantee g.with_option with_comma g.name
 grant_written = refl
 
 -- GRANT ALL ON t TO r WITH GRANT OPTION
 grant_option_written : (g.statement 1).rule.prints.writes (st.Grant record { privileges = record { select = true; insert = true; update = true; delete = true }; table = codes "t"; to = to.Role (codes "r") ∷ []; with_option = true }) ≡ Some
     (Word (codes "grant") ∷ Word (codes "all") ∷ Word (codes "on") ∷ Word (codes "t") ∷ Word (codes "to") ∷ Word (codes "r") ∷ Word (codes "with") ∷ Word (codes "grant") ∷ Word (codes "option") ∷ [])
-unfolding reserved g.statement g.body g.select g.insert g.create g.role g.table g.policy g.alter g.altered_role g.altered_table g.altered_policy g.flat_body g.dropped_policy g.grant g.granted_privileges g.privileges_on g.privileges g.named_privileges g.privilege g.table_name g.granted_to g.to_grantees g.grantees g.grantee g.with_option with_comma g.name
+unfolding reserved g.statement g.body g.select g.insert g.update g.delete g.create g.role g.table g.policy g.alter g.altered_role g.altered_table g.altered_policy g.flat_body g.dropped_policy g.grant g.granted_privileges g.privileges_on g.privileges g.named_privileges g.privilege g.table_name g.granted_to g.to_grantees g.grantees g.grantee g.with_option with_comma g.name
 grant_option_written = refl
 
 -- REVOKE SELECT ON t FROM r; RESTRICT isn't written
 revoke_written : (g.statement 1).rule.prints.writes (st.Revoke record { option_only = false; privileges = record { select = true; insert = false; update = false; delete = false }; table = codes "t"; from = to.Role (codes "r") ∷ []; cascade = false }) ≡ Some
     (Word (codes "revoke") ∷ Word (codes "select") ∷ Word (codes "on") ∷ Word (codes "t") ∷ Word (codes "from") ∷ Word (codes "r") ∷ [])
-unfolding reserved g.statement g.body g.select g.insert g.create g.role g.table g.policy g.alter g.altered_role g.altered_table g.altered_policy g.flat_body g.dropped_policy g.grant g.granted_privileges g.granted_roles g.revoke g.revoked_privileges g.option_only g.privileges_on g.privileges g.named_privileges g.privilege g.table_name g.revoked_from g.grantees g.grantee g.cascade with_comma g.name
+unfolding reserved g.statement g.body g.select g.insert g.update g.delete g.create g.role g.table g.policy g.alter g.altered_role g.altered_table g.altered_policy g.flat_body g.dropped_policy g.grant g.granted_privileges g.granted_roles g.revoke g.revoked_privileges g.option_only g.privileges_on g.privileges g.named_privileges g.privilege g.table_name g.revoked_from g.grantees g.grantee g.cascade with_comma g.name
 revoke_written = refl
 
 -- REVOKE GRANT OPTION FOR UPDATE ON t FROM PUBLIC CASCADE
 revoke_option_written : (g.statement 1).rule.prints.writes (st.Revoke record { option_only = true; privileges = record { select = false; insert = false; update = true; delete = false }; table = codes "t"; from = to.Public ∷ []; cascade = true }) ≡ Some
     (Word (codes "revoke") ∷ Word (codes "grant") ∷ Word (codes "option") ∷ Word (codes "for") ∷ Word (codes "update") ∷ Word (codes "on") ∷ Word (codes "t") ∷ Word (codes "from") ∷ Word (codes "public") ∷ Word (codes "cascade") ∷ [])
-unfolding reserved g.statement g.body g.select g.insert g.create g.role g.table g.policy g.alter g.altered_role g.altered_table g.altered_policy g.flat_body g.dropped_policy g.grant g.granted_privileges g.granted_roles g.revoke g.revoked_privileges g.option_only g.privileges_on g.privileges g.named_privileges g.privilege g.table_name g.revoked_from g.grantees g.grantee g.cascade with_comma g.name
+unfolding reserved g.statement g.body g.select g.insert g.update g.delete g.create g.role g.table g.policy g.alter g.altered_role g.altered_table g.altered_policy g.flat_body g.dropped_policy g.grant g.granted_privileges g.granted_roles g.revoke g.revoked_privileges g.option_only g.privileges_on g.privileges g.named_privileges g.privilege g.table_name g.revoked_from g.grantees g.grantee g.cascade with_comma g.name
 revoke_option_written = refl
 
 -- ALTER ROLE x LOGIN NOBYPASSRLS
 alter_role_written : (g.statement 1).rule.prints.writes (st.AlterRole record { name = codes "x"; attributes = record { superuser = None; login = Some true; bypass_rls = Some false } }) ≡ Some
     (Word (codes "alter") ∷ Word (codes "role") ∷ Word (codes "x") ∷ Word (codes "login") ∷ Word (codes "nobypassrls") ∷ [])
-unfolding reserved g.statement g.body g.select g.insert g.create g.role g.table g.policy g.alter g.altered_role g.altered_table g.written_attributes g.attributes g.first_and_more g.attribute g.name
+unfolding reserved g.statement g.body g.select g.insert g.update g.delete g.create g.role g.table g.policy g.alter g.altered_role g.altered_table g.written_attributes g.attributes g.first_and_more g.attribute g.name
 alter_role_written = refl
 
 -- GRANT a, b TO c WITH ADMIN TRUE, SET FALSE
 grant_roles_written : (g.statement 1).rule.prints.writes (st.GrantRoles record { roles = codes "a" ∷ codes "b" ∷ []; to = codes "c" ∷ []; options = record { admin = Some true; inherit = None; set = Some false } }) ≡ Some
     (Word (codes "grant") ∷ Word (codes "a") ∷ t.Symbol s.Comma ∷ Word (codes "b") ∷ Word (codes "to") ∷ Word (codes "c") ∷ Word (codes "with")
     ∷ Word (codes "admin") ∷ Word (codes "true") ∷ t.Symbol s.Comma ∷ Word (codes "set") ∷ Word (codes "false") ∷ [])
-unfolding reserved g.statement g.body g.select g.insert g.create g.role g.table g.policy g.alter g.altered_role g.altered_table g.altered_policy g.flat_body g.dropped_policy g.grant g.granted_privileges g.granted_roles g.names g.options g.settings_if_any g.settings g.all_settings g.setting g.option g.flag with_comma g.name
+unfolding reserved g.statement g.body g.select g.insert g.update g.delete g.create g.role g.table g.policy g.alter g.altered_role g.altered_table g.altered_policy g.flat_body g.dropped_policy g.grant g.granted_privileges g.granted_roles g.names g.options g.settings_if_any g.settings g.all_settings g.setting g.option g.flag with_comma g.name
 grant_roles_written = refl
 
 -- REVOKE ADMIN OPTION FOR a FROM b, c
 revoke_roles_written : (g.statement 1).rule.prints.writes (st.RevokeRoles record { option = Some m.Admin; roles = codes "a" ∷ []; from = codes "b" ∷ codes "c" ∷ [] }) ≡ Some
     (Word (codes "revoke") ∷ Word (codes "admin") ∷ Word (codes "option") ∷ Word (codes "for") ∷ Word (codes "a") ∷ Word (codes "from") ∷ Word (codes "b") ∷ t.Symbol s.Comma ∷ Word (codes "c") ∷ [])
-unfolding reserved g.statement g.body g.select g.insert g.create g.role g.table g.policy g.alter g.altered_role g.altered_table g.altered_policy g.flat_body g.dropped_policy g.grant g.granted_privileges g.granted_roles g.revoke g.revoked_privileges g.revoked_memberships g.revoked_option g.option_for g.option g.roles_from g.members g.names with_comma g.name
+unfolding reserved g.statement g.body g.select g.insert g.update g.delete g.create g.role g.table g.policy g.alter g.altered_role g.altered_table g.altered_policy g.flat_body g.dropped_policy g.grant g.granted_privileges g.granted_roles g.revoke g.revoked_privileges g.revoked_memberships g.revoked_option g.option_for g.option g.roles_from g.members g.names with_comma g.name
 revoke_roles_written = refl
 
 -- SET ROLE NONE, and RESET ROLE
 set_role_written : (g.statement 1).rule.prints.writes (st.SetRole sr.None) ≡ Some (Word (codes "set") ∷ Word (codes "role") ∷ Word (codes "none") ∷ [])
-unfolding reserved g.statement g.body g.select g.insert g.create g.role g.table g.policy g.alter g.altered_role g.altered_table g.altered_policy g.flat_body g.dropped_policy g.grant g.granted_privileges g.granted_roles g.revoke g.revoked_privileges g.revoked_memberships g.revoked_option g.revoked_roles g.set_role g.role_change g.role_set g.role_reset g.chosen_role
+unfolding reserved g.statement g.body g.select g.insert g.update g.delete g.create g.role g.table g.policy g.alter g.altered_role g.altered_table g.altered_policy g.flat_body g.dropped_policy g.grant g.granted_privileges g.granted_roles g.revoke g.revoked_privileges g.revoked_memberships g.revoked_option g.revoked_roles g.set_role g.role_change g.role_set g.role_reset g.chosen_role
 set_role_written = refl
 
 reset_role_written : (g.statement 1).rule.prints.writes (st.SetRole sr.Reset) ≡ Some (Word (codes "reset") ∷ Word (codes "role") ∷ [])
-unfolding reserved g.statement g.body g.select g.insert g.create g.role g.table g.policy g.alter g.altered_role g.altered_table g.altered_policy g.flat_body g.dropped_policy g.grant g.granted_privileges g.granted_roles g.revoke g.revoked_privileges g.revoked_memberships g.revoked_option g.revoked_roles g.set_role g.role_change g.role_set g.role_reset g.chosen_role g.name
+unfolding reserved g.statement g.body g.select g.insert g.update g.delete g.create g.role g.table g.policy g.alter g.altered_role g.altered_table g.altered_policy g.flat_body g.dropped_policy g.grant g.granted_privileges g.granted_roles g.revoke g.revoked_privileges g.revoked_memberships g.revoked_option g.revoked_roles g.set_role g.role_change g.role_set g.role_reset g.chosen_role g.name
 reset_role_written = refl
 
 -- GRANT insert TO r WITH INHERIT OPTION is of a role called insert, and OPTION is TRUE.
@@ -215,6 +289,27 @@ count_is_a_column = refl
 count_of_a_column : g.items.parses.read (Word (codes "count") ∷ t.Symbol s.LParen ∷ Word (codes "a") ∷ t.Symbol s.RParen ∷ []) ≡ None
 unfolding g.items g.count
 count_of_a_column = refl
+
+-- A column twice behind INSERT INTO is nothing,
+inserted_twice : (g.insert (g.expr 1)).rule.parses.read (Word (codes "insert") ∷ Word (codes "into") ∷ Word (codes "t") ∷ t.Symbol s.LParen ∷ Word (codes "a") ∷ t.Symbol s.Comma ∷ Word (codes "a") ∷ t.Symbol s.RParen ∷ Word (codes "values") ∷ t.Symbol s.LParen ∷ Number 1 ∷ t.Symbol s.Comma ∷ Number 2 ∷ t.Symbol s.RParen ∷ []) ≡ None
+unfolding reserved read_many g.insert g.proper_rows g.rows g.columns_if_any g.distinct_names g.names g.even_tuples g.tuples g.tuple g.parts g.returning g.returned g.columns g.column with_comma cut.with_comma g.expr g.or g.or_next g.and g.and_next g.not_ g.nots g.is g.null_test g.cmp g.memb g.sum g.comparison g.prim g.name g.literal g.constant g.text g.number g.digits
+inserted_twice = refl
+
+-- nor is a tuple that isn't as long as the list of columns,
+tuple_too_short : (g.insert (g.expr 1)).rule.parses.read (Word (codes "insert") ∷ Word (codes "into") ∷ Word (codes "t") ∷ t.Symbol s.LParen ∷ Word (codes "a") ∷ t.Symbol s.Comma ∷ Word (codes "b") ∷ t.Symbol s.RParen ∷ Word (codes "values") ∷ t.Symbol s.LParen ∷ Number 1 ∷ t.Symbol s.RParen ∷ []) ≡ None
+unfolding reserved read_many g.insert g.proper_rows g.rows g.columns_if_any g.distinct_names g.names g.even_tuples g.tuples g.tuple g.parts g.returning g.returned g.columns g.column with_comma cut.with_comma g.expr g.or g.or_next g.and g.and_next g.not_ g.nots g.is g.null_test g.cmp g.memb g.sum g.comparison g.prim g.name g.literal g.constant g.text g.number g.digits
+tuple_too_short = refl
+
+-- nor a column that is set twice.
+set_twice : (g.update (g.expr 1)).rule.parses.read (Word (codes "update") ∷ Word (codes "t") ∷ Word (codes "set") ∷ Word (codes "a") ∷ t.Symbol s.Equal ∷ Number 1 ∷ t.Symbol s.Comma ∷ Word (codes "a") ∷ t.Symbol s.Equal ∷ Number 2 ∷ []) ≡ None
+unfolding reserved read_many g.update g.set_columns g.all_set_columns g.set_column g.ending g.condition g.returning g.returned g.columns g.column with_comma cut.with_comma g.expr g.or g.or_next g.and g.and_next g.not_ g.nots g.is g.null_test g.cmp g.memb g.sum g.comparison g.prim g.name g.literal g.constant g.text g.number g.digits
+set_twice = refl
+
+-- Words of UPDATE that aren't reserved are names, and RETURNING ends an expression.
+set_is_a_table : (g.update (g.expr 1)).rule.parses.read (Word (codes "update") ∷ Word (codes "set") ∷ Word (codes "set") ∷ Word (codes "set") ∷ t.Symbol s.Equal ∷ Word (codes "update") ∷ Word (codes "returning") ∷ Word (codes "delete") ∷ []) ≡ Some
+    (st.Update record { table = codes "set"; settings = record { column = codes "set"; value = e.Column (codes "update") } ∷ []; condition = None; returning = Some (selected.Items (e.Column (codes "delete") ∷ [])) }, [])
+unfolding reserved read_many g.update g.set_columns g.all_set_columns g.set_column g.ending g.condition g.returning g.returned g.columns g.column with_comma cut.with_comma g.expr g.or g.or_next g.and g.and_next g.not_ g.nots g.is g.null_test g.cmp g.memb g.sum g.comparison g.prim g.name g.literal g.constant g.text g.number g.digits
+set_is_a_table = refl
 
 -- Words of keys and policies that aren't reserved are names: CREATE TABLE force (key TEXT PRIMARY KEY NOT NULL).
 key_is_a_column : g.table.parses.read (Word (codes "force") ∷ t.Symbol s.LParen ∷ Word (codes "key") ∷ Word (codes "text") ∷ Word (codes "primary") ∷ Word (codes "key") ∷ Word (codes "not") ∷ Word (codes "null") ∷ t.Symbol s.RParen ∷ []) ≡ Some
@@ -266,31 +361,31 @@ column_twice = refl
 -- Without AS, FOR and TO a policy is permissive, for all commands, for PUBLIC.
 defaults : (g.policy (g.expr 1)).rule.parses.read (Word (codes "p") ∷ Word (codes "on") ∷ Word (codes "t") ∷ Word (codes "using") ∷ t.Symbol s.LParen ∷ Word (codes "a") ∷ t.Symbol s.RParen ∷ []) ≡ Some
     (st.CreatePolicy record { table = codes "t"; policy = record { name = codes "p"; permissive = true; kind = kind.All; to = to.Public ∷ []; using = Some (e.Column (codes "a")); check = None } }, [])
-unfolding reserved read_many g.policy g.proper_description g.description g.policy_on g.policy_options g.permissive g.for_commands g.policy_kind g.command_type g.for_grantees g.to_grantees g.grantees g.grantee g.conditions g.using g.check g.parenthesized with_comma g.expr g.or g.or_next g.and g.and_next g.not_ g.nots g.is g.null_test g.cmp g.comparison g.prim g.name g.literal g.constant g.text g.number g.digits
+unfolding reserved read_many g.policy g.proper_description g.description g.policy_on g.policy_options g.permissive g.for_commands g.policy_kind g.command_type g.for_grantees g.to_grantees g.grantees g.grantee g.conditions g.using g.check g.parenthesized with_comma g.expr g.or g.or_next g.and g.and_next g.not_ g.nots g.is g.null_test g.cmp g.memb g.sum g.comparison g.prim g.name g.literal g.constant g.text g.number g.digits
 defaults = refl
 
 -- A role may be called restrictive, a policy permissive.
 restrictive_is_a_role : (g.policy (g.expr 1)).rule.parses.read (Word (codes "permissive") ∷ Word (codes "on") ∷ Word (codes "no") ∷ Word (codes "as") ∷ Word (codes "restrictive") ∷ Word (codes "for") ∷ Word (codes "insert") ∷ Word (codes "to") ∷ Word (codes "restrictive") ∷ Word (codes "with") ∷ Word (codes "check") ∷ t.Symbol s.LParen ∷ Word (codes "a") ∷ t.Symbol s.RParen ∷ []) ≡ Some
     (st.CreatePolicy record { table = codes "no"; policy = record { name = codes "permissive"; permissive = false; kind = kind.Only command.Insert; to = to.Role (codes "restrictive") ∷ []; using = None; check = Some (e.Column (codes "a")) } }, [])
-unfolding reserved read_many g.policy g.proper_description g.description g.policy_on g.policy_options g.permissive g.for_commands g.policy_kind g.command_type g.for_grantees g.to_grantees g.grantees g.grantee g.conditions g.using g.check g.parenthesized with_comma g.expr g.or g.or_next g.and g.and_next g.not_ g.nots g.is g.null_test g.cmp g.comparison g.prim g.name g.literal g.constant g.text g.number g.digits
+unfolding reserved read_many g.policy g.proper_description g.description g.policy_on g.policy_options g.permissive g.for_commands g.policy_kind g.command_type g.for_grantees g.to_grantees g.grantees g.grantee g.conditions g.using g.check g.parenthesized with_comma g.expr g.or g.or_next g.and g.and_next g.not_ g.nots g.is g.null_test g.cmp g.memb g.sum g.comparison g.prim g.name g.literal g.constant g.text g.number g.digits
 restrictive_is_a_role = refl
 
 -- A policy for SELECT has no WITH CHECK,
 checked_select : (g.policy (g.expr 1)).rule.parses.read (Word (codes "p") ∷ Word (codes "on") ∷ Word (codes "t") ∷ Word (codes "for") ∷ Word (codes "select") ∷ Word (codes "with") ∷ Word (codes "check") ∷ t.Symbol s.LParen ∷ Word (codes "a") ∷ t.Symbol s.RParen ∷ []) ≡ None
-unfolding reserved read_many g.policy g.proper_description g.description g.policy_on g.policy_options g.permissive g.for_commands g.policy_kind g.command_type g.for_grantees g.to_grantees g.grantees g.grantee g.conditions g.using g.check g.parenthesized with_comma g.expr g.or g.or_next g.and g.and_next g.not_ g.nots g.is g.null_test g.cmp g.comparison g.prim g.name g.literal g.constant g.text g.number g.digits
+unfolding reserved read_many g.policy g.proper_description g.description g.policy_on g.policy_options g.permissive g.for_commands g.policy_kind g.command_type g.for_grantees g.to_grantees g.grantees g.grantee g.conditions g.using g.check g.parenthesized with_comma g.expr g.or g.or_next g.and g.and_next g.not_ g.nots g.is g.null_test g.cmp g.memb g.sum g.comparison g.prim g.name g.literal g.constant g.text g.number g.digits
 checked_select = refl
 
 -- nor has one for DELETE,
 checked_delete : (g.policy (g.expr 1)).rule.parses.read (Word (codes "p") ∷ Word (codes "on") ∷ Word (codes "t") ∷ Word (codes "for") ∷ Word (codes "delete") ∷ Word (codes "using") ∷ t.Symbol s.LParen ∷ Word (codes "a") ∷ t.Symbol s.RParen ∷ Word (codes "with") ∷ Word (codes "check") ∷ t.Symbol s.LParen ∷ Word (codes "a") ∷ t.Symbol s.RParen ∷ []) ≡ None
-unfolding reserved read_many g.policy g.proper_description g.description g.policy_on g.policy_options g.permissive g.for_commands g.policy_kind g.command_type g.for_grantees g.to_grantees g.grantees g.grantee g.conditions g.using g.check g.parenthesized with_comma g.expr g.or g.or_next g.and g.and_next g.not_ g.nots g.is g.null_test g.cmp g.comparison g.prim g.name g.literal g.constant g.text g.number g.digits
+unfolding reserved read_many g.policy g.proper_description g.description g.policy_on g.policy_options g.permissive g.for_commands g.policy_kind g.command_type g.for_grantees g.to_grantees g.grantees g.grantee g.conditions g.using g.check g.parenthesized with_comma g.expr g.or g.or_next g.and g.and_next g.not_ g.nots g.is g.null_test g.cmp g.memb g.sum g.comparison g.prim g.name g.literal g.constant g.text g.number g.digits
 checked_delete = refl
 
 -- and one for INSERT no USING.
 used_insert : (g.policy (g.expr 1)).rule.parses.read (Word (codes "p") ∷ Word (codes "on") ∷ Word (codes "t") ∷ Word (codes "for") ∷ Word (codes "insert") ∷ Word (codes "using") ∷ t.Symbol s.LParen ∷ Word (codes "a") ∷ t.Symbol s.RParen ∷ []) ≡ None
-unfolding reserved read_many g.policy g.proper_description g.description g.policy_on g.policy_options g.permissive g.for_commands g.policy_kind g.command_type g.for_grantees g.to_grantees g.grantees g.grantee g.conditions g.using g.check g.parenthesized with_comma g.expr g.or g.or_next g.and g.and_next g.not_ g.nots g.is g.null_test g.cmp g.comparison g.prim g.name g.literal g.constant g.text g.number g.digits
+unfolding reserved read_many g.policy g.proper_description g.description g.policy_on g.policy_options g.permissive g.for_commands g.policy_kind g.command_type g.for_grantees g.to_grantees g.grantees g.grantee g.conditions g.using g.check g.parenthesized with_comma g.expr g.or g.or_next g.and g.and_next g.not_ g.nots g.is g.null_test g.cmp g.memb g.sum g.comparison g.prim g.name g.literal g.constant g.text g.number g.digits
 used_insert = refl
 
 -- ALTER POLICY changes something.
 nothing_altered : (g.altered_policy (g.expr 1)).rule.parses.read (Word (codes "p") ∷ Word (codes "on") ∷ Word (codes "t") ∷ []) ≡ None
-unfolding reserved read_many g.altered_policy g.policy_on g.proper_change g.policy_change g.grantees_if_any g.to_grantees g.grantees g.grantee g.conditions g.using g.check g.parenthesized with_comma g.expr g.or g.or_next g.and g.and_next g.not_ g.nots g.is g.null_test g.cmp g.comparison g.prim g.name g.literal g.constant g.text g.number g.digits
+unfolding reserved read_many g.altered_policy g.policy_on g.proper_change g.policy_change g.grantees_if_any g.to_grantees g.grantees g.grantee g.conditions g.using g.check g.parenthesized with_comma g.expr g.or g.or_next g.and g.and_next g.not_ g.nots g.is g.null_test g.cmp g.memb g.sum g.comparison g.prim g.name g.literal g.constant g.text g.number g.digits
 nothing_altered = refl

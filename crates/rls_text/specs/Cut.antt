@@ -182,11 +182,11 @@ level node below to = record { rule = base.level node.rule below to; read = node
 
 -- a level of precedence: the level below and what goes on with it, or the level below alone; where it goes on, what
 -- stands before is written as an operand
-abbrev pub chain : {A I B L : Type 0} {to : A → I} {k : List B → L} {hp mp hq mq : List Head} {ep eq : Bool} → (f : A × List B → A) → (f' : I × L → I) → ((r : A × List B) → to (f r) ≡ f' (to r.0, k r.1))
-    → (back : A → Option (A × List B)) → ((b : A) (a : A × List B) → back b ≡ Some a → b ≡ f a) → (below : Cut to hp mp ep) → Writer below.rule.spells → (more : Cut k hq mq eq)
-    → more.rule.spells [] [] → ((a : A) → f (a, []) ≡ a) → apart mp hq ≡ true → Cut to (hp ++ when ep hq) (mq ++ when eq mp) (ep && eq)
-chain {to = to} f f' square back law below operand more none alone e =
-    level (mapped to f f' square back law (both (writing below operand) more e)) below.rule.prints (without_second f below.rule.spells more.rule.spells (λ a. a) [] none alone)
+abbrev pub chain : {A I B L : Type 0} {to : A → I} {k : B → L} {hp mp hq mq : List Head} {ep eq : Bool} → (f : A × B → A) → (f' : I × L → I) → ((r : A × B) → to (f r) ≡ f' (to r.0, k r.1))
+    → (back : A → Option (A × B)) → ((b : A) (a : A × B) → back b ≡ Some a → b ≡ f a) → (below : Cut to hp mp ep) → Writer below.rule.spells → (more : Cut k hq mq eq)
+    → (nothing : B) → more.rule.spells [] nothing → ((a : A) → f (a, nothing) ≡ a) → apart mp hq ≡ true → Cut to (hp ++ when ep hq) (mq ++ when eq mp) (ep && eq)
+chain {to = to} f f' square back law below operand more nothing none alone e =
+    level (mapped to f f' square back law (both (writing below operand) more e)) below.rule.prints (without_second f below.rule.spells more.rule.spells (λ a. a) nothing none alone)
 
 -- what f' makes of the values is kept, since `out` makes the same of what the rule spells
 abbrev pub kept_as : {A J : Type 0} {hp mp : List Head} {ep : Bool} → (out f' : A → J) → (P : Rule A hp mp ep) → ((ts : List Token) (a : A) → P.spells ts a → out a ≡ f' a) → Cut out hp mp ep

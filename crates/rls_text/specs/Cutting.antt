@@ -4,15 +4,18 @@ use Rattle.std.specs.Prelude.{◌≡◌, ℕ, zero, suc, ◌+◌, ◌≤◌, ◌
 use Rattle.std.proofs.Common.{arith, sym, ap, ◌∙◌, append_assoc}
 use Rattle.std.proofs.lemmas.Bool.{ltb-true, ltb-false, lt-ltb, le-ltb}
 use Rattle.rls_expr.specs.declared.expr.Comparison.{Comparison}
+use Rattle.rls_expr.specs.declared.expr.Sign.{Sign}
 use Rattle.rls_expr.specs.Terms.{Term, Terms, terms_of}
 use Rattle.rls_expr.specs.Terms as e
+use Rattle.rls_statement.specs.declared.changing.Setting.{Setting}
 use Rattle.rls_statement.specs.declared.statement.Statement.{Statement}
 use Rattle.rls_statement.specs.declared.statement.Statement.TheVariants as st
-use Rattle.rls_text.specs.declared.tree.Operands.TheVariants.{Several}
+use Rattle.rls_text.specs.declared.tree.Operands.{Operands}
+use Rattle.rls_text.specs.declared.tree.Operands.TheVariants.{One, Several}
 use Rattle.rls_text.specs.Cut.{of_some}
-use Rattle.rls_text.specs.Heights.{height, heights, height_if, highest, height_of}
+use Rattle.rls_text.specs.Heights.{height, heights, height_if, highest, set_values, height_of}
 use Rattle.rls_text.specs.Lang.{put_in}
-use Rattle.rls_text.specs.Trees.{Tree, Tuple, Tuples, Draft, cut, above, null_test_of, with_operand, operands, with_part, tuple_of, with_tuple, tuples_of, parted, deeper}
+use Rattle.rls_text.specs.Trees.{Tree, Tuple, Tuples, Draft, cut, above, null_test_of, with_operand, operands, with_summand, summed, among_of, with_part, tuple_of, with_tuple, tuples_of, SetColumn, SetColumns, with_set_column, set_columns_of, parted, deeper}
 use Rattle.rls_text.specs.Trees as t
 use Rattle.rls_text.specs.Values as values
 use Rattle.rls_text.specs.Writes.{append_end}
@@ -35,6 +38,14 @@ deepest (x ∷ xs) = max (tree_of x).1 (deepest xs)
 abbrev pub tuple_kept : List Term → Tuple
 tuple_kept xs = (terms_kept xs, deepest xs)
 
+-- a part of a sum, behind its sign
+abbrev pub signed_kept : Sign × Term → Sign × Tree
+signed_kept part = (part.0, tree_of part.1)
+
+-- NOT, if it is there, and the list behind IN
+abbrev pub list_kept : Option (Unit {0}) × List Term → Option (Unit {0}) × Tuple
+list_kept r = (r.0, tuple_kept r.1)
+
 -- the depth of the deepest tuple
 abbrev pub deepest_tuple : List (List Term) → ℕ
 deepest_tuple [] = 0
@@ -43,6 +54,26 @@ deepest_tuple (x ∷ xs) = max (deepest x) (deepest_tuple xs)
 -- tuples, with the depth of the deepest
 abbrev pub tuples_kept : List (List Term) → Tuples
 tuples_kept xs = (map terms_kept xs, deepest_tuple xs)
+
+-- the rows of INSERT
+abbrev pub rows_kept : values.Rows → t.Rows
+rows_kept r = (r.0, tuples_kept r.1)
+
+-- a column that is set, with the depth of its expression
+abbrev pub set_column_kept : Setting → SetColumn
+set_column_kept x = (record { column = x.column; value = (tree_of x.value).0 }, (tree_of x.value).1)
+
+-- the columns that are set, each as it is kept
+abbrev pub settings_kept : List Setting → List Setting
+settings_kept = map (λ x. (set_column_kept x).0)
+
+-- these, with the depth of the deepest expression
+abbrev pub set_columns_kept : List Setting → SetColumns
+set_columns_kept xs = (settings_kept xs, deepest (set_values xs))
+
+-- WHERE and RETURNING
+abbrev pub ending_kept : values.Ending Term → values.Ending Tree
+ending_kept r = (of_some tree_of r.0, r.1)
 
 -- USING and WITH CHECK
 abbrev pub conditions_kept : Option Term × Option Term → Option Tree × Option Tree
@@ -59,7 +90,9 @@ change_kept r = (r.0, conditions_kept r.1)
 -- a statement, with the depth of its deepest expression
 abbrev pub draft_of : Statement → Draft
 draft_of (st.Select x) = t.select_of (x.items, (x.table, of_some tree_of x.condition))
-draft_of (st.Insert x) = t.insert_of (x.table, tuples_kept x.tuples)
+draft_of (st.Insert x) = t.insert_of (x.table, (rows_kept (x.columns, x.tuples), x.returning))
+draft_of (st.Update x) = t.update_of (x.table, (set_columns_kept x.settings, ending_kept (x.condition, x.returning)))
+draft_of (st.Delete x) = t.delete_of (x.table, ending_kept (x.condition, x.returning))
 draft_of (st.CreatePolicy x) = (
   st.CreatePolicy record { table = x.table; policy = record x.policy { using = (parted (of_some tree_of x.policy.using)).0; check = (parted (of_some tree_of x.policy.check)).0 } },
   deeper (conditions_kept (x.policy.using, x.policy.check)),
@@ -119,6 +152,13 @@ tuples_high (x ∷ xs) h = go (nat_lt 64 (deepest x)) refl (tuples_high xs)
     go false e again =
         let low : deepest x ≤ 64 = ltb-false 64 (deepest x) e in
         let k = again (omega (arith, h, low)) in omega (arith, k)
+
+pub settings_low : (xs : List Setting) → deepest (set_values xs) ≤ 64 → settings_kept xs ≡ xs
+settings_low [] h = refl
+settings_low (x ∷ xs) h =
+    let first = tree_low x.value (omega (arith, h)) in
+    let more = settings_low xs (omega (arith, h)) in
+    rw (first.0, more) refl
 
 -- ---- the builders
 
@@ -209,6 +249,42 @@ pub or_kept : (r : Term × List Term) → tree_of (values.or_of r.0 r.1) ≡ t.o
 or_kept (x, []) = refl
 or_kept (x, y ∷ xs) = many_kept e.Or (x ∷ y ∷ xs) refl ∙ ap t.or_of (sym (operands_kept x y xs))
 
+summands_kept : (o : Operands) (ys : List Sign) (xs : List (Sign × Term))
+    → put_in with_summand (o, ys) (map signed_kept xs) ≡ (put_in with_operand o (map tree_of (values.parts_of xs)), ys ++ values.signs_of xs)
+unfolding with_summand
+summands_kept o ys [] = ap (λ z. (o, z)) (sym (append_end ys))
+summands_kept o ys (x ∷ xs) =
+    let rest = put_in with_operand (with_operand o (tree_of x.1)) (map tree_of (values.parts_of xs)) in
+    summands_kept (with_operand o (tree_of x.1)) (ys ++ x.0 ∷ []) xs ∙ ap (λ z. (rest, z)) (append_assoc ys (x.0 ∷ []) (values.signs_of xs))
+
+pub sum_kept : (r : Term × List (Sign × Term)) → tree_of (values.sum_of r.0 r.1) ≡ t.sum_of (summed (tree_of r.0) (map signed_kept r.1))
+sum_kept (x, []) = refl
+sum_kept (x, y ∷ ys) =
+    let signs = values.signs_of (y ∷ ys) in
+    many_kept (e.Sum signs) (x ∷ values.parts_of (y ∷ ys)) refl
+    ∙ ap (λ z. t.sum_of (z, signs)) (sym (operands_kept x y.1 (values.parts_of ys)))
+    ∙ ap t.sum_of (sym (summands_kept (One (tree_of x).0 (tree_of x).1) [] (y ∷ ys)))
+
+-- IN or NOT IN, above its left side and the list
+list_is_kept : (node : Term → Terms → Term) (x : Term) (xs : List Term) → height (node x (terms_of xs)) ≡ max (height x) (heights (terms_of xs)) + 1
+    → tree_of (node x (terms_of xs)) ≡ above (max (tree_of x).1 (deepest xs)) (node (tree_of x).0 (terms_of (terms_kept xs)))
+list_is_kept node x xs up =
+    node_kept (node x (terms_of xs)) (node (tree_of x).0 (terms_of (terms_kept xs))) (max (height x) (heights (terms_of xs))) (max (tree_of x).1 (deepest xs)) up
+    (λ h. let k = tree_low x (omega (arith, h)) in let j = terms_low xs (omega (arith, h)) in (rw (k.0, j.0) refl, rw (k.1, j.1) refl))
+    (λ h. go h (nat_lt 64 (tree_of x).1) refl)
+  where
+    go : 64 < max (tree_of x).1 (deepest xs) → (b : Bool) → nat_lt 64 (tree_of x).1 ≡ b → 64 < max (height x) (heights (terms_of xs))
+    go h true p = let k = tree_high x (ltb-true 64 (tree_of x).1 p) in omega (arith, k)
+    go h false p =
+        let low : (tree_of x).1 ≤ 64 = ltb-false 64 (tree_of x).1 p in
+        let k = terms_high xs (omega (arith, h, low)) in omega (arith, k)
+
+pub among_kept : (r : Term × Option (Option (Unit {0}) × List Term)) → tree_of (values.among r.0 r.1) ≡ t.among (tree_of r.0) (of_some list_kept r.1)
+unfolding among_of
+among_kept (x, None) = refl
+among_kept (x, Some (None, xs)) = list_is_kept e.Among x xs refl
+among_kept (x, Some (Some _, xs)) = list_is_kept e.NotAmong x xs refl
+
 parts_kept : (ys : List Term) (d : ℕ) (xs : List Term) → put_in with_part (ys, d) (map tree_of xs) ≡ (ys ++ terms_kept xs, max d (deepest xs))
 unfolding with_part
 parts_kept ys d [] = let k : max d 0 ≡ d = omega arith in rw (k) (ap (λ z. (z, d)) (sym (append_end ys)))
@@ -229,6 +305,24 @@ more_kept ys d (x ∷ xs) =
 pub tuples_are_kept : (r : List Term × List (List Term)) → tuples_kept (r.0 ∷ r.1) ≡ tuples_of (tuple_kept r.0) (map tuple_kept r.1)
 tuples_are_kept r = sym (more_kept (terms_kept r.0 ∷ []) (deepest r.0) r.1)
 
+more_set : (ys : List Setting) (d : ℕ) (xs : List Setting) → put_in with_set_column (ys, d) (map set_column_kept xs) ≡ (ys ++ settings_kept xs, max d (deepest (set_values xs)))
+unfolding with_set_column
+more_set ys d [] = let k : max d 0 ≡ d = omega arith in rw (k) (ap (λ z. (z, d)) (sym (append_end ys)))
+more_set ys d (x ∷ xs) =
+    let y = set_column_kept x in
+    let k : max (max d y.1) (deepest (set_values xs)) ≡ max d (max y.1 (deepest (set_values xs))) = omega arith in
+    more_set (ys ++ y.0 ∷ []) (max d y.1) xs ∙ ap (λ z. (z, max (max d y.1) (deepest (set_values xs)))) (append_assoc ys (y.0 ∷ []) (settings_kept xs)) ∙ ap (λ z. (ys ++ y.0 ∷ settings_kept xs, z)) k
+
+pub set_columns_are_kept : (r : Setting × List Setting) → set_columns_kept (r.0 ∷ r.1) ≡ set_columns_of (set_column_kept r.0) (map set_column_kept r.1)
+set_columns_are_kept r = sym (more_set ((set_column_kept r.0).0 ∷ []) (set_column_kept r.0).1 r.1)
+
+names_kept : (xs : List Setting) → values.set_names (settings_kept xs) ≡ values.set_names xs
+names_kept [] = refl
+names_kept (x ∷ xs) = ap (λ z. x.column ∷ z) (names_kept xs)
+
+pub distinct_kept : (xs : List Setting) → values.are_distinct (values.set_names (set_columns_kept xs).0) ≡ values.are_distinct (values.set_names xs)
+distinct_kept xs = ap values.are_distinct (names_kept xs)
+
 length_kept : (xs : List Term) → length (terms_kept xs) ≡ length xs
 length_kept [] = refl
 length_kept (x ∷ xs) = let k = length_kept xs in omega (arith, k)
@@ -240,6 +334,13 @@ lengths_kept n (x ∷ xs) = ap (λ z. nat_eq z n && values.have_length n (map te
 pub even_kept : (xs : List (List Term)) → values.are_even (tuples_kept xs).0 ≡ values.are_even xs
 even_kept [] = refl
 even_kept (x ∷ xs) = ap (λ n. values.have_length n (map terms_kept xs)) (length_kept x) ∙ lengths_kept (length x) xs
+
+as_long_kept : (o : Option (List (List ℕ))) (xs : List (List Term)) → values.are_as_long o (tuples_kept xs).0 ≡ values.are_as_long o xs
+as_long_kept None xs = refl
+as_long_kept (Some names) xs = lengths_kept (length names) xs
+
+pub long_kept : (r : values.Rows) → values.are_as_long (rows_kept r).0 (rows_kept r).1.0 ≡ values.are_as_long r.0 r.1
+long_kept r = as_long_kept r.0 r.1
 
 there_kept : (o : Option Term) → is_some (of_some tree_of o) ≡ is_some o
 there_kept None = refl
@@ -263,7 +364,15 @@ if_high (Some x) h = tree_high x h
 
 pub draft_low : (x : Statement) → (draft_of x).1 ≤ 64 → ((draft_of x).0 ≡ x) × ((draft_of x).1 ≡ height_of x)
 draft_low (st.Select x) h = let k = if_low x.condition h in (ap (λ z. st.Select record { items = x.items; table = x.table; condition = z }) k.0, k.1)
-draft_low (st.Insert x) h = let k = tuples_low x.tuples h in (ap (λ z. st.Insert record { table = x.table; tuples = z }) k.0, k.1)
+draft_low (st.Insert x) h = let k = tuples_low x.tuples h in (ap (λ z. st.Insert record x { tuples = z }) k.0, k.1)
+draft_low (st.Update x) h =
+    let k = settings_low x.settings (omega (arith, h)) in
+    let s = terms_low (set_values x.settings) (omega (arith, h)) in
+    let j = if_low x.condition (omega (arith, h)) in (
+      ap (λ z. st.Update record x { settings = z; condition = (parted (of_some tree_of x.condition)).0 }) k ∙ ap (λ z. st.Update record x { condition = z }) j.0,
+      rw (s.1, j.1) refl,
+    )
+draft_low (st.Delete x) h = let k = if_low x.condition h in (ap (λ z. st.Delete record x { condition = z }) k.0, k.1)
 draft_low (st.CreatePolicy x) h =
     let k = if_low x.policy.using (omega (arith, h)) in
     let j = if_low x.policy.check (omega (arith, h)) in (
@@ -297,9 +406,20 @@ either_high using check h = go (nat_lt 64 (parted (of_some tree_of using)).1) re
         let low : (parted (of_some tree_of using)).1 ≤ 64 = ltb-false 64 (parted (of_some tree_of using)).1 p in
         let k = if_high check (omega (arith, h, low)) in omega (arith, k)
 
+update_high : (settings : List Setting) (condition : Option Term) → 64 < max (deepest (set_values settings)) (parted (of_some tree_of condition)).1 → 64 < max (heights (terms_of (set_values settings))) (height_if condition)
+update_high settings condition h = go (nat_lt 64 (deepest (set_values settings))) refl
+  where
+    go : (b : Bool) → nat_lt 64 (deepest (set_values settings)) ≡ b → 64 < max (heights (terms_of (set_values settings))) (height_if condition)
+    go true p = let k = terms_high (set_values settings) (ltb-true 64 (deepest (set_values settings)) p) in omega (arith, k)
+    go false p =
+        let low : deepest (set_values settings) ≤ 64 = ltb-false 64 (deepest (set_values settings)) p in
+        let k = if_high condition (omega (arith, h, low)) in omega (arith, k)
+
 pub draft_high : (x : Statement) → 64 < (draft_of x).1 → 64 < height_of x
 draft_high (st.Select x) h = if_high x.condition h
 draft_high (st.Insert x) h = tuples_high x.tuples h
+draft_high (st.Update x) h = update_high x.settings x.condition h
+draft_high (st.Delete x) h = if_high x.condition h
 draft_high (st.CreatePolicy x) h = either_high x.policy.using x.policy.check h
 draft_high (st.AlterPolicy x) h = either_high x.using x.check h
 draft_high (st.DropPolicy x) h = absurd (omega (arith, h))

@@ -17,13 +17,29 @@ literal_heads = constant_heads ++ Texts ∷ Sign s.Minus ∷ Numbers ∷ []
 abbrev pub prim_heads : List Head
 prim_heads = literal_heads ++ Names ∷ Keyword (codes "current_user") ∷ Sign s.LParen ∷ []
 
+-- a sign between the parts of a sum
+abbrev pub sign_heads : List Head
+sign_heads = Sign s.Plus ∷ Sign s.Minus ∷ []
+
+-- IN, NOT IN
+abbrev pub in_heads : List Head
+in_heads = Keyword (codes "not") ∷ Keyword (codes "in") ∷ []
+
+-- what goes on behind a sum that may be the left side of IN
+abbrev pub memb_more : List Head
+memb_more = in_heads ++ sign_heads
+
 -- a comparison
 abbrev pub comparison_heads : List Head
 comparison_heads = Sign s.Equal ∷ Sign s.NotEqual ∷ Sign s.Less ∷ Sign s.LessOrEqual ∷ Sign s.Greater ∷ Sign s.GreaterOrEqual ∷ []
 
--- what goes on behind an operand: a comparison, or a test for nulls
+-- what goes on behind a side of a comparison, or behind the comparison
+abbrev pub cmp_more : List Head
+cmp_more = comparison_heads ++ memb_more
+
+-- what goes on behind an operand: a comparison, IN, a sign, or a test for nulls
 abbrev pub is_more : List Head
-is_more = Keyword (codes "is") ∷ comparison_heads
+is_more = Keyword (codes "is") ∷ cmp_more
 
 -- an expression
 abbrev pub expr_heads : List Head
@@ -36,6 +52,14 @@ expr_more = Keyword (codes "or") ∷ Keyword (codes "and") ∷ is_more
 -- behind a statement with a condition
 abbrev pub condition_more : List Head
 condition_more = Keyword (codes "where") ∷ expr_more
+
+-- behind rows that are inserted
+abbrev pub inserted_more : List Head
+inserted_more = Sign s.Comma ∷ Keyword (codes "returning") ∷ []
+
+-- behind UPDATE and DELETE
+abbrev pub changed_more : List Head
+changed_more = inserted_more ++ condition_more
 
 -- a role's attributes
 abbrev pub attribute_heads : List Head
@@ -95,11 +119,11 @@ flat_more = Keyword (codes "with") ∷ revoked_more
 
 -- a statement
 abbrev pub body_heads : List Head
-body_heads = Keyword (codes "select") ∷ Keyword (codes "insert") ∷ Keyword (codes "create") ∷ Keyword (codes "alter") ∷ flat_heads
+body_heads = Keyword (codes "select") ∷ Keyword (codes "insert") ∷ Keyword (codes "update") ∷ Keyword (codes "delete") ∷ Keyword (codes "create") ∷ Keyword (codes "alter") ∷ flat_heads
 
 -- behind a statement
 abbrev pub body_more : List Head
-body_more = policy_more ++ attribute_heads ++ condition_more ++ revoked_more
+body_more = policy_more ++ attribute_heads ++ changed_more ++ revoked_more
 
 pub literal_apart : apart literal_heads (Names ∷ Keyword (codes "current_user") ∷ Sign s.LParen ∷ []) ≡ true
 unfolding reserved

@@ -17,6 +17,8 @@ use Rattle.rls_expr.specs.Terms.{Term}
 use Rattle.rls_expr.specs.Terms as e
 use Rattle.rls_expr.specs.declared.expr.Comparison.{Comparison}
 use Rattle.rls_expr.specs.declared.expr.Comparison.TheVariants as c
+use Rattle.rls_expr.specs.declared.expr.Sign.{Sign as PartSign}
+use Rattle.rls_expr.specs.declared.expr.Sign.TheVariants as part
 use Rattle.rls_expr.specs.declared.policy.Grantee.{Grantee}
 use Rattle.rls_expr.specs.declared.policy.Grantee.TheVariants as to
 use Rattle.rls_statement.specs.declared.statement.Attributes.{Attributes}
@@ -46,7 +48,7 @@ use Rattle.rls_text.specs.declared.tables.TableElement.TheVariants as element
 use Rattle.rls_text.specs.declared.tables.TableElements.{TableElements}
 use Rattle.std.proofs.Common.{inl, inr}
 use Rattle.rls_text.specs.Heads.{Names, Numbers, Texts, Keyword, Sign, begins, sees}
-use Rattle.rls_text.specs.FirstSets.{constant_heads, literal_heads, prim_heads, comparison_heads, is_more, expr_heads, expr_more, condition_more, attribute_heads, role_more, mark_heads, change_more, policy_more, create_more, alter_more, privilege_heads, privileges_heads, option_heads, granted_more, revoked_more, flat_heads, flat_more, body_heads, body_more, literal_apart, name_apart, not_apart, public_apart, primary_apart, table_apart, none_apart, on_apart, to_apart}
+use Rattle.rls_text.specs.FirstSets.{constant_heads, literal_heads, prim_heads, sign_heads, in_heads, memb_more, comparison_heads, cmp_more, is_more, expr_heads, expr_more, condition_more, inserted_more, changed_more, attribute_heads, role_more, mark_heads, change_more, policy_more, create_more, alter_more, privilege_heads, privileges_heads, option_heads, granted_more, revoked_more, flat_heads, flat_more, body_heads, body_more, literal_apart, name_apart, not_apart, public_apart, primary_apart, table_apart, none_apart, on_apart, to_apart}
 use Rattle.rls_text.specs.Ahead.{on_comes_first, second_is, Skips, both_skips, mapped_skips, either_skips, perhaps_skips, many_skips, token_skips, one_skips, decided_at, decided_before, decided_behind, Alone, only_alone, mapped_alone, either_alone}
 use Rattle.rls_text.specs.Elements.{elements_of}
 use Rattle.rls_text.specs.Elements as elements
@@ -57,7 +59,7 @@ use Rattle.rls_text.specs.Writes.{through, without_second, without_first}
 use Rattle.rls_text.specs.Rule.{Rule, word, sign, one, both, mapped, after_as, before_as, after, before, in_parentheses, either, either_by, perhaps, many, checked, widened, with_comma, as_list, list_law, listed, spelled_as, standing_for, word_for, sign_for}
 use Rattle.rls_text.specs.Cut.{Cut, of_some}
 use Rattle.rls_text.specs.Cut as cut
-use Rattle.rls_text.specs.Cutting.{tree_of, tuple_kept, tuples_kept, draft_of, compared_kept, tested_kept, negated_kept, and_kept, or_kept, tuple_is_kept, tuples_are_kept, even_kept, conditions_kept, description_kept, change_kept, is_policy_kept, is_change_kept}
+use Rattle.rls_text.specs.Cutting.{tree_of, tuple_kept, tuples_kept, rows_kept, set_column_kept, set_columns_kept, ending_kept, draft_of, signed_kept, sum_kept, list_kept, among_kept, compared_kept, tested_kept, negated_kept, and_kept, or_kept, tuple_is_kept, tuples_are_kept, set_columns_are_kept, even_kept, long_kept, distinct_kept, conditions_kept, description_kept, change_kept, is_policy_kept, is_change_kept}
 use Rattle.rls_text.specs.Values as g
 use Rattle.rls_text.specs.WaysBack as back
 use Rattle.rls_text.specs.TablesBack as tables
@@ -71,6 +73,10 @@ name = one g.name_of back.name_begins back.as_name back.name_law
 -- name {"," name}
 unfoldable pub names : Rule (List (List ℕ)) (Names ∷ []) (Sign s.Comma ∷ []) false
 names = listed name
+
+-- name {"," name}, no name twice
+unfoldable pub distinct_names : Rule (List (List ℕ)) (Names ∷ []) (Sign s.Comma ∷ []) false
+distinct_names = checked g.are_distinct names
 
 -- TRUE | FALSE | NULL
 unfoldable pub constant : Rule Value constant_heads [] false
@@ -99,6 +105,14 @@ unfoldable pub comparison : Rule Comparison comparison_heads [] false
 comparison = either (sign_for back.comparisons c.Equal s.Equal) (either (sign_for back.comparisons c.NotEqual s.NotEqual) (either (sign_for back.comparisons c.Less s.Less)
     (either (sign_for back.comparisons c.LessOrEqual s.LessOrEqual) (either (sign_for back.comparisons c.Greater s.Greater) (sign_for back.comparisons c.GreaterOrEqual s.GreaterOrEqual) refl) refl) refl) refl) refl
 
+-- "+" | "-", between the parts of a sum
+unfoldable pub part_sign : Rule PartSign sign_heads [] false
+part_sign = either (sign_for back.signs part.Plus s.Plus) (sign_for back.signs part.Minus s.Minus) refl
+
+-- [NOT] IN
+unfoldable pub in_word : Rule (Option (Unit {0})) in_heads [] false
+in_word = before (perhaps (word (codes "not"))) (word (codes "in")) refl
+
 -- IS [NOT] NULL
 unfoldable pub null_test : Rule (Option (Unit {0})) (Keyword (codes "is") ∷ []) [] false
 null_test = after (word (codes "is")) (before (perhaps (word (codes "not"))) (word (codes "null")) refl) refl
@@ -119,17 +133,53 @@ module _ (inner : Cut tree_of expr_heads expr_more false) where
       (cut.either (cut.mapped tree_of e.Column (λ x. t.leaf (e.Column x)) (λ x. refl) back.as_column back.column_law (cut.plain name))
       (cut.either (cut.mapped tree_of (λ _. e.CurrentUser) (λ _. t.leaf e.CurrentUser) (λ x. refl) back.as_user back.user_law (cut.plain (word (codes "current_user")))) (cut.in_parentheses inner refl) refl) name_apart) literal_apart
 
-  -- prim [comparison prim]
-  unfoldable pub cmp : Cut tree_of prim_heads comparison_heads false
-  cmp = cut.mapped tree_of (λ r. g.compared r.0 r.1) (λ r. t.compared r.0 r.1) compared_kept back.as_compared back.compared_law (cut.both prim (cut.perhaps (cut.both (cut.plain comparison) prim refl)) refl)
+  -- ("+" | "-") prim
+  unfoldable pub sum_next : Cut signed_kept sign_heads [] false
+  sum_next = cut.both (cut.plain part_sign) prim refl
+
+  -- prim {("+" | "-") prim}, one node with all its parts
+  unfoldable pub sum : Cut tree_of prim_heads sign_heads false
+  sum = cut.chain (λ r. g.sum_of r.0 r.1) (λ r. t.sum_of (t.summed r.0 r.1)) sum_kept back.as_sum back.sum_law prim prim.rule.prints (cut.many sum_next refl) [] refl (λ x. refl) refl
+
+  pub prim_sum : (ts : List Token) (x : Term) → prim.rule.spells ts x → sum.rule.spells ts x
+  unfolding sum
+  prim_sum = without_second (λ r. g.sum_of r.0 r.1) prim.rule.spells (Many sum_next.rule.spells) (λ x. x) [] refl (λ x. refl)
+
+  -- expr {"," expr}
+  unfoldable pub parts : Cut tuple_kept expr_heads (Sign s.Comma ∷ expr_more) false
+  parts = cut.widened (cut.mapped tuple_kept (λ r. r.0 ∷ r.1) (λ r. t.tuple_of r.0 r.1) tuple_is_kept as_list list_law (cut.both inner (cut.many (cut.with_comma inner) refl) refl)) refl refl
+
+  -- "(" expr {"," expr} ")"
+  unfoldable pub tuple : Cut tuple_kept (Sign s.LParen ∷ []) [] false
+  tuple = cut.in_parentheses parts refl
+
+  -- [NOT] IN tuple
+  unfoldable pub in_list : Cut list_kept in_heads [] false
+  in_list = cut.both (cut.plain in_word) tuple refl
+
+  -- sum [[NOT] IN tuple]
+  unfoldable pub memb : Cut tree_of prim_heads memb_more false
+  memb = cut.chain (λ r. g.among r.0 r.1) (λ r. t.among r.0 r.1) among_kept back.as_among back.among_law sum (through prim.rule.prints prim_sum) (cut.perhaps in_list) None refl (λ x. refl) refl
+
+  pub prim_memb : (ts : List Token) (x : Term) → prim.rule.spells ts x → memb.rule.spells ts x
+  unfolding memb
+  prim_memb ts x h = without_second (λ r. g.among r.0 r.1) sum.rule.spells (Perhaps in_list.rule.spells) (λ x. x) None refl (λ x. refl) ts x (prim_sum ts x h)
+
+  -- a side of a comparison, written as an operand
+  abbrev pub side : Cut tree_of prim_heads memb_more false
+  side = cut.writing memb (through prim.rule.prints prim_memb)
+
+  -- memb [comparison memb]
+  unfoldable pub cmp : Cut tree_of prim_heads cmp_more false
+  cmp = cut.widened (cut.chain (λ r. g.compared r.0 r.1) (λ r. t.compared r.0 r.1) compared_kept back.as_compared back.compared_law memb (through prim.rule.prints prim_memb) (cut.perhaps (cut.both (cut.plain comparison) side refl)) None refl (λ x. refl) refl) refl refl
 
   pub prim_cmp : (ts : List Token) (x : Term) → prim.rule.spells ts x → cmp.rule.spells ts x
   unfolding cmp
-  prim_cmp = without_second (λ r. g.compared r.0 r.1) prim.rule.spells _ (λ x. x) None refl (λ x. refl)
+  prim_cmp ts x h = without_second (λ r. g.compared r.0 r.1) memb.rule.spells (Perhaps (Both comparison.spells memb.rule.spells)) (λ x. x) None refl (λ x. refl) ts x (prim_memb ts x h)
 
   -- cmp {IS [NOT] NULL}, the tests one upon another
   unfoldable pub is : Cut tree_of prim_heads is_more false
-  is = cut.chain (λ r. put_in g.null_test r.0 r.1) (λ r. put_in t.null_test_of r.0 r.1) tested_kept back.as_tested back.tested_law cmp (through prim.rule.prints prim_cmp) (cut.plain (many null_test refl)) refl (λ x. refl) refl
+  is = cut.chain (λ r. put_in g.null_test r.0 r.1) (λ r. put_in t.null_test_of r.0 r.1) tested_kept back.as_tested back.tested_law cmp (through prim.rule.prints prim_cmp) (cut.plain (many null_test refl)) [] refl (λ x. refl) refl
 
   pub prim_is : (ts : List Token) (x : Term) → prim.rule.spells ts x → is.rule.spells ts x
   unfolding is
@@ -156,7 +206,7 @@ module _ (inner : Cut tree_of expr_heads expr_more false) where
 
   -- not {AND not}, one node with all its operands
   unfoldable pub and : Cut tree_of expr_heads (Keyword (codes "and") ∷ is_more) false
-  and = cut.widened (cut.chain (λ r. g.and_of r.0 r.1) (λ r. t.and_of (t.operands r.0 r.1)) and_kept back.as_and back.and_law not_ (through prim.rule.prints prim_not) (cut.many and_next refl) refl (λ x. refl) refl) refl refl
+  and = cut.widened (cut.chain (λ r. g.and_of r.0 r.1) (λ r. t.and_of (t.operands r.0 r.1)) and_kept back.as_and back.and_law not_ (through prim.rule.prints prim_not) (cut.many and_next refl) [] refl (λ x. refl) refl) refl refl
 
   pub prim_and : (ts : List Token) (x : Term) → prim.rule.spells ts x → and.rule.spells ts x
   unfolding and
@@ -168,14 +218,14 @@ module _ (inner : Cut tree_of expr_heads expr_more false) where
 
   -- and {OR and}, one node with all its operands
   unfoldable pub or : Cut tree_of expr_heads expr_more false
-  or = cut.widened (cut.chain (λ r. g.or_of r.0 r.1) (λ r. t.or_of (t.operands r.0 r.1)) or_kept back.as_or back.or_law and (through prim.rule.prints prim_and) (cut.many or_next refl) refl (λ x. refl) refl) refl refl
+  or = cut.widened (cut.chain (λ r. g.or_of r.0 r.1) (λ r. t.or_of (t.operands r.0 r.1)) or_kept back.as_or back.or_law and (through prim.rule.prints prim_and) (cut.many or_next refl) [] refl (λ x. refl) refl) refl refl
 
 -- or, with parentheses to this depth
 unfoldable pub expr : (depth : ℕ) → Cut tree_of expr_heads expr_more false
 expr zero = cut.never
 expr (suc depth) = or (expr depth)
 
--- ---- SELECT and INSERT
+-- ---- SELECT, INSERT, UPDATE and DELETE
 
 -- a name, as an item
 unfoldable pub column : Rule Term (Names ∷ []) [] false
@@ -216,6 +266,18 @@ no_paren_second front rest a h stop =
 unfoldable pub items : Rule Selected (Sign s.Star ∷ Keyword (codes "count") ∷ Names ∷ []) (Sign s.LParen ∷ Sign s.Comma ∷ []) false
 items = either (mapped (λ _. selected.All) back.as_all back.all_law (sign s.Star)) (either_by (second_is (Sign s.LParen ∷ [])) count column_items paren_second no_paren_second) refl
 
+-- "*" | columns
+unfoldable pub returned : Rule Selected (Sign s.Star ∷ Names ∷ []) (Sign s.Comma ∷ []) false
+returned = either (mapped (λ _. selected.All) back.as_all back.all_law (sign s.Star)) (mapped selected.Items back.as_items back.items_law columns) refl
+
+-- [RETURNING ("*" | columns)]
+unfoldable pub returning : Rule (Option Selected) (Keyword (codes "returning") ∷ []) inserted_more true
+returning = perhaps (after (word (codes "returning")) returned refl)
+
+-- ["(" names ")"], no name twice
+unfoldable pub columns_if_any : Rule (Option (List (List ℕ))) (Sign s.LParen ∷ []) (Sign s.LParen ∷ []) true
+columns_if_any = perhaps (in_parentheses distinct_names refl)
+
 module _ (inner : Cut tree_of expr_heads expr_more false) where
   -- [WHERE expr]
   unfoldable pub condition : Cut (of_some tree_of) (Keyword (codes "where") ∷ []) condition_more true
@@ -226,26 +288,52 @@ module _ (inner : Cut tree_of expr_heads expr_more false) where
   select = cut.widened (cut.mapped draft_of g.select_of t.select_of (λ r. refl) back.as_select back.select_law
       (cut.after (word (codes "select")) (cut.both (cut.plain items) (cut.after (word (codes "from")) (cut.both (cut.plain name) condition refl) refl) refl) refl)) refl refl
 
-  -- expr {"," expr}
-  unfoldable pub parts : Cut tuple_kept expr_heads (Sign s.Comma ∷ expr_more) false
-  parts = cut.widened (cut.mapped tuple_kept (λ r. r.0 ∷ r.1) (λ r. t.tuple_of r.0 r.1) tuple_is_kept as_list list_law (cut.both inner (cut.many (cut.with_comma inner) refl) refl)) refl refl
-
-  -- "(" expr {"," expr} ")"
-  unfoldable pub tuple : Cut tuple_kept (Sign s.LParen ∷ []) [] false
-  tuple = cut.in_parentheses parts refl
-
   -- tuple {"," tuple}
   unfoldable pub tuples : Cut tuples_kept (Sign s.LParen ∷ []) (Sign s.Comma ∷ []) false
-  tuples = cut.mapped tuples_kept (λ r. r.0 ∷ r.1) (λ r. t.tuples_of r.0 r.1) tuples_are_kept as_list list_law (cut.both tuple (cut.many (cut.with_comma tuple) refl) refl)
+  tuples = cut.mapped tuples_kept (λ r. r.0 ∷ r.1) (λ r. t.tuples_of r.0 r.1) tuples_are_kept as_list list_law (cut.both (tuple inner) (cut.many (cut.with_comma (tuple inner)) refl) refl)
 
   -- tuple {"," tuple}, all of one length
   unfoldable pub even_tuples : Cut tuples_kept (Sign s.LParen ∷ []) (Sign s.Comma ∷ []) false
   even_tuples = cut.checked g.are_even (λ kept. g.are_even kept.0) even_kept tuples
 
-  -- INSERT INTO name VALUES tuples
-  unfoldable pub insert : Cut draft_of (Keyword (codes "insert") ∷ []) (Sign s.Comma ∷ []) false
-  insert = cut.mapped draft_of g.insert_of t.insert_of (λ r. refl) back.as_insert back.insert_law
-      (cut.after (word (codes "insert")) (cut.after (word (codes "into")) (cut.both (cut.plain name) (cut.after (word (codes "values")) even_tuples refl) refl) refl) refl)
+  -- ["(" names ")"] VALUES tuples
+  unfoldable pub rows : Cut rows_kept (Sign s.LParen ∷ Keyword (codes "values") ∷ []) (Sign s.Comma ∷ []) false
+  rows = cut.both (cut.plain columns_if_any) (cut.after (word (codes "values")) even_tuples refl) refl
+
+  -- ["(" names ")"] VALUES tuples, as long as the list of names, where one is written
+  unfoldable pub proper_rows : Cut rows_kept (Sign s.LParen ∷ Keyword (codes "values") ∷ []) (Sign s.Comma ∷ []) false
+  proper_rows = cut.checked (λ r. g.are_as_long r.0 r.1) (λ kept. g.are_as_long kept.0 kept.1.0) long_kept rows
+
+  -- INSERT INTO name ["(" names ")"] VALUES tuples [RETURNING ..]
+  unfoldable pub insert : Cut draft_of (Keyword (codes "insert") ∷ []) inserted_more false
+  insert = cut.widened (cut.mapped draft_of g.insert_of t.insert_of (λ r. refl) back.as_insert back.insert_law
+      (cut.after (word (codes "insert")) (cut.after (word (codes "into")) (cut.both (cut.plain name) (cut.both proper_rows (cut.plain returning) refl) refl) refl) refl)) refl refl
+
+  -- name "=" expr
+  unfoldable pub set_column : Cut set_column_kept (Names ∷ []) expr_more false
+  set_column = cut.widened (cut.mapped set_column_kept g.set_column_of t.set_column_of (λ r. refl) back.as_set_column back.set_column_law (cut.both (cut.plain name) (cut.after (sign s.Equal) inner refl) refl)) refl refl
+
+  -- name "=" expr {"," name "=" expr}
+  unfoldable pub all_set_columns : Cut set_columns_kept (Names ∷ []) (Sign s.Comma ∷ expr_more) false
+  all_set_columns = cut.widened (cut.mapped set_columns_kept (λ r. r.0 ∷ r.1) (λ r. t.set_columns_of r.0 r.1) set_columns_are_kept as_list list_law (cut.both set_column (cut.many (cut.with_comma set_column) refl) refl)) refl refl
+
+  -- name "=" expr {"," name "=" expr}, no column twice
+  unfoldable pub set_columns : Cut set_columns_kept (Names ∷ []) (Sign s.Comma ∷ expr_more) false
+  set_columns = cut.checked (λ xs. g.are_distinct (g.set_names xs)) (λ kept. g.are_distinct (g.set_names kept.0)) distinct_kept all_set_columns
+
+  -- [WHERE expr] [RETURNING ..]
+  unfoldable pub ending : Cut ending_kept (Keyword (codes "where") ∷ Keyword (codes "returning") ∷ []) changed_more true
+  ending = cut.widened (cut.both condition (cut.plain returning) refl) refl refl
+
+  -- UPDATE name SET set_columns [WHERE expr] [RETURNING ..]
+  unfoldable pub update : Cut draft_of (Keyword (codes "update") ∷ []) changed_more false
+  update = cut.widened (cut.mapped draft_of g.update_of t.update_of (λ r. refl) back.as_update back.update_law
+      (cut.after (word (codes "update")) (cut.both (cut.plain name) (cut.after (word (codes "set")) (cut.both set_columns ending refl) refl) refl) refl)) refl refl
+
+  -- DELETE FROM name [WHERE expr] [RETURNING ..]
+  unfoldable pub delete : Cut draft_of (Keyword (codes "delete") ∷ []) changed_more false
+  delete = cut.widened (cut.mapped draft_of g.delete_of t.delete_of (λ r. refl) back.as_delete back.delete_law
+      (cut.after (word (codes "delete")) (cut.after (word (codes "from")) (cut.both (cut.plain name) ending refl) refl) refl)) refl refl
 
 -- ---- roles
 
@@ -306,11 +394,7 @@ column_marks = checked g.marked_once all_marks
 unfoldable pub column_definition : Rule MarkedColumn (Names ∷ []) mark_heads false
 column_definition = mapped g.column_of tables.as_definition tables.definition_law (both (both name column_type refl) column_marks refl)
 
--- name {"," name}, no name twice
-unfoldable pub distinct_names : Rule (List (List ℕ)) (Names ∷ []) (Sign s.Comma ∷ []) false
-distinct_names = checked g.are_distinct names
-
--- PRIMARY KEY "(" names ")"
+-- PRIMARY KEY "(" names ")", no name twice
 unfoldable pub primary_key : Rule (List (List ℕ)) (Keyword (codes "primary") ∷ []) [] false
 primary_key = after (word (codes "primary")) (after (word (codes "key")) (in_parentheses distinct_names refl) refl) refl
 
@@ -752,9 +836,10 @@ pub flat_kept : (ts : List Token) (x : Statement) → flat_body.spells ts x → 
 unfolding flat_body
 flat_kept ts x h = elim h [ inl y ↦ dropped_policy_kept ts x y | inr y ↦ elim y [ inl z ↦ grant_kept ts x z | inr z ↦ elim z [ inl u ↦ revoke_kept ts x u | inr u ↦ set_role_kept ts x u ] ] ]
 
--- select | insert | create | alter | flat_body
+-- select | insert | update | delete | create | alter | flat_body
 unfoldable pub body : (inner : Cut tree_of expr_heads expr_more false) → Cut draft_of body_heads body_more false
-body inner = cut.widened (cut.either (select inner) (cut.either (insert inner) (cut.either (create inner) (cut.either (alter inner) (cut.kept_as draft_of t.flat flat_body flat_kept) refl) refl) refl) refl) refl refl
+body inner = cut.widened (cut.either (select inner) (cut.either (insert inner) (cut.either (update inner) (cut.either (delete inner)
+    (cut.either (create inner) (cut.either (alter inner) (cut.kept_as draft_of t.flat flat_body flat_kept) refl) refl) refl) refl) refl) refl) refl refl
 
 -- body [";"], with parentheses to this depth; the semicolon isn't written
 unfoldable pub statement : (depth : ℕ) → Cut draft_of body_heads (Sign s.Semicolon ∷ body_more) false

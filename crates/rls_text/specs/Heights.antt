@@ -1,7 +1,8 @@
 -- How deep an expression is: a leaf counts one.
-use Rattle.std.specs.Prelude.{ℕ, ◌+◌, max, List, [], ◌∷◌, Option, Some, None}
-use Rattle.rls_expr.specs.Terms.{Term, Terms, Literal, Column, Place, CurrentUser, Compare, And, Or, Not, IsNull, IsNotNull, End, More}
+use Rattle.std.specs.Prelude.{ℕ, ◌+◌, max, List, [], ◌∷◌, map, Option, Some, None}
+use Rattle.rls_expr.specs.Terms.{Term, Terms, Literal, Column, Place, CurrentUser, Compare, And, Or, Not, IsNull, IsNotNull, Among, NotAmong, Sum, End, More}
 use Rattle.rls_expr.specs.Terms.{terms_of}
+use Rattle.rls_statement.specs.declared.changing.Setting.{Setting}
 use Rattle.rls_statement.specs.declared.statement.Statement.{Statement}
 use Rattle.rls_statement.specs.declared.statement.Statement.TheVariants as st
 
@@ -18,6 +19,9 @@ abbrev mutual
   height (Not t) = height t + 1
   height (IsNull t) = height t + 1
   height (IsNotNull t) = height t + 1
+  height (Among t ts) = max (height t) (heights ts) + 1
+  height (NotAmong t ts) = max (height t) (heights ts) + 1
+  height (Sum signs ts) = heights ts + 1
 
   -- the highest of them
   pub heights : Terms → ℕ
@@ -34,10 +38,16 @@ abbrev pub highest : List (List Term) → ℕ
 highest [] = 0
 highest (terms ∷ tuples) = max (heights (terms_of terms)) (highest tuples)
 
+-- what columns are set to
+abbrev pub set_values : List Setting → List Term
+set_values = map (λ x. x.value)
+
 -- the highest expression of a statement; 0 where it has none but columns
 abbrev pub height_of : Statement → ℕ
 height_of (st.Select select) = height_if select.condition
 height_of (st.Insert insert) = highest insert.tuples
+height_of (st.Update update) = max (heights (terms_of (set_values update.settings))) (height_if update.condition)
+height_of (st.Delete delete) = height_if delete.condition
 height_of (st.CreatePolicy create) = max (height_if create.policy.using) (height_if create.policy.check)
 height_of (st.AlterPolicy alter) = max (height_if alter.using) (height_if alter.check)
 height_of _ = 0

@@ -3,15 +3,17 @@
 use Rattle.std.specs.Prelude.{ℕ, zero, suc, ◌+◌, max, nat_lt, if◌then◌else◌, List, [], ◌∷◌, ◌++◌, Option, Some, None}
 use Rattle.rls_value.specs.declared.value.Value.TheVariants.{Null}
 use Rattle.rls_expr.specs.declared.expr.Comparison.{Comparison}
+use Rattle.rls_expr.specs.declared.expr.Sign.{Sign}
 use Rattle.rls_expr.specs.Terms.{Term, terms_of}
 use Rattle.rls_expr.specs.Terms as t
+use Rattle.rls_statement.specs.declared.changing.Setting.{Setting}
 use Rattle.rls_statement.specs.declared.statement.Selected.{Selected}
 use Rattle.rls_statement.specs.declared.statement.Statement.{Statement}
 use Rattle.rls_statement.specs.declared.statement.Statement.TheVariants as st
 use Rattle.rls_text.specs.declared.tree.Operands.{Operands}
 use Rattle.rls_text.specs.declared.tree.Operands.TheVariants.{One, Several}
 use Rattle.rls_text.specs.Lang.{put_in}
-use Rattle.rls_text.specs.Values.{Description, PolicyChange}
+use Rattle.rls_text.specs.Values.{Description, PolicyChange, Ending}
 
 -- an expression, or what stands for it, with its depth
 abbrev pub Tree : Type 0
@@ -71,7 +73,24 @@ abbrev pub or_of : Operands → Tree
 or_of (One only depth) = (only, depth)
 or_of (Several all depth) = above depth (t.Or (terms_of all))
 
--- a tuple of INSERT, with the depth of the deepest
+-- the parts of a sum, with the signs between them
+abbrev pub Summed : Type 0
+Summed = Operands × List Sign
+
+-- one part more
+unfoldable pub with_summand : Summed → Sign × Tree → Summed
+with_summand sum part = (with_operand sum.0 part.1, sum.1 ++ part.0 ∷ [])
+
+-- the parts of a sum
+abbrev pub summed : Tree → List (Sign × Tree) → Summed
+summed first more = put_in with_summand (One first.0 first.1, []) more
+
+-- a sum; one part alone makes no node
+abbrev pub sum_of : Summed → Tree
+sum_of (One only depth, signs) = (only, depth)
+sum_of (Several all depth, signs) = above depth (t.Sum signs (terms_of all))
+
+-- expressions between parentheses, with the depth of the deepest
 abbrev pub Tuple : Type 0
 Tuple = List Term × ℕ
 
@@ -82,6 +101,16 @@ with_part tuple tree = (tuple.0 ++ tree.0 ∷ [], max tuple.1 tree.1)
 -- a tuple of these parts
 abbrev pub tuple_of : Tree → List Tree → Tuple
 tuple_of first more = put_in with_part (first.0 ∷ [], first.1) more
+
+-- IN with a list, or NOT IN
+unfoldable pub among_of : Tree → Option (Unit {0}) → Tuple → Tree
+among_of left None list = above (max left.1 list.1) (t.Among left.0 (terms_of list.0))
+among_of left (Some _) list = above (max left.1 list.1) (t.NotAmong left.0 (terms_of list.0))
+
+-- the same, or its left side alone
+abbrev pub among : Tree → Option (Option (Unit {0}) × Tuple) → Tree
+among left None = left
+among left (Some r) = among_of left r.0 r.1
 
 -- the tuples of INSERT, with the depth of the deepest
 abbrev pub Tuples : Type 0
@@ -94,6 +123,26 @@ with_tuple tuples tuple = (tuples.0 ++ tuple.0 ∷ [], max tuples.1 tuple.1)
 -- these tuples
 abbrev pub tuples_of : Tuple → List Tuple → Tuples
 tuples_of first more = put_in with_tuple (first.0 ∷ [], first.1) more
+
+-- a column that UPDATE sets, with the depth of its expression
+abbrev pub SetColumn : Type 0
+SetColumn = Setting × ℕ
+
+-- of its name and its expression
+abbrev pub set_column_of : List ℕ × Tree → SetColumn
+set_column_of r = (record { column = r.0; value = r.1.0 }, r.1.1)
+
+-- the columns that UPDATE sets, with the depth of the deepest expression
+abbrev pub SetColumns : Type 0
+SetColumns = List Setting × ℕ
+
+-- one column more
+unfoldable pub with_set_column : SetColumns → SetColumn → SetColumns
+with_set_column all next = (all.0 ++ next.0 ∷ [], max all.1 next.1)
+
+-- these columns
+abbrev pub set_columns_of : SetColumn → List SetColumn → SetColumns
+set_columns_of first more = put_in with_set_column (first.0 ∷ [], first.1) more
 
 -- a condition that may be left out, and its depth
 abbrev pub parted : Option Tree → Option Term × ℕ
@@ -112,9 +161,21 @@ flat statement = (statement, 0)
 abbrev pub select_of : Selected × (List ℕ × Option Tree) → Draft
 select_of r = (st.Select record { items = r.0; table = r.1.0; condition = (parted r.1.1).0 }, (parted r.1.1).1)
 
+-- the rows of INSERT: columns, if they are written, and tuples
+abbrev pub Rows : Type 0
+Rows = Option (List (List ℕ)) × Tuples
+
 -- INSERT, of its parts
-abbrev pub insert_of : List ℕ × Tuples → Draft
-insert_of r = (st.Insert record { table = r.0; tuples = r.1.0 }, r.1.1)
+abbrev pub insert_of : List ℕ × (Rows × Option Selected) → Draft
+insert_of r = (st.Insert record { table = r.0; columns = r.1.0.0; tuples = r.1.0.1.0; returning = r.1.1 }, r.1.0.1.1)
+
+-- UPDATE, of its parts
+abbrev pub update_of : List ℕ × (SetColumns × Ending Tree) → Draft
+update_of r = (st.Update record { table = r.0; settings = r.1.0.0; condition = (parted r.1.1.0).0; returning = r.1.1.1 }, max r.1.0.1 (parted r.1.1.0).1)
+
+-- DELETE, of its parts
+abbrev pub delete_of : List ℕ × Ending Tree → Draft
+delete_of r = (st.Delete record { table = r.0; condition = (parted r.1.0).0; returning = r.1.1 }, (parted r.1.0).1)
 
 -- the depth of the deeper of two conditions that may be left out
 abbrev pub deeper : Option Tree × Option Tree → ℕ

@@ -15,6 +15,7 @@ use Rattle.rls_value.specs.declared.verb.PolicyKind.TheVariants as kind
 use Rattle.rls_expr.specs.Terms.{Term, terms_of}
 use Rattle.rls_expr.specs.Terms as e
 use Rattle.rls_expr.specs.declared.expr.Comparison.{Comparison}
+use Rattle.rls_expr.specs.declared.expr.Sign.{Sign}
 use Rattle.rls_expr.specs.declared.policy.Grantee.{Grantee}
 use Rattle.rls_expr.specs.declared.policy.Grantee.TheVariants as to
 use Rattle.rls_text.specs.declared.token.Token.{Token}
@@ -25,6 +26,7 @@ use Rattle.rls_text.specs.declared.columns.ColumnMark.{ColumnMark}
 use Rattle.rls_text.specs.declared.columns.ColumnMark.TheVariants as marks
 use Rattle.rls_text.specs.contracts.columns.ColumnMark as column_mark
 use Rattle.rls_text.specs.declared.tables.TableElements.{TableElements}
+use Rattle.rls_statement.specs.declared.changing.Setting as changing
 use Rattle.rls_statement.specs.declared.statement.Attributes.{Attributes}
 use Rattle.rls_statement.specs.contracts.statement.MembershipOption as option
 use Rattle.rls_statement.specs.declared.statement.MembershipOption.{MembershipOption}
@@ -73,6 +75,31 @@ signed (Some _, n) = v.Int (pos 0 -ℤ pos n)
 
 -- ---- expressions
 
+-- the signs of the parts behind the first
+abbrev pub signs_of : List (Sign × Term) → List Sign
+signs_of [] = []
+signs_of (part ∷ parts) = part.0 ∷ signs_of parts
+
+-- those parts
+abbrev pub parts_of : List (Sign × Term) → List Term
+parts_of [] = []
+parts_of (part ∷ parts) = part.1 ∷ parts_of parts
+
+-- a sum, one node with all its parts; one alone makes no node
+abbrev pub sum_of : Term → List (Sign × Term) → Term
+sum_of first [] = first
+sum_of first (second ∷ more) = e.Sum (signs_of (second ∷ more)) (terms_of (first ∷ parts_of (second ∷ more)))
+
+-- IN with a list, or NOT IN
+abbrev pub among_of : Term → Option (Unit {0}) → List Term → Term
+among_of left None list = e.Among left (terms_of list)
+among_of left (Some _) list = e.NotAmong left (terms_of list)
+
+-- the same, or its left side alone
+abbrev pub among : Term → Option (Option (Unit {0}) × List Term) → Term
+among left None = left
+among left (Some r) = among_of left r.0 r.1
+
 -- a comparison, or its left side alone
 abbrev pub compared : Term → Option (Comparison × Term) → Term
 compared left None = left
@@ -114,9 +141,38 @@ abbrev pub are_even : List (List Term) → Bool
 are_even [] = true
 are_even (x ∷ xs) = have_length (length x) xs
 
+-- each is as long as the list of columns, where one is written
+abbrev pub are_as_long : Option (List (List ℕ)) → List (List Term) → Bool
+are_as_long None tuples = true
+are_as_long (Some names) tuples = have_length (length names) tuples
+
+-- the rows of INSERT: columns, if they are written, and tuples
+abbrev pub Rows : Type 0
+Rows = Option (List (List ℕ)) × List (List Term)
+
 -- INSERT, of its parts
-abbrev pub insert_of : List ℕ × List (List Term) → Statement
-insert_of r = st.Insert record { table = r.0; tuples = r.1 }
+abbrev pub insert_of : List ℕ × (Rows × Option Selected) → Statement
+insert_of r = st.Insert record { table = r.0; columns = r.1.0.0; tuples = r.1.0.1; returning = r.1.1 }
+
+-- a column of UPDATE, and what it is set to
+abbrev pub set_column_of : List ℕ × Term → changing.Setting
+set_column_of r = record { column = r.0; value = r.1 }
+
+-- the columns that are set
+abbrev pub set_names : List changing.Setting → List (List ℕ)
+set_names = map (λ x. x.column)
+
+-- by which UPDATE and DELETE end: WHERE and RETURNING
+abbrev pub Ending : Type 0 → Type 0
+Ending A = Option A × Option Selected
+
+-- UPDATE, of its parts
+abbrev pub update_of : List ℕ × (List changing.Setting × Ending Term) → Statement
+update_of r = st.Update record { table = r.0; settings = r.1.0; condition = r.1.1.0; returning = r.1.1.1 }
+
+-- DELETE, of its parts
+abbrev pub delete_of : List ℕ × Ending Term → Statement
+delete_of r = st.Delete record { table = r.0; condition = r.1.0; returning = r.1.1 }
 
 -- two that say the same or the contrary
 abbrev pub are_one_kind : RoleAttribute → RoleAttribute → Bool

@@ -16,7 +16,10 @@ use Rattle.rls_expr.specs.Terms.{Term, Terms, terms_of}
 use Rattle.rls_expr.specs.Terms as e
 use Rattle.rls_expr.specs.declared.expr.Comparison.{Comparison}
 use Rattle.rls_expr.specs.contracts.expr.Comparison as comparison
+use Rattle.rls_expr.specs.declared.expr.Sign.{Sign}
+use Rattle.rls_expr.specs.contracts.expr.Sign as sign
 use Rattle.rls_expr.specs.declared.policy.Grantee.{Grantee}
+use Rattle.rls_statement.specs.declared.changing.Setting as changing
 use Rattle.rls_statement.specs.declared.statement.Attributes.{Attributes}
 use Rattle.rls_statement.specs.contracts.statement.MembershipOption as option
 use Rattle.rls_statement.specs.declared.statement.MembershipOption.{MembershipOption}
@@ -169,14 +172,14 @@ pub user_law : (b : Term) (a : Unit {0}) → as_user b ≡ Some a → b ≡ e.Cu
 user_law e.CurrentUser a h = refl
 user_law _ a h = cc
 
--- a comparison's operands; another is one alone
+-- a comparison's operands
 abbrev pub as_compared : Term → Option (Term × Option (Comparison × Term))
 as_compared (e.Compare how x y) = Some (x, Some (how, y))
-as_compared term = Some (term, None)
+as_compared _ = None
 
 pub compared_law : (b : Term) (a : Term × Option (Comparison × Term)) → as_compared b ≡ Some a → b ≡ g.compared a.0 a.1
 compared_law (e.Compare how x y) a h = ap (λ r. g.compared r.0 r.1) (some_is (x, Some (how, y)) a h)
-compared_law b a h = let same = some_is (b, None) a h in ap (λ r. g.compared r.0 r.1) same
+compared_law _ a h = cc
 
 -- what IS NULL or IS NOT NULL tests
 abbrev pub as_tested : Term → Option (Term × List (Option (Unit {0})))
@@ -246,6 +249,66 @@ pub or_law : (b : Term) (a : Term × List Term) → as_or b ≡ Some a → b ≡
 or_law (e.Or (e.More x (e.More y ts))) a h = ap (λ z. e.Or (e.More x (e.More y z))) (sym (terms_back ts)) ∙ ap (λ r. g.or_of r.0 r.1) (some_is (x, y ∷ list_of ts) a h)
 or_law _ a h = cc
 
+-- the left side of IN or NOT IN, and the list
+abbrev pub as_among : Term → Option (Term × Option (Option (Unit {0}) × List Term))
+as_among (e.Among x ts) = Some (x, Some (None, list_of ts))
+as_among (e.NotAmong x ts) = Some (x, Some (Some tt, list_of ts))
+as_among _ = None
+
+pub among_law : (b : Term) (a : Term × Option (Option (Unit {0}) × List Term)) → as_among b ≡ Some a → b ≡ g.among a.0 a.1
+among_law (e.Among x ts) a h = ap (λ z. e.Among x z) (sym (terms_back ts)) ∙ ap (λ r. g.among r.0 r.1) (some_is (x, Some (None, list_of ts)) a h)
+among_law (e.NotAmong x ts) a h = ap (λ z. e.NotAmong x z) (sym (terms_back ts)) ∙ ap (λ r. g.among r.0 r.1) (some_is (x, Some (Some tt, list_of ts)) a h)
+among_law _ a h = cc
+
+-- signs, told apart
+abbrev pub signs : Telling Sign
+signs = record { are_same = sameb sign.the_type; same_is = same_true sign.the_type tt }
+
+-- one more, before them
+abbrev pub put_first : (Sign × Term) → Option (List (Sign × Term)) → Option (List (Sign × Term))
+put_first part None = None
+put_first part (Some parts) = Some (part ∷ parts)
+
+-- a part behind each sign, if there are as many of both
+abbrev pub signed_parts : List Sign → Terms → Option (List (Sign × Term))
+signed_parts [] e.End = Some []
+signed_parts (x ∷ xs) (e.More t ts) = put_first (x, t) (signed_parts xs ts)
+signed_parts _ _ = None
+
+signed_back : (xs : List Sign) (ts : Terms) (parts : List (Sign × Term)) → signed_parts xs ts ≡ Some parts → (g.signs_of parts ≡ xs) × (terms_of (g.parts_of parts) ≡ ts)
+signed_back [] e.End parts h = subst (λ z. (g.signs_of z ≡ []) × (terms_of (g.parts_of z) ≡ e.End)) (some_is [] parts h) (refl, refl)
+signed_back [] (e.More t ts) parts h = cc
+signed_back (x ∷ xs) e.End parts h = cc
+signed_back (x ∷ xs) (e.More t ts) parts h = go (signed_parts xs ts) (signed_back xs ts) h
+  where
+    go : (o : Option (List (Sign × Term))) → ((ps : List (Sign × Term)) → o ≡ Some ps → (g.signs_of ps ≡ xs) × (terms_of (g.parts_of ps) ≡ ts))
+        → put_first (x, t) o ≡ Some parts → (g.signs_of parts ≡ x ∷ xs) × (terms_of (g.parts_of parts) ≡ e.More t ts)
+    go None again k = cc
+    go (Some ps) again k =
+        let r = again ps refl in
+        subst (λ z. (g.signs_of z ≡ x ∷ xs) × (terms_of (g.parts_of z) ≡ e.More t ts)) (some_is ((x, t) ∷ ps) parts k) (ap (λ z. x ∷ z) r.0, ap (λ z. e.More t z) r.1)
+
+-- the first part and the others, if there are others
+abbrev pub with_others : Term → Option (List (Sign × Term)) → Option (Term × List (Sign × Term))
+with_others first (Some (second ∷ more)) = Some (first, second ∷ more)
+with_others _ _ = None
+
+-- the parts of a sum
+abbrev pub as_sum : Term → Option (Term × List (Sign × Term))
+as_sum (e.Sum xs (e.More first ts)) = with_others first (signed_parts xs ts)
+as_sum _ = None
+
+pub sum_law : (b : Term) (a : Term × List (Sign × Term)) → as_sum b ≡ Some a → b ≡ g.sum_of a.0 a.1
+sum_law (e.Sum xs (e.More first ts)) a h = go (signed_parts xs ts) refl h
+  where
+    go : (o : Option (List (Sign × Term))) → signed_parts xs ts ≡ o → with_others first o ≡ Some a → e.Sum xs (e.More first ts) ≡ g.sum_of a.0 a.1
+    go None same k = cc
+    go (Some []) same k = cc
+    go (Some (second ∷ more)) same k =
+        let r = signed_back xs ts (second ∷ more) same in
+        ap (λ z. e.Sum z (e.More first ts)) (sym r.0) ∙ ap (λ z. e.Sum (g.signs_of (second ∷ more)) (e.More first z)) (sym r.1) ∙ ap (λ z. g.sum_of z.0 z.1) (some_is (first, second ∷ more) a k)
+sum_law _ a h = cc
+
 -- ---- SELECT
 
 -- all columns
@@ -286,14 +349,41 @@ select_law _ a h = cc
 
 -- ---- INSERT
 
--- table, tuples
-abbrev pub as_insert : Statement → Option (List ℕ × List (List Term))
-as_insert (st.Insert x) = Some (x.table, x.tuples)
+-- table, columns and tuples, RETURNING
+abbrev pub as_insert : Statement → Option (List ℕ × (g.Rows × Option Selected))
+as_insert (st.Insert x) = Some (x.table, ((x.columns, x.tuples), x.returning))
 as_insert _ = None
 
-pub insert_law : (b : Statement) (a : List ℕ × List (List Term)) → as_insert b ≡ Some a → b ≡ g.insert_of a
-insert_law (st.Insert x) a h = ap g.insert_of (some_is (x.table, x.tuples) a h)
+pub insert_law : (b : Statement) (a : List ℕ × (g.Rows × Option Selected)) → as_insert b ≡ Some a → b ≡ g.insert_of a
+insert_law (st.Insert x) a h = ap g.insert_of (some_is (x.table, ((x.columns, x.tuples), x.returning)) a h)
 insert_law _ a h = cc
+
+-- ---- UPDATE and DELETE
+
+-- column, expression
+abbrev pub as_set_column : changing.Setting → Option (List ℕ × Term)
+as_set_column x = Some (x.column, x.value)
+
+pub set_column_law : (b : changing.Setting) (a : List ℕ × Term) → as_set_column b ≡ Some a → b ≡ g.set_column_of a
+set_column_law b a h = ap g.set_column_of (some_is (b.column, b.value) a h)
+
+-- table, columns that are set, WHERE and RETURNING
+abbrev pub as_update : Statement → Option (List ℕ × (List changing.Setting × g.Ending Term))
+as_update (st.Update x) = Some (x.table, (x.settings, (x.condition, x.returning)))
+as_update _ = None
+
+pub update_law : (b : Statement) (a : List ℕ × (List changing.Setting × g.Ending Term)) → as_update b ≡ Some a → b ≡ g.update_of a
+update_law (st.Update x) a h = ap g.update_of (some_is (x.table, (x.settings, (x.condition, x.returning))) a h)
+update_law _ a h = cc
+
+-- table, WHERE and RETURNING
+abbrev pub as_delete : Statement → Option (List ℕ × g.Ending Term)
+as_delete (st.Delete x) = Some (x.table, (x.condition, x.returning))
+as_delete _ = None
+
+pub delete_law : (b : Statement) (a : List ℕ × g.Ending Term) → as_delete b ≡ Some a → b ≡ g.delete_of a
+delete_law (st.Delete x) a h = ap g.delete_of (some_is (x.table, (x.condition, x.returning)) a h)
+delete_law _ a h = cc
 
 -- ---- roles
 

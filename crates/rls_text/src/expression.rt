@@ -1,21 +1,26 @@
 //! Expressions from tokens.
 
 ghost use Rattle.std.specs.Prelude.{◌≡◌, [], ◌∷◌, codes, length, IfOk};
-ghost use Rattle.rls_text.specs.FirstSets.{constant_heads, literal_heads, comparison_heads};
+ghost use Rattle.rls_text.specs.FirstSets.{constant_heads, literal_heads, sign_heads, in_heads, comparison_heads};
 ghost use Rattle.rls_text.specs.Gives.{Gives, folded};
+ghost use Rattle.rls_text.specs.Cut as cut;
 ghost use Rattle.rls_text.specs.Heads.{sees, Keyword};
+ghost use Rattle.rls_text.specs.Heads as heads;
 ghost use Rattle.rls_text.specs.Parses.{read_many};
 ghost use Rattle.rls_text.specs.Grammar as g;
 ghost use Rattle.rls_text.specs.Trees as spec;
 
 use crate::fault::Fault;
-use crate::reading::{name, past_symbol, past_word, sees_word, starts_name, symbol, word};
+use crate::reading::{
+    name, past_symbol, past_word, sees_symbol, sees_word, starts_name, symbol, word,
+};
 use crate::token::{Symbol, Token};
 use crate::tree::{
-    Operands, Tree, and_of, compare_of, leaf, not_of, null_test_of, or_of, with_operand,
+    Operands, Summed, Tree, Tuple, among_of, and_of, compare_of, leaf, not_of, null_test_of, or_of,
+    sum_of, with_operand, with_part, with_summand,
 };
-use rls_expr::{Comparison, Expr, Node};
-use rls_value::Value;
+use rls_expr::{Comparison, Expr, Node, Sign};
+use rls_value::{Items, Value};
 use std::alloc::{AllocError, Global};
 
 /// An expression with parentheses to this depth.
@@ -143,13 +148,142 @@ fn is(alloc: Global, depth: usize, tokens: &[Token]) -> Result<(Tree, &[Token]),
 fn cmp(alloc: Global, depth: usize, tokens: &[Token]) -> Result<(Tree, &[Token]), Fault>
     ensures { Gives result ((g.cmp (g.expr depth)).read tokens.now) }
 {
-    let (left, rest) = prim(alloc, depth, tokens)?;
+    let (left, rest) = memb(alloc, depth, tokens)?;
     if !starts_comparison(rest) {
         return Ok((left, rest));
     }
     let (how, rest) = comparison(rest)?;
-    let (right, rest) = prim(alloc, depth, rest)?;
+    let (right, rest) = memb(alloc, depth, rest)?;
     Ok((compare_of(alloc, how, left, right)?, rest))
+}
+
+#[cycle(expression)]
+#[tactic(auto, unfolding(crate::specs::Grammar::memb))]
+fn memb(alloc: Global, depth: usize, tokens: &[Token]) -> Result<(Tree, &[Token]), Fault>
+    ensures { Gives result ((g.memb (g.expr depth)).read tokens.now) }
+{
+    let (left, rest) = sum(alloc, depth, tokens)?;
+    if !starts_in(rest) {
+        return Ok((left, rest));
+    }
+    let ((negated, list), rest) = in_list(alloc, depth, rest)?;
+    Ok((among_of(alloc, left, negated, list)?, rest))
+}
+
+#[cycle(expression)]
+#[tactic(auto, unfolding(crate::specs::Grammar::in_list))]
+fn in_list(
+    alloc: Global,
+    depth: usize,
+    tokens: &[Token],
+) -> Result<((Option<()>, Tuple), &[Token]), Fault>
+    ensures { Gives result ((g.in_list (g.expr depth)).read tokens.now) }
+{
+    let (negated, rest) = in_word(tokens)?;
+    let (list, rest) = tuple(alloc, depth, rest)?;
+    Ok(((negated, list), rest))
+}
+
+#[cycle(expression)]
+#[tactic(auto, unfolding(crate::specs::Grammar::tuple))]
+pub fn tuple(alloc: Global, depth: usize, tokens: &[Token]) -> Result<(Tuple, &[Token]), Fault>
+    ensures { Gives result ((g.tuple (g.expr depth)).read tokens.now) }
+{
+    let rest = past_symbol(tokens, Symbol::LParen)?;
+    let (parts, rest) = parts(alloc, depth, rest)?;
+    let rest = past_symbol(rest, Symbol::RParen)?;
+    Ok((parts, rest))
+}
+
+#[cycle(expression)]
+#[tactic(auto, unfolding(crate::specs::Grammar::parts, crate::specs::Gives::folded))]
+fn parts(alloc: Global, depth: usize, tokens: &[Token]) -> Result<(Tuple, &[Token]), Fault>
+    ensures { Gives result ((g.parts (g.expr depth)).read tokens.now) }
+{
+    let ((first, height), rest) = expr(alloc, depth, tokens)?;
+    let mut all = Items::new(alloc);
+    all.push(first)?;
+    more_parts(alloc, depth, (all, height), rest)
+}
+
+#[cycle(expression)]
+#[tactic(auto, using(crate::proofs::Loops::fold_begins, crate::proofs::Loops::fold_stops, crate::proofs::Loops::fold_ends, crate::proofs::Loops::fold_fails, crate::proofs::Loops::fold_goes_on))]
+fn more_parts(
+    alloc: Global,
+    depth: usize,
+    first: Tuple,
+    tokens: &[Token],
+) -> Result<(Tuple, &[Token]), Fault>
+    ensures { Gives result (folded spec.with_part first (read_many (heads.Sign Symbol.Comma ∷ []) (cut.with_comma (g.expr depth)).read (length tokens.now) tokens.now)) }
+{
+    let mut all = first;
+    let mut rest = tokens;
+    for _turn in 0..tokens.len() {
+        if !sees_symbol(rest, Symbol::Comma) {
+            return Ok((all, rest));
+        }
+        let (next, behind) = next_part(alloc, depth, rest)?;
+        all = with_part(all, next)?;
+        rest = behind;
+    }
+    Ok((all, rest))
+}
+
+#[cycle(expression)]
+#[tactic(auto, unfolding(crate::specs::Cut::with_comma))]
+fn next_part(alloc: Global, depth: usize, tokens: &[Token]) -> Result<(Tree, &[Token]), Fault>
+    ensures { Gives result ((cut.with_comma (g.expr depth)).read tokens.now) }
+{
+    let rest = past_symbol(tokens, Symbol::Comma)?;
+    expr(alloc, depth, rest)
+}
+
+#[cycle(expression)]
+#[tactic(auto, unfolding(crate::specs::Grammar::sum, crate::specs::Gives::folded))]
+fn sum(alloc: Global, depth: usize, tokens: &[Token]) -> Result<(Tree, &[Token]), Fault>
+    ensures { Gives result ((g.sum (g.expr depth)).read tokens.now) }
+{
+    let ((first, height), rest) = prim(alloc, depth, tokens)?;
+    let first = (Operands::One(first, height), Items::new(alloc));
+    let (sum, rest) = sum_more(alloc, depth, first, rest)?;
+    Ok((sum_of(sum), rest))
+}
+
+#[cycle(expression)]
+#[tactic(auto, using(crate::proofs::Loops::fold_begins, crate::proofs::Loops::fold_stops, crate::proofs::Loops::fold_ends, crate::proofs::Loops::fold_fails, crate::proofs::Loops::fold_goes_on))]
+fn sum_more(
+    alloc: Global,
+    depth: usize,
+    first: Summed,
+    tokens: &[Token],
+) -> Result<(Summed, &[Token]), Fault>
+    ensures { Gives result (folded spec.with_summand first (read_many sign_heads (g.sum_next (g.expr depth)).read (length tokens.now) tokens.now)) }
+{
+    let mut sum = first;
+    let mut rest = tokens;
+    for _turn in 0..tokens.len() {
+        if !starts_sign(rest) {
+            return Ok((sum, rest));
+        }
+        let (next, behind) = sum_next(alloc, depth, rest)?;
+        sum = with_summand(alloc, sum, next)?;
+        rest = behind;
+    }
+    Ok((sum, rest))
+}
+
+#[cycle(expression)]
+#[tactic(auto, unfolding(crate::specs::Grammar::sum_next))]
+fn sum_next(
+    alloc: Global,
+    depth: usize,
+    tokens: &[Token],
+) -> Result<((Sign, Tree), &[Token]), Fault>
+    ensures { Gives result ((g.sum_next (g.expr depth)).read tokens.now) }
+{
+    let (sign, rest) = part_sign(tokens)?;
+    let (part, rest) = prim(alloc, depth, rest)?;
+    Ok(((sign, part), rest))
 }
 
 #[cycle(expression)]
@@ -227,6 +361,48 @@ fn null_test(tokens: &[Token]) -> Result<(Option<()>, &[Token]), Fault>
         Ok((Some(()), past_word(rest, b"null")?))
     } else {
         Ok((None, past_word(rest, b"null")?))
+    }
+}
+
+fn starts_in(tokens: &[Token]) -> bool
+    ensures { result ≡ sees in_heads tokens.now }
+{
+    if sees_word(tokens, b"not") {
+        true
+    } else {
+        sees_word(tokens, b"in")
+    }
+}
+
+/// Whether NOT stands before IN.
+#[tactic(auto, unfolding(crate::specs::Grammar::in_word))]
+fn in_word(tokens: &[Token]) -> Result<(Option<()>, &[Token]), Fault>
+    ensures { Gives result (g.in_word.parses.read tokens.now) }
+{
+    if let Some(rest) = word(tokens, b"not") {
+        Ok((Some(()), past_word(rest, b"in")?))
+    } else {
+        Ok((None, past_word(tokens, b"in")?))
+    }
+}
+
+fn starts_sign(tokens: &[Token]) -> bool
+    ensures { result ≡ sees sign_heads tokens.now }
+{
+    match tokens {
+        [Token::Symbol(Symbol::Plus | Symbol::Minus), ..] => true,
+        _ => false,
+    }
+}
+
+#[tactic(auto, unfolding(crate::specs::Grammar::part_sign))]
+fn part_sign(tokens: &[Token]) -> Result<(Sign, &[Token]), Fault>
+    ensures { Gives result (g.part_sign.parses.read tokens.now) }
+{
+    match tokens {
+        [Token::Symbol(Symbol::Plus), rest @ ..] => Ok((Sign::Plus, rest)),
+        [Token::Symbol(Symbol::Minus), rest @ ..] => Ok((Sign::Minus, rest)),
+        _ => Err(Fault::Syntax),
     }
 }
 

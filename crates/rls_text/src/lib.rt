@@ -2,6 +2,7 @@
 #![tactic(auto)]
 
 mod attributes;
+mod changing;
 mod columns;
 mod creating;
 mod expression;

@@ -8,6 +8,7 @@ ghost use Rattle.rls_text.specs.Heights.{height_of};
 ghost use Rattle.rls_text.specs.Answers as spec;
 ghost use Rattle.rls_text.specs.Answers.{Answers, IsSpelled};
 
+use crate::changing::{delete, update};
 use crate::creating::{alter, create};
 use crate::fault::Fault;
 use crate::granting::grant;
@@ -114,6 +115,10 @@ fn body(alloc: Global, depth: usize, tokens: &[Token]) -> Result<(Draft, &[Token
         select(alloc, depth, tokens)
     } else if sees_word(tokens, b"insert") {
         insert(alloc, depth, tokens)
+    } else if sees_word(tokens, b"update") {
+        update(alloc, depth, tokens)
+    } else if sees_word(tokens, b"delete") {
+        delete(alloc, depth, tokens)
     } else if sees_word(tokens, b"create") {
         create(alloc, depth, tokens)
     } else if sees_word(tokens, b"alter") {

@@ -11,15 +11,20 @@ ghost use Rattle.rls_text.specs.Grammar as g;
 ghost use Rattle.rls_text.specs.Values as values;
 ghost use Rattle.rls_text.specs.Trees as spec;
 
-use crate::expression::{column, expr};
+use crate::changing::returning;
+use crate::expression::{column, expr, tuple};
 use crate::fault::Fault;
 use crate::reading::{name, past_symbol, past_word, sees_symbol, symbol, word};
+use crate::tables::distinct_names;
 use crate::token::{Symbol, Token};
-use crate::tree::{Draft, Tree, Tuple, Tuples, parted, with_part, with_tuple};
+use crate::tree::{Draft, Tree, Tuple, Tuples, parted, with_tuple};
 use rls_expr::Expr;
 use rls_statement::{Insert, Select, Selected, Statement};
-use rls_value::Items;
+use rls_value::{Items, Name};
 use std::alloc::Global;
+
+/// The columns of INSERT, if they are written, and its tuples.
+type Rows = (Option<Items<Name>>, Tuples);
 
 #[tactic(auto, unfolding(crate::specs::Grammar::select))]
 pub fn select(alloc: Global, depth: usize, tokens: &[Token]) -> Result<(Draft, &[Token]), Fault>
@@ -40,7 +45,7 @@ pub fn select(alloc: Global, depth: usize, tokens: &[Token]) -> Result<(Draft, &
 }
 
 #[tactic(auto, unfolding(crate::specs::Grammar::condition))]
-fn condition(
+pub fn condition(
     alloc: Global,
     depth: usize,
     tokens: &[Token],
@@ -99,7 +104,7 @@ fn column_items(alloc: Global, tokens: &[Token]) -> Result<(Selected, &[Token]),
 }
 
 #[tactic(auto, unfolding(crate::specs::Grammar::columns, crate::specs::Gives::with_front))]
-fn columns(alloc: Global, tokens: &[Token]) -> Result<(Items<Expr>, &[Token]), Fault>
+pub fn columns(alloc: Global, tokens: &[Token]) -> Result<(Items<Expr>, &[Token]), Fault>
     ensures { Gives result (g.columns.parses.read tokens.now) }
 {
     let (first, rest) = column(alloc, tokens)?;
@@ -144,9 +149,69 @@ pub fn insert(alloc: Global, depth: usize, tokens: &[Token]) -> Result<(Draft, &
     let rest = past_word(tokens, b"insert")?;
     let rest = past_word(rest, b"into")?;
     let (table, rest) = name(alloc, rest)?;
+    let (rows, rest) = proper_rows(alloc, depth, rest)?;
+    let (returning, rest) = returning(alloc, rest)?;
+    Ok((inserted(table, rows, returning), rest))
+}
+
+fn inserted(table: Name, rows: Rows, returning: Option<Selected>) -> Draft
+    ensures { result ≡ spec.insert_of (table, (rows, returning)) }
+{
+    let (columns, (tuples, depth)) = rows;
+    let insert = Insert {
+        table,
+        columns,
+        tuples,
+        returning,
+    };
+    (Statement::Insert(insert), depth)
+}
+
+/// Tuples that are as long as the list of columns, where one is written.
+#[tactic(auto, unfolding(crate::specs::Grammar::proper_rows))]
+fn proper_rows(alloc: Global, depth: usize, tokens: &[Token]) -> Result<(Rows, &[Token]), Fault>
+    ensures { Gives result ((g.proper_rows (g.expr depth)).read tokens.now) }
+{
+    let (rows, rest) = rows(alloc, depth, tokens)?;
+    if are_as_long(&rows) {
+        Ok((rows, rest))
+    } else {
+        Err(Fault::Syntax)
+    }
+}
+
+fn are_as_long(rows: &Rows) -> bool
+    ensures { result ≡ values.are_as_long rows.now.0 rows.now.1.0 }
+{
+    let (columns, (tuples, _)) = rows;
+    match columns {
+        Some(names) => have_length(names.len(), tuples.as_slice()),
+        None => true,
+    }
+}
+
+#[tactic(auto, unfolding(crate::specs::Grammar::rows))]
+fn rows(alloc: Global, depth: usize, tokens: &[Token]) -> Result<(Rows, &[Token]), Fault>
+    ensures { Gives result ((g.rows (g.expr depth)).read tokens.now) }
+{
+    let (columns, rest) = columns_if_any(alloc, tokens)?;
     let rest = past_word(rest, b"values")?;
-    let ((tuples, depth), rest) = even_tuples(alloc, depth, rest)?;
-    Ok(((Statement::Insert(Insert { table, tuples }), depth), rest))
+    let (tuples, rest) = even_tuples(alloc, depth, rest)?;
+    Ok(((columns, tuples), rest))
+}
+
+/// The columns in parentheses, each once, if they are written.
+#[tactic(auto, unfolding(crate::specs::Grammar::columns_if_any))]
+fn columns_if_any(alloc: Global, tokens: &[Token]) -> Result<(Option<Items<Name>>, &[Token]), Fault>
+    ensures { Gives result (g.columns_if_any.parses.read tokens.now) }
+{
+    if let Some(rest) = symbol(tokens, Symbol::LParen) {
+        let (names, rest) = distinct_names(alloc, rest)?;
+        let rest = past_symbol(rest, Symbol::RParen)?;
+        Ok((Some(names), rest))
+    } else {
+        Ok((None, tokens))
+    }
 }
 
 /// Tuples of one length.
@@ -221,54 +286,4 @@ fn next_tuple(alloc: Global, depth: usize, tokens: &[Token]) -> Result<(Tuple, &
 {
     let rest = past_symbol(tokens, Symbol::Comma)?;
     tuple(alloc, depth, rest)
-}
-
-#[tactic(auto, unfolding(crate::specs::Grammar::tuple))]
-fn tuple(alloc: Global, depth: usize, tokens: &[Token]) -> Result<(Tuple, &[Token]), Fault>
-    ensures { Gives result ((g.tuple (g.expr depth)).read tokens.now) }
-{
-    let rest = past_symbol(tokens, Symbol::LParen)?;
-    let (parts, rest) = parts(alloc, depth, rest)?;
-    let rest = past_symbol(rest, Symbol::RParen)?;
-    Ok((parts, rest))
-}
-
-#[tactic(auto, unfolding(crate::specs::Grammar::parts, crate::specs::Gives::folded))]
-fn parts(alloc: Global, depth: usize, tokens: &[Token]) -> Result<(Tuple, &[Token]), Fault>
-    ensures { Gives result ((g.parts (g.expr depth)).read tokens.now) }
-{
-    let ((first, height), rest) = expr(alloc, depth, tokens)?;
-    let mut all = Items::new(alloc);
-    all.push(first)?;
-    more_parts(alloc, depth, (all, height), rest)
-}
-
-#[tactic(auto, using(crate::proofs::Loops::fold_begins, crate::proofs::Loops::fold_stops, crate::proofs::Loops::fold_ends, crate::proofs::Loops::fold_fails, crate::proofs::Loops::fold_goes_on))]
-fn more_parts(
-    alloc: Global,
-    depth: usize,
-    first: Tuple,
-    tokens: &[Token],
-) -> Result<(Tuple, &[Token]), Fault>
-    ensures { Gives result (folded spec.with_part first (read_many (Sign Symbol.Comma ∷ []) (cut.with_comma (g.expr depth)).read (length tokens.now) tokens.now)) }
-{
-    let mut all = first;
-    let mut rest = tokens;
-    for _turn in 0..tokens.len() {
-        if !sees_symbol(rest, Symbol::Comma) {
-            return Ok((all, rest));
-        }
-        let (next, behind) = next_part(alloc, depth, rest)?;
-        all = with_part(all, next)?;
-        rest = behind;
-    }
-    Ok((all, rest))
-}
-
-#[tactic(auto, unfolding(crate::specs::Cut::with_comma))]
-fn next_part(alloc: Global, depth: usize, tokens: &[Token]) -> Result<(Tree, &[Token]), Fault>
-    ensures { Gives result ((cut.with_comma (g.expr depth)).read tokens.now) }
-{
-    let rest = past_symbol(tokens, Symbol::Comma)?;
-    expr(alloc, depth, rest)
 }

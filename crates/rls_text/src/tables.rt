@@ -241,7 +241,7 @@ fn primary_key(alloc: Global, tokens: &[Token]) -> Result<(Items<Name>, &[Token]
 }
 
 #[tactic(auto, unfolding(crate::specs::Grammar::distinct_names))]
-fn distinct_names(alloc: Global, tokens: &[Token]) -> Result<(Items<Name>, &[Token]), Fault>
+pub fn distinct_names(alloc: Global, tokens: &[Token]) -> Result<(Items<Name>, &[Token]), Fault>
     ensures { Gives result (g.distinct_names.parses.read tokens.now) }
 {
     let (names, rest) = names(alloc, tokens)?;

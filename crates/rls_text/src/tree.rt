@@ -4,8 +4,8 @@ ghost use Rattle.std.specs.Prelude.{◌≡◌, IfOk};
 ghost use Rattle.rls_expr.specs.ExprTerms.{term_of};
 ghost use Rattle.rls_text.specs.Trees as spec;
 
-use rls_expr::{Comparison, Expr, Node};
-use rls_statement::Statement;
+use rls_expr::{Comparison, Expr, Node, Sign};
+use rls_statement::{Setting, Statement};
 use rls_value::{Items, Value};
 use std::alloc::{AllocError, Global};
 
@@ -137,11 +137,50 @@ pub fn or_of(operands: Operands) -> Tree
     }
 }
 
-/// A tuple of INSERT, with the depth of its deepest expression.
+/// The parts of a sum, as they come, and the signs between them.
+pub type Summed = (Operands, Items<Sign>);
+
+#[tactic(auto, unfolding(crate::specs::Trees::with_summand))]
+pub fn with_summand(alloc: Global, sum: Summed, part: (Sign, Tree)) -> Result<Summed, AllocError>
+    ensures { IfOk result (λ all. all ≡ spec.with_summand sum part) }
+{
+    let (parts, mut signs) = sum;
+    let (sign, part) = part;
+    signs.push(sign)?;
+    Ok((with_operand(alloc, parts, part)?, signs))
+}
+
+/// One part alone makes no node.
+pub fn sum_of(sum: Summed) -> Tree
+    ensures { result ≡ spec.sum_of sum }
+{
+    let (parts, signs) = sum;
+    match parts {
+        Operands::One(only, depth) => (only, depth),
+        Operands::Several(all, depth) => {
+            if depth < MAX_DEPTH {
+                (
+                    Expr::new(Node::Sum(signs.into_vec(), all.into_vec())),
+                    depth + 1,
+                )
+            } else {
+                cut()
+            }
+        }
+    }
+}
+
+/// Expressions between parentheses, with the depth of the deepest.
 pub type Tuple = (Items<Expr>, u32);
 
 /// The tuples of INSERT, with the depth of the deepest expression.
 pub type Tuples = (Items<Items<Expr>>, u32);
+
+/// A column that UPDATE sets, with the depth of its expression.
+pub type SetColumn = (Setting, u32);
+
+/// The columns that UPDATE sets, with the depth of the deepest expression.
+pub type SetColumns = (Items<Setting>, u32);
 
 /// A statement, with the depth of its deepest expression; 0 where it has none.
 pub type Draft = (Statement, u32);
@@ -164,6 +203,41 @@ pub fn with_tuple(tuples: Tuples, tuple: Tuple) -> Result<Tuples, AllocError>
     let (tuple, other) = tuple;
     all.push(tuple)?;
     Ok((all, depth.max(other)))
+}
+
+#[tactic(auto, unfolding(crate::specs::Trees::with_set_column))]
+pub fn with_set_column(columns: SetColumns, column: SetColumn) -> Result<SetColumns, AllocError>
+    ensures { IfOk result (λ all. all ≡ spec.with_set_column columns column) }
+{
+    let (mut all, depth) = columns;
+    let (column, other) = column;
+    all.push(column)?;
+    Ok((all, depth.max(other)))
+}
+
+/// `IN` with a list, or `NOT IN` where it is negated.
+#[tactic(auto, unfolding(crate::specs::Trees::among_of))]
+pub fn among_of(
+    alloc: Global,
+    left: Tree,
+    negated: Option<()>,
+    list: Tuple,
+) -> Result<Tree, AllocError>
+    ensures { IfOk result (λ tree. tree ≡ spec.among_of left negated list) }
+{
+    let (left, depth) = left;
+    let (list, other) = list;
+    let depth = depth.max(other);
+    if depth < MAX_DEPTH {
+        let left = Box::new(alloc, left)?;
+        let list = list.into_vec();
+        match negated {
+            None => Ok((Expr::new(Node::Among(left, list)), depth + 1)),
+            Some(()) => Ok((Expr::new(Node::NotAmong(left, list)), depth + 1)),
+        }
+    } else {
+        Ok(cut())
+    }
 }
 
 /// The expression, and its depth; 0 where there is none.

@@ -11,6 +11,6 @@ loop-key-preserved g c =
       state = search rules;
       given = grind (arith, common_steps);
       noted = grind (arith, common_steps);
-      read = taken_next g.S.RowSource.after (g.met.S.RowSource c.lifetimes (search rules)).after_more (g.S.RowSource.state c.args.source.now) c.args.name.now c.key-item.result (drop (c.loop-key.key-index + 1) c.args.keys.now) (drop c.loop-key.key-index c.args.keys.now)
+      read = taken_next g.S.RowSource.after (g.met.S.RowSource c.lifetimes (search rules)).after_more (g.S.RowSource.state c.args.source.now) c.args.name.now c.args.replaced.now c.key-item.result (drop (c.loop-key.key-index + 1) c.args.keys.now) (drop c.loop-key.key-index c.args.keys.now)
           c.loop-key.source c.noted_key.new.source _ left c.in_ok-found.ensures.read c.loop-key.invariant.read;
     }

@@ -1,13 +1,13 @@
 use Rattle.std.proofs.Common.{◌≡◌, ◌++◌, ◌||◌, drop, Ok}
 use Rattle.rls_value.specs.Giving.{and_then}
-use Rattle.rls_dml.specs.Inserting.{keys_taken}
+use Rattle.rls_dml.specs.Writing.{keys_taken}
 use Rattle.rls_dml.proofs.keys.are_taken.Given as goal
 
 -- the source stands for the same state, and what is left leads to the whole
 abbrev pub invariant-loop-key : goal.invariant-loop-key
 invariant-loop-key g l =
-    let whole = (keys_taken l.name l.keys).in_state (g.S.RowSource.state l.fn.source) in
-    let rest = (keys_taken l.name (drop l.key-index l.keys)).in_state (g.S.RowSource.state l.fn.source) in
+    let whole = (keys_taken l.name l.replaced l.keys).in_state (g.S.RowSource.state l.fn.source) in
+    let rest = (keys_taken l.name l.replaced (drop l.key-index l.keys)).in_state (g.S.RowSource.state l.fn.source) in
     record {
       state : g.S.RowSource.state l.source ≡ g.S.RowSource.state l.fn.source;
       given : whole.gives ≡ and_then rest.gives (λ others. Ok (l.taken || others));

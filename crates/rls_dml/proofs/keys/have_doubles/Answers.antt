@@ -1,5 +1,5 @@
 use Rattle.std.proofs.Common.{rules, refl, ap, sym, ◌≡◌, ◌||◌, ◌∷◌, drop}
-use Rattle.rls_dml.specs.Inserting.{has_doubles}
+use Rattle.rls_dml.specs.Writing.{has_doubles}
 use Rattle.rls_dml.proofs.DoubleLemmas.{none_seen, none_left, seen_more, seen_twice}
 use Rattle.rls_dml.proofs.keys.have_doubles.Goals as goal
 

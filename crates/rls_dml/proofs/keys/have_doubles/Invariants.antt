@@ -1,5 +1,5 @@
 use Rattle.std.proofs.Common.{◌≡◌, ◌||◌, length}
-use Rattle.rls_dml.specs.Inserting.{has_doubles}
+use Rattle.rls_dml.specs.Writing.{has_doubles}
 use Rattle.rls_dml.proofs.DoubleLemmas.{any_seen}
 use Rattle.rls_dml.proofs.keys.have_doubles.Given as goal
 

@@ -1,5 +1,5 @@
 use Rattle.std.proofs.Common.{◌≡◌, ◌++◌, drop}
-use Rattle.rls_dml.specs.Inserting.{keys_of}
+use Rattle.rls_dml.specs.Writing.{keys_of}
 use Rattle.rls_dml.proofs.keys.whole_keys.Given as goal
 
 -- the keys so far, and those of the rows that are left, are all

@@ -4,3 +4,9 @@ use Rattle.rls_expr.proofs.typing.+typing.Goals as goal
 
 pub are_booleans-typing_of-requires : goal.are_booleans-typing_of-requires
 are_booleans-typing_of-requires t c = (omega (arith, size_at _ _ _ c.loop-part-test.true c.part-item.is), search rules)
+
+pub are_numbers-typing_of-requires : goal.are_numbers-typing_of-requires
+are_numbers-typing_of-requires t c = (omega (arith, size_at _ _ _ c.loop-part-test.true c.part-item.is), search rules)
+
+pub among_typing-typing_of-requires : goal.among_typing-typing_of-requires
+among_typing-typing_of-requires t c = (omega (arith, size_at _ _ _ c.loop-part-test.true c.part-item.is), search rules)

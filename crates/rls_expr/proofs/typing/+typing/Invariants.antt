@@ -1,12 +1,20 @@
 use Rattle.std.proofs.Common.{◌≡◌, ◌+◌, ◌*◌, drop}
 use Rattle.rls_expr.specs.Scopes.{tables_in}
 use Rattle.rls_expr.specs.Terms.{terms_of, term_size, terms_size}
-use Rattle.rls_expr.specs.Typing.{all_booleans}
+use Rattle.rls_expr.specs.Typing.{all_booleans, all_numbers, among_type}
 use Rattle.rls_expr.proofs.typing.+typing.Given as goal
 
 -- the parts passed are booleans: what is left decides
 abbrev pub invariant-are_booleans-loop-part : goal.invariant-are_booleans-loop-part
 invariant-are_booleans-loop-part l = all_booleans (terms_of (drop l.part-index l.parts)) (tables_in l.scope) ≡ all_booleans (terms_of l.parts) (tables_in l.scope)
+
+-- the parts passed are whole numbers: what is left decides
+abbrev pub invariant-are_numbers-loop-part : goal.invariant-are_numbers-loop-part
+invariant-are_numbers-loop-part l = all_numbers (terms_of (drop l.part-index l.parts)) (tables_in l.scope) ≡ all_numbers (terms_of l.parts) (tables_in l.scope)
+
+-- what was passed fits: what is left decides
+abbrev pub invariant-among_typing-loop-part : goal.invariant-among_typing-loop-part
+invariant-among_typing-loop-part l = among_type l.left (terms_of (drop l.part-index l.list)) (tables_in l.scope) ≡ among_type l.left (terms_of l.list) (tables_in l.scope)
 
 -- the size of what is left to type; a list of parts stands above its parts
 abbrev pub decreases-typing_of : goal.decreases-typing_of
@@ -14,3 +22,9 @@ decreases-typing_of l = 2 * term_size l.expr.now
 
 abbrev pub decreases-are_booleans : goal.decreases-are_booleans
 decreases-are_booleans l = 2 * terms_size (terms_of l.parts.now) + 1
+
+abbrev pub decreases-are_numbers : goal.decreases-are_numbers
+decreases-are_numbers l = 2 * terms_size (terms_of l.parts.now) + 1
+
+abbrev pub decreases-among_typing : goal.decreases-among_typing
+decreases-among_typing l = 2 * terms_size (terms_of l.list.now) + 1

@@ -1,0 +1,517 @@
+-- The changes of INSERT, UPDATE and DELETE name as before what the earlier ones leave at their places, and they are at
+-- the numbers of the rows that are hit, or at new ones.
+use Rattle.std.specs.Prelude.{◌≡◌, refl, ℕ, zero, suc, ◌≤◌, ◌<◌, List, [], ◌∷◌, ◌++◌, Option, Some, None, Bool, true, false, cond, Result, Ok, Err, IfOk, if◌then◌else◌, length, map, filter}
+use Rattle.std.specs.BTreeMap.{is_at, insert_entry}
+use Rattle.std.specs.List.{AllByRecursion, list_any}
+use Rattle.std.specs.List.Sorted.{IsStrictlySortedBy}
+use Rattle.std.specs.Map.{lookup, remove_entry, keys_of}
+use Rattle.std.specs.Ordering.{is_eq, match_ordering, ordering_reverse}
+use Rattle.std.specs.declared.cmp.Ordering.{Ordering}
+use Rattle.std.specs.declared.cmp.Ordering.TheVariants.{Less, Equal, Greater}
+use Rattle.std.proofs.Common.{ap, sym, ◌∙◌, subst}
+use Rattle.std.specs.Cmp.{IsTotalOrder}
+use Rattle.std.proofs.lemmas.Cmp.{tied_itself, on_total, then_total, nat_cmp_total}
+use Rattle.std.proofs.Math.Nat.{suc-ne-zero, suc_inj, le-suc, le_of_suc-le, not-suc-le_self, le_trans, le_refl}
+use Rattle.rls_value.specs.declared.refusal.Refusal.{Refusal}
+use Rattle.rls_value.specs.declared.verb.Privilege.TheVariants as privilege
+use Rattle.rls_value.specs.declared.verb.Kind.TheVariants as kind
+use Rattle.rls_value.specs.declared.row.RowId.{RowId}
+use Rattle.rls_value.specs.declared.value.Value.{Value}
+use Rattle.rls_value.specs.Giving.{and_then}
+use Rattle.rls_value.specs.Values.{is_null}
+use Rattle.rls_expr.specs.declared.table.TableDef.{TableDef}
+use Rattle.rls_expr.specs.Terms.{Term}
+use Rattle.rls_catalog.specs.declared.change.Change.{Change}
+use Rattle.rls_catalog.specs.declared.change.Change.TheVariants as c
+use Rattle.rls_catalog.specs.declared.change.RowChange.{RowChange}
+use Rattle.rls_catalog.specs.declared.stored.Keyed.{Keyed}
+use Rattle.rls_catalog.specs.declared.stored.Stored.{Stored}
+use Rattle.rls_catalog.specs.State.{State, id_order, is_same_id, is_same_row, stored_of, rows_of}
+use Rattle.rls_catalog.specs.Bases.{Row, FitsAll, row_at}
+use Rattle.rls_catalog.specs.Changed.{changed, with_row}
+use Rattle.rls_catalog.specs.Contents.{is_name}
+use Rattle.rls_catalog.specs.InOrder.{Ascend, RowsInOrder}
+use Rattle.rls_catalog.specs.RowsChanged.{entries_of, entries_of_changed, same_id, equal_if}
+use Rattle.rls_catalog.specs.declared.verdict.Side.TheVariants as side
+use Rattle.rls_statement.specs.declared.statement.Insert.{Insert}
+use Rattle.rls_statement.specs.declared.statement.Selected.{Selected}
+use Rattle.rls_statement.specs.declared.changing.Update.{Update}
+use Rattle.rls_statement.specs.declared.changing.Delete.{Delete}
+use Rattle.rls_guard.specs.declared.context.Ctx.{Ctx}
+use Rattle.rls_guard.specs.declared.standing.Standing.{Standing}
+use Rattle.rls_guard.specs.declared.guard.Watch.{Watch}
+use Rattle.rls_guard.specs.declared.reply.Decision.{Decision}
+use Rattle.rls_guard.specs.declared.effect.Effect.{Effect}
+use Rattle.rls_guard.specs.Standings.{standing_of}
+use Rattle.rls_guard.specs.Guards.{watches_for}
+use Rattle.rls_source.specs.Asked.{rows_at, keyed_at, asked_key}
+use Rattle.rls_source.specs.Askings.{known, followed_by}
+use Rattle.rls_source.specs.Sequences.{each_of}
+use Rattle.rls_source.specs.Named.{table_or_undefined}
+use Rattle.rls_dml.specs.declared.addition.Addition.{Addition}
+use Rattle.rls_dml.specs.declared.revision.Revision.{Revision}
+use Rattle.rls_dml.specs.declared.deleting.Removal.{Removal}
+use Rattle.rls_dml.specs.Checking.{known_returning, returning_reads}
+use Rattle.rls_dml.specs.Judging.{is_hit, hits, decisions_of}
+use Rattle.rls_dml.specs.Candidates.{pinned_key, candidates_with, candidates}
+use Rattle.rls_dml.specs.Writing.{privileges_or_denied, order_of, rows_or_refused}
+use Rattle.rls_dml.specs.Inserting.{places_of, tuple_of, known_addition, addition_or_refused, addition_of, row_of_tuple, numbered, new_rows, inserted_row, inserted, insert_rows, insert_guarded, insert_as, insert_into, insert}
+use Rattle.rls_dml.specs.Updating.{revision_of, revision_reads, places_set, updated_row, changed_rows, updated, update_rows, update_hits, update_guarded, update_as, update_in, update}
+use Rattle.rls_dml.specs.Deleting.{removal_of, removal_reads, deleted_row, deleted, delete_guarded, delete_as, delete_from, delete}
+use Rattle.rls_dml.specs.Fitting.{IfDone, NumbersFree, numbers_from, Overwrite}
+
+-- ---- numbers
+
+-- numbers are in a total order
+ids_total : IsTotalOrder id_order
+ids_total = then_total (on_total (λ id. id.txn) nat_cmp_total) (on_total (λ id. id.n) nat_cmp_total)
+
+-- a number is itself
+own_number : (id : RowId) → is_same_id id id ≡ true
+own_number id = ap is_eq (tied_itself ids_total id)
+
+-- ---- a change leaves what stands at another number
+
+put_other_if : (order : Ordering) (id put : RowId) (keyed : Keyed) (entry : RowId × Keyed) (rows more : List (RowId × Keyed)) → id_order put entry.0 ≡ order
+    → is_same_id id put ≡ false → lookup (is_at (id_order id)) more ≡ lookup (is_at (id_order id)) rows
+    → lookup (is_at (id_order id)) (match_ordering order ((put, keyed) ∷ entry ∷ rows) ((entry.0, keyed) ∷ rows) (entry ∷ more)) ≡ lookup (is_at (id_order id)) (entry ∷ rows)
+put_other_if Less id put keyed entry rows more is other further = ap (λ b. cond b (Some keyed) (lookup (is_at (id_order id)) (entry ∷ rows))) other
+put_other_if Equal id put keyed entry rows more is other further =
+    let not : is_same_id id entry.0 ≡ false = ap (is_same_id id) (sym (same_id put entry.0 is)) ∙ other in
+    ap (λ b. cond b (Some keyed) (lookup (is_at (id_order id)) rows)) not ∙ sym (ap (λ b. cond b (Some entry.1) (lookup (is_at (id_order id)) rows)) not)
+put_other_if Greater id put keyed entry rows more is other further = ap (cond (is_same_id id entry.0) (Some entry.1)) further
+
+put_other : (id put : RowId) (keyed : Keyed) (rows : List (RowId × Keyed)) → is_same_id id put ≡ false
+    → lookup (is_at (id_order id)) (insert_entry id_order rows put keyed) ≡ lookup (is_at (id_order id)) rows
+put_other id put keyed [] other = ap (λ b. cond b (Some keyed) None) other
+put_other id put keyed (entry ∷ rows) other = put_other_if (id_order put entry.0) id put keyed entry rows (insert_entry id_order rows put keyed) refl other (put_other id put keyed rows other)
+
+gone_other_if : (b : Bool) (id gone : RowId) (entry : RowId × Keyed) (rows more : List (RowId × Keyed)) → is_same_id gone entry.0 ≡ b
+    → is_same_id id gone ≡ false → lookup (is_at (id_order id)) more ≡ lookup (is_at (id_order id)) rows
+    → lookup (is_at (id_order id)) (cond b rows (entry ∷ more)) ≡ lookup (is_at (id_order id)) (entry ∷ rows)
+gone_other_if true id gone entry rows more is other further =
+    sym (ap (λ b. cond b (Some entry.1) (lookup (is_at (id_order id)) rows)) (ap (is_same_id id) (sym (same_id gone entry.0 (equal_if (id_order gone entry.0) is))) ∙ other))
+gone_other_if false id gone entry rows more is other further = ap (cond (is_same_id id entry.0) (Some entry.1)) further
+
+gone_other : (id gone : RowId) (rows : List (RowId × Keyed)) → is_same_id id gone ≡ false → lookup (is_at (id_order id)) (remove_entry (is_at (id_order gone)) rows) ≡ lookup (is_at (id_order id)) rows
+gone_other id gone [] other = refl
+gone_other id gone (entry ∷ rows) other =
+    gone_other_if (is_same_id gone entry.0) id gone entry rows (remove_entry (is_at (id_order gone)) rows) refl other (gone_other id gone rows other)
+
+with_other : (id changed : RowId) (content : Option Keyed) (rows : List (RowId × Keyed)) → is_same_id id changed ≡ false
+    → lookup (is_at (id_order id)) (with_row changed content rows) ≡ lookup (is_at (id_order id)) rows
+with_other id changed (Some keyed) rows other = put_other id changed keyed rows other
+with_other id changed None rows other = gone_other id changed rows other
+
+other_if : (b : Bool) (id changed : RowId) (content : Option Keyed) (rows : List (RowId × Keyed)) → is_same_id id changed ≡ false
+    → lookup (is_at (id_order id)) (cond b (with_row changed content rows) rows) ≡ lookup (is_at (id_order id)) rows
+other_if true id changed content rows other = with_other id changed content rows other
+other_if false id changed content rows other = refl
+
+-- a change of a row leaves what stands at another number
+row_at_other : (s : State) (change : RowChange) (table : List ℕ) (id : RowId) → is_same_id id change.id ≡ false → row_at (changed s (c.Row change)) table id ≡ row_at s table id
+row_at_other s change table id other =
+    ap (lookup (is_at (id_order id))) (entries_of_changed s change table) ∙ other_if (is_name table change.table) id change.id change.after (entries_of s table) other
+
+-- ---- rows at different numbers
+
+-- the content that the row has
+abbrev content_of : Stored → Option Keyed
+content_of stored = Some (record { key = stored.key; row = stored.row })
+
+-- no content
+abbrev no_content : Stored → Option Keyed
+no_content stored = None
+
+-- at the number of each of the rows stands that content
+abbrev HaveAt : State → List ℕ → (Stored → Option Keyed) → List Stored → Type 0
+HaveAt s table content rows = AllByRecursion (λ stored. row_at s table stored.id ≡ content stored) rows
+
+-- none of the rows has the number
+abbrev OtherThan : RowId → List Stored → Type 0
+OtherThan id rows = AllByRecursion (λ stored. is_same_id stored.id id ≡ false) rows
+
+-- the rows have different numbers
+abbrev Apart : List Stored → Type 0
+Apart [] = Unit {0}
+Apart (stored ∷ rows) = OtherThan stored.id rows × Apart rows
+
+-- what stands at other numbers stays
+have_after : (s : State) (change : RowChange) (table : List ℕ) (content : Stored → Option Keyed) (rows : List Stored) → OtherThan change.id rows → HaveAt s table content rows
+    → HaveAt (changed s (c.Row change)) table content rows
+have_after s change table content [] other have = tt
+have_after s change table content (stored ∷ rows) other have =
+    (row_at_other s change table stored.id other.0 ∙ have.0, have_after s change table content rows other.1 have.1)
+
+-- ---- changes at different numbers
+
+deleted_fit : (s : State) (table : List ℕ) (rows : List Stored) → Apart rows → HaveAt s table content_of rows → FitsAll s (map (deleted_row table) rows)
+deleted_fit s table [] apart have = tt
+deleted_fit s table (stored ∷ rows) apart have =
+    let change : RowChange = record { table = table; id = stored.id; before = content_of stored; after = None } in
+    (have.0, deleted_fit (changed s (c.Row change)) table rows apart.1 (have_after s change table content_of rows apart.0 have.1))
+
+changed_fit : (s : State) (table : List ℕ) (old new : List Stored) → Apart old → HaveAt s table content_of old → FitsAll s (changed_rows table old new)
+changed_fit s table old [] apart have = tt
+changed_fit s table [] (new ∷ news) apart have = tt
+changed_fit s table (old ∷ olds) (new ∷ news) apart have =
+    let change : RowChange = record { table = table; id = old.id; before = content_of old; after = content_of new } in
+    (have.0, changed_fit (changed s (c.Row change)) table olds news apart.1 (have_after s change table content_of olds apart.0 have.1))
+
+inserted_fit : (s : State) (table : List ℕ) (rows : List Stored) → Apart rows → HaveAt s table no_content rows → FitsAll s (map (inserted_row table) rows)
+inserted_fit s table [] apart have = tt
+inserted_fit s table (stored ∷ rows) apart have =
+    let change : RowChange = record { table = table; id = stored.id; before = None; after = content_of stored } in
+    (have.0, inserted_fit (changed s (c.Row change)) table rows apart.1 (have_after s change table no_content rows apart.0 have.1))
+
+-- ---- the rows of a table in order
+
+-- rows of the table, each once
+record StandIn (s : State) (table : List ℕ) (rows : List Stored) : Type 0 where
+  apart : Apart rows
+  have : HaveAt s table content_of rows
+
+above_other : (id other : RowId) → id_order id other ≡ Less → is_same_id other id ≡ false
+above_other id other less = ap is_eq (ids_total.antisymm other id ∙ ap ordering_reverse less)
+
+above_others : (id : RowId) (entries : List (RowId × Keyed)) → AllByRecursion (λ other. id_order id other ≡ Less) (keys_of entries) → OtherThan id (map stored_of entries)
+above_others id [] above = tt
+above_others id (entry ∷ entries) above = (above_other id entry.0 above.0, above_others id entries above.1)
+
+entries_apart : (entries : List (RowId × Keyed)) → Ascend entries → Apart (map stored_of entries)
+unfolding IsStrictlySortedBy
+entries_apart [] ascend = tt
+entries_apart (entry ∷ entries) ascend = (above_others entry.0 entries ascend.0, entries_apart entries ascend.1)
+
+-- the entries find the content of the rows
+abbrev Find : List (RowId × Keyed) → List Stored → Type 0
+Find entries rows = AllByRecursion (λ stored. lookup (is_at (id_order stored.id)) entries ≡ content_of stored) rows
+
+find_behind : (first : RowId × Keyed) (entries : List (RowId × Keyed)) (rows : List Stored) → OtherThan first.0 rows → Find entries rows → Find (first ∷ entries) rows
+find_behind first entries [] other find = tt
+find_behind first entries (stored ∷ rows) other find =
+    (ap (λ b. cond b (Some first.1) (lookup (is_at (id_order stored.id)) entries)) other.0 ∙ find.0, find_behind first entries rows other.1 find.1)
+
+entries_find : (entries : List (RowId × Keyed)) → Apart (map stored_of entries) → Find entries (map stored_of entries)
+entries_find [] apart = tt
+entries_find (entry ∷ entries) apart = (
+  ap (λ b. cond b (Some entry.1) (lookup (is_at (id_order entry.0)) entries)) (own_number entry.0),
+  find_behind entry entries (map stored_of entries) apart.0 (entries_find entries apart.1),
+)
+
+-- the rows of a table stand in it
+rows_stand : (s : State) (table : List ℕ) → RowsInOrder s table → StandIn s table (rows_of s table)
+rows_stand s table ordered =
+    let apart : Apart (rows_of s table) = entries_apart (entries_of s table) ordered in
+    record { apart = apart; have = entries_find (entries_of s table) apart }
+
+all_if : (P : Stored → Type 0) (b : Bool) (stored : Stored) (rows : List Stored) → P stored → AllByRecursion P rows → AllByRecursion P (cond b (stored ∷ rows) rows)
+all_if P true stored rows first all = (first, all)
+all_if P false stored rows first all = all
+
+all_filter : (P : Stored → Type 0) (test : Stored → Bool) (rows : List Stored) → AllByRecursion P rows → AllByRecursion P (filter test rows)
+all_filter P test [] all = tt
+all_filter P test (stored ∷ rows) all = all_if P (test stored) stored (filter test rows) all.0 (all_filter P test rows all.1)
+
+apart_if : (b : Bool) (stored : Stored) (rows : List Stored) → OtherThan stored.id rows → Apart rows → Apart (cond b (stored ∷ rows) rows)
+apart_if true stored rows other apart = (other, apart)
+apart_if false stored rows other apart = apart
+
+apart_filter : (test : Stored → Bool) (rows : List Stored) → Apart rows → Apart (filter test rows)
+apart_filter test [] apart = tt
+apart_filter test (stored ∷ rows) apart =
+    apart_if (test stored) stored (filter test rows) (all_filter (λ other. is_same_id other.id stored.id ≡ false) test rows apart.0) (apart_filter test rows apart.1)
+
+-- some of the rows stand in it too
+filter_stand : (s : State) (table : List ℕ) (test : Stored → Bool) (rows : List Stored) → StandIn s table rows → StandIn s table (filter test rows)
+filter_stand s table test rows stand = record {
+  apart = apart_filter test rows stand.apart;
+  have = all_filter (λ stored. row_at s table stored.id ≡ content_of stored) test rows stand.have;
+}
+
+-- ---- the candidates
+
+all_stand : (s : State) (name : List ℕ) → RowsInOrder s name → StandIn s name (rows_at s name)
+unfolding rows_at
+all_stand s name ordered = rows_stand s name ordered
+
+keyed_stand : (s : State) (name : List ℕ) (key : List Value) → RowsInOrder s name → StandIn s name (keyed_at s name key)
+unfolding keyed_at
+keyed_stand s name key ordered = filter_stand s name (λ stored. is_same_row stored.key key) (rows_of s name) (rows_stand s name ordered)
+
+key_stand : (b : Bool) (s : State) (name : List ℕ) (key : List Value) → RowsInOrder s name
+    → IfOk (if b then (known (Ok [])).in_state s else (asked_key name key).in_state s).gives (StandIn s name)
+key_stand true s name key ordered = record { apart = tt; have = tt }
+key_stand false s name key ordered = keyed_stand s name key ordered
+
+with_stand : (s : State) (name : List ℕ) (pinned : Option (List Value)) → RowsInOrder s name → IfOk ((candidates_with name pinned).in_state s).gives (StandIn s name)
+with_stand s name None ordered = all_stand s name ordered
+with_stand s name (Some key) ordered = key_stand (list_any is_null key) s name key ordered
+
+-- the candidates stand in the table
+candidates_stand : (s : State) (user name : List ℕ) (table : TableDef) (condition : Option Term) → RowsInOrder s name
+    → IfOk ((candidates user name table condition).in_state s).gives (StandIn s name)
+candidates_stand s user name table condition ordered = with_stand s name (pinned_key user table.key condition) ordered
+
+-- ---- one step after another
+
+-- it holds behind a step, whatever the step gives
+done_then : {A : Type 0} (fact : List Change → Type 0) (given : Result A Refusal) (next : A → Result Effect Refusal) → ((a : A) → IfDone (next a) fact) → IfDone (and_then given next) fact
+done_then fact (Ok a) next all = all a
+done_then fact (Err refusal) next all = tt
+
+-- it holds behind a step, where it does behind what the step may give
+done_after : {A : Type 0} (P : A → Type 0) (fact : List Change → Type 0) (given : Result A Refusal) (next : A → Result Effect Refusal) → IfOk given P → ((a : A) → P a → IfDone (next a) fact)
+    → IfDone (and_then given next) fact
+done_after P fact (Ok a) next may all = all a may
+done_after P fact (Err refusal) next may all = tt
+
+-- the same of a step that gives another value
+given_then : {A B : Type 0} (Q : B → Type 0) (given : Result A Refusal) (next : A → Result B Refusal) → ((a : A) → IfOk (next a) Q) → IfOk (and_then given next) Q
+given_then Q (Ok a) next all = all a
+given_then Q (Err refusal) next all = tt
+
+given_after : {A B : Type 0} (P : A → Type 0) (Q : B → Type 0) (given : Result A Refusal) (next : A → Result B Refusal) → IfOk given P → ((a : A) → P a → IfOk (next a) Q) → IfOk (and_then given next) Q
+given_after P Q (Ok a) next may all = all a may
+given_after P Q (Err refusal) next may all = tt
+
+-- as many are given as are gone through
+each_length : {A B : Type 0} (give : A → Result B Refusal) (xs : List A) → IfOk (each_of give xs) (λ ys. length ys ≡ length xs)
+each_length give [] = refl
+each_length {B = B} give (x ∷ xs) =
+    given_then (λ ys. length ys ≡ suc (length xs)) (give x) (λ y. and_then (each_of give xs) (λ ys. Ok (y ∷ ys))) (λ y.
+    given_after (λ ys. length ys ≡ length xs) (λ ys. length ys ≡ suc (length xs)) (each_of give xs) (λ ys. Ok (y ∷ ys)) (each_length give xs) (λ ys same. ap suc same))
+
+-- ---- DELETE
+
+deleted_at : (name : List ℕ) (rows : List Stored) → Overwrite name (map (λ stored. stored.id) rows) (map (deleted_row name) rows)
+deleted_at name [] = refl
+deleted_at name (stored ∷ rows) = ap (λ places. Row name stored.id ∷ places) (deleted_at name rows)
+
+-- a DELETE overwrites the rows that are hit
+pub delete_overwrites : (name : List ℕ) (watches : List Watch) (removal : Removal) (role : List ℕ) (rows : List Stored)
+    → IfDone (Ok (deleted name watches removal role rows)) (Overwrite name (map (λ stored. stored.id) (hits watches removal.condition role rows)))
+delete_overwrites name watches removal role rows = deleted_at name (hits watches removal.condition role rows)
+
+delete_guarded_fit : (s : State) (standing : Standing) (watches : List Watch) (removal : Removal) (role name : List ℕ) (table : TableDef) → RowsInOrder s name
+    → IfDone ((delete_guarded standing watches removal role name table).in_state s).gives (FitsAll s)
+unfolding delete_guarded
+delete_guarded_fit s standing watches removal role name table ordered =
+    done_then (FitsAll s) ((privileges_or_denied standing privilege.Delete (removal_reads removal) name).in_state s).gives
+    (λ _. ((followed_by (candidates role name table removal.condition) (λ rows. known (Ok (deleted name watches removal role rows)))).in_state s).gives) (λ _.
+    done_after (StandIn s name) (FitsAll s) ((candidates role name table removal.condition).in_state s).gives
+    (λ rows. Ok (deleted name watches removal role rows))
+    (candidates_stand s role name table removal.condition ordered) (λ rows stand.
+    let gone = filter_stand s name (is_hit watches removal.condition role) rows stand in
+    deleted_fit s name (hits watches removal.condition role rows) gone.apart gone.have))
+
+delete_as_fit : (s : State) (standing : Standing) (role name : List ℕ) (table : TableDef) (removal : Removal) → RowsInOrder s name
+    → IfDone ((delete_as standing role name table removal).in_state s).gives (FitsAll s)
+unfolding delete_as
+delete_as_fit s standing role name table removal ordered =
+    done_then (FitsAll s) ((watches_for standing name table kind.Delete (removal_reads removal) (side.Old ∷ [])).in_state s).gives
+    (λ watches. ((delete_guarded standing watches removal role name table).in_state s).gives) (λ watches.
+    delete_guarded_fit s standing watches removal role name table ordered)
+
+delete_from_fit : (s : State) (role name : List ℕ) (table : TableDef) (removal : Removal) → RowsInOrder s name
+    → IfDone ((delete_from role name table removal).in_state s).gives (FitsAll s)
+unfolding delete_from
+delete_from_fit s role name table removal ordered =
+    done_then (FitsAll s) ((standing_of role).in_state s).gives (λ standing. ((delete_as standing role name table removal).in_state s).gives) (λ standing.
+    delete_as_fit s standing role name table removal ordered)
+
+-- the changes of a DELETE fit the state
+pub delete_fits : (s : State) (ctx : Ctx) (asked : Delete) → RowsInOrder s asked.table → IfDone ((delete ctx asked).in_state s).gives (FitsAll s)
+delete_fits s ctx asked ordered =
+    done_then (FitsAll s) ((table_or_undefined asked.table).in_state s).gives
+    (λ table. ((followed_by (known (removal_of asked table)) (λ removal. delete_from ctx.role asked.table table removal)).in_state s).gives) (λ table.
+    done_then (FitsAll s) (removal_of asked table) (λ removal. ((delete_from ctx.role asked.table table removal).in_state s).gives) (λ removal.
+    delete_from_fit s ctx.role asked.table table removal ordered))
+
+-- ---- UPDATE
+
+changed_at : (name : List ℕ) (old new : List Stored) → length new ≡ length old → Overwrite name (map (λ stored. stored.id) old) (changed_rows name old new)
+changed_at name [] [] same = refl
+changed_at name (stored ∷ old) [] same = absurd (suc-ne-zero (length old) (sym same))
+changed_at name [] (stored ∷ new) same = absurd (suc-ne-zero (length new) same)
+changed_at name (stored ∷ old) (changed ∷ new) same = ap (λ places. Row name stored.id ∷ places) (changed_at name old new (suc_inj same))
+
+updated_done : (fact : List Change → Type 0) (name : List ℕ) (revision : Revision) (role : List ℕ) (decisions : List Decision) (old new : List Stored) (settled : Result (Unit {0}) Refusal)
+    → fact (changed_rows name old new) → IfDone (Ok (updated name revision role decisions old new settled)) fact
+updated_done fact name revision role decisions old new (Ok _) is = is
+updated_done fact name revision role decisions old new (Err refusal) is = tt
+
+update_rows_done : (fact : List Change → Type 0) (s : State) (role name : List ℕ) (table : TableDef) (watches : List Watch) (revision : Revision) (before : List Decision) (old new : List Stored)
+    → fact (changed_rows name old new) → IfDone ((update_rows role name table watches revision before old new).in_state s).gives fact
+unfolding update_rows
+update_rows_done fact s role name table watches revision before old new is =
+    let after : List Decision = decisions_of side.New watches role new in
+    updated_done fact name revision role (before ++ after) old new
+    ((rows_or_refused name table.columns (order_of (places_set revision.settings) table.columns) after old new).in_state s).gives is
+
+update_hits_done : (fact : List Change → Type 0) (s : State) (role name : List ℕ) (table : TableDef) (watches : List Watch) (revision : Revision) (rows : List Stored)
+    → ((new : List Stored) → length new ≡ length (hits watches revision.condition role rows) → fact (changed_rows name (hits watches revision.condition role rows) new))
+    → IfDone ((update_hits role name table watches revision rows).in_state s).gives fact
+unfolding update_hits
+update_hits_done fact s role name table watches revision rows all =
+    let old : List Stored = hits watches revision.condition role rows in
+    done_after (λ new. length new ≡ length old) fact (each_of (updated_row table revision.settings role) old)
+    (λ new. ((update_rows role name table watches revision (decisions_of side.Old watches role rows) old new).in_state s).gives)
+    (each_length (updated_row table revision.settings role) old) (λ new same.
+    update_rows_done fact s role name table watches revision (decisions_of side.Old watches role rows) old new (all new same))
+
+-- an UPDATE overwrites the rows that are hit
+pub update_overwrites : (s : State) (role name : List ℕ) (table : TableDef) (watches : List Watch) (revision : Revision) (rows : List Stored)
+    → IfDone ((update_hits role name table watches revision rows).in_state s).gives (Overwrite name (map (λ stored. stored.id) (hits watches revision.condition role rows)))
+update_overwrites s role name table watches revision rows =
+    let old : List Stored = hits watches revision.condition role rows in
+    update_hits_done (Overwrite name (map (λ stored. stored.id) old)) s role name table watches revision rows (changed_at name old)
+
+update_guarded_fit : (s : State) (standing : Standing) (watches : List Watch) (revision : Revision) (role name : List ℕ) (table : TableDef) → RowsInOrder s name
+    → IfDone ((update_guarded standing watches revision role name table).in_state s).gives (FitsAll s)
+unfolding update_guarded
+update_guarded_fit s standing watches revision role name table ordered =
+    done_then (FitsAll s) ((privileges_or_denied standing privilege.Update (revision_reads revision) name).in_state s).gives
+    (λ _. ((followed_by (candidates role name table revision.condition) (λ rows. update_hits role name table watches revision rows)).in_state s).gives) (λ _.
+    done_after (StandIn s name) (FitsAll s) ((candidates role name table revision.condition).in_state s).gives
+    (λ rows. ((update_hits role name table watches revision rows).in_state s).gives)
+    (candidates_stand s role name table revision.condition ordered) (λ rows stand.
+    let old = filter_stand s name (is_hit watches revision.condition role) rows stand in
+    update_hits_done (FitsAll s) s role name table watches revision rows (λ new _. changed_fit s name (hits watches revision.condition role rows) new old.apart old.have)))
+
+update_as_fit : (s : State) (standing : Standing) (role name : List ℕ) (table : TableDef) (revision : Revision) → RowsInOrder s name
+    → IfDone ((update_as standing role name table revision).in_state s).gives (FitsAll s)
+unfolding update_as
+update_as_fit s standing role name table revision ordered =
+    done_then (FitsAll s) ((watches_for standing name table kind.Update (revision_reads revision) (side.Old ∷ side.New ∷ [])).in_state s).gives
+    (λ watches. ((update_guarded standing watches revision role name table).in_state s).gives) (λ watches.
+    update_guarded_fit s standing watches revision role name table ordered)
+
+update_in_fit : (s : State) (role name : List ℕ) (table : TableDef) (revision : Revision) → RowsInOrder s name
+    → IfDone ((update_in role name table revision).in_state s).gives (FitsAll s)
+unfolding update_in
+update_in_fit s role name table revision ordered =
+    done_then (FitsAll s) ((standing_of role).in_state s).gives (λ standing. ((update_as standing role name table revision).in_state s).gives) (λ standing.
+    update_as_fit s standing role name table revision ordered)
+
+-- the changes of an UPDATE fit the state
+pub update_fits : (s : State) (ctx : Ctx) (asked : Update) → RowsInOrder s asked.table → IfDone ((update ctx asked).in_state s).gives (FitsAll s)
+update_fits s ctx asked ordered =
+    done_then (FitsAll s) ((table_or_undefined asked.table).in_state s).gives
+    (λ table. ((followed_by (known (revision_of asked table)) (λ revision. update_in ctx.role asked.table table revision)).in_state s).gives) (λ table.
+    done_then (FitsAll s) (revision_of asked table) (λ revision. ((update_in ctx.role asked.table table revision).in_state s).gives) (λ revision.
+    update_in_fit s ctx.role asked.table table revision ordered))
+
+-- ---- INSERT
+
+not_if : (b : Bool) → (b ≡ true → ⊥) → b ≡ false
+not_if true never = absurd (never refl)
+not_if false never = refl
+
+later_other : (txn n next : ℕ) → n < next → is_same_id (record { txn = txn; n = next }) (record { txn = txn; n = n }) ≡ false
+later_other txn n next less =
+    let later : RowId = record { txn = txn; n = next } in
+    let first : RowId = record { txn = txn; n = n } in
+    not_if (is_same_id later first) (λ same.
+    not-suc-le_self n (subst (λ m. suc n ≤ m) (ap (λ id. id.n) (same_id later first (equal_if (id_order later first) same))) less))
+
+later_others : (places : List ℕ) (txn n next : ℕ) (rows : List (List Value)) → n < next → OtherThan (record { txn = txn; n = n }) (numbered places txn next rows)
+later_others places txn n next [] less = tt
+later_others places txn n next (row ∷ rows) less = (later_other txn n next less, later_others places txn n (suc next) rows (le_trans less (le-suc next)))
+
+numbered_apart : (places : List ℕ) (txn next : ℕ) (rows : List (List Value)) → Apart (numbered places txn next rows)
+numbered_apart places txn next [] = tt
+numbered_apart places txn next (row ∷ rows) = (later_others places txn next (suc next) rows (le_refl (suc next)), numbered_apart places txn (suc next) rows)
+
+numbered_free : (s : State) (table places : List ℕ) (txn next : ℕ) (rows : List (List Value)) → NumbersFree s table txn next → HaveAt s table no_content (numbered places txn next rows)
+numbered_free s table places txn next [] free = tt
+numbered_free s table places txn next (row ∷ rows) free =
+    (free next (le_refl next), numbered_free s table places txn (suc next) rows (λ n from. free n (le_of_suc-le from)))
+
+numbered_at : (name places : List ℕ) (txn next count : ℕ) (rows : List (List Value)) → length rows ≡ count
+    → Overwrite name (numbers_from txn next count) (map (inserted_row name) (numbered places txn next rows))
+numbered_at name places txn next zero [] same = refl
+numbered_at name places txn next zero (row ∷ rows) same = absurd (suc-ne-zero (length rows) same)
+numbered_at name places txn next (suc count) [] same = absurd (suc-ne-zero count (sym same))
+numbered_at name places txn next (suc count) (row ∷ rows) same = ap (λ others. Row name (record { txn = txn; n = next }) ∷ others) (numbered_at name places txn (suc next) count rows (suc_inj same))
+
+-- it holds of the changes that put so many rows into the table, numbered on from the transaction's next
+abbrev HoldsOf : (List Change → Type 0) → Ctx → List ℕ → ℕ → Type 0
+HoldsOf fact ctx name count = (places : List ℕ) (rows : List (List Value)) → length rows ≡ count → fact (map (inserted_row name) (numbered places ctx.txn ctx.next rows))
+
+inserted_done : (fact : List Change → Type 0) (name : List ℕ) (returning : Option Selected) (role : List ℕ) (decisions : List Decision) (rows : List Stored) (settled : Result (Unit {0}) Refusal)
+    → fact (map (inserted_row name) rows) → IfDone (Ok (inserted name returning role decisions rows settled)) fact
+inserted_done fact name returning role decisions rows (Ok _) is = is
+inserted_done fact name returning role decisions rows (Err refusal) is = tt
+
+insert_rows_done : (fact : List Change → Type 0) (s : State) (role name : List ℕ) (table : TableDef) (watches : List Watch) (addition : Addition) (rows : List Stored) → fact (map (inserted_row name) rows)
+    → IfDone ((insert_rows role name table watches addition rows).in_state s).gives fact
+unfolding insert_rows
+insert_rows_done fact s role name table watches addition rows is =
+    let decisions : List Decision = decisions_of side.New watches role rows in
+    inserted_done fact name addition.returning role decisions rows
+    ((rows_or_refused name table.columns (order_of addition.places table.columns) decisions [] rows).in_state s).gives is
+
+new_rows_hold : (fact : List Change → Type 0) (ctx : Ctx) (name : List ℕ) (table : TableDef) (addition : Addition) → HoldsOf fact ctx name (length addition.tuples)
+    → IfOk (new_rows ctx table addition) (λ rows. fact (map (inserted_row name) rows))
+new_rows_hold fact ctx name table addition all =
+    given_after (λ rows. length rows ≡ length addition.tuples) (λ rows. fact (map (inserted_row name) rows)) (each_of (row_of_tuple table addition.places ctx.role) addition.tuples)
+    (λ rows. Ok (numbered table.key ctx.txn ctx.next rows)) (each_length (row_of_tuple table addition.places ctx.role) addition.tuples) (all table.key)
+
+insert_guarded_done : (fact : List Change → Type 0) (s : State) (ctx : Ctx) (name : List ℕ) (table : TableDef) (standing : Standing) (watches : List Watch) (addition : Addition)
+    → HoldsOf fact ctx name (length addition.tuples) → IfDone ((insert_guarded ctx name table standing watches addition).in_state s).gives fact
+unfolding insert_guarded
+insert_guarded_done fact s ctx name table standing watches addition all =
+    done_then fact ((privileges_or_denied standing privilege.Insert (returning_reads addition.returning) name).in_state s).gives
+    (λ _. ((followed_by (known (new_rows ctx table addition)) (λ rows. insert_rows ctx.role name table watches addition rows)).in_state s).gives) (λ _.
+    done_after (λ rows. fact (map (inserted_row name) rows)) fact (new_rows ctx table addition)
+    (λ rows. ((insert_rows ctx.role name table watches addition rows).in_state s).gives)
+    (new_rows_hold fact ctx name table addition all) (λ rows is.
+    insert_rows_done fact s ctx.role name table watches addition rows is))
+
+insert_as_done : (fact : List Change → Type 0) (s : State) (ctx : Ctx) (name : List ℕ) (table : TableDef) (standing : Standing) (addition : Addition)
+    → HoldsOf fact ctx name (length addition.tuples) → IfDone ((insert_as ctx name table standing addition).in_state s).gives fact
+unfolding insert_as
+insert_as_done fact s ctx name table standing addition all =
+    done_then fact ((watches_for standing name table kind.Insert (returning_reads addition.returning) (side.New ∷ [])).in_state s).gives
+    (λ watches. ((insert_guarded ctx name table standing watches addition).in_state s).gives) (λ watches.
+    insert_guarded_done fact s ctx name table standing watches addition all)
+
+insert_into_done : (fact : List Change → Type 0) (s : State) (ctx : Ctx) (name : List ℕ) (table : TableDef) (addition : Addition)
+    → HoldsOf fact ctx name (length addition.tuples) → IfDone ((insert_into ctx name table addition).in_state s).gives fact
+unfolding insert_into
+insert_into_done fact s ctx name table addition all =
+    done_then fact ((standing_of ctx.role).in_state s).gives (λ standing. ((insert_as ctx name table standing addition).in_state s).gives) (λ standing.
+    insert_as_done fact s ctx name table standing addition all)
+
+-- there are as many tuples as the statement has
+tuples_length : (ctx : Ctx) (asked : Insert) (table : TableDef) → IfOk (addition_of ctx asked table) (λ addition. length addition.tuples ≡ length asked.tuples)
+tuples_length ctx asked table =
+    given_after (λ addition. length addition.tuples ≡ length asked.tuples) (λ addition. length addition.tuples ≡ length asked.tuples) (known_addition asked table)
+    (λ addition. and_then (addition_or_refused ctx.next table addition) (λ _. Ok addition))
+    (given_then (λ addition. length addition.tuples ≡ length asked.tuples) (places_of table.columns asked.columns)
+    (λ places. and_then (each_of tuple_of asked.tuples) (λ tuples. and_then (known_returning (table ∷ []) asked.returning) (λ returning. Ok (record { places = places; tuples = tuples; returning = returning })))) (λ places.
+    given_after (λ tuples. length tuples ≡ length asked.tuples) (λ addition. length addition.tuples ≡ length asked.tuples) (each_of tuple_of asked.tuples)
+    (λ tuples. and_then (known_returning (table ∷ []) asked.returning) (λ returning. Ok (record { places = places; tuples = tuples; returning = returning })))
+    (each_length tuple_of asked.tuples) (λ tuples same.
+    given_then (λ addition. length addition.tuples ≡ length asked.tuples) (known_returning (table ∷ []) asked.returning)
+    (λ returning. Ok (record { places = places; tuples = tuples; returning = returning })) (λ _. same))))
+    (λ addition same. given_then (λ other. length other.tuples ≡ length asked.tuples) (addition_or_refused ctx.next table addition) (λ _. Ok addition) (λ _. same))
+
+insert_done : (fact : List Change → Type 0) (s : State) (ctx : Ctx) (asked : Insert) → HoldsOf fact ctx asked.table (length asked.tuples) → IfDone ((insert ctx asked).in_state s).gives fact
+insert_done fact s ctx asked all =
+    done_then fact ((table_or_undefined asked.table).in_state s).gives
+    (λ table. ((followed_by (known (addition_of ctx asked table)) (λ addition. insert_into ctx asked.table table addition)).in_state s).gives) (λ table.
+    done_after (λ addition. length addition.tuples ≡ length asked.tuples) fact (addition_of ctx asked table)
+    (λ addition. ((insert_into ctx asked.table table addition).in_state s).gives) (tuples_length ctx asked table) (λ addition same.
+    insert_into_done fact s ctx asked.table table addition (λ places rows count. all places rows (count ∙ same))))
+
+-- the changes of an INSERT fit the state
+pub insert_fits : (s : State) (ctx : Ctx) (asked : Insert) → NumbersFree s asked.table ctx.txn ctx.next → IfDone ((insert ctx asked).in_state s).gives (FitsAll s)
+insert_fits s ctx asked free = insert_done (FitsAll s) s ctx asked (λ places rows _.
+    inserted_fit s asked.table (numbered places ctx.txn ctx.next rows) (numbered_apart places ctx.txn ctx.next rows) (numbered_free s asked.table places ctx.txn ctx.next rows free))
+
+-- an INSERT writes one row for each tuple, numbered on from the transaction's next
+pub insert_overwrites : (s : State) (ctx : Ctx) (asked : Insert) → IfDone ((insert ctx asked).in_state s).gives (Overwrite asked.table (numbers_from ctx.txn ctx.next (length asked.tuples)))
+insert_overwrites s ctx asked = insert_done (Overwrite asked.table (numbers_from ctx.txn ctx.next (length asked.tuples))) s ctx asked (λ places rows same.
+    numbered_at asked.table places ctx.txn ctx.next (length asked.tuples) rows same)

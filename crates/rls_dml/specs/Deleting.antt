@@ -1,0 +1,67 @@
+-- DELETE (PostgreSQL manual, DELETE, and 5.9): names, then types, then the privileges; then the rows that row security
+-- lets go and that WHERE holds of. A row that it hides stays, and nothing is said of it.
+use Rattle.std.specs.Prelude.{ℕ, List, [], ◌∷◌, Some, None, Bool, ◌&&◌, ◌||◌, Result, Ok, map}
+use Rattle.rls_value.specs.declared.refusal.Refusal.{Refusal}
+use Rattle.rls_value.specs.declared.verb.Privilege.TheVariants as privilege
+use Rattle.rls_value.specs.declared.verb.Kind.TheVariants as kind
+use Rattle.rls_value.specs.Giving.{and_then}
+use Rattle.rls_expr.specs.declared.table.TableDef.{TableDef}
+use Rattle.rls_catalog.specs.declared.change.Change.{Change}
+use Rattle.rls_catalog.specs.declared.change.Change.TheVariants as change
+use Rattle.rls_catalog.specs.declared.verdict.Side.TheVariants as side
+use Rattle.rls_catalog.specs.declared.stored.Stored.{Stored}
+use Rattle.rls_statement.specs.declared.changing.Delete.{Delete}
+use Rattle.rls_guard.specs.declared.context.Ctx.{Ctx}
+use Rattle.rls_guard.specs.declared.standing.Standing.{Standing}
+use Rattle.rls_guard.specs.declared.guard.Watch.{Watch}
+use Rattle.rls_guard.specs.declared.effect.Effect.{Effect}
+use Rattle.rls_guard.specs.declared.effect.Effect.TheVariants as effect
+use Rattle.rls_guard.specs.Standings.{standing_of}
+use Rattle.rls_guard.specs.Guards.{watches_for}
+use Rattle.rls_source.specs.Askings.{Asking, known, followed_by}
+use Rattle.rls_source.specs.Named.{table_or_undefined}
+use Rattle.rls_dml.specs.declared.deleting.Removal.{Removal}
+use Rattle.rls_dml.specs.Checking.{known_where, known_returning, where_fits, returning_fits, fitting_or_fault, where_sums, returning_sums, plain_or_unsupported, where_reads, returning_reads}
+use Rattle.rls_dml.specs.Judging.{hits, decisions_of}
+use Rattle.rls_dml.specs.Candidates.{candidates}
+use Rattle.rls_dml.specs.Listings.{reply_of}
+use Rattle.rls_dml.specs.Writing.{privileges_or_denied}
+
+-- the names of the condition and of RETURNING, then their types, then that no sum is in them
+abbrev pub removal_of : Delete → TableDef → Result Removal Refusal
+removal_of delete table = and_then (known_where (table ∷ []) delete.condition) (λ condition.
+    and_then (known_returning (table ∷ []) delete.returning) (λ returning.
+    and_then (fitting_or_fault (where_fits (table ∷ []) condition && returning_fits (table ∷ []) returning)) (λ _.
+    and_then (plain_or_unsupported (where_sums condition || returning_sums returning)) (λ _. Ok (record { condition = condition; returning = returning })))))
+
+-- it reads the table where it mentions a column
+abbrev pub removal_reads : Removal → Bool
+removal_reads removal = where_reads removal.condition || returning_reads removal.returning
+
+-- the change that takes the row out of the table
+abbrev pub deleted_row : List ℕ → Stored → Change
+deleted_row table stored = change.Row (record { table = table; id = stored.id; before = Some (record { key = stored.key; row = stored.row }); after = None })
+
+-- the rows that are hit go, and are answered
+abbrev pub deleted : List ℕ → List Watch → Removal → List ℕ → List Stored → Effect
+deleted name watches removal role rows = let gone = hits watches removal.condition role rows in
+    effect.Done (reply_of removal.returning role (map (λ stored. stored.row) gone)) (decisions_of side.Old watches role rows) (map (deleted_row name) gone) None
+
+-- the rows, where the role may delete them
+unfoldable pub delete_guarded : Standing → List Watch → Removal → List ℕ → List ℕ → TableDef → Asking Effect
+delete_guarded standing watches removal role name table = followed_by (privileges_or_denied standing privilege.Delete (removal_reads removal) name) (λ _.
+    followed_by (candidates role name table removal.condition) (λ rows. known (Ok (deleted name watches removal role rows))))
+
+-- what guards the rows from the role
+unfoldable pub delete_as : Standing → List ℕ → List ℕ → TableDef → Removal → Asking Effect
+delete_as standing role name table removal =
+    followed_by (watches_for standing name table kind.Delete (removal_reads removal) (side.Old ∷ [])) (λ watches. delete_guarded standing watches removal role name table)
+
+-- who the role is
+unfoldable pub delete_from : List ℕ → List ℕ → TableDef → Removal → Asking Effect
+delete_from role name table removal = followed_by (standing_of role) (λ standing. delete_as standing role name table removal)
+
+-- the table has to be there, the names and types to be right
+abbrev pub delete : Ctx → Delete → Asking Effect
+delete ctx asked = followed_by (table_or_undefined asked.table) (λ table.
+    followed_by (known (removal_of asked table)) (λ removal. delete_from ctx.role asked.table table removal))

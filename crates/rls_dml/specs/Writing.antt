@@ -1,0 +1,133 @@
+-- New rows (PostgreSQL manual, INSERT, UPDATE, and 5.5): the values that columns are given, and what new rows are refused
+-- for: row security, then NOT NULL, then the primary key.
+use Rattle.std.specs.Prelude.{ℕ, suc, List, [], ◌∷◌, ◌++◌, Option, Some, None, Bool, false, not, ◌&&◌, ◌||◌, nat_eq, Result, Ok, Err, if◌then◌else◌, map, filter, slice_get, slice_set}
+use Rattle.std.specs.List.{list_any}
+use Rattle.std.specs.Cmp.Lexicographic.{slice_cmp}
+use Rattle.std.specs.Ordering.{is_eq}
+use Rattle.rls_value.specs.declared.value.Value.{Value}
+use Rattle.rls_value.specs.declared.verb.Kind.{Kind}
+use Rattle.rls_value.specs.declared.verb.Privilege.{Privilege}
+use Rattle.rls_value.specs.declared.verb.Privilege.TheVariants as privileges
+use Rattle.rls_value.specs.declared.refusal.Refusal.{Refusal}
+use Rattle.rls_value.specs.declared.refusal.Refusal.TheVariants.{NotNull, Unique, Denied}
+use Rattle.rls_value.specs.declared.refusal.Why.TheVariants as why
+use Rattle.rls_value.specs.Giving.{and_then}
+use Rattle.rls_value.specs.Values.{is_null, value_at, listed}
+use Rattle.rls_expr.specs.declared.table.Column.{Column}
+use Rattle.rls_expr.specs.Terms.{Term}
+use Rattle.rls_catalog.specs.declared.verdict.Verdict.{Verdict}
+use Rattle.rls_catalog.specs.declared.verdict.Verdict.TheVariants as verdict
+use Rattle.rls_catalog.specs.declared.stored.Stored.{Stored}
+use Rattle.rls_guard.specs.declared.reply.Decision.{Decision}
+use Rattle.rls_guard.specs.declared.standing.Standing.{Standing}
+use Rattle.rls_guard.specs.Eval.{Environment, value_of, assigned_value}
+use Rattle.rls_guard.specs.Standings.{privilege_or_denied}
+use Rattle.rls_source.specs.Askings.{Asking, known, asked_if, followed_by}
+use Rattle.rls_source.specs.Asked.{asked_key}
+use Rattle.rls_source.specs.Sequences.{each_or_refused}
+use Rattle.rls_dml.specs.Numbers.{has_number}
+
+-- ---- privileges
+
+-- that of the command, and SELECT where it reads the table
+abbrev pub privileges_or_denied : Standing → Privilege → Bool → List ℕ → Asking (Unit {0})
+privileges_or_denied standing privilege reads name = followed_by (privilege_or_denied standing privilege name) (λ _.
+    asked_if reads (privilege_or_denied standing privileges.Select name) (known (Ok tt)))
+
+-- ---- values
+
+-- what the column is given, within its range
+abbrev pub given_to : Option Column → Value → Result Value Refusal
+given_to None value = Ok value
+given_to (Some column) value = assigned_value column value
+
+-- the row with each of these places given its term's value, in order
+abbrev pub assigned : List Column → Environment → List ℕ → List Term → List Value → Result (List Value) Refusal
+assigned columns env places [] row = Ok row
+assigned columns env [] (term ∷ terms) row = Ok row
+assigned columns env (place ∷ places) (term ∷ terms) row =
+    and_then (given_to (slice_get columns place) (value_of term env)) (λ value. assigned columns env places terms (slice_set row place value))
+
+-- the values at the places of the key
+abbrev pub key_at : List ℕ → List Value → List Value
+key_at places row = map (value_at row) places
+
+-- ---- row security
+
+-- what a verdict refuses
+abbrev pub verdict_or_denied : List ℕ → Kind → Verdict → Result (Unit {0}) Refusal
+verdict_or_denied table command verdict.Exempt = Ok tt
+verdict_or_denied table command (verdict.By policy) = Ok tt
+verdict_or_denied table command verdict.NoPermissive = Err (Denied (why.NoPermissive table command))
+verdict_or_denied table command (verdict.Restrictive policy) = Err (Denied (why.Restrictive policy table))
+
+-- what a decision refuses
+abbrev pub allowed_or_denied : List ℕ → Decision → Result (Unit {0}) Refusal
+allowed_or_denied table decision = verdict_or_denied table decision.kind decision.verdict
+
+-- ---- NOT NULL
+
+-- the place is one of these
+abbrev pub is_written : List ℕ → ℕ → Bool
+is_written places place = list_any (λ written. nat_eq written place) places
+
+-- the places from this one on that aren't written
+abbrev pub unwritten : List ℕ → ℕ → List Column → List ℕ
+unwritten places place [] = []
+unwritten places place (column ∷ columns) = if is_written places place then unwritten places (suc place) columns else place ∷ unwritten places (suc place) columns
+
+-- the places in the order in which a row is looked through: those that are written, in text order, then the others
+abbrev pub order_of : List ℕ → List Column → List ℕ
+order_of places columns = places ++ unwritten places 0 columns
+
+-- no null where none may be
+abbrev pub value_or_not_null : Option Column → Value → Result (Unit {0}) Refusal
+value_or_not_null None value = Ok tt
+value_or_not_null (Some column) value = if column.not_null && is_null value then Err (NotNull column.name) else Ok tt
+
+-- in the places of a row
+abbrev pub has_values : List Column → List ℕ → Stored → Result (Unit {0}) Refusal
+has_values columns order stored = each_or_refused (λ place. value_or_not_null (slice_get columns place) (value_at stored.row place)) order
+
+-- ---- the primary key
+
+-- the key of a keyed table, without a null
+abbrev pub is_whole : List Value → Bool
+is_whole [] = false
+is_whole (value ∷ values) = not (list_any is_null (value ∷ values))
+
+-- whether one of the keys is the same: the listing order sets them at one place
+abbrev pub is_among : List Value → List (List Value) → Bool
+is_among key keys = list_any (λ other. is_eq (slice_cmp listed other key)) keys
+
+-- whether two are the same
+abbrev pub has_doubles : List (List Value) → Bool
+has_doubles [] = false
+has_doubles (key ∷ keys) = is_among key keys || has_doubles keys
+
+-- one of the rows stays
+abbrev pub stays_any : List Stored → List Stored → Bool
+stays_any replaced rows = list_any (λ stored. not (has_number replaced stored.id)) rows
+
+-- whether a row that stays has one of the keys; hidden rows count
+abbrev pub keys_taken : List ℕ → List Stored → List (List Value) → Asking Bool
+keys_taken table replaced [] = known (Ok false)
+keys_taken table replaced (key ∷ keys) = followed_by (asked_key table key) (λ rows. followed_by (keys_taken table replaced keys) (λ rest. known (Ok (stays_any replaced rows || rest))))
+
+-- no key is that of a row that stays, or of two new ones
+abbrev pub unique_or_refused : List ℕ → List Stored → List (List Value) → Asking (Unit {0})
+unique_or_refused table replaced keys = followed_by (keys_taken table replaced keys) (λ taken. known (if taken || has_doubles keys then Err (Unique table) else Ok tt))
+
+-- the keys that have to be unique
+abbrev pub keys_of : List Stored → List (List Value)
+keys_of rows = filter is_whole (map (λ stored. stored.key) rows)
+
+-- ---- all of them
+
+-- NOT NULL, then the primary key
+unfoldable pub constraints_or_refused : List ℕ → List Column → List ℕ → List Stored → List Stored → Asking (Unit {0})
+constraints_or_refused table columns order replaced rows = followed_by (known (each_or_refused (has_values columns order) rows)) (λ _. unique_or_refused table replaced (keys_of rows))
+
+-- row security comes first
+unfoldable pub rows_or_refused : List ℕ → List Column → List ℕ → List Decision → List Stored → List Stored → Asking (Unit {0})
+rows_or_refused table columns order decisions replaced rows = followed_by (known (each_or_refused (allowed_or_denied table) decisions)) (λ _. constraints_or_refused table columns order replaced rows)

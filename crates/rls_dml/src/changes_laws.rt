@@ -1,0 +1,38 @@
+//! Laws of what INSERT, UPDATE and DELETE change, each a clause of a function that does nothing.
+
+ghost use Rattle.std.specs.Prelude.{ℕ, List, Ok, length, map};
+ghost use Rattle.rls_expr.specs.declared.table.TableDef.{TableDef};
+ghost use Rattle.rls_catalog.specs.declared.stored.Stored.{Stored};
+ghost use Rattle.rls_catalog.specs.Bases.{FitsAll};
+ghost use Rattle.rls_catalog.specs.InOrder.{RowsInOrder};
+ghost use Rattle.rls_catalog.specs.State.{State};
+ghost use Rattle.rls_statement.specs.declared.changing.Delete.{Delete};
+ghost use Rattle.rls_statement.specs.declared.changing.Update.{Update};
+ghost use Rattle.rls_statement.specs.declared.statement.Insert.{Insert};
+ghost use Rattle.rls_guard.specs.declared.context.Ctx.{Ctx};
+ghost use Rattle.rls_guard.specs.declared.guard.Watch.{Watch};
+ghost use Rattle.rls_dml.specs.declared.deleting.Removal.{Removal};
+ghost use Rattle.rls_dml.specs.declared.revision.Revision.{Revision};
+ghost use Rattle.rls_dml.specs.Deleting.{delete, deleted};
+ghost use Rattle.rls_dml.specs.Fitting.{IfDone, NumbersFree, numbers_from, Overwrite};
+ghost use Rattle.rls_dml.specs.Inserting.{insert};
+ghost use Rattle.rls_dml.specs.Judging.{hits};
+ghost use Rattle.rls_dml.specs.Updating.{update, update_hits};
+
+/// Each change of a statement names as before what the earlier ones leave at its place: of an INSERT where the numbers
+/// that it gives are free, of an UPDATE and a DELETE where the rows of the table stand in order.
+#[tactic(auto, using(crate::proofs::FittingLemmas::insert_fits, crate::proofs::FittingLemmas::update_fits, crate::proofs::FittingLemmas::delete_fits))]
+pub fn changes_fit()
+    ensures insert { (s : State) (ctx : Ctx) (asked : Insert) → NumbersFree s asked.table ctx.txn ctx.next → IfDone ((insert ctx asked).in_state s).gives (FitsAll s) }
+    ensures update { (s : State) (ctx : Ctx) (asked : Update) → RowsInOrder s asked.table → IfDone ((update ctx asked).in_state s).gives (FitsAll s) }
+    ensures delete { (s : State) (ctx : Ctx) (asked : Delete) → RowsInOrder s asked.table → IfDone ((delete ctx asked).in_state s).gives (FitsAll s) }
+{}
+
+/// An INSERT writes one row for each tuple, numbered on from the transaction's next; of the rows that an UPDATE or a
+/// DELETE looks at, it writes those that are hit.
+#[tactic(auto, using(crate::proofs::FittingLemmas::insert_overwrites, crate::proofs::FittingLemmas::update_overwrites, crate::proofs::FittingLemmas::delete_overwrites))]
+pub fn changes_overwrite()
+    ensures insert { (s : State) (ctx : Ctx) (asked : Insert) → IfDone ((insert ctx asked).in_state s).gives (Overwrite asked.table (numbers_from ctx.txn ctx.next (length asked.tuples))) }
+    ensures update { (s : State) (role name : List ℕ) (table : TableDef) (watches : List Watch) (revision : Revision) (rows : List Stored) → IfDone ((update_hits role name table watches revision rows).in_state s).gives (Overwrite name (map (λ stored. stored.id) (hits watches revision.condition role rows))) }
+    ensures delete { (name : List ℕ) (watches : List Watch) (removal : Removal) (role : List ℕ) (rows : List Stored) → IfDone (Ok (deleted name watches removal role rows)) (Overwrite name (map (λ stored. stored.id) (hits watches removal.condition role rows))) }
+{}

@@ -1,0 +1,130 @@
+//! What is answered of the rows that a statement hits or writes.
+
+ghost use Rattle.std.specs.Prelude.{◌≡◌, [], ◌∷◌, map, IfOk};
+ghost use Rattle.rls_dml.specs.Listings as spec;
+
+use crate::listing::listing_of;
+use rls_catalog::{Lent, Stored};
+use rls_expr::Expr;
+use rls_guard::{Reply, value_over};
+use rls_statement::Selected;
+use rls_value::{Items, Name, Row, Value};
+use std::alloc::{AllocError, Global};
+
+/// What RETURNING selects of the rows or, without it, how many they are.
+pub fn reply_of(
+    alloc: Global,
+    returning: &Option<Selected>,
+    role: &Name,
+    rows: &[&Row],
+) -> Result<Reply, AllocError>
+    ensures { IfOk result (λ reply. reply ≡ spec.reply_of returning.now role.now (map (λ row. row.now) rows.now)) }
+{
+    match returning {
+        None => Ok(Reply::Count(rows.len() as u64)),
+        Some(selected) => match answered(alloc, selected, role, rows) {
+            Ok(rows) => Ok(Reply::Rows(rows)),
+            Err(refused) => Err(refused),
+        },
+    }
+}
+
+/// The same of new rows.
+pub fn reply_of_new(
+    alloc: Global,
+    returning: &Option<Selected>,
+    role: &Name,
+    new: &[Stored],
+) -> Result<Reply, AllocError>
+    ensures { IfOk result (λ reply. reply ≡ spec.reply_of returning.now role.now (map (λ stored. stored.row) new.now)) }
+{
+    let rows = new_rows(alloc, new)?;
+    reply_of(alloc, returning, role, &rows)
+}
+
+/// The rows or their items' values, in listing order; or one row, with their number alone.
+pub fn answered(
+    alloc: Global,
+    selected: &Selected,
+    role: &Name,
+    rows: &[&Row],
+) -> Result<Items<Row>, AllocError>
+    ensures { IfOk result (λ listed. listed ≡ spec.answered selected.now role.now (map (λ row. row.now) rows.now)) }
+{
+    match selected {
+        Selected::All => whole_rows(alloc, rows),
+        Selected::Items(items) => rows_of_items(alloc, items.as_slice(), role, rows),
+        Selected::Count => number_alone(alloc, rows.len() as i64),
+    }
+}
+
+fn whole_rows(alloc: Global, rows: &[&Row]) -> Result<Items<Row>, AllocError>
+    ensures { IfOk result (λ listed. listed ≡ spec.listing (map (λ row. row.now) rows.now)) }
+{
+    let mut copies = Vec::with_capacity(alloc, rows.len())?;
+    for row in rows {
+        copies.push(row.copy(alloc)?)?;
+    }
+    listing_of(copies)
+}
+
+fn rows_of_items(
+    alloc: Global,
+    items: &[Expr],
+    role: &Name,
+    rows: &[&Row],
+) -> Result<Items<Row>, AllocError>
+    ensures { IfOk result (λ listed. listed ≡ spec.listing (map (spec.values_of items.now role.now) (map (λ row. row.now) rows.now))) }
+{
+    let mut all = Vec::with_capacity(alloc, rows.len())?;
+    for row in rows {
+        all.push(values_over(alloc, items, role, row)?)?;
+    }
+    listing_of(all)
+}
+
+fn values_over(alloc: Global, items: &[Expr], role: &Name, row: &Row) -> Result<Row, AllocError>
+    ensures { IfOk result (λ values. values ≡ spec.values_of items.now role.now row.now) }
+{
+    let mut values = Vec::with_capacity(alloc, items.len())?;
+    for item in items {
+        values.push(value_over(alloc, item, role, row)?)?;
+    }
+    Ok(Row::new(values))
+}
+
+/// One row, with the number alone.
+fn number_alone(alloc: Global, number: i64) -> Result<Items<Row>, AllocError>
+    ensures { IfOk result (λ rows. rows ≡ (Value.Int number ∷ []) ∷ []) }
+{
+    let mut values = Vec::with_capacity(alloc, 1)?;
+    values.push(Value::Int(number))?;
+    let mut rows = Vec::with_capacity(alloc, 1)?;
+    rows.push(Row::new(values))?;
+    Ok(Items::from_vec(rows))
+}
+
+/// The rows as they stand.
+pub fn standing_rows<'r, 'c>(
+    alloc: Global,
+    hits: &'r [&'r Lent<'c>],
+) -> Result<Vec<&'r Row>, AllocError>
+    ensures { IfOk result (λ rows. map (λ row. row.now) rows.items ≡ map (λ stored. stored.row) (map (λ hit. hit.now) hits.now)) }
+{
+    let mut rows = Vec::with_capacity(alloc, hits.len())?;
+    for hit in hits {
+        rows.push(hit.row())?;
+    }
+    Ok(rows)
+}
+
+/// The new rows.
+fn new_rows<'r>(alloc: Global, new: &'r [Stored]) -> Result<Vec<&'r Row>, AllocError>
+    ensures { IfOk result (λ rows. map (λ row. row.now) rows.items ≡ map (λ stored. stored.row) new.now) }
+{
+    let mut rows = Vec::with_capacity(alloc, new.len())?;
+    for stored in new {
+        rows.push(&stored.row)?;
+    }
+    Ok(rows)
+}
