@@ -3,6 +3,8 @@ pub mod StateCode
 pub mod Changed
 pub mod Kept
 pub mod InOrder
+pub mod PolicyLists
+pub mod PolicyListLaws
 pub mod KeptCode
 pub mod Undone
 pub mod KeyIndex

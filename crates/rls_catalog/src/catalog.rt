@@ -5,6 +5,7 @@ ghost use Rattle.std.specs.Option.{option_copied};
 ghost use Rattle.rls_catalog.specs.State.{role_of, members_of, table_of, grants_of, policies_of, rows_of, rows_with_key};
 ghost use Rattle.rls_catalog.specs.Changed.{opening, changed_all};
 ghost use Rattle.rls_catalog.specs.InOrder.{RowsInOrder};
+ghost use Rattle.rls_catalog.specs.PolicyLists.{InNameOrder};
 
 use crate::change::Delta;
 use crate::contents::Contents;
@@ -82,8 +83,10 @@ impl Catalog {
     }
 
     /// The policies of the table, in byte order of their names.
+    #[tactic(auto, using(crate::specs::PolicyListLaws::none_in_order))]
     pub fn policies(&self, table: &Name) -> &[Policy]
-        ensures { result.now ≡ policies_of self.now table.now }
+        ensures policies { result.now ≡ policies_of self.now table.now }
+        ensures ordered { InNameOrder result.now }
     {
         let contents = &self.contents;
         match contents.policies.get(table) {

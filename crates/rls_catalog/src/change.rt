@@ -3,9 +3,10 @@
 ghost use Rattle.std.specs.Prelude.{◌≡◌, [], ◌∷◌, ◌++◌, IfOk, OnOk, OnErr};
 
 use crate::grant::Grant;
+use crate::policy_list::PolicyList;
 use crate::role::{Membership, RoleDef};
 use crate::stored::Keyed;
-use rls_expr::{Policy, TableDef};
+use rls_expr::TableDef;
 use rls_value::{Items, Name, RowId};
 use std::alloc::{AllocError, Global};
 use std::marker::Model;
@@ -18,7 +19,7 @@ pub enum Change {
     Members(Name, Items<Membership>),
     Table(Name, TableDef),
     Grants(Name, Items<Grant>),
-    Policies(Name, Items<Policy>),
+    Policies(Name, PolicyList),
     Row(RowChange),
 }
 
@@ -66,10 +67,9 @@ impl Change {
                 name.copy()?,
                 Grant::copy_all(alloc, content.as_slice())?,
             )),
-            Change::Policies(name, content) => Ok(Change::Policies(
-                name.copy()?,
-                Policy::copy_all(alloc, content.as_slice())?,
-            )),
+            Change::Policies(name, content) => {
+                Ok(Change::Policies(name.copy()?, content.copy(alloc)?))
+            }
             Change::Row(row) => Ok(Change::Row(row.copy(alloc)?)),
         }
     }

@@ -9,11 +9,12 @@ ghost use Rattle.rls_catalog.specs.Undone.{undone, undone_all, rows_undone};
 use crate::change::{Change, RowChange};
 use crate::entries::{put, put_back};
 use crate::grant::Grant;
+use crate::policy_list::PolicyList;
 use crate::role::{Membership, RoleDef};
 use crate::slots::Slots;
 use crate::stored::Keyed;
 use crate::undo::{RowsUndo, Undo};
-use rls_expr::{Policy, TableDef};
+use rls_expr::TableDef;
 use rls_value::{Items, Name, RowId};
 use std::alloc::{AllocError, Global};
 use std::collections::BTreeMap;
@@ -26,7 +27,7 @@ pub(crate) struct Contents {
     pub(crate) members: BTreeMap<Name, Items<Membership>>,
     pub(crate) tables: BTreeMap<Name, TableDef>,
     pub(crate) grants: BTreeMap<Name, Items<Grant>>,
-    pub(crate) policies: BTreeMap<Name, Items<Policy>>,
+    pub(crate) policies: BTreeMap<Name, PolicyList>,
     pub(crate) rows: BTreeMap<Name, Slots>,
 }
 
@@ -185,14 +186,14 @@ impl Contents {
         &mut self,
         alloc: Global,
         name: &Name,
-        content: &Items<Policy>,
+        content: &PolicyList,
     ) -> Result<Undo, AllocError>
         ensures ok { OnOk result (state_of self.new ≡ changed (state_of self.old) (Change.Policies name.now content.now)) }
         ensures undo { IfOk result (λ undo. undone undo self.new ≡ self.old) }
         ensures err { OnErr result (self.new ≡ self.old) }
     {
         let label = name.copy()?;
-        let copies = Policy::copy_all(alloc, content.as_slice())?;
+        let copies = content.copy(alloc)?;
         let before = put(&mut self.policies, name.copy()?, copies)?;
         Ok(Undo::Policies(label, before))
     }

@@ -1,9 +1,10 @@
 //! What takes a change of a catalogue back.
 
 use crate::grant::Grant;
+use crate::policy_list::PolicyList;
 use crate::role::{Membership, RoleDef};
 use crate::stored::Keyed;
-use rls_expr::{Policy, TableDef};
+use rls_expr::TableDef;
 use rls_value::{Items, Name, RowId};
 
 /// What stood where a change was put on; none where nothing stood.
@@ -13,7 +14,7 @@ pub(crate) enum Undo {
     Members(Name, Option<Items<Membership>>),
     Table(Name, Option<TableDef>),
     Grants(Name, Option<Items<Grant>>),
-    Policies(Name, Option<Items<Policy>>),
+    Policies(Name, Option<PolicyList>),
     Rows(RowsUndo),
 }
 

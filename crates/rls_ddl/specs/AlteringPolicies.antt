@@ -12,6 +12,7 @@ use Rattle.rls_expr.specs.declared.table.TableDef.{TableDef}
 use Rattle.rls_expr.specs.declared.policy.Grantee.{Grantee}
 use Rattle.rls_expr.specs.declared.policy.Policy.{Policy}
 use Rattle.rls_catalog.specs.declared.change.Change.TheVariants as change
+use Rattle.rls_catalog.specs.PolicyLists.{is_named}
 use Rattle.rls_statement.specs.declared.statement.AlterPolicy.{AlterPolicy}
 use Rattle.rls_guard.specs.declared.context.Ctx.{Ctx}
 use Rattle.rls_source.specs.Askings.{Asking, known, followed_by}
@@ -21,7 +22,7 @@ use Rattle.rls_guard.specs.Standings.{ownership}
 use Rattle.rls_guard.specs.declared.effect.Effect.{Effect}
 use Rattle.rls_guard.specs.Effects.{writes}
 use Rattle.rls_ddl.specs.Conditions.{names_known, condition_fits, no_sum, both_conditions}
-use Rattle.rls_ddl.specs.NamedPolicies.{is_named, policy_or_undefined}
+use Rattle.rls_ddl.specs.NamedPolicies.{policy_or_undefined}
 
 -- the roles that are written behind TO have to be there
 abbrev pub roles_or_undefined : Option (List Grantee) → Asking (Unit {0})

@@ -1,7 +1,6 @@
 -- CREATE POLICY (PostgreSQL manual, CREATE POLICY): names, then that none of the name is there, then types, then that no sum
 -- stands in it, then how many there are, then that the role is one that owns the table.
 use Rattle.std.specs.Prelude.{ℕ, List, [], ◌∷◌, nat_lt, Result, Ok, Err, length, if◌then◌else◌}
-use Rattle.std.specs.Ordering.{is_lt}
 use Rattle.rls_value.specs.declared.refusal.Refusal.{Refusal}
 use Rattle.rls_value.specs.declared.refusal.Refusal.TheVariants.{Duplicate, Limit}
 use Rattle.rls_value.specs.declared.refusal.DefinedKind.TheVariants as kind
@@ -10,18 +9,16 @@ use Rattle.rls_value.specs.Giving.{and_then}
 use Rattle.rls_expr.specs.declared.table.TableDef.{TableDef}
 use Rattle.rls_expr.specs.declared.policy.Policy.{Policy}
 use Rattle.rls_catalog.specs.declared.change.Change.TheVariants as change
-use Rattle.rls_catalog.specs.State.{name_order}
+use Rattle.rls_catalog.specs.PolicyLists.{has_policy, with_policy}
 use Rattle.rls_statement.specs.declared.statement.CreatePolicy.{CreatePolicy}
 use Rattle.rls_guard.specs.declared.context.Ctx.{Ctx}
 use Rattle.rls_source.specs.Askings.{Asking, known, followed_by}
-use Rattle.rls_source.specs.Sequences.{put_before}
 use Rattle.rls_source.specs.Asked.{asked_policies}
 use Rattle.rls_source.specs.Named.{table_or_undefined, grantees_or_undefined}
 use Rattle.rls_guard.specs.Standings.{ownership}
 use Rattle.rls_guard.specs.declared.effect.Effect.{Effect}
 use Rattle.rls_guard.specs.Effects.{writes}
 use Rattle.rls_ddl.specs.Conditions.{names_known, condition_fits, no_sum, both_conditions}
-use Rattle.rls_ddl.specs.NamedPolicies.{has_policy}
 
 -- a policy of the name may not be there
 abbrev pub new_or_duplicate : List Policy → List ℕ → Result (Unit {0}) Refusal
@@ -30,10 +27,6 @@ new_or_duplicate policies name = if has_policy policies name then Err (Duplicate
 -- a table has 64 policies at most
 abbrev pub room_for_policy : List Policy → Result (Unit {0}) Refusal
 room_for_policy policies = if nat_lt (length policies) 64 then Ok tt else Err (Limit limit.Policies)
-
--- the policy in its place, by the bytes of its name
-abbrev pub with_policy : List Policy → Policy → List Policy
-with_policy policies policy = put_before (λ other. is_lt (name_order policy.name other.name)) policy policies
 
 -- the policy has to be right over its table, beside those that are there
 abbrev pub policy_or_refused : TableDef → List Policy → Policy → Result (Unit {0}) Refusal

@@ -1,8 +1,9 @@
 -- DROP POLICY (PostgreSQL manual, DROP POLICY): that the policy is there, then that the role is one that owns the table.
-use Rattle.std.specs.Prelude.{ℕ, List, [], ◌∷◌, not, Ok, filter}
+use Rattle.std.specs.Prelude.{ℕ, List, [], ◌∷◌, Ok}
 use Rattle.rls_expr.specs.declared.table.TableDef.{TableDef}
 use Rattle.rls_expr.specs.declared.policy.Policy.{Policy}
 use Rattle.rls_catalog.specs.declared.change.Change.TheVariants as change
+use Rattle.rls_catalog.specs.PolicyLists.{without_policy}
 use Rattle.rls_statement.specs.declared.statement.DropPolicy.{DropPolicy}
 use Rattle.rls_guard.specs.declared.context.Ctx.{Ctx}
 use Rattle.rls_source.specs.Askings.{Asking, known, followed_by}
@@ -11,11 +12,7 @@ use Rattle.rls_source.specs.Named.{table_or_undefined}
 use Rattle.rls_guard.specs.Standings.{ownership}
 use Rattle.rls_guard.specs.declared.effect.Effect.{Effect}
 use Rattle.rls_guard.specs.Effects.{writes}
-use Rattle.rls_ddl.specs.NamedPolicies.{is_named, policy_or_undefined}
-
--- the policies but for that one, in their order
-abbrev pub without_policy : List Policy → List ℕ → List Policy
-without_policy policies name = filter (λ policy. not (is_named name policy)) policies
+use Rattle.rls_ddl.specs.NamedPolicies.{policy_or_undefined}
 
 -- the policy goes where the role has the privileges of the table's owner
 unfoldable pub policy_dropped : List ℕ → TableDef → List Policy → DropPolicy → Asking Effect

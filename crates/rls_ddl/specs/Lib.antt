@@ -8,5 +8,4 @@ pub mod NamedPolicies
 pub mod CreatingPolicies
 pub mod AlteringPolicies
 pub mod DroppingPolicies
-pub mod PolicyOrder
 pub mod Granting

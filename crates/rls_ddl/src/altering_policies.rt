@@ -1,16 +1,19 @@
 //! ALTER POLICY.
 
-ghost use Rattle.std.specs.Prelude.{◌≡◌, [], ◌∷◌, IfOk, unwrap_or};
+ghost use Rattle.std.specs.Prelude.{◌≡◌, [], ◌∷◌, Some, IfOk, unwrap_or};
+ghost use Rattle.std.specs.List.{find};
 ghost use Rattle.std.specs.Option.{option_or};
 ghost use Rattle.rls_value.specs.Giving.{Gives};
+ghost use Rattle.rls_catalog.specs.PolicyLists.{InNameOrder, is_named};
 ghost use Rattle.rls_source.specs.Answering.{Answers};
 ghost use Rattle.rls_guard.specs.Effects.{writes};
 ghost use Rattle.rls_ddl.specs.AlteringPolicies as spec;
 ghost use Rattle.rls_ddl.specs.AlteringPolicies.{alter_policy, alteration_on, alteration_of, alteration_made, conditions_or_refused, roles_or_undefined};
 
 use crate::conditions::{require_booleans, require_names, require_no_sums};
-use crate::named_policies::policy_named;
-use rls_catalog::Change;
+use crate::named_policies::{find_policy, policy_named};
+use crate::policies_written::written;
+use rls_catalog::{Change, PolicyList};
 use rls_expr::{Expr, FromTable, Grantee, Policy, TableDef};
 use rls_guard::{Ctx, Effect, require_ownership};
 use rls_source::{Reads, RowSource, noted_policies, require_grantees, table_named};
@@ -61,6 +64,7 @@ fn alter_named<'c, S: RowSource<'c>>(
     policy: &Policy,
     alter: &AlterPolicy,
 ) -> Result<Effect, Refusal>
+    requires ordered { InNameOrder policies.now }
     ensures { Answers S.state S.after (alteration_of role.now table.now policies.now policy.now alter.now) source.old source.new notes.old notes.new result }
 {
     require_roles(alloc, source, notes, &alter.to)?;
@@ -79,6 +83,7 @@ fn make_alteration<'c, S: RowSource<'c>>(
     policies: &[Policy],
     alter: &AlterPolicy,
 ) -> Result<Effect, Refusal>
+    requires ordered { InNameOrder policies.now }
     ensures { Answers S.state S.after (alteration_made role.now table.now policies.now alter.now) source.old source.new notes.old notes.new result }
 {
     require_ownership(alloc, source, notes, role, &alter.table, table)?;
@@ -138,43 +143,46 @@ fn policies_changed(
     policies: &[Policy],
     alter: &AlterPolicy,
 ) -> Result<Effect, AllocError>
+    requires ordered { InNameOrder policies.now }
     ensures { IfOk result (λ effect. effect ≡ writes (Change.Policies alter.now.table (spec.with_altered alter.now policies.now) ∷ [])) }
 {
     let policies = with_altered(alloc, policies, alter)?;
-    match alter.table.copy() {
-        Ok(table) => Effect::changed(alloc, Change::Policies(table, policies)),
-        Err(refused) => {
-            drop(policies);
-            Err(refused)
-        }
-    }
+    written(alloc, &alter.table, policies)
 }
 
+#[tactic(auto, using(crate::proofs::PolicyOrderLaws::altered_none))]
 fn with_altered(
     alloc: Global,
     policies: &[Policy],
     alter: &AlterPolicy,
-) -> Result<Items<Policy>, AllocError>
+) -> Result<PolicyList, AllocError>
+    requires ordered { InNameOrder policies.now }
     ensures { IfOk result (λ all. all ≡ spec.with_altered alter.now policies.now) }
 {
-    let mut all = Vec::with_capacity(alloc, policies.len())?;
-    for policy in policies {
-        all.push(altered_if_named(alloc, policy, alter)?)?;
+    match find_policy(policies, &alter.name) {
+        Some(policy) => with_one_altered(alloc, policies, policy, alter),
+        None => PolicyList::copy_of(alloc, policies),
     }
-    Ok(Items::from_vec(all))
 }
 
-fn altered_if_named(
+#[tactic(auto, using(crate::proofs::PolicyOrderLaws::altered_is_replaced))]
+fn with_one_altered(
     alloc: Global,
+    policies: &[Policy],
     policy: &Policy,
     alter: &AlterPolicy,
-) -> Result<Policy, AllocError>
-    ensures { IfOk result (λ altered. altered ≡ spec.altered_if_named alter.now policy.now) }
+) -> Result<PolicyList, AllocError>
+    requires ordered { InNameOrder policies.now }
+    requires found { find (is_named alter.now.name) policies.now ≡ Some policy.now }
+    ensures { IfOk result (λ all. all ≡ spec.with_altered alter.now policies.now) }
 {
-    if policy.name.is(&alter.name) {
-        altered(alloc, policy, alter)
-    } else {
-        policy.copy(alloc)
+    let policies = PolicyList::copy_of(alloc, policies)?;
+    match altered(alloc, policy, alter) {
+        Ok(policy) => Ok(policies.replaced(policy)),
+        Err(refused) => {
+            drop(policies);
+            Err(refused)
+        }
     }
 }
 

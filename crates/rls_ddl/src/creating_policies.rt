@@ -1,23 +1,22 @@
 //! CREATE POLICY.
 
-ghost use Rattle.std.specs.Prelude.{◌≡◌, ◌≤◌, ◌∷◌, [], length, IfOk};
-ghost use Rattle.std.specs.List.{position_or_len};
-ghost use Rattle.std.specs.Ordering.{is_lt};
+ghost use Rattle.std.specs.Prelude.{◌≡◌, ◌∷◌, [], false, IfOk, OnOk};
 ghost use Rattle.rls_value.specs.Giving.{Gives};
-ghost use Rattle.rls_catalog.specs.State.{name_order};
+ghost use Rattle.rls_catalog.specs.PolicyLists.{InNameOrder, has_policy, with_policy};
 ghost use Rattle.rls_source.specs.Answering.{Answers};
 ghost use Rattle.rls_guard.specs.Effects.{writes};
 ghost use Rattle.rls_ddl.specs.CreatingPolicies as spec;
 ghost use Rattle.rls_ddl.specs.CreatingPolicies.{create_policy, policy_added, policy_made, policy_or_refused};
 
 use crate::conditions::{require_booleans, require_names, require_no_sums};
-use crate::named_policies::has_policy;
-use rls_catalog::Change;
+use crate::named_policies::is_there;
+use crate::policies_written::written;
+use rls_catalog::{Change, PolicyList};
 use rls_expr::{FromTable, Policy};
 use rls_guard::{Ctx, Effect, require_ownership};
 use rls_source::{Reads, RowSource, noted_policies, require_grantees, table_named};
 use rls_statement::CreatePolicy;
-use rls_value::{DefinedKind, Items, Limit, Name, Refusal};
+use rls_value::{DefinedKind, Limit, Name, Refusal};
 use std::alloc::{AllocError, Global};
 
 /// The most policies that a table has.
@@ -85,6 +84,8 @@ fn make_policy<'c, 'x, S: RowSource<'c>>(
     policies: &[Policy],
     policy: &Policy,
 ) -> Result<Effect, Refusal>
+    requires ordered { InNameOrder policies.now }
+    requires new { has_policy policies.now policy.now.name ≡ false }
     ensures { Answers S.state S.after (policy_made role.now from.entry.name.now from.entry.table.now policies.now policy.now) source.old source.new notes.old notes.new result }
 {
     require_ownership(alloc, source, notes, role, from.name, from.table)?;
@@ -97,11 +98,32 @@ fn policies_changed(
     policies: &[Policy],
     policy: &Policy,
 ) -> Result<Effect, AllocError>
-    ensures { IfOk result (λ effect. effect ≡ writes (Change.Policies table.now (spec.with_policy policies.now policy.now) ∷ [])) }
+    requires ordered { InNameOrder policies.now }
+    requires new { has_policy policies.now policy.now.name ≡ false }
+    ensures { IfOk result (λ effect. effect ≡ writes (Change.Policies table.now (with_policy policies.now policy.now) ∷ [])) }
 {
-    let policies = Policy::copy_all(alloc, policies)?;
-    let policies = with_policy(policies, policy.copy(alloc)?)?;
-    Effect::changed(alloc, Change::Policies(table.copy()?, policies))
+    let policies = policies_with(alloc, policies, policy)?;
+    written(alloc, table, policies)
+}
+
+/// The policies with one more, in its place.
+fn policies_with(
+    alloc: Global,
+    policies: &[Policy],
+    policy: &Policy,
+) -> Result<PolicyList, AllocError>
+    requires ordered { InNameOrder policies.now }
+    requires new { has_policy policies.now policy.now.name ≡ false }
+    ensures { IfOk result (λ all. all ≡ with_policy policies.now policy.now) }
+{
+    let policies = PolicyList::copy_of(alloc, policies)?;
+    match policy.copy(alloc) {
+        Ok(policy) => policies.with(policy),
+        Err(refused) => {
+            drop(policies);
+            Err(refused)
+        }
+    }
 }
 
 /// The policy's name has to be new, its conditions to be booleans without sums, and there to be room for it.
@@ -111,9 +133,10 @@ fn require_policy(
     from: FromTable,
     policy: &Policy,
 ) -> Result<(), Refusal>
-    ensures { Gives result (policy_or_refused from.entry.table.now policies.now policy.now) }
+    ensures given { Gives result (policy_or_refused from.entry.table.now policies.now policy.now) }
+    ensures new { OnOk result (has_policy policies.now policy.now.name ≡ false) }
 {
-    if has_policy(policies, &policy.name) {
+    if is_there(policies, &policy.name) {
         return Err(Refusal::Duplicate(DefinedKind::Policy, policy.name.copy()?));
     }
     require_booleans(alloc, &policy.using, &policy.check, from)?;
@@ -122,31 +145,4 @@ fn require_policy(
         return Err(Refusal::Limit(Limit::Policies));
     }
     Ok(())
-}
-
-/// The policies with one more, in byte order of their names.
-fn with_policy(policies: Items<Policy>, policy: Policy) -> Result<Items<Policy>, AllocError>
-    ensures { IfOk result (λ all. all ≡ spec.with_policy policies policy) }
-{
-    let mut policies = policies.into_vec();
-    let place = first_after(&policies, &policy.name);
-    policies.insert(place, policy)?;
-    Ok(Items::from_vec(policies))
-}
-
-/// The place of the first policy whose name is greater, or behind the last.
-fn first_after(policies: &[Policy], name: &Name) -> usize
-    ensures place { result ≡ position_or_len (λ policy. is_lt (name_order name.now policy.name)) policies.now }
-    ensures within { result ≤ length policies.now }
-{
-    let mut place = 0;
-    let mut rest = policies;
-    while let [policy, others @ ..] = rest {
-        if *name < policy.name {
-            break;
-        }
-        place += 1;
-        rest = others;
-    }
-    place
 }

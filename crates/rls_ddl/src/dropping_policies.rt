@@ -1,18 +1,20 @@
 //! DROP POLICY.
 
 ghost use Rattle.std.specs.Prelude.{◌≡◌, [], ◌∷◌, IfOk};
+ghost use Rattle.rls_catalog.specs.PolicyLists.{InNameOrder, without_policy};
 ghost use Rattle.rls_source.specs.Answering.{Answers};
 ghost use Rattle.rls_guard.specs.Effects.{writes};
 ghost use Rattle.rls_ddl.specs.DroppingPolicies as spec;
 ghost use Rattle.rls_ddl.specs.DroppingPolicies.{drop_policy, drop_on, policy_dropped};
 
 use crate::named_policies::policy_named;
-use rls_catalog::Change;
+use crate::policies_written::written;
+use rls_catalog::{Change, PolicyList};
 use rls_expr::{Policy, TableDef};
 use rls_guard::{Ctx, Effect, require_ownership};
 use rls_source::{Reads, RowSource, noted_policies, table_named};
 use rls_statement::DropPolicy;
-use rls_value::{Items, Name, Refusal};
+use rls_value::{Name, Refusal};
 use std::alloc::{AllocError, Global};
 
 /// Takes a policy away from the table; the others stay (PostgreSQL manual, DROP POLICY).
@@ -57,6 +59,7 @@ fn drop_named<'c, S: RowSource<'c>>(
     policies: &[Policy],
     drop: &DropPolicy,
 ) -> Result<Effect, Refusal>
+    requires ordered { InNameOrder policies.now }
     ensures { Answers S.state S.after (policy_dropped role.now table.now policies.now drop.now) source.old source.new notes.old notes.new result }
 {
     require_ownership(alloc, source, notes, role, &drop.table, table)?;
@@ -68,30 +71,11 @@ fn policies_changed(
     policies: &[Policy],
     dropped: &DropPolicy,
 ) -> Result<Effect, AllocError>
-    ensures { IfOk result (λ effect. effect ≡ writes (Change.Policies dropped.now.table (spec.without_policy policies.now dropped.now.name) ∷ [])) }
+    requires ordered { InNameOrder policies.now }
+    ensures { IfOk result (λ effect. effect ≡ writes (Change.Policies dropped.now.table (without_policy policies.now dropped.now.name) ∷ [])) }
 {
-    let policies = without_policy(alloc, policies, &dropped.name)?;
-    match dropped.table.copy() {
-        Ok(table) => Effect::changed(alloc, Change::Policies(table, policies)),
-        Err(refused) => {
-            drop(policies);
-            Err(refused)
-        }
+    match PolicyList::copy_of(alloc, policies) {
+        Ok(policies) => written(alloc, &dropped.table, policies.without(&dropped.name)),
+        Err(refused) => Err(refused),
     }
-}
-
-fn without_policy(
-    alloc: Global,
-    policies: &[Policy],
-    name: &Name,
-) -> Result<Items<Policy>, AllocError>
-    ensures { IfOk result (λ left. left ≡ spec.without_policy policies.now name.now) }
-{
-    let mut left = Items::new(alloc);
-    for policy in policies {
-        if !policy.name.is(name) {
-            left.push(policy.copy(alloc)?)?;
-        }
-    }
-    Ok(left)
 }

@@ -13,6 +13,7 @@ mod dropping_policies;
 mod granting;
 mod laws;
 mod named_policies;
+mod policies_written;
 mod primary_keys;
 mod setting_roles;
 

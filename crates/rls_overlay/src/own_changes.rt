@@ -3,6 +3,7 @@
 ghost use Rattle.std.specs.Prelude.{◌≡◌, IfOk};
 ghost use Rattle.std.specs.Option.{option_copied};
 ghost use Rattle.rls_catalog.specs.State.{at};
+ghost use Rattle.rls_catalog.specs.PolicyLists.{InNameOrder};
 ghost use Rattle.rls_overlay.specs.Indexed.{own_with_key, not_written};
 ghost use Rattle.rls_overlay.specs.Merged.{merged};
 ghost use Rattle.rls_overlay.specs.Written.{written as what_they_wrote, rows_written, over, list_over};
@@ -82,7 +83,8 @@ impl<'c> OwnChanges<'c> {
     }
 
     pub(crate) fn policies_over(&self, found: &'c [Policy], table: &Name) -> &'c [Policy]
-        ensures { result.now ≡ list_over (at table.now (what_they_wrote self.now).policies) found.now }
+        ensures policies { result.now ≡ list_over (at table.now (what_they_wrote self.now).policies) found.now }
+        ensures ordered { InNameOrder found.now → InNameOrder result.now }
     {
         self.written.policies_over(found, table)
     }

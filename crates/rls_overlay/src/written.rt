@@ -4,12 +4,13 @@ ghost use Rattle.std.specs.Prelude.{◌≡◌, None, IfOk, OnOk};
 ghost use Rattle.std.specs.Option.{option_copied};
 ghost use Rattle.std.specs.BTreeMap.{insert_entry};
 ghost use Rattle.rls_catalog.specs.State.{at, name_order, or_none};
+ghost use Rattle.rls_catalog.specs.PolicyLists.{InNameOrder};
 ghost use Rattle.rls_overlay.specs.Indexed.{own_with_key, not_written};
 ghost use Rattle.rls_overlay.specs.Merged.{merged};
 ghost use Rattle.rls_overlay.specs.Written.{with_change, with_changes, with_own_row, unwritten, over, list_over};
 
 use crate::own_rows::OwnRows;
-use rls_catalog::{Change, Grant, Lent, Membership, RoleDef, RowChange};
+use rls_catalog::{Change, Grant, Lent, Membership, PolicyList, RoleDef, RowChange};
 use rls_expr::{Policy, TableDef};
 use rls_value::{Items, Loan, Name, Row};
 use std::alloc::{AllocError, Global};
@@ -23,7 +24,7 @@ pub(crate) struct Written<'c> {
     members: BTreeMap<Name, Loan<'c, Items<Membership>>>,
     tables: BTreeMap<Name, Loan<'c, TableDef>>,
     grants: BTreeMap<Name, Loan<'c, Items<Grant>>>,
-    policies: BTreeMap<Name, Loan<'c, Items<Policy>>>,
+    policies: BTreeMap<Name, Loan<'c, PolicyList>>,
     rows: BTreeMap<Name, OwnRows<'c>>,
 }
 
@@ -137,7 +138,8 @@ impl<'c> Written<'c> {
     }
 
     pub(crate) fn policies_over(&self, found: &'c [Policy], table: &Name) -> &'c [Policy]
-        ensures { result.now ≡ list_over (at table.now self.now.policies) found.now }
+        ensures policies { result.now ≡ list_over (at table.now self.now.policies) found.now }
+        ensures ordered { InNameOrder found.now → InNameOrder result.now }
     {
         match self.policies.get(table) {
             Some(content) => content.get().as_slice(),

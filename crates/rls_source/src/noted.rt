@@ -3,6 +3,7 @@
 ghost use Rattle.std.specs.Prelude.{◌≡◌, [], ◌∷◌, ◌++◌, IfOk, OnOk};
 ghost use Rattle.std.specs.Option.{option_copied};
 ghost use Rattle.rls_catalog.specs.InOrder.{RowsInOrder};
+ghost use Rattle.rls_catalog.specs.PolicyLists.{InNameOrder};
 ghost use Rattle.rls_source.specs.Asked.{role_at, members_at, table_at, grants_at, policies_at, rows_at, keyed_at};
 
 use crate::reads::Reads;
@@ -80,7 +81,7 @@ pub fn noted_grants<'c, S: RowSource<'c>>(
     source.grants(alloc, table)
 }
 
-/// The table's policies, with a note of them.
+/// The table's policies in byte order of their names, with a note of them.
 #[tactic(auto, unfolding(crate::specs::Asked::policies_at))]
 pub fn noted_policies<'c, S: RowSource<'c>>(
     alloc: Global,
@@ -89,6 +90,7 @@ pub fn noted_policies<'c, S: RowSource<'c>>(
     table: &Name,
 ) -> Result<&'c [Policy], AllocError>
     ensures found { IfOk result (λ found. found.now ≡ policies_at (S.state source.old) table.now) }
+    ensures ordered { IfOk result (λ found. InNameOrder found.now) }
     ensures read { OnOk result (source.new ≡ S.after source.old (Object.Policies table.now ∷ [])) }
     ensures noted { OnOk result (notes.new ≡ notes.old ++ Object.Policies table.now ∷ []) }
     ensures state { S.state source.new ≡ S.state source.old }

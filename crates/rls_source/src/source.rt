@@ -3,6 +3,7 @@
 ghost use Rattle.std.specs.Prelude.{◌≡◌, List, [], ◌∷◌, ◌++◌, IfOk, OnOk, OnErr};
 ghost use Rattle.std.specs.Option.{option_copied};
 ghost use Rattle.rls_catalog.specs.InOrder.{RowsInOrder};
+ghost use Rattle.rls_catalog.specs.PolicyLists.{InNameOrder};
 ghost use Rattle.rls_catalog.specs.State.{State, role_of, members_of, table_of, grants_of, policies_of, rows_of, rows_with_key};
 ghost use Rattle.rls_value.specs.declared.object.Object.{Object as Read};
 
@@ -44,9 +45,10 @@ pub trait RowSource<'c> {
         ensures read { OnOk result (self.new ≡ after self.old (Object.Grants table.now ∷ [])) }
         ensures err { OnErr result (state self.new ≡ state self.old) };
 
-    /// The policies of the table, in byte order of their names.
+    /// The policies of the table, in byte order of their names, each name once.
     fn policies(&mut self, alloc: Global, table: &Name) -> Result<&'c [Policy], AllocError>
         ensures found { IfOk result (λ found. found.now ≡ policies_of (state self.old) table.now) }
+        ensures ordered { IfOk result (λ found. InNameOrder found.now) }
         ensures read { OnOk result (self.new ≡ after self.old (Object.Policies table.now ∷ [])) }
         ensures err { OnErr result (state self.new ≡ state self.old) };
 

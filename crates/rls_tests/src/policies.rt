@@ -1,7 +1,7 @@
 //! Row security by worked examples (PostgreSQL manual, 5.9 and CREATE POLICY).
 
 use crate::states::{add_role, put, told};
-use rls_catalog::{Catalog, Change, Membership, Verdict};
+use rls_catalog::{Catalog, Change, Membership, PolicyList, Verdict};
 use rls_expr::{Policy, TableDef};
 use rls_policy::{Judgement, combine, is_exempt};
 use rls_source::Plain;
@@ -67,6 +67,29 @@ fn restrictive_policy_alone_denies(rt: HostRuntime) -> Result<(), Fail> {
     let judgements = [(Loan::new(&restrictive), Truth::True)];
     let is = say(&judgements, "no permissive policy").map_err(told)?;
     assert!(rt; is);
+    Ok(())
+}
+
+/// A list of one policy.
+fn one_policy(alloc: Global, name: &str) -> Result<PolicyList, Refusal> {
+    let only = policy(alloc, name, true)?;
+    Ok(PolicyList::new(alloc).with(only)?)
+}
+
+/// How many policies are left after one is exchanged and one taken away.
+fn left_after(alloc: Global, list: PolicyList, name: &str) -> Result<usize, Refusal> {
+    let exchanged = list.replaced(policy(alloc, name, false)?);
+    let name = Name::new(alloc, name)?;
+    let left = exchanged.without(&name);
+    Ok(left.as_slice().len())
+}
+
+#[test]
+fn policy_is_put_exchanged_and_taken_away(rt: HostRuntime) -> Result<(), Fail> {
+    let list = one_policy(rt.alloc(), "p").map_err(told)?;
+    assert_eq!(rt; list.as_slice().len(), 1);
+    let left = left_after(rt.alloc(), list, "p").map_err(told)?;
+    assert_eq!(rt; left, 0);
     Ok(())
 }
 

@@ -2,7 +2,7 @@ use Rattle.std.proofs.Common.{◌≡◌, ◌+◌, length}
 use Rattle.std.specs.List.{position_or_len}
 use Rattle.std.specs.Ordering.{is_lt}
 use Rattle.rls_catalog.specs.State.{name_order}
-use Rattle.rls_ddl.proofs.creating_policies.first_after.Given as goal
+use Rattle.rls_catalog.proofs.policy_list.first_after.Given as goal
 
 -- those before, and the place in what is left
 abbrev pub invariant-loop-rest : goal.invariant-loop-rest

@@ -1,0 +1,11 @@
+use Rattle.std.proofs.Common.{◌≡◌, ◌+◌, length}
+use Rattle.std.specs.List.{position_or_len}
+use Rattle.rls_catalog.specs.PolicyLists as spec
+use Rattle.rls_catalog.proofs.policy_list.place_of.Given as goal
+
+-- those before, and the place in what is left
+abbrev pub invariant-loop-rest : goal.invariant-loop-rest
+invariant-loop-rest l = (l.place + position_or_len (spec.is_named l.name) l.rest ≡ position_or_len (spec.is_named l.name) l.policies) × (l.place + length l.rest ≡ length l.policies)
+
+abbrev pub decreases-loop-rest : goal.decreases-loop-rest
+decreases-loop-rest l = length l.rest

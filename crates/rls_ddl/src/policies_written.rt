@@ -1,0 +1,22 @@
+//! What a statement that changes a table's policies comes to.
+
+ghost use Rattle.std.specs.Prelude.{◌≡◌, [], ◌∷◌, IfOk};
+ghost use Rattle.rls_guard.specs.Effects.{writes};
+
+use rls_catalog::{Change, PolicyList};
+use rls_guard::Effect;
+use rls_value::Name;
+use std::alloc::{AllocError, Global};
+
+/// The table has these policies from now on.
+pub fn written(alloc: Global, table: &Name, policies: PolicyList) -> Result<Effect, AllocError>
+    ensures { IfOk result (λ effect. effect ≡ writes (Change.Policies table.now policies ∷ [])) }
+{
+    match table.copy() {
+        Ok(table) => Effect::changed(alloc, Change::Policies(table, policies)),
+        Err(refused) => {
+            drop(policies);
+            Err(refused)
+        }
+    }
+}
