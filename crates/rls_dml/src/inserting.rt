@@ -212,11 +212,11 @@ fn row_of(
                 put_value(&mut values, *place, value);
                 places = others;
             }
-            [] => return Ok(Row::new(values)),
+            [] => return Ok(Row::new(values)?),
         }
         tuple = rest;
     }
-    Ok(Row::new(values))
+    Ok(Row::new(values)?)
 }
 
 /// A null for each column.

@@ -234,12 +234,12 @@ fn row_with(
 ) -> Result<Row, Refusal>
     ensures { Gives result (assigned columns.now (over role.now old.now) (spec.places_set settings.now) (map (λ setting. setting.1) settings.now) old.now) }
 {
-    let mut values = old.copy(alloc)?.into_vec();
+    let mut values = old.to_vec(alloc)?;
     for (place, value) in settings {
         let value = given_over(alloc, columns, *place, value, role, old)?;
         put_value(&mut values, *place, value);
     }
-    Ok(Row::new(values))
+    Ok(Row::new(values)?)
 }
 
 /// Each new row is judged, and then all are changed or none.

@@ -89,5 +89,5 @@ fn pinned_values(
             None => return Ok(None),
         }
     }
-    Ok(Some(Row::new(values)))
+    Ok(Some(Row::new(values)?))
 }
