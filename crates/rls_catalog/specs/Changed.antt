@@ -25,6 +25,7 @@ abbrev pub with_first_row : List ℕ → RowId → Option Keyed → List (List �
 with_first_row table id (Some keyed) tables = insert_entry name_order tables table ((id, keyed) ∷ [])
 with_first_row table id None tables = tables
 
+-- the rows of a table with another content at the number, in a table that has rows or has none yet
 abbrev pub with_row_in : List ℕ → RowId → Option Keyed → Option (List (RowId × Keyed)) → List (List ℕ × List (RowId × Keyed)) → List (List ℕ × List (RowId × Keyed))
 with_row_in table id content (Some rows) tables = set_value (is_at (name_order table)) tables (with_row id content rows)
 with_row_in table id content None tables = with_first_row table id content tables

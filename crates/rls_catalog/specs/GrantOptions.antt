@@ -16,6 +16,7 @@ use Rattle.rls_catalog.specs.Verdict.{least}
 
 -- ---- what REVOKE takes away itself
 
+-- the same grantee
 abbrev pub is_same_grantee : Grantee → Grantee → Bool
 is_same_grantee g.Public g.Public = true
 is_same_grantee (g.Role name) (g.Role other) = bytes_eq name other

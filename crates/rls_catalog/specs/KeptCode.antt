@@ -26,10 +26,12 @@ Parts = List (List ℕ × RoleDef) × (List (List ℕ × List Membership) × (Li
 abbrev pub slots_code : Coded (List (RowId × Option Keyed))
 slots_code = coded_list (coded× id.the_row.coded (coded_option keyed.the_row.coded))
 
+-- the code of what is kept, part by part
 abbrev pub parts_code : Coded Parts
 parts_code =
     coded× (under_names role.the_row.coded) (coded× (under_names (coded_list membership.the_row.coded)) (coded× (under_names table.the_row.coded) (coded× (under_names (coded_list grant.the_row.coded)) (coded× (under_names (coded_list policy.the_row.coded)) (under_names slots_code)))))
 
+-- the code of what is kept
 abbrev pub kept_code : Coded Kept
 kept_code =
     code_by Parts parts_code (λ k. (k.roles, (k.members, (k.tables, (k.grants, (k.policies, k.rows)))))) (λ p. record { roles = p.0; members = p.1.0; tables = p.1.1.0; grants = p.1.1.1.0; policies = p.1.1.1.1.0; rows = p.1.1.1.1.1 }) (λ _. refl)

@@ -28,6 +28,7 @@ ids_at index key = ids_in (lookup (is_at (key_order key)) index)
 abbrev pub is_among : List (RowId × Unit {0}) → RowId → Bool
 is_among ids id = is_some (lookup (is_at (id_order id)) ids)
 
+-- the key of a table without a primary key
 abbrev pub is_empty_key : List Value → Bool
 is_empty_key [] = true
 is_empty_key (value ∷ values) = false

@@ -10,9 +10,11 @@ use Rattle.rls_catalog.specs.declared.role.RoleDef.{RoleDef}
 use Rattle.rls_catalog.specs.declared.role.Membership.{Membership}
 use Rattle.rls_catalog.specs.State.{State, role_of, members_of}
 
+-- no attribute
 abbrev pub nobody : RoleDef
 nobody = record { superuser = false; login = false; bypass_rls = false }
 
+-- those of a role that is there
 abbrev pub attributes_in : Option RoleDef → RoleDef
 attributes_in (Some def) = def
 attributes_in None = nobody
@@ -25,6 +27,7 @@ attributes_of s role = attributes_in (role_of s role)
 abbrev pub granted_inherited : List Membership → List (List ℕ)
 granted_inherited memberships = map (λ m. m.role) (filter (λ m. m.inherit) memberships)
 
+-- the roles of those memberships, of a role that is there
 abbrev pub inherited_if : Option RoleDef → List Membership → List (List ℕ)
 inherited_if (Some def) memberships = granted_inherited memberships
 inherited_if None memberships = []

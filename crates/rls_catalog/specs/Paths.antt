@@ -12,6 +12,7 @@ use Rattle.rls_catalog.specs.declared.role.Membership.{Membership}
 use Rattle.rls_catalog.specs.State.{State, role_of, members_of}
 use Rattle.rls_catalog.specs.Membership.{attributes_of, Inherits, reached_of, walked_by, walk_reads}
 
+-- what a role has that is there
 abbrev pub held_if : Option RoleDef → List Membership → List Membership
 held_if (Some def) memberships = memberships
 held_if None memberships = []
@@ -73,12 +74,15 @@ inheriting test s = record s { members = map (λ entry. (entry.0, map (marked te
 abbrev pub reached_where : (Membership → Bool) → State → List ℕ → List (List ℕ)
 reached_where test s role = reached_of (inheriting test s) role
 
+-- a login may set a role where it is a superuser, or reaches it over memberships with SET (PostgreSQL manual, SET ROLE)
 abbrev pub can_set : State → List ℕ → List ℕ → Bool
 can_set s login role = (attributes_of s login).superuser || one_of (reached_where has_set s login) role
 
+-- one role is a member of another over one membership or more, whatever their options
 abbrev pub is_member : State → List ℕ → List ℕ → Bool
 is_member s member role = list_any (λ first. one_of (reached_where is_any s first) role) (granted_where is_any (held_by s member))
 
+-- a role may grant another where it is a superuser, or has the privileges of one that has ADMIN on it (PostgreSQL manual, GRANT)
 abbrev pub may_grant : State → List ℕ → List ℕ → Bool
 may_grant s role granted = (attributes_of s role).superuser || list_any (λ member. holds_admin s member granted) (walked_by s role)
 

@@ -23,6 +23,7 @@ includes superuser reached (g.Role name) = superuser || one_of reached name
 abbrev pub concerns : State → List ℕ → Grantee → Bool
 concerns s role = includes (attributes_of s role).superuser (walked_by s role)
 
+-- the same privilege
 abbrev pub is_same_privilege : Privilege → Privilege → Bool
 is_same_privilege p.Select p.Select = true
 is_same_privilege p.Insert p.Insert = true

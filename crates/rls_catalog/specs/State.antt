@@ -21,6 +21,7 @@ use Rattle.rls_expr.specs.declared.policy.Policy.{Policy}
 use Rattle.rls_catalog.specs.declared.stored.Keyed.{Keyed}
 use Rattle.rls_catalog.specs.declared.stored.Stored.{Stored}
 
+-- the contents of all objects
 pub record State : Type 0 where
   pub roles : List (List ℕ × RoleDef)
   -- by member
@@ -50,6 +51,7 @@ abbrev pub or_none : {X : Type 0} → Option (List X) → List X
 or_none (Some xs) = xs
 or_none None = []
 
+-- a row under its number
 abbrev pub stored_of : RowId × Keyed → Stored
 stored_of entry = record { id = entry.0; key = entry.1.key; row = entry.1.row }
 
@@ -99,6 +101,7 @@ with_key key rows = filter (λ stored. is_same_row stored.key key) rows
 abbrev pub rows_with_key : State → List ℕ → List Value → List Stored
 rows_with_key s table key = with_key key (rows_of s table)
 
+-- the same number
 abbrev pub is_same_id : RowId → RowId → Bool
 is_same_id a b = is_at (id_order a) b
 

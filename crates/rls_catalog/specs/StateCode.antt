@@ -25,10 +25,12 @@ under_names code = coded_list (coded× (coded_list coded_ℕ) code)
 abbrev pub Parts : Type 0
 Parts = List (List ℕ × RoleDef) × (List (List ℕ × List Membership) × (List (List ℕ × TableDef) × (List (List ℕ × List Grant) × (List (List ℕ × List Policy) × List (List ℕ × List (RowId × Keyed))))))
 
+-- the code of what a state consists of
 abbrev pub parts_code : Coded Parts
 parts_code =
     coded× (under_names role.the_row.coded) (coded× (under_names (coded_list membership.the_row.coded)) (coded× (under_names table.the_row.coded) (coded× (under_names (coded_list grant.the_row.coded)) (coded× (under_names (coded_list policy.the_row.coded)) (under_names (coded_list (coded× id.the_row.coded keyed.the_row.coded)))))))
 
+-- the code of a state
 abbrev pub state_code : Coded State
 state_code =
     code_by Parts parts_code (λ s. (s.roles, (s.members, (s.tables, (s.grants, (s.policies, s.rows)))))) (λ p. record { roles = p.0; members = p.1.0; tables = p.1.1.0; grants = p.1.1.1.0; policies = p.1.1.1.1.0; rows = p.1.1.1.1.1 }) (λ _. refl)

@@ -31,6 +31,7 @@ use Rattle.rls_catalog.specs.Privileges.{includes, concerns}
 abbrev pub exempts : RoleDef → TableDef → Bool → Bool
 exempts role table has_owner = not table.enabled || (role.superuser || (role.bypass_rls || (has_owner && not table.forced)))
 
+-- whether row security doesn't apply to the role on the table
 abbrev pub is_exempt : State → List ℕ → TableDef → Bool
 is_exempt s role table = exempts (attributes_of s role) table (has_privileges_of s role table.owner)
 
@@ -41,6 +42,7 @@ exempt_reads s role table =
     then (o.Role role ∷ (if (attributes_of s role).superuser || ((attributes_of s role).bypass_rls || table.forced) then [] else reach_reads s role))
     else []
 
+-- the same type of command
 abbrev pub is_same_kind : Kind → Kind → Bool
 is_same_kind k.Select k.Select = true
 is_same_kind k.Insert k.Insert = true
@@ -72,6 +74,7 @@ expression_of policy k.Delete which = policy.using
 abbrev pub is_asked : Kind → Side → Policy → Bool
 is_asked kind which policy = is_for_kind policy.kind kind && is_some (expression_of policy kind which)
 
+-- the policies of the table that are for that type of command and have the expression asked for
 abbrev pub asked_of : State → List ℕ → Kind → Side → List Policy
 asked_of s table kind which = filter (is_asked kind which) (policies_of s table)
 
@@ -87,10 +90,12 @@ chosen superuser names kind which policies = filter (λ policy. list_any (includ
 abbrev pub applying_of : State → List ℕ → List ℕ → Kind → Side → List Policy
 applying_of s role table kind which = filter (is_to s role) (asked_of s table kind which)
 
+-- it is PUBLIC
 abbrev pub is_everyone : Grantee → Bool
 is_everyone g.Public = true
 is_everyone (g.Role name) = false
 
+-- PUBLIC is among those that the policy is for
 abbrev pub is_to_everyone : Policy → Bool
 is_to_everyone policy = list_any is_everyone policy.to
 
@@ -98,6 +103,7 @@ is_to_everyone policy = list_any is_everyone policy.to
 abbrev pub applying_reads : State → List ℕ → List ℕ → Kind → Side → List Object
 applying_reads s role table kind which = o.Policies table ∷ (if list_all is_to_everyone (asked_of s table kind which) then [] else reach_reads s role)
 
+-- the policy is permissive or not, and its condition is true or not
 abbrev pub is_such : Bool → Bool → Policy × Truth → Bool
 is_such permissive passes judgement = same_flag judgement.0.permissive permissive && same_flag (is_true judgement.1) passes
 
@@ -105,6 +111,7 @@ is_such permissive passes judgement = same_flag judgement.0.permissive permissiv
 abbrev pub names_where : Bool → Bool → List (Policy × Truth) → List (List ℕ)
 names_where permissive passes judgements = map (λ judgement. judgement.0.name) (filter (is_such permissive passes) judgements)
 
+-- the lesser of two names by their bytes, where the first may be none
 abbrev pub lesser : Option (List ℕ) → List ℕ → List ℕ
 lesser None name = name
 lesser (Some best) name = if is_gt (name_order best name) then name else best
@@ -114,6 +121,7 @@ abbrev pub least : Option (List ℕ) → List (List ℕ) → Option (List ℕ)
 least best [] = best
 least best (name ∷ names) = least (Some (lesser best name)) names
 
+-- the verdict by the least permissive policy that is true and the least restrictive one that isn't
 abbrev pub verdict_by : Option (List ℕ) → Option (List ℕ) → Verdict
 verdict_by None failing = v.NoPermissive
 verdict_by (Some passing) (Some failing) = v.Restrictive failing

@@ -37,6 +37,7 @@ has_no_place_for (Only k.Insert) alter = is_some alter.using
 has_no_place_for (Only k.Update) alter = false
 has_no_place_for (Only k.Delete) alter = is_some alter.check
 
+-- not supported where the policy's type of command has no place for a written part
 abbrev pub placed_or_unsupported : PolicyKind → AlterPolicy → Result (Unit {0}) Refusal
 placed_or_unsupported kind alter = if has_no_place_for kind alter then Err Unsupported else Ok tt
 
@@ -51,6 +52,7 @@ conditions_or_refused table kind alter =
 abbrev pub altered : AlterPolicy → Policy → Policy
 altered alter policy = record policy { to = unwrap_or alter.to policy.to; using = option_or alter.using policy.using; check = option_or alter.check policy.check }
 
+-- the policy of that name altered, each other one as it is
 abbrev pub altered_if_named : AlterPolicy → Policy → Policy
 altered_if_named alter policy = if is_named alter.name policy then altered alter policy else policy
 

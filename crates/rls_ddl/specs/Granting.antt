@@ -19,14 +19,18 @@ use Rattle.rls_guard.specs.Effects.{writes}
 abbrev pub written : Asking (List Change) → Asking Effect
 written changes = followed_by changes (λ delta. known (Ok (writes delta)))
 
+-- GRANT of privileges as a statement
 abbrev pub grant : Ctx → GrantPrivileges → Asking Effect
 grant ctx asked = written (privileges.grant ctx.role asked)
 
+-- REVOKE of privileges as a statement
 abbrev pub revoke : Ctx → RevokePrivileges → Asking Effect
 revoke ctx asked = written (privileges_left.revoke ctx.role asked)
 
+-- GRANT of roles as a statement
 abbrev pub grant_roles : Ctx → GrantRoles → Asking Effect
 grant_roles ctx asked = written (members.grant_member ctx.role asked)
 
+-- REVOKE of roles as a statement
 abbrev pub revoke_roles : Ctx → RevokeRoles → Asking Effect
 revoke_roles ctx asked = written (members_left.revoke_member ctx.role asked)

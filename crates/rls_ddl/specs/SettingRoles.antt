@@ -22,9 +22,11 @@ use Rattle.rls_source.specs.Named.{role_or_undefined}
 
 -- ---- whether the login may set the role
 
+-- whether the login may set the role
 unfoldable pub may_set : State → List ℕ → List ℕ → Bool
 may_set s login role = can_set s login role
 
+-- what it reads to tell
 unfoldable pub may_set_reads : State → List ℕ → List Object
 may_set_reads s login = can_set_reads s login
 
@@ -55,6 +57,7 @@ asked_may_set login role = record { in_state = λ s. record { gives = Ok (may_se
 abbrev pub sets : List ℕ → Effect
 sets role = effect.Done reply.Done [] [] (Some role)
 
+-- the role is set, or the login is denied it
 abbrev pub set_or_denied : List ℕ → Bool → Result Effect Refusal
 set_or_denied role may = if may then Ok (sets role) else Err (Denied (why.SetRole role))
 

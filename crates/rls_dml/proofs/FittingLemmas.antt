@@ -52,8 +52,8 @@ use Rattle.rls_dml.specs.declared.addition.Addition.{Addition}
 use Rattle.rls_dml.specs.declared.revision.Revision.{Revision}
 use Rattle.rls_dml.specs.declared.deleting.Removal.{Removal}
 use Rattle.rls_dml.specs.Checking.{known_returning, returning_reads}
-use Rattle.rls_dml.specs.Judging.{is_hit, hits, decisions_of}
-use Rattle.rls_dml.specs.Candidates.{pinned_key, candidates_with, candidates}
+use Rattle.rls_judging.specs.Judging.{is_hit, hits, decisions_of}
+use Rattle.rls_judging.specs.Candidates.{pinned_key, candidates_with, candidates}
 use Rattle.rls_dml.specs.Writing.{privileges_or_denied, order_of, rows_or_refused}
 use Rattle.rls_dml.specs.Inserting.{places_of, tuple_of, known_addition, addition_or_refused, addition_of, row_of_tuple, numbered, new_rows, inserted_row, inserted, insert_rows, insert_guarded, insert_as, insert_into, insert}
 use Rattle.rls_dml.specs.Updating.{revision_of, revision_reads, places_set, updated_row, changed_rows, updated, update_rows, update_hits, update_guarded, update_as, update_in, update}

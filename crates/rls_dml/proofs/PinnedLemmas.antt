@@ -26,8 +26,8 @@ use Rattle.rls_source.specs.Askings.{asked_if, known}
 use Rattle.rls_guard.specs.declared.guard.Watch.{Watch}
 use Rattle.rls_guard.specs.Eval.{all_of, over, row_at, value_of}
 use Rattle.rls_guard.specs.Guards.{truth_on}
-use Rattle.rls_dml.specs.Candidates.{candidates, candidates_with, pinned_key, pinned_value}
-use Rattle.rls_dml.specs.Judging.{hits, is_hit, meets}
+use Rattle.rls_judging.specs.Candidates.{candidates, candidates_with, pinned_key, pinned_value}
+use Rattle.rls_judging.specs.Judging.{hits, is_hit, meets}
 use Rattle.rls_dml.specs.Keys.{CarryKeys}
 use Rattle.rls_dml.specs.Writing.{key_at}
 

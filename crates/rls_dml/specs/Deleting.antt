@@ -22,8 +22,8 @@ use Rattle.rls_source.specs.Askings.{Asking, known, followed_by}
 use Rattle.rls_source.specs.Named.{table_or_undefined}
 use Rattle.rls_dml.specs.declared.deleting.Removal.{Removal}
 use Rattle.rls_dml.specs.Checking.{known_where, known_returning, where_fits, returning_fits, fitting_or_fault, where_sums, returning_sums, plain_or_unsupported, where_reads, returning_reads}
-use Rattle.rls_dml.specs.Judging.{hits, decisions_of}
-use Rattle.rls_dml.specs.Candidates.{candidates}
+use Rattle.rls_judging.specs.Judging.{hits, decisions_of}
+use Rattle.rls_judging.specs.Candidates.{candidates}
 use Rattle.rls_dml.specs.Listings.{reply_of}
 use Rattle.rls_dml.specs.Writing.{privileges_or_denied}
 

@@ -34,7 +34,7 @@ use Rattle.rls_source.specs.Sequences.{each_of}
 use Rattle.rls_source.specs.Named.{table_or_undefined}
 use Rattle.rls_dml.specs.declared.addition.Addition.{Addition}
 use Rattle.rls_dml.specs.Checking.{known_term, known_returning, place_or_undefined, value_fits, returning_fits, fitting_or_fault, returning_sums, plain_or_unsupported, returning_reads}
-use Rattle.rls_dml.specs.Judging.{decisions_of}
+use Rattle.rls_judging.specs.Judging.{decisions_of}
 use Rattle.rls_dml.specs.Listings.{reply_of}
 use Rattle.rls_dml.specs.Writing.{privileges_or_denied, assigned, key_at, order_of, rows_or_refused}
 

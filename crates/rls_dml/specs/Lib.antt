@@ -1,7 +1,5 @@
 pub mod Listings
 pub mod Checking
-pub mod Judging
-pub mod Candidates
 pub mod Keys
 pub mod Numbers
 pub mod Writing

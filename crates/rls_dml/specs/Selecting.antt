@@ -21,8 +21,8 @@ use Rattle.rls_source.specs.Askings.{Asking, known, followed_by}
 use Rattle.rls_source.specs.Named.{table_or_undefined}
 use Rattle.rls_dml.specs.declared.selecting.Query.{Query}
 use Rattle.rls_dml.specs.Checking.{known_selection, known_where, selection_fits, where_fits, fitting_or_fault, selection_sums, where_sums, plain_or_unsupported}
-use Rattle.rls_dml.specs.Judging.{hits, decisions_of}
-use Rattle.rls_dml.specs.Candidates.{candidates}
+use Rattle.rls_judging.specs.Judging.{hits, decisions_of}
+use Rattle.rls_judging.specs.Candidates.{candidates}
 use Rattle.rls_dml.specs.Listings.{answered}
 
 -- the names of the items and of the condition, then their types, then that no sum is in them

@@ -29,8 +29,8 @@ use Rattle.rls_source.specs.Sequences.{each_of}
 use Rattle.rls_source.specs.Named.{table_or_undefined}
 use Rattle.rls_dml.specs.declared.revision.Revision.{Revision}
 use Rattle.rls_dml.specs.Checking.{known_term, known_where, known_returning, place_or_undefined, value_fits, where_fits, returning_fits, fitting_or_fault, where_sums, returning_sums, plain_or_unsupported, where_reads, returning_reads}
-use Rattle.rls_dml.specs.Judging.{hits, decisions_of}
-use Rattle.rls_dml.specs.Candidates.{candidates}
+use Rattle.rls_judging.specs.Judging.{hits, decisions_of}
+use Rattle.rls_judging.specs.Candidates.{candidates}
 use Rattle.rls_dml.specs.Listings.{reply_of}
 use Rattle.rls_dml.specs.Writing.{privileges_or_denied, assigned, key_at, order_of, rows_or_refused}
 

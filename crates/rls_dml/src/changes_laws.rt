@@ -16,7 +16,7 @@ ghost use Rattle.rls_dml.specs.declared.revision.Revision.{Revision};
 ghost use Rattle.rls_dml.specs.Deleting.{delete, deleted};
 ghost use Rattle.rls_dml.specs.Fitting.{IfDone, NumbersFree, numbers_from, Overwrite};
 ghost use Rattle.rls_dml.specs.Inserting.{insert};
-ghost use Rattle.rls_dml.specs.Judging.{hits};
+ghost use Rattle.rls_judging.specs.Judging.{hits};
 ghost use Rattle.rls_dml.specs.Updating.{update, update_hits};
 
 /// Each change of a statement names as before what the earlier ones leave at its place: of an INSERT where the numbers

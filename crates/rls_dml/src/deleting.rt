@@ -6,17 +6,16 @@ ghost use Rattle.rls_source.specs.Answering.{Answers, Tells};
 ghost use Rattle.rls_guard.specs.Guards.{watches_for};
 ghost use Rattle.rls_dml.specs.Deleting as spec;
 
-use crate::candidates::candidates;
 use crate::checking::{
     known_returning, known_where, require_fitting, require_plain, returning_fits, returning_reads,
     returning_sums, where_fits, where_reads, where_sums,
 };
-use crate::judging::hits_of;
 use crate::replying::{reply_of, standing_rows};
 use crate::writing::require_privileges;
 use rls_catalog::{Change, Delta, Keyed, Lent, RowChange, Side};
 use rls_expr::{Expr, FromTable, Scope};
 use rls_guard::{Ctx, Decision, Effect, Reply, Standing, Watch, standing_of, watches_of};
+use rls_judging::{candidates, hits_of};
 use rls_source::{Reads, RowSource, table_named};
 use rls_statement::{Delete, Selected};
 use rls_value::{Items, Kind, Name, Privilege, Refusal};

@@ -13,7 +13,6 @@ ghost use Rattle.rls_dml.specs.Inserting as spec;
 
 use crate::addition::{Addition, check_addition};
 use crate::checking::returning_reads;
-use crate::judging::judged;
 use crate::keys::key_at;
 use crate::replaced::Replaced;
 use crate::replying::reply_of_new;
@@ -21,6 +20,7 @@ use crate::writing::{given_alone, order_of, put_value, require_privileges, requi
 use rls_catalog::{Change, Delta, Keyed, RowChange, Side, Stored};
 use rls_expr::{Column, Expr, FromTable, TableDef};
 use rls_guard::{Ctx, Decision, Effect, Standing, Watch, standing_of, watches_of};
+use rls_judging::judged;
 use rls_source::{Reads, RowSource, table_named};
 use rls_statement::{Insert, Selected};
 use rls_value::{Items, Kind, Name, Privilege, Refusal, Row, RowId, Value};
@@ -212,11 +212,11 @@ fn row_of(
                 put_value(&mut values, *place, value);
                 places = others;
             }
-            [] => return Ok(Row::new(values)),
+            [] => return Ok(Row::new(values)?),
         }
         tuple = rest;
     }
-    Ok(Row::new(values))
+    Ok(Row::new(values)?)
 }
 
 /// A null for each column.

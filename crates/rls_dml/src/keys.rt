@@ -22,7 +22,7 @@ pub fn key_at(alloc: Global, places: &[usize], row: &Row) -> Result<Row, AllocEr
     for place in places {
         values.push(row.value(*place)?)?;
     }
-    Ok(Row::new(values))
+    Row::new(values)
 }
 
 /// Refused where a key is that of a row that stays, or of two new rows. A key with a null is nobody's.

@@ -6,8 +6,8 @@ ghost use Rattle.rls_expr.specs.Terms.{Term};
 ghost use Rattle.rls_catalog.specs.State.{State, rows_of};
 ghost use Rattle.rls_catalog.specs.declared.stored.Stored.{Stored};
 ghost use Rattle.rls_guard.specs.declared.guard.Watch.{Watch};
-ghost use Rattle.rls_dml.specs.Candidates.{candidates};
-ghost use Rattle.rls_dml.specs.Judging.{hits};
+ghost use Rattle.rls_judging.specs.Candidates.{candidates};
+ghost use Rattle.rls_judging.specs.Judging.{hits};
 ghost use Rattle.rls_dml.specs.Keys.{CarryKeys};
 
 /// Where each row of the table is stored with its own key, the rows that a statement hits among those that it looks at

@@ -2,12 +2,10 @@
 #![tactic(auto)]
 
 mod addition;
-mod candidates;
 mod changes_laws;
 mod checking;
 mod deleting;
 mod inserting;
-mod judging;
 mod keys;
 mod laws;
 mod listing;

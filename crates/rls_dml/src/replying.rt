@@ -90,7 +90,7 @@ fn values_over(alloc: Global, items: &[Expr], role: &Name, row: &Row) -> Result<
     for item in items {
         values.push(value_over(alloc, item, role, row)?)?;
     }
-    Ok(Row::new(values))
+    Row::new(values)
 }
 
 /// One row, with the number alone.
@@ -100,7 +100,7 @@ fn number_alone(alloc: Global, number: i64) -> Result<Items<Row>, AllocError>
     let mut values = Vec::with_capacity(alloc, 1)?;
     values.push(Value::Int(number))?;
     let mut rows = Vec::with_capacity(alloc, 1)?;
-    rows.push(Row::new(values))?;
+    rows.push(Row::new(values)?)?;
     Ok(Items::from_vec(rows))
 }
 

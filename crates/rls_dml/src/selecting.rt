@@ -5,16 +5,15 @@ ghost use Rattle.rls_value.specs.Giving.{Gives};
 ghost use Rattle.rls_source.specs.Answering.{Answers};
 ghost use Rattle.rls_dml.specs.Selecting as spec;
 
-use crate::candidates::candidates;
 use crate::checking::{
     known_selection, known_where, require_fitting, require_plain, selection_fits, selection_sums,
     where_fits, where_sums,
 };
-use crate::judging::hits_of;
 use crate::replying::{answered, standing_rows};
 use rls_catalog::{Delta, Lent, Side};
 use rls_expr::{Expr, FromTable, Scope};
 use rls_guard::{Ctx, Effect, Reply, Standing, Watch, standing_of, watches_of};
+use rls_judging::{candidates, hits_of};
 use rls_source::{Reads, RowSource, table_named};
 use rls_statement::{Select, Selected};
 use rls_value::{Items, Kind, Name, Privilege, Refusal, Row};

@@ -10,8 +10,6 @@ ghost use Rattle.rls_dml.specs.Writing.{assigned, rows_or_refused, order_of as s
 ghost use Rattle.rls_guard.specs.Guards.{watches_for};
 ghost use Rattle.rls_dml.specs.Updating as spec;
 
-use crate::candidates::candidates;
-use crate::judging::{hits_of, judged};
 use crate::keys::key_at;
 use crate::replaced::Replaced;
 use crate::replying::reply_of_new;
@@ -20,6 +18,7 @@ use crate::writing::{given_over, order_of, put_value, require_privileges, requir
 use rls_catalog::{Change, Delta, Keyed, Lent, RowChange, Side, Stored};
 use rls_expr::{Column, Expr, FromTable, TableDef};
 use rls_guard::{Ctx, Decision, Effect, Standing, Watch, known_term, standing_of, watches_of};
+use rls_judging::{candidates, hits_of, judged};
 use rls_source::{Reads, RowSource, table_named};
 use rls_statement::Update;
 use rls_value::{Items, Kind, Name, Privilege, Refusal, Row};
@@ -235,12 +234,12 @@ fn row_with(
 ) -> Result<Row, Refusal>
     ensures { Gives result (assigned columns.now (over role.now old.now) (spec.places_set settings.now) (map (λ setting. setting.1) settings.now) old.now) }
 {
-    let mut values = old.copy(alloc)?.into_vec();
+    let mut values = old.to_vec(alloc)?;
     for (place, value) in settings {
         let value = given_over(alloc, columns, *place, value, role, old)?;
         put_value(&mut values, *place, value);
     }
-    Ok(Row::new(values))
+    Ok(Row::new(values)?)
 }
 
 /// Each new row is judged, and then all are changed or none.

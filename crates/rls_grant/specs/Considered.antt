@@ -10,9 +10,11 @@ abbrev pub is_left_out : Option (List ℕ) → Grantee → Bool
 is_left_out (Some name) grantee = is_same_grantee grantee (g.Role name)
 is_left_out None grantee = false
 
+-- a grant without its option, if it is to the role that is left out
 abbrev pub considered_one : Option (List ℕ) → Grant → Grant
 considered_one without grant = record grant { option = grant.option && not (is_left_out without grant.grantee) }
 
+-- the grants, with the options of the role that is left out not counted
 abbrev pub considered : Option (List ℕ) → List Grant → List Grant
 considered without grants = map (considered_one without) grants
 

@@ -72,6 +72,7 @@ with_grants grants (grant ∷ more) = with_grants (with_grant grants grant) more
 
 -- ---- what is granted
 
+-- a grant of the privilege
 abbrev pub new_grant : Bool → Privilege → Grantee → List ℕ → Grant
 new_grant option privilege grantee grantor = record { privilege = privilege; grantee = grantee; grantor = grantor; option = option }
 
@@ -79,6 +80,7 @@ new_grant option privilege grantee grantor = record { privilege = privilege; gra
 abbrev pub own_grant : List ℕ → Privilege → Grant
 own_grant owner privilege = new_grant false privilege (g.Role owner) owner
 
+-- the owner's own grants of all privileges
 abbrev pub own_grants : List ℕ → List Grant
 own_grants owner = map (own_grant owner) all_privileges
 
@@ -92,6 +94,7 @@ grants_by option grantees grantor = map (λ grantee. new_grant option grantor.pr
 abbrev pub goes_back : List ℕ → List Grant → Privilege → List ℕ → List ℕ → Bool
 goes_back owner grants privilege grantor grantee = not (one_of (holders_of owner (without_options_of grantee grants) privilege) grantor)
 
+-- refused where it goes back to whom the grantor has it from
 abbrev pub forth_or_refused : List ℕ → List Grant → List ℕ → Grantor → Result (Unit {0}) Refusal
 forth_or_refused owner grants grantee grantor = if goes_back owner grants grantor.privilege grantor.name grantee then Err (GrantOp (Back grantee)) else Ok tt
 
@@ -114,6 +117,7 @@ grants_written table grants = change.Grants table grants ∷ []
 abbrev pub grants_with : List Grant → List Grantor → GrantPrivileges → List Change
 grants_with grants by asked = grants_written asked.table (with_grants grants (flat_map (grants_by asked.with_option asked.to) by))
 
+-- what GRANT changes: the options may be granted, then each grant is put in
 unfoldable pub granted : TableDef → List Grant → List Grantor → GrantPrivileges → Result (List Change) Refusal
 granted table grants by asked = and_then (options_or_refused asked.with_option table.owner grants by asked.to) (λ _. Ok (grants_with grants by asked))
 

@@ -9,6 +9,7 @@ use Rattle.rls_catalog.specs.declared.grant.Grant.{Grant}
 use Rattle.rls_catalog.specs.Privileges.{is_same_privilege, optioned_by}
 use Rattle.rls_catalog.specs.State.{name_order, or_none}
 
+-- the role that a grantee is; PUBLIC is none
 abbrev pub role_in : Grantee → Option (List ℕ)
 role_in g.Public = None
 role_in (g.Role name) = Some name

@@ -30,6 +30,7 @@ use Rattle.rls_grant.specs.Holders.{holders_of}
 abbrev pub is_by : List Grantee → Grant → Grantor → Bool
 is_by grantees grant grantor = list_any (λ grantee. is_grant_of grantor.privilege grantee grantor.name grant) grantees
 
+-- a grant by one of the grantors to one of the grantees
 abbrev pub is_taken : List Grantor → List Grantee → Grant → Bool
 is_taken by grantees grant = list_any (is_by grantees grant) by
 
@@ -37,6 +38,7 @@ is_taken by grantees grant = list_any (is_by grantees grant) by
 abbrev pub without_mark : List Grantor → List Grantee → Grant → Grant
 without_mark by grantees grant = if is_taken by grantees grant then unmarked grant else grant
 
+-- the grants without those that are taken, or without their options
 abbrev pub without_taken : Bool → List Grantor → List Grantee → List Grant → List Grant
 without_taken option_only by grantees grants =
     if option_only then map (without_mark by grantees) grants else filter (λ grant. not (is_taken by grantees grant)) grants
@@ -61,6 +63,7 @@ left_after cascade table owner (grantor ∷ by) grants =
 
 -- ---- the statement
 
+-- what REVOKE changes: what it takes itself, and with CASCADE what hangs on that; without, it is refused where something does
 unfoldable pub revoked : TableDef → List Grant → List Grantor → RevokePrivileges → Result (List Change) Refusal
 revoked table grants by asked =
     and_then (left_after asked.cascade asked.table table.owner by (without_taken asked.option_only by asked.from grants)) (λ left. Ok (grants_written asked.table left))

@@ -54,6 +54,7 @@ abbrev pub over : {X : Type 0} → Option X → Option X → Option X
 over (Some x) found = Some x
 over None found = found
 
+-- what was written, or else what was found
 abbrev pub list_over : {X : Type 0} → Option (List X) → List X → List X
 list_over (Some xs) found = xs
 list_over None found = found

@@ -32,6 +32,7 @@ use Rattle.rls_role.specs.Reaching.{reach_of}
 
 -- ---- who may
 
+-- the roles on which one of the members has ADMIN
 unfoldable pub managed_in : State → List (List ℕ) → List (List ℕ)
 managed_in s members = managed_by s members
 
@@ -51,6 +52,7 @@ asked_managed members = record { in_state = λ s. record { gives = Ok (managed_i
 abbrev pub managed_or_denied : Bool → List (List ℕ) → List ℕ → Result (Unit {0}) Refusal
 managed_or_denied superuser managed role = if superuser || one_of managed role then Ok tt else Err (Denied (Admin role))
 
+-- the role manages each of the roles, or the first that it doesn't manage is refused
 unfoldable pub each_managed : Reach → List (List ℕ) → Asking (Unit {0})
 each_managed reach roles = followed_by (asked_managed reach.names) (λ managed.
     known (each_or_refused (managed_or_denied reach.superuser managed) roles))
@@ -66,6 +68,7 @@ abbrev pub membership_with : MembershipOptions → Membership → Membership
 membership_with written m =
     record { role = m.role; admin = unwrap_or written.admin m.admin; inherit = unwrap_or written.inherit m.inherit; set = unwrap_or written.set m.set }
 
+-- a membership in the role with the written options, each other one as it is
 abbrev pub with_options : MembershipOptions → List ℕ → Membership → Membership
 with_options written role m = if bytes_eq m.role role then membership_with written m else m
 
@@ -73,6 +76,7 @@ with_options written role m = if bytes_eq m.role role then membership_with writt
 abbrev pub new_membership : List ℕ → Membership
 new_membership role = record { role = role; admin = false; inherit = true; set = true }
 
+-- one of the memberships is in the role
 abbrev pub has_role : List Membership → List ℕ → Bool
 has_role memberships role = list_any (λ m. bytes_eq m.role role) memberships
 
@@ -84,6 +88,7 @@ granted_to written role memberships =
 
 -- ---- pair by pair
 
+-- the member's memberships with one in the role, or with its options changed; those of others stay
 abbrev pub joined_in : MembershipOptions → List ℕ → List ℕ → Held → Held
 joined_in written role member h = if bytes_eq h.member member then (record { member = h.member; memberships = granted_to written role h.memberships }) else h
 
@@ -91,6 +96,7 @@ joined_in written role member h = if bytes_eq h.member member then (record { mem
 abbrev pub joined : MembershipOptions → List ℕ → List ℕ → List Held → List Held
 joined written role member held = map (joined_in written role member) held
 
+-- the roles that the role reaches, with the memberships so far
 unfoldable pub path_in : List Held → State → List ℕ → List (List ℕ)
 path_in held s role = reached_where is_any (with_held held s) role
 
@@ -109,6 +115,7 @@ asked_path held role = record { in_state = λ s. record { gives = Ok (path_in he
 abbrev pub pair_or_refused : MembershipOptions → List ℕ → List ℕ → List Held → Bool → Result (List Held) Refusal
 pair_or_refused written role member held closes = if closes then Err (GrantOp (Cycle role member)) else Ok (joined written role member held)
 
+-- one role to one member, where that closes no circle
 unfoldable pub pair_granted : MembershipOptions → List ℕ → List ℕ → List Held → Asking (List Held)
 pair_granted written role member held = followed_by (asked_path held role) (λ path. known (pair_or_refused written role member held (one_of path member)))
 
@@ -124,15 +131,19 @@ each_granted written (role ∷ roles) members held = followed_by (role_granted w
 
 -- ---- the statement
 
+-- a member with the memberships that it has
 abbrev pub held_one : State → List ℕ → Held
 held_one s member = record { member = member; memberships = members_of s member }
 
+-- each of the members with the memberships that it has
 abbrev pub held_in : State → List (List ℕ) → List Held
 held_in s members = map (held_one s) members
 
+-- what it reads to tell them
 abbrev pub held_reads : List (List ℕ) → List Object
 held_reads members = map (λ member. o.Members member) members
 
+-- each of the members with the memberships that it has
 unfoldable pub held_at : State → List (List ℕ) → List Held
 held_at s members = held_in s members
 
@@ -157,6 +168,7 @@ unfoldable pub memberships_granted : GrantRoles → Asking (List Change)
 memberships_granted asked = followed_by (asked_held (fresh [] asked.to)) (λ held.
     followed_by (each_granted asked.options asked.roles asked.to held) (λ grown. known (Ok (members_written grown))))
 
+-- GRANT of roles: who manages them, then one pair after another
 unfoldable pub roles_granted : List ℕ → GrantRoles → Asking (List Change)
 roles_granted current asked = followed_by (managed_or_refused current asked.roles) (λ _. memberships_granted asked)
 

@@ -22,5 +22,6 @@ reach_framed role s other agrees i = record {
   reads = reach_reads_frame s other role agrees i;
 }
 
+-- asks whose privileges the role has
 abbrev pub reach_of : List ℕ → Asking Reach
 reach_of role = record { in_state = λ s. record { gives = Ok (reach_in s role); reads = reach_reads_in s role }; framed = reach_framed role }

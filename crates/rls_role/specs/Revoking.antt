@@ -19,6 +19,7 @@ without option.Admin m = record m { admin = false }
 without option.Inherit m = record m { inherit = false }
 without option.Set m = record m { set = false }
 
+-- a membership in one of the roles without the option, each other one as it is
 abbrev pub without_option : MembershipOption → List (List ℕ) → Membership → Membership
 without_option option roles m = if one_of roles m.role then without option m else m
 
@@ -27,6 +28,7 @@ abbrev pub taken_from : Option MembershipOption → List (List ℕ) → List Mem
 taken_from (Some option) roles memberships = map (without_option option roles) memberships
 taken_from None roles memberships = filter (λ m. not (one_of roles m.role)) memberships
 
+-- the member's memberships without what is taken
 abbrev pub taken_in : Option MembershipOption → List (List ℕ) → Held → Held
 taken_in option roles h = record { member = h.member; memberships = taken_from option roles h.memberships }
 
@@ -35,6 +37,7 @@ unfoldable pub memberships_revoked : RevokeRoles → Asking (List Change)
 memberships_revoked asked = followed_by (asked_held (fresh [] asked.from)) (λ held.
     known (Ok (members_written (map (taken_in asked.option asked.roles) held))))
 
+-- REVOKE of roles: who manages them, then what is taken
 unfoldable pub roles_revoked : List ℕ → RevokeRoles → Asking (List Change)
 roles_revoked current asked = followed_by (managed_or_refused current asked.roles) (λ _. memberships_revoked asked)
 

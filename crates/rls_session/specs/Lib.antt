@@ -1,5 +1,3 @@
-pub mod Lines
-pub mod Connects
 pub mod Sessions
 pub mod Databases
 pub mod Labels

@@ -22,6 +22,7 @@ pub role_framed : (name : List ℕ) → IsFramed (λ s. told (o.Role name) (role
 unfolding role_at
 role_framed name s other agrees = ap (told (o.Role name)) (sym agrees.0)
 
+-- asks for the role
 abbrev pub asked_role : List ℕ → Asking (Option RoleDef)
 asked_role name = record { in_state = λ s. told (o.Role name) (role_at s name); framed = role_framed name }
 
@@ -44,6 +45,7 @@ pub table_framed : (name : List ℕ) → IsFramed (λ s. told (o.Table name) (ta
 unfolding table_at
 table_framed name s other agrees = ap (told (o.Table name)) (sym agrees.0)
 
+-- asks for the table
 abbrev pub asked_table : List ℕ → Asking (Option TableDef)
 asked_table name = record { in_state = λ s. told (o.Table name) (table_at s name); framed = table_framed name }
 
@@ -55,6 +57,7 @@ pub grants_framed : (table : List ℕ) → IsFramed (λ s. told (o.Grants table)
 unfolding grants_at
 grants_framed table s other agrees = ap (told (o.Grants table)) (sym agrees.0)
 
+-- asks for the grants on the table
 abbrev pub asked_grants : List ℕ → Asking (List Grant)
 asked_grants table = record { in_state = λ s. told (o.Grants table) (grants_at s table); framed = grants_framed table }
 
@@ -66,6 +69,7 @@ pub policies_framed : (table : List ℕ) → IsFramed (λ s. told (o.Policies ta
 unfolding policies_at
 policies_framed table s other agrees = ap (told (o.Policies table)) (sym agrees.0)
 
+-- asks for the policies of the table
 abbrev pub asked_policies : List ℕ → Asking (List Policy)
 asked_policies table = record { in_state = λ s. told (o.Policies table) (policies_at s table); framed = policies_framed table }
 
@@ -77,6 +81,7 @@ pub rows_framed : (table : List ℕ) → IsFramed (λ s. told (o.Rows table) (ro
 unfolding rows_at
 rows_framed table s other agrees = ap (told (o.Rows table)) (sym agrees.0)
 
+-- asks for the rows of the table
 abbrev pub asked_rows : List ℕ → Asking (List Stored)
 asked_rows table = record { in_state = λ s. told (o.Rows table) (rows_at s table); framed = rows_framed table }
 
@@ -88,5 +93,6 @@ pub key_framed : (table : List ℕ) (key : List Value) → IsFramed (λ s. told 
 unfolding keyed_at
 key_framed table key s other agrees = ap (told (o.Key table key)) (sym agrees.0)
 
+-- asks for the rows with the key
 abbrev pub asked_key : List ℕ → List Value → Asking (List Stored)
 asked_key table key = record { in_state = λ s. told (o.Key table key) (keyed_at s table key); framed = key_framed table key }

@@ -110,7 +110,7 @@ fn keys_have_their_text(rt: HostRuntime) -> Result<(), Fail> {
     values.push(Value::Text(Text::new(rt.alloc(), "it's")?))?;
     values.push(Value::Int(-7))?;
     values.push(Value::Null)?;
-    let row = Row::new(values);
+    let row = Row::new(values)?;
     assert_eq!(rt; row.value(1)?.equals(&Value::Int(-7)), Truth::True);
     let key = Object::Key(Name::postgres(rt.alloc())?, row);
     let printed = key.copy(rt.alloc())?.to_string(rt.alloc())?;

@@ -153,6 +153,7 @@ unseen_within hs ks ts e x = not_true (sees hs ts) (λ y. never_both (sees ks ts
 abbrev pub Outcome : Type 0 → Type 0
 Outcome A = Option (A × List Token)
 
+-- the one reader, and behind what it took the other
 abbrev pub and_then : {A B : Type 0} → Outcome A → (A → List Token → Outcome B) → Outcome B
 and_then None f = None
 and_then (Some x) f = f x.0 x.1
@@ -186,6 +187,7 @@ found x y h = let e : x ≡ y = cc in (ap (λ z. z.0) e, ap (λ z. z.1) e)
 
 -- ---- one token
 
+-- takes this very token
 abbrev pub read_token : Token → List Token → Outcome (Unit {0})
 read_token t [] = None
 read_token t (u ∷ ts) = if same t u then Some (tt, ts) else None
@@ -204,15 +206,18 @@ token_complete t e front rest a h _ = rw h (rw e refl)
 pub token_starts : (t : Token) → same t t ≡ true → (front : List Token) (a : Unit {0}) → only t front a → ((front ≡ []) × (false ≡ true)) ⊎ (sees (Exact t ∷ []) front ≡ true)
 token_starts t e front a h = inr (rw h (or_left (same t t) false e))
 
+-- a reader of one token
 abbrev pub token : (t : Token) → same t t ≡ true → Parses (only t) (Exact t ∷ []) [] false
 token t e = record { read = read_token t; sound = token_sound t; complete = token_complete t e; starts = token_starts t e }
 
 -- ---- one behind the other
 
+-- the heads, if the test holds
 abbrev pub when : Bool → List Head → List Head
 when true hs = hs
 when false hs = []
 
+-- takes the one, then the other
 abbrev pub read_both : {A B : Type 0} → (List Token → Outcome A) → (List Token → Outcome B) → List Token → Outcome (A × B)
 read_both p q ts = and_then (p ts) (λ a rest. and_then (q rest) (λ b behind. Some ((a, b), behind)))
 
@@ -261,6 +266,7 @@ module _ {A B : Type 0} (p : List Token → A → Type 0) (q : List Token → B 
 
 -- ---- a value made of the one that is spelled
 
+-- takes what the other takes, and gives its value changed
 abbrev pub read_mapped : {A B : Type 0} → (A → B) → (List Token → Outcome A) → List Token → Outcome B
 read_mapped f p ts = and_then (p ts) (λ a rest. Some (f a, rest))
 
@@ -309,6 +315,7 @@ module _ {A : Type 0} (test : A → Bool) (p : List Token → A → Type 0) (hp 
 
 -- ---- one or the other
 
+-- takes the first where a token of its heads comes, else the second
 abbrev pub read_either : {A : Type 0} → List Head → (List Token → Outcome A) → (List Token → Outcome A) → List Token → Outcome A
 read_either heads p q ts = if sees heads ts then p ts else q ts
 
@@ -373,6 +380,7 @@ module _ {A : Type 0} (p : List Token → A → Type 0) (hp mp : List Head) (P :
 
 -- ---- any number
 
+-- takes one after another, as long as a token of the heads comes
 unfoldable pub read_many : {A : Type 0} → List Head → (List Token → Outcome A) → ℕ → List Token → Outcome (List A)
 read_many heads p zero ts = Some ([], ts)
 read_many heads p (suc n) ts = if sees heads ts then and_then (p ts) (λ a rest. and_then (read_many heads p n rest) (λ more behind. Some (a ∷ more, behind))) else Some ([], ts)
@@ -470,26 +478,33 @@ module _ {A : Type 0} (f : Token → Option A) (heads : List Head) where
 pub nothing_read : {A : Type 0} (ts rest : List Token) (a : A) → ◌≡◌ {A = Outcome A} None (Some (a, rest)) → Front (Never {A = A}) ts a rest
 nothing_read ts rest a h = cc
 
+-- a reader of a rule that spells nothing
 abbrev pub never : {A : Type 0} {heads more : List Head} → Parses (Never {A = A}) heads more false
 never = record { read = λ ts. None; sound = nothing_read; complete = λ front rest a h stop. absurd h; starts = λ front a h. absurd h }
 
 -- ---- the same with what can be inferred left out
 
+-- a reader of one phrase behind another
 abbrev pub both : {A B : Type 0} {p : List Token → A → Type 0} {q : List Token → B → Type 0} {hp mp hq mq : List Head} {ep eq : Bool} → Parses p hp mp ep → Parses q hq mq eq → apart mp hq ≡ true → Parses (Both p q) (hp ++ when ep hq) (mq ++ when eq mp) (ep && eq)
 both P Q e = both_of _ _ _ _ _ _ _ _ P Q e
 
+-- a reader of phrases whose values are changed
 abbrev pub mapped : {A B : Type 0} {p : List Token → A → Type 0} {hp mp : List Head} {ep : Bool} → (f : A → B) → Parses p hp mp ep → Parses (Mapped f p) hp mp ep
 mapped f P = mapped_of f _ _ _ _ P
 
+-- a reader of those phrases whose values pass a test
 abbrev pub checked : {A : Type 0} {p : List Token → A → Type 0} {hp mp : List Head} {ep : Bool} → (test : A → Bool) → Parses p hp mp ep → Parses (Checked test p) hp mp ep
 checked test P = checked_of test _ _ _ _ P
 
+-- a reader of the one or the other
 abbrev pub either : {A : Type 0} {p q : List Token → A → Type 0} {hp mp hq mq : List Head} → Parses p hp mp false → Parses q hq mq false → apart hp hq ≡ true → Parses (Either p q) (hp ++ hq) (mp ++ mq) false
 either P Q e = either_of _ _ _ _ _ _ P Q e
 
+-- a reader of a phrase that may be left out
 abbrev pub perhaps : {A : Type 0} {p : List Token → A → Type 0} {hp mp : List Head} → Parses p hp mp false → Parses (Perhaps p) hp (mp ++ hp) true
 perhaps P = perhaps_of _ _ _ P
 
+-- a reader of phrases one after another, as many as come
 abbrev pub many : {A : Type 0} {p : List Token → A → Type 0} {hp mp : List Head} → Parses p hp mp false → apart mp hp ≡ true → Parses (Many p) hp (mp ++ hp) true
 many P e = many_of _ _ _ P e
 
@@ -507,6 +522,7 @@ module _ {A : Type 0} (p : List Token → A → Type 0) (h m h' m' : List Head) 
   pub widened_starts : within h h' ≡ true → (front : List Token) (a : A) → p front a → ((front ≡ []) × (e ≡ true)) ⊎ (sees h' front ≡ true)
   widened_starts w front a x = elim (P.starts front a x) [ inl y ↦ inl y | inr y ↦ inr (sees_within h h' front w y) ]
 
+-- the same reader, with more heads and more that may follow
 abbrev pub widened : {A : Type 0} {p : List Token → A → Type 0} {h m h' m' : List Head} {e : Bool} → Parses p h m e → within h h' ≡ true → within m m' ≡ true → Parses p h' m' e
 widened {p = p} {h = h} {m = m} {h' = h'} {m' = m'} {e = e} P u v =
     record { read = P.read; sound = P.sound; complete = widened_complete p h m h' m' e P v; starts = widened_starts p h m h' m' e P u }

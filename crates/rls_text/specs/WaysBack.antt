@@ -568,9 +568,11 @@ revoke_law _ a h = cc
 
 -- ---- memberships
 
+-- the options of memberships told apart
 abbrev pub option_names : Telling MembershipOption
 option_names = record { are_same = sameb option.the_type; same_is = same_true option.the_type tt }
 
+-- truth values told apart
 abbrev pub flags : Telling Bool
 flags = record { are_same = same_flag; same_is = same_flag_is }
 

@@ -118,6 +118,7 @@ through W to = record { writes = W.writes; wrote = λ a ts h. to ts a (W.wrote a
 abbrev pub first_of : {A : Type 0} {p : List Token → A → Type 0} → Writer p → Writer p → Writer p
 first_of P Q = record { writes = λ a. or_else (P.writes a) (Q.writes a); wrote = first_wrote _ P Q }
 
+-- as the first rule of two writes it, or else as the second does
 abbrev pub one_or_other : {A : Type 0} {p q : List Token → A → Type 0} → Writer p → Writer q → Writer (Either p q)
 one_or_other P Q = first_of (through P (λ ts a x. inl x)) (through Q (λ ts a x. inr x))
 

@@ -3,7 +3,6 @@
 ghost use Rattle.std.specs.Prelude.{◌≡◌, ◌<◌, ◌↔◌, ◌||◌, true, false, map, length, IfOk, IfErr, IsErrOf};
 ghost use Rattle.std.specs.Str.{bytes_eq};
 ghost use Rattle.std.specs.List.{list_all};
-ghost use Rattle.std.specs.String.{string_bytes};
 ghost use Rattle.std.specs.Cmp.Lexicographic.{slice_cmp};
 ghost use Rattle.std.specs.Ordering.{nat_cmp, as_partial_cmp};
 ghost use Rattle.rls_value.specs.Names as spec;
@@ -14,6 +13,7 @@ use std::alloc::{AllocError, Global};
 use std::cmp::Ordering;
 use std::fmt;
 use std::marker::Model;
+use std::sync::ArcStr;
 
 /// The most bytes that a name has.
 pub const MAX_NAME: usize = 63;
@@ -21,16 +21,17 @@ pub const MAX_NAME: usize = 63;
 /// A name, in lower case, seen as its bytes (PostgreSQL manual, 4.1.1, without quoted names).
 #[derive(Drop)]
 pub struct Name {
-    letters: String,
+    // Shared by the copies, so that a copy takes no memory.
+    letters: ArcStr,
 }
 
 impl Model for Name {
     ghost use Rattle.std.specs.Prelude.{List, ℕ};
-    ghost use Rattle.std.specs.String.{string_bytes};
+    ghost use Rattle.std.specs.Arc.{arc_str_bytes};
 
     ghost Value = { List ℕ };
 
-    ghost view = { λ name. string_bytes name.letters };
+    ghost view = { λ name. arc_str_bytes name.letters };
 }
 
 impl Name {
@@ -53,7 +54,9 @@ impl Name {
         if is_reserved(letters.as_bytes()) {
             return Err(Refusal::Syntax);
         }
-        Ok(Name { letters })
+        Ok(Name {
+            letters: ArcStr::from_string(letters)?,
+        })
     }
 
     /// `postgres`, the role of the opening state.
@@ -61,7 +64,7 @@ impl Name {
         ensures { IfOk result (λ name. name ≡ Rattle.rls_value.specs.Names.postgres) }
     {
         Ok(Name {
-            letters: String::from_str(alloc, "postgres")?,
+            letters: ArcStr::from_str(alloc, "postgres")?,
         })
     }
 

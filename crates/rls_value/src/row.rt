@@ -10,36 +10,39 @@ use std::alloc::{AllocError, Global};
 use std::cmp::Ordering;
 use std::fmt;
 use std::marker::Model;
+use std::sync::ArcSlice;
 
-/// A row, or the values of a key, seen as the list of its values.
+/// A row, or the values of a key, seen as the list of its values. Copies share them.
 #[derive(Drop)]
 pub struct Row {
-    values: Vec<Value>,
+    values: ArcSlice<Value>,
 }
 
 impl Model for Row {
     ghost use Rattle.std.specs.Prelude.{List};
+    ghost use Rattle.std.specs.Arc.{arc_slice_items};
     ghost use Rattle.rls_value.specs.declared.value.Value.{Value as Datum};
 
     ghost Value = { List Datum };
 
-    ghost view = { λ row. row.values.items };
+    ghost view = { λ row. arc_slice_items row.values };
 }
 
 impl Row {
-    /// Takes the list over; no memory is needed.
-    pub fn new(values: Vec<Value>) -> Row
-        ensures { result ≡ values.items }
+    /// The row of these values.
+    pub fn new(values: Vec<Value>) -> Result<Row, AllocError>
+        ensures { IfOk result (λ row. row ≡ values.items) }
     {
-        Row { values }
+        Ok(Row {
+            values: ArcSlice::from_vec(values)?,
+        })
     }
 
-    /// Gives the list back; no memory is needed.
-    pub fn into_vec(self) -> Vec<Value>
-        ensures { result.items ≡ self }
+    /// The values, each copied.
+    pub fn to_vec(&self, alloc: Global) -> Result<Vec<Value>, AllocError>
+        ensures { IfOk result (λ values. values.items ≡ self.now) }
     {
-        let Row { values } = self;
-        values
+        copy_values(alloc, self.as_slice())
     }
 
     pub fn as_slice(&self) -> &[Value]
@@ -51,24 +54,25 @@ impl Row {
     pub fn get(&self, column: usize) -> Option<&Value>
         ensures { option_copied result ≡ slice_get self.now column }
     {
-        self.values.get(column)
+        self.as_slice().get(column)
     }
 
     /// A copy of the value of a column; null where there is no such column.
     pub fn value(&self, column: usize) -> Result<Value, AllocError>
         ensures { IfOk result (λ value. value ≡ value_at self.now column) }
     {
-        match self.values.get(column) {
+        match self.as_slice().get(column) {
             Some(value) => value.copy(),
             None => Ok(Value::Null),
         }
     }
 
-    pub fn copy(&self, alloc: Global) -> Result<Row, AllocError>
+    /// The same row, as all that is copied is asked for. Its values are shared, so no memory is taken.
+    pub fn copy(&self, _: Global) -> Result<Row, AllocError>
         ensures { IfOk result (λ row. row ≡ self.now) }
     {
         Ok(Row {
-            values: copy_values(alloc, &self.values)?,
+            values: self.values.clone()?,
         })
     }
 }
