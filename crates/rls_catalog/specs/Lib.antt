@@ -11,6 +11,7 @@ pub mod KeyIndex
 pub mod Contents
 pub mod Bases
 pub mod RowsChanged
+pub mod SoundRows
 pub mod Covering
 pub mod Membership
 pub mod Walks

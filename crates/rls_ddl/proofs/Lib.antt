@@ -1,2 +1,4 @@
 pub mod PolicyOrderLaws
 pub mod PrimaryKeyLaws
+pub mod RowsLeftLemmas
+pub mod TablesLeftLemmas

@@ -13,12 +13,13 @@ use Rattle.rls_value.specs.Giving.{and_then}
 use Rattle.rls_value.specs.declared.refusal.Refusal.{Refusal}
 use Rattle.rls_value.specs.declared.refusal.Refusal.TheVariants.{Undefined}
 use Rattle.rls_value.specs.declared.refusal.NameKind.TheVariants as named
+use Rattle.rls_catalog.specs.SoundRows.{takes_no_null}
 use Rattle.rls_catalog.specs.Walks.{bytes_own, bytes_same}
 use Rattle.rls_source.specs.Named.{found_or}
 use Rattle.rls_source.specs.Sequences.{each_of}
 use Rattle.rls_statement.specs.declared.statement.MarkedColumn.{MarkedColumn}
 use Rattle.rls_statement.specs.declared.statement.CreateTable.{CreateTable}
-use Rattle.rls_ddl.specs.CreatingTables.{key_names, key_or_undefined, place_of, place_or_undefined, column_in, table_with, takes_no_null}
+use Rattle.rls_ddl.specs.CreatingTables.{key_names, key_or_undefined, place_of, place_or_undefined, column_in, table_with}
 
 abbrev NoNullAt : List (List ℕ) → List MarkedColumn → ℕ → Type 0
 NoNullAt key columns place = takes_no_null (slice_get (map (column_in key) columns) place) ≡ true

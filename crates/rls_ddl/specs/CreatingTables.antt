@@ -1,6 +1,6 @@
 -- CREATE TABLE (PostgreSQL manual, CREATE TABLE, and 5.8 for the owner's privileges): any role makes one and owns it.
 -- Names come first, then that the table's own is free.
-use Rattle.std.specs.Prelude.{ℕ, List, [], ◌∷◌, Option, Some, None, Bool, false, ◌||◌, Result, Ok, Err, is_some, unwrap_or, map, filter, position}
+use Rattle.std.specs.Prelude.{ℕ, List, [], ◌∷◌, Option, false, ◌||◌, Result, Ok, Err, is_some, unwrap_or, map, filter, position}
 use Rattle.std.specs.Str.{bytes_eq}
 use Rattle.rls_value.specs.Names.{one_of}
 use Rattle.rls_value.specs.declared.refusal.Refusal.{Refusal}
@@ -46,11 +46,6 @@ key_or_undefined create = each_of (place_or_undefined create.columns) (key_names
 -- a column takes no null where that is written, or where it is one of the key's
 abbrev pub column_in : List (List ℕ) → MarkedColumn → Column
 column_in key marked = record marked.column { not_null = marked.column.not_null || one_of key marked.column.name }
-
--- whether a column is there that takes no null
-abbrev pub takes_no_null : Option Column → Bool
-takes_no_null (Some column) = column.not_null
-takes_no_null None = false
 
 -- ---- the table
 

@@ -4,10 +4,11 @@ ghost use Rattle.std.specs.Prelude.{◌≡◌, ℕ, List, true, false, Ok, slice
 ghost use Rattle.std.specs.List.{All};
 ghost use Rattle.rls_expr.specs.declared.policy.Policy.{Policy};
 ghost use Rattle.rls_catalog.specs.PolicyLists.{InNameOrder, has_policy, with_policy, without_policy};
+ghost use Rattle.rls_catalog.specs.SoundRows.{takes_no_null};
 ghost use Rattle.rls_statement.specs.declared.statement.AlterPolicy.{AlterPolicy};
 ghost use Rattle.rls_statement.specs.declared.statement.CreateTable.{CreateTable};
 ghost use Rattle.rls_ddl.specs.AlteringPolicies.{with_altered};
-ghost use Rattle.rls_ddl.specs.CreatingTables.{key_or_undefined, table_with, takes_no_null};
+ghost use Rattle.rls_ddl.specs.CreatingTables.{key_or_undefined, table_with};
 
 /// Where the policies of a table stand in byte order of their names, each name once, they do so after each statement.
 #[tactic(auto, using(rls_catalog::specs::PolicyListLaws::created_in_order, crate::proofs::PolicyOrderLaws::altered_in_order, rls_catalog::specs::PolicyListLaws::dropped_in_order))]

@@ -15,6 +15,7 @@ mod laws;
 mod named_policies;
 mod policies_written;
 mod primary_keys;
+mod rows_laws;
 mod setting_roles;
 
 pub use altering_policies::run_alter_policy;
@@ -26,4 +27,5 @@ pub use creating_tables::run_create_table;
 pub use dropping_policies::run_drop_policy;
 pub use granting::{run_grant, run_grant_roles, run_revoke, run_revoke_roles};
 pub use laws::{key_takes_no_null, policies_in_order};
+pub use rows_laws::{grants_leave_rows, roles_and_policies_leave_rows, tables_leave_rows};
 pub use setting_roles::run_set_role;

@@ -109,30 +109,30 @@ other_if true id changed content rows other = with_other id changed content rows
 other_if false id changed content rows other = refl
 
 -- a change of a row leaves what stands at another number
-row_at_other : (s : State) (change : RowChange) (table : List ℕ) (id : RowId) → is_same_id id change.id ≡ false → row_at (changed s (c.Row change)) table id ≡ row_at s table id
+pub row_at_other : (s : State) (change : RowChange) (table : List ℕ) (id : RowId) → is_same_id id change.id ≡ false → row_at (changed s (c.Row change)) table id ≡ row_at s table id
 row_at_other s change table id other =
     ap (lookup (is_at (id_order id))) (entries_of_changed s change table) ∙ other_if (is_name table change.table) id change.id change.after (entries_of s table) other
 
 -- ---- rows at different numbers
 
 -- the content that the row has
-abbrev content_of : Stored → Option Keyed
+abbrev pub content_of : Stored → Option Keyed
 content_of stored = Some (record { key = stored.key; row = stored.row })
 
 -- no content
-abbrev no_content : Stored → Option Keyed
+abbrev pub no_content : Stored → Option Keyed
 no_content stored = None
 
 -- at the number of each of the rows stands that content
-abbrev HaveAt : State → List ℕ → (Stored → Option Keyed) → List Stored → Type 0
+abbrev pub HaveAt : State → List ℕ → (Stored → Option Keyed) → List Stored → Type 0
 HaveAt s table content rows = AllByRecursion (λ stored. row_at s table stored.id ≡ content stored) rows
 
 -- none of the rows has the number
-abbrev OtherThan : RowId → List Stored → Type 0
+abbrev pub OtherThan : RowId → List Stored → Type 0
 OtherThan id rows = AllByRecursion (λ stored. is_same_id stored.id id ≡ false) rows
 
 -- the rows have different numbers
-abbrev Apart : List Stored → Type 0
+abbrev pub Apart : List Stored → Type 0
 Apart [] = Unit {0}
 Apart (stored ∷ rows) = OtherThan stored.id rows × Apart rows
 
@@ -167,9 +167,9 @@ inserted_fit s table (stored ∷ rows) apart have =
 -- ---- the rows of a table in order
 
 -- rows of the table, each once
-record StandIn (s : State) (table : List ℕ) (rows : List Stored) : Type 0 where
-  apart : Apart rows
-  have : HaveAt s table content_of rows
+pub record StandIn (s : State) (table : List ℕ) (rows : List Stored) : Type 0 where
+  pub apart : Apart rows
+  pub have : HaveAt s table content_of rows
 
 above_other : (id other : RowId) → id_order id other ≡ Less → is_same_id other id ≡ false
 above_other id other less = ap is_eq (ids_total.antisymm other id ∙ ap ordering_reverse less)
@@ -200,7 +200,7 @@ entries_find (entry ∷ entries) apart = (
 )
 
 -- the rows of a table stand in it
-rows_stand : (s : State) (table : List ℕ) → RowsInOrder s table → StandIn s table (rows_of s table)
+pub rows_stand : (s : State) (table : List ℕ) → RowsInOrder s table → StandIn s table (rows_of s table)
 rows_stand s table ordered =
     let apart : Apart (rows_of s table) = entries_apart (entries_of s table) ordered in
     record { apart = apart; have = entries_find (entries_of s table) apart }
@@ -223,7 +223,7 @@ apart_filter test (stored ∷ rows) apart =
     apart_if (test stored) stored (filter test rows) (all_filter (λ other. is_same_id other.id stored.id ≡ false) test rows apart.0) (apart_filter test rows apart.1)
 
 -- some of the rows stand in it too
-filter_stand : (s : State) (table : List ℕ) (test : Stored → Bool) (rows : List Stored) → StandIn s table rows → StandIn s table (filter test rows)
+pub filter_stand : (s : State) (table : List ℕ) (test : Stored → Bool) (rows : List Stored) → StandIn s table rows → StandIn s table (filter test rows)
 filter_stand s table test rows stand = record {
   apart = apart_filter test rows stand.apart;
   have = all_filter (λ stored. row_at s table stored.id ≡ content_of stored) test rows stand.have;
@@ -249,29 +249,29 @@ with_stand s name None ordered = all_stand s name ordered
 with_stand s name (Some key) ordered = key_stand (list_any is_null key) s name key ordered
 
 -- the candidates stand in the table
-candidates_stand : (s : State) (user name : List ℕ) (table : TableDef) (condition : Option Term) → RowsInOrder s name
+pub candidates_stand : (s : State) (user name : List ℕ) (table : TableDef) (condition : Option Term) → RowsInOrder s name
     → IfOk ((candidates user name table condition).in_state s).gives (StandIn s name)
 candidates_stand s user name table condition ordered = with_stand s name (pinned_key user table.key condition) ordered
 
 -- ---- one step after another
 
 -- it holds behind a step, whatever the step gives
-done_then : {A : Type 0} (fact : List Change → Type 0) (given : Result A Refusal) (next : A → Result Effect Refusal) → ((a : A) → IfDone (next a) fact) → IfDone (and_then given next) fact
+pub done_then : {A : Type 0} (fact : List Change → Type 0) (given : Result A Refusal) (next : A → Result Effect Refusal) → ((a : A) → IfDone (next a) fact) → IfDone (and_then given next) fact
 done_then fact (Ok a) next all = all a
 done_then fact (Err refusal) next all = tt
 
 -- it holds behind a step, where it does behind what the step may give
-done_after : {A : Type 0} (P : A → Type 0) (fact : List Change → Type 0) (given : Result A Refusal) (next : A → Result Effect Refusal) → IfOk given P → ((a : A) → P a → IfDone (next a) fact)
+pub done_after : {A : Type 0} (P : A → Type 0) (fact : List Change → Type 0) (given : Result A Refusal) (next : A → Result Effect Refusal) → IfOk given P → ((a : A) → P a → IfDone (next a) fact)
     → IfDone (and_then given next) fact
 done_after P fact (Ok a) next may all = all a may
 done_after P fact (Err refusal) next may all = tt
 
 -- the same of a step that gives another value
-given_then : {A B : Type 0} (Q : B → Type 0) (given : Result A Refusal) (next : A → Result B Refusal) → ((a : A) → IfOk (next a) Q) → IfOk (and_then given next) Q
+pub given_then : {A B : Type 0} (Q : B → Type 0) (given : Result A Refusal) (next : A → Result B Refusal) → ((a : A) → IfOk (next a) Q) → IfOk (and_then given next) Q
 given_then Q (Ok a) next all = all a
 given_then Q (Err refusal) next all = tt
 
-given_after : {A B : Type 0} (P : A → Type 0) (Q : B → Type 0) (given : Result A Refusal) (next : A → Result B Refusal) → IfOk given P → ((a : A) → P a → IfOk (next a) Q) → IfOk (and_then given next) Q
+pub given_after : {A B : Type 0} (P : A → Type 0) (Q : B → Type 0) (given : Result A Refusal) (next : A → Result B Refusal) → IfOk given P → ((a : A) → P a → IfOk (next a) Q) → IfOk (and_then given next) Q
 given_after P Q (Ok a) next may all = all a may
 given_after P Q (Err refusal) next may all = tt
 
@@ -404,7 +404,7 @@ update_fits s ctx asked ordered =
 
 -- ---- INSERT
 
-not_if : (b : Bool) → (b ≡ true → ⊥) → b ≡ false
+pub not_if : (b : Bool) → (b ≡ true → ⊥) → b ≡ false
 not_if true never = absurd (never refl)
 not_if false never = refl
 
@@ -419,7 +419,7 @@ later_others : (places : List ℕ) (txn n next : ℕ) (rows : List (List Value))
 later_others places txn n next [] less = tt
 later_others places txn n next (row ∷ rows) less = (later_other txn n next less, later_others places txn n (suc next) rows (le_trans less (le-suc next)))
 
-numbered_apart : (places : List ℕ) (txn next : ℕ) (rows : List (List Value)) → Apart (numbered places txn next rows)
+pub numbered_apart : (places : List ℕ) (txn next : ℕ) (rows : List (List Value)) → Apart (numbered places txn next rows)
 numbered_apart places txn next [] = tt
 numbered_apart places txn next (row ∷ rows) = (later_others places txn next (suc next) rows (le_refl (suc next)), numbered_apart places txn (suc next) rows)
 
@@ -436,7 +436,7 @@ numbered_at name places txn next (suc count) [] same = absurd (suc-ne-zero count
 numbered_at name places txn next (suc count) (row ∷ rows) same = ap (λ others. Row name (record { txn = txn; n = next }) ∷ others) (numbered_at name places txn (suc next) count rows (suc_inj same))
 
 -- it holds of the changes that put so many rows into the table, numbered on from the transaction's next
-abbrev HoldsOf : (List Change → Type 0) → Ctx → List ℕ → ℕ → Type 0
+abbrev pub HoldsOf : (List Change → Type 0) → Ctx → List ℕ → ℕ → Type 0
 HoldsOf fact ctx name count = (places : List ℕ) (rows : List (List Value)) → length rows ≡ count → fact (map (inserted_row name) (numbered places ctx.txn ctx.next rows))
 
 inserted_done : (fact : List Change → Type 0) (name : List ℕ) (returning : Option Selected) (role : List ℕ) (decisions : List Decision) (rows : List Stored) (settled : Result (Unit {0}) Refusal)
@@ -498,7 +498,7 @@ tuples_length ctx asked table =
     (λ returning. Ok (record { places = places; tuples = tuples; returning = returning })) (λ _. same))))
     (λ addition same. given_then (λ other. length other.tuples ≡ length asked.tuples) (addition_or_refused ctx.next table addition) (λ _. Ok addition) (λ _. same))
 
-insert_done : (fact : List Change → Type 0) (s : State) (ctx : Ctx) (asked : Insert) → HoldsOf fact ctx asked.table (length asked.tuples) → IfDone ((insert ctx asked).in_state s).gives fact
+pub insert_done : (fact : List Change → Type 0) (s : State) (ctx : Ctx) (asked : Insert) → HoldsOf fact ctx asked.table (length asked.tuples) → IfDone ((insert ctx asked).in_state s).gives fact
 insert_done fact s ctx asked all =
     done_then fact ((table_or_undefined asked.table).in_state s).gives
     (λ table. ((followed_by (known (addition_of ctx asked table)) (λ addition. insert_into ctx asked.table table addition)).in_state s).gives) (λ table.

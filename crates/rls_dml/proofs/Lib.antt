@@ -4,3 +4,9 @@ pub mod KeyLemmas
 pub mod NumberLemmas
 pub mod PinnedLemmas
 pub mod FittingLemmas
+pub mod PutLemmas
+pub mod WrittenLemmas
+pub mod SoundLemmas
+pub mod PassingLemmas
+pub mod KeepingLemmas
+pub mod FreeLemmas

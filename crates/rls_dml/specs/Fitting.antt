@@ -1,18 +1,10 @@
 -- What the changes of a statement have to do with the state that it is run in, and the places that they overwrite.
-use Rattle.std.specs.Prelude.{◌≡◌, ℕ, zero, suc, ◌≤◌, List, [], ◌∷◌, None, Result, Ok, Err, map}
-use Rattle.rls_value.specs.declared.refusal.Refusal.{Refusal}
+use Rattle.std.specs.Prelude.{◌≡◌, ℕ, zero, suc, ◌≤◌, List, [], ◌∷◌, None, map}
 use Rattle.rls_value.specs.declared.row.RowId.{RowId}
 use Rattle.rls_catalog.specs.declared.change.Change.{Change}
 use Rattle.rls_catalog.specs.State.{State}
 use Rattle.rls_catalog.specs.Bases.{Row, base_of, row_at}
-use Rattle.rls_guard.specs.declared.effect.Effect.{Effect}
-use Rattle.rls_guard.specs.declared.effect.Effect.TheVariants as effect
-
--- what holds of the changes of a statement, if it is done
-abbrev pub IfDone : Result Effect Refusal → (List Change → Type 0) → Type 0
-IfDone (Ok (effect.Done reply decisions changes role)) fact = fact changes
-IfDone (Ok (effect.Refused refusal decisions)) fact = Unit {0}
-IfDone (Err refusal) fact = Unit {0}
+pub use Rattle.rls_guard.specs.Keeping.{IfDone}
 
 -- no row of the table has a number of the transaction from this one on
 abbrev pub NumbersFree : State → List ℕ → ℕ → ℕ → Type 0

@@ -8,3 +8,4 @@ pub mod Updating
 pub mod Deleting
 pub mod Selecting
 pub mod Fitting
+pub mod NextRows

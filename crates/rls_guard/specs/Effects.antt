@@ -15,3 +15,8 @@ writes changes = effect.Done reply.Done [] changes None
 abbrev pub shown : Result Effect Refusal → Effect
 shown (Ok done) = done
 shown (Err refusal) = effect.Refused refusal []
+
+-- what an effect changes: nothing where it is a refusal
+abbrev pub changes_of : Effect → List Change
+changes_of (effect.Done reply decisions changes role) = changes
+changes_of (effect.Refused refusal decisions) = []

@@ -4,3 +4,4 @@ pub mod Checks
 pub mod Standings
 pub mod Guards
 pub mod Effects
+pub mod Keeping

@@ -1,0 +1,175 @@
+-- What each statement leaves of a state, by the laws of the statements: sound rows, changes that fit, and free numbers.
+use Rattle.std.specs.Prelude.{refl, List, [], ◌∷◌, Result, Ok, Err}
+use Rattle.std.specs.List.{AllByRecursion}
+use Rattle.rls_value.specs.declared.refusal.Refusal.{Refusal}
+use Rattle.rls_value.specs.Giving.{and_then}
+use Rattle.rls_catalog.specs.declared.change.Change.{Change}
+use Rattle.rls_catalog.specs.declared.change.Change.TheVariants as c
+use Rattle.rls_catalog.specs.Bases.{FitsAll}
+use Rattle.rls_catalog.specs.Changed.{changed, changed_all}
+use Rattle.rls_catalog.specs.SoundRows.{RowsAreSound}
+use Rattle.rls_catalog.specs.State.{State}
+use Rattle.rls_statement.specs.declared.changing.Delete.{Delete}
+use Rattle.rls_statement.specs.declared.changing.Update.{Update}
+use Rattle.rls_statement.specs.declared.statement.AlterPolicy.{AlterPolicy}
+use Rattle.rls_statement.specs.declared.statement.AlterRole.{AlterRole}
+use Rattle.rls_statement.specs.declared.statement.AlterTable.{AlterTable}
+use Rattle.rls_statement.specs.declared.statement.CreatePolicy.{CreatePolicy}
+use Rattle.rls_statement.specs.declared.statement.CreateRole.{CreateRole}
+use Rattle.rls_statement.specs.declared.statement.CreateTable.{CreateTable}
+use Rattle.rls_statement.specs.declared.statement.DropPolicy.{DropPolicy}
+use Rattle.rls_statement.specs.declared.statement.GrantPrivileges.{GrantPrivileges}
+use Rattle.rls_statement.specs.declared.statement.GrantRoles.{GrantRoles}
+use Rattle.rls_statement.specs.declared.statement.Insert.{Insert}
+use Rattle.rls_statement.specs.declared.statement.RevokePrivileges.{RevokePrivileges}
+use Rattle.rls_statement.specs.declared.statement.RevokeRoles.{RevokeRoles}
+use Rattle.rls_statement.specs.declared.statement.Select.{Select}
+use Rattle.rls_statement.specs.declared.statement.SetRole.{SetRole}
+use Rattle.rls_statement.specs.declared.statement.Statement.{Statement}
+use Rattle.rls_statement.specs.declared.statement.Statement.TheVariants as statement
+use Rattle.rls_statement.specs.Tags.{tag_of}
+use Rattle.rls_guard.specs.declared.context.Ctx.{Ctx}
+use Rattle.rls_guard.specs.declared.effect.Effect.{Effect}
+use Rattle.rls_guard.specs.declared.effect.Effect.TheVariants as effect
+use Rattle.rls_guard.specs.Effects.{changes_of, shown}
+use Rattle.rls_guard.specs.Keeping.{IfDone, IsNoRow, KeepsRowsSound, LeavesRows}
+use Rattle.rls_ddl.specs.AlteringPolicies.{alter_policy}
+use Rattle.rls_ddl.specs.AlteringRoles.{alter_role}
+use Rattle.rls_ddl.specs.AlteringTables.{alter_table}
+use Rattle.rls_ddl.specs.CreatingPolicies.{create_policy}
+use Rattle.rls_ddl.specs.CreatingRoles.{create_role}
+use Rattle.rls_ddl.specs.CreatingTables.{create_table}
+use Rattle.rls_ddl.specs.DroppingPolicies.{drop_policy}
+use Rattle.rls_ddl.specs.Granting.{grant, grant_roles, revoke, revoke_roles}
+use Rattle.rls_ddl.specs.SettingRoles.{set_role}
+use Rattle.rls_dml.specs.Deleting.{delete}
+use Rattle.rls_dml.specs.Fitting.{NumbersFree}
+use Rattle.rls_dml.specs.Inserting.{insert}
+use Rattle.rls_dml.specs.NextRows.{AllFree, NumberOn}
+use Rattle.rls_dml.specs.Selecting.{select}
+use Rattle.rls_dml.specs.Updating.{update}
+use Rattle.rls_access.specs.Leaving.{GoOn}
+use Rattle.rls_access.specs.Statements.{done_by, effect_in, mode_or_refused, step}
+
+-- ---- the laws
+
+-- statements that write no row
+pub record WriteNoRows : Type 0 where
+  pub create_role : (ctx : Ctx) (asked : CreateRole) → LeavesRows (create_role ctx asked)
+  pub alter_role : (ctx : Ctx) (asked : AlterRole) → LeavesRows (alter_role ctx asked)
+  pub create_table : (ctx : Ctx) (asked : CreateTable) → LeavesRows (create_table ctx asked)
+  pub alter_table : (ctx : Ctx) (asked : AlterTable) → LeavesRows (alter_table ctx asked)
+  pub create_policy : (ctx : Ctx) (asked : CreatePolicy) → LeavesRows (create_policy ctx asked)
+  pub alter_policy : (ctx : Ctx) (asked : AlterPolicy) → LeavesRows (alter_policy ctx asked)
+  pub drop_policy : (ctx : Ctx) (asked : DropPolicy) → LeavesRows (drop_policy ctx asked)
+  pub grant : (ctx : Ctx) (asked : GrantPrivileges) → LeavesRows (grant ctx asked)
+  pub grant_roles : (ctx : Ctx) (asked : GrantRoles) → LeavesRows (grant_roles ctx asked)
+  pub revoke : (ctx : Ctx) (asked : RevokePrivileges) → LeavesRows (revoke ctx asked)
+  pub revoke_roles : (ctx : Ctx) (asked : RevokeRoles) → LeavesRows (revoke_roles ctx asked)
+  pub set_role : (ctx : Ctx) (asked : SetRole) → LeavesRows (set_role ctx asked)
+  pub select : (ctx : Ctx) (asked : Select) → LeavesRows (select ctx asked)
+
+-- statements that write rows
+pub record KeepRows : Type 0 where
+  pub insert : (ctx : Ctx) (asked : Insert) → KeepsRowsSound (insert ctx asked)
+  pub update : (ctx : Ctx) (asked : Update) → KeepsRowsSound (update ctx asked)
+  pub delete : (ctx : Ctx) (asked : Delete) → KeepsRowsSound (delete ctx asked)
+
+-- a statement whose changes go on
+abbrev pub GoesOn : State → Ctx → Result Effect Refusal → Type 0
+GoesOn s ctx given = IfDone given (GoOn s ctx)
+
+-- those of the statements that write rows do
+pub record RowsGoOn : Type 0 where
+  pub insert : (s : State) (ctx : Ctx) (asked : Insert) → NumbersFree s asked.table ctx.txn ctx.next → GoesOn s ctx ((insert ctx asked).in_state s).gives
+  pub update : (s : State) (ctx : Ctx) (asked : Update) → RowsAreSound s → GoesOn s ctx ((update ctx asked).in_state s).gives
+  pub delete : (s : State) (ctx : Ctx) (asked : Delete) → RowsAreSound s → GoesOn s ctx ((delete ctx asked).in_state s).gives
+
+-- ---- one statement
+
+-- it holds behind a step, whatever the step gives
+done_then : {A : Type 0} (fact : List Change → Type 0) (given : Result A Refusal) (next : A → Result Effect Refusal) → ((a : A) → IfDone (next a) fact) → IfDone (and_then given next) fact
+done_then fact (Ok a) next all = all a
+done_then fact (Err refusal) next all = tt
+
+-- what holds of the changes lets more hold of them
+done_more : (fact more : List Change → Type 0) (given : Result Effect Refusal) → ((changes : List Change) → fact changes → more changes) → IfDone given fact → IfDone given more
+done_more fact more (Ok (effect.Done reply decisions changes role)) all is = all changes is
+done_more fact more (Ok (effect.Refused refusal decisions)) all is = tt
+done_more fact more (Err refusal) all is = tt
+
+-- two facts of the changes
+pub both_go_on : (s : State) (ctx : Ctx) (given : Result Effect Refusal) → IfDone given (FitsAll s) → IfDone given (NumberOn ctx.txn ctx.next) → GoesOn s ctx given
+both_go_on s ctx (Ok (effect.Done reply decisions changes role)) fit numbered = record { fit = fit; numbered = numbered }
+both_go_on s ctx (Ok (effect.Refused refusal decisions)) fit numbered = tt
+both_go_on s ctx (Err refusal) fit numbered = tt
+
+-- it holds of what the effect changes, nothing where it is refused
+of_effect : (fact : List Change → Type 0) (given : Result Effect Refusal) → fact [] → IfDone given fact → fact (changes_of (shown given))
+of_effect fact (Ok (effect.Done reply decisions changes role)) none is = is
+of_effect fact (Ok (effect.Refused refusal decisions)) none is = none
+of_effect fact (Err refusal) none is = none
+
+-- changes of no rows do
+no_rows_go_on : (s : State) (ctx : Ctx) (changes : List Change) → AllByRecursion IsNoRow changes → GoOn s ctx changes
+no_rows_go_on s ctx [] none = record { fit = tt; numbered = tt }
+no_rows_go_on s ctx (c.Role name def ∷ changes) none = let more = no_rows_go_on (changed s (c.Role name def)) ctx changes none.1 in record { fit = (refl, more.fit); numbered = (tt, more.numbered) }
+no_rows_go_on s ctx (c.Members name content ∷ changes) none = let more = no_rows_go_on (changed s (c.Members name content)) ctx changes none.1 in record { fit = (refl, more.fit); numbered = (tt, more.numbered) }
+no_rows_go_on s ctx (c.Table name def ∷ changes) none = let more = no_rows_go_on (changed s (c.Table name def)) ctx changes none.1 in record { fit = (refl, more.fit); numbered = (tt, more.numbered) }
+no_rows_go_on s ctx (c.Grants name content ∷ changes) none = let more = no_rows_go_on (changed s (c.Grants name content)) ctx changes none.1 in record { fit = (refl, more.fit); numbered = (tt, more.numbered) }
+no_rows_go_on s ctx (c.Policies name content ∷ changes) none = let more = no_rows_go_on (changed s (c.Policies name content)) ctx changes none.1 in record { fit = (refl, more.fit); numbered = (tt, more.numbered) }
+no_rows_go_on s ctx (c.Row change ∷ changes) none = absurd none.0
+
+none_goes_on : (s : State) (ctx : Ctx) (given : Result Effect Refusal) → IfDone given (AllByRecursion IsNoRow) → GoesOn s ctx given
+none_goes_on s ctx given none = done_more (AllByRecursion IsNoRow) (GoOn s ctx) given (no_rows_go_on s ctx) none
+
+-- ---- all statements
+
+each_sound : WriteNoRows → KeepRows → (ctx : Ctx) (asked : Statement) → KeepsRowsSound (done_by ctx asked)
+each_sound none rows ctx (statement.CreateRole asked) = (none.create_role ctx asked).sound
+each_sound none rows ctx (statement.AlterRole asked) = (none.alter_role ctx asked).sound
+each_sound none rows ctx (statement.CreateTable asked) = (none.create_table ctx asked).sound
+each_sound none rows ctx (statement.AlterTable asked) = (none.alter_table ctx asked).sound
+each_sound none rows ctx (statement.CreatePolicy asked) = (none.create_policy ctx asked).sound
+each_sound none rows ctx (statement.AlterPolicy asked) = (none.alter_policy ctx asked).sound
+each_sound none rows ctx (statement.DropPolicy asked) = (none.drop_policy ctx asked).sound
+each_sound none rows ctx (statement.Grant asked) = (none.grant ctx asked).sound
+each_sound none rows ctx (statement.GrantRoles asked) = (none.grant_roles ctx asked).sound
+each_sound none rows ctx (statement.Revoke asked) = (none.revoke ctx asked).sound
+each_sound none rows ctx (statement.RevokeRoles asked) = (none.revoke_roles ctx asked).sound
+each_sound none rows ctx (statement.SetRole asked) = (none.set_role ctx asked).sound
+each_sound none rows ctx (statement.Insert asked) = rows.insert ctx asked
+each_sound none rows ctx (statement.Update asked) = rows.update ctx asked
+each_sound none rows ctx (statement.Delete asked) = rows.delete ctx asked
+each_sound none rows ctx (statement.Select asked) = (none.select ctx asked).sound
+
+-- a statement leaves sound rows sound
+pub step_sound : WriteNoRows → KeepRows → (s : State) (ctx : Ctx) (asked : Statement) → RowsAreSound s → RowsAreSound (changed_all s (changes_of (effect_in s ctx asked)))
+step_sound none rows s ctx asked sound =
+    let fact : List Change → Type 0 = λ changes. RowsAreSound (changed_all s changes) in
+    of_effect fact ((step ctx asked).in_state s).gives sound
+    (done_then fact (mode_or_refused ctx.mode (tag_of asked)) (λ _. ((done_by ctx asked).in_state s).gives) (λ _. each_sound none rows ctx asked s sound))
+
+each_goes_on : WriteNoRows → RowsGoOn → (s : State) (ctx : Ctx) (asked : Statement) → RowsAreSound s → AllFree s ctx.txn ctx.next → GoesOn s ctx ((done_by ctx asked).in_state s).gives
+each_goes_on none rows s ctx (statement.CreateRole asked) sound free = none_goes_on s ctx ((create_role ctx asked).in_state s).gives ((none.create_role ctx asked).writes_none s)
+each_goes_on none rows s ctx (statement.AlterRole asked) sound free = none_goes_on s ctx ((alter_role ctx asked).in_state s).gives ((none.alter_role ctx asked).writes_none s)
+each_goes_on none rows s ctx (statement.CreateTable asked) sound free = none_goes_on s ctx ((create_table ctx asked).in_state s).gives ((none.create_table ctx asked).writes_none s)
+each_goes_on none rows s ctx (statement.AlterTable asked) sound free = none_goes_on s ctx ((alter_table ctx asked).in_state s).gives ((none.alter_table ctx asked).writes_none s)
+each_goes_on none rows s ctx (statement.CreatePolicy asked) sound free = none_goes_on s ctx ((create_policy ctx asked).in_state s).gives ((none.create_policy ctx asked).writes_none s)
+each_goes_on none rows s ctx (statement.AlterPolicy asked) sound free = none_goes_on s ctx ((alter_policy ctx asked).in_state s).gives ((none.alter_policy ctx asked).writes_none s)
+each_goes_on none rows s ctx (statement.DropPolicy asked) sound free = none_goes_on s ctx ((drop_policy ctx asked).in_state s).gives ((none.drop_policy ctx asked).writes_none s)
+each_goes_on none rows s ctx (statement.Grant asked) sound free = none_goes_on s ctx ((grant ctx asked).in_state s).gives ((none.grant ctx asked).writes_none s)
+each_goes_on none rows s ctx (statement.GrantRoles asked) sound free = none_goes_on s ctx ((grant_roles ctx asked).in_state s).gives ((none.grant_roles ctx asked).writes_none s)
+each_goes_on none rows s ctx (statement.Revoke asked) sound free = none_goes_on s ctx ((revoke ctx asked).in_state s).gives ((none.revoke ctx asked).writes_none s)
+each_goes_on none rows s ctx (statement.RevokeRoles asked) sound free = none_goes_on s ctx ((revoke_roles ctx asked).in_state s).gives ((none.revoke_roles ctx asked).writes_none s)
+each_goes_on none rows s ctx (statement.SetRole asked) sound free = none_goes_on s ctx ((set_role ctx asked).in_state s).gives ((none.set_role ctx asked).writes_none s)
+each_goes_on none rows s ctx (statement.Insert asked) sound free = rows.insert s ctx asked (free asked.table)
+each_goes_on none rows s ctx (statement.Update asked) sound free = rows.update s ctx asked sound
+each_goes_on none rows s ctx (statement.Delete asked) sound free = rows.delete s ctx asked sound
+each_goes_on none rows s ctx (statement.Select asked) sound free = none_goes_on s ctx ((select ctx asked).in_state s).gives ((none.select ctx asked).writes_none s)
+
+-- the changes of a statement go on
+pub step_goes_on : WriteNoRows → RowsGoOn → (s : State) (ctx : Ctx) (asked : Statement) → RowsAreSound s → AllFree s ctx.txn ctx.next → GoOn s ctx (changes_of (effect_in s ctx asked))
+step_goes_on none rows s ctx asked sound free =
+    of_effect (GoOn s ctx) ((step ctx asked).in_state s).gives (record { fit = tt; numbered = tt })
+    (done_then (GoOn s ctx) (mode_or_refused ctx.mode (tag_of asked)) (λ _. ((done_by ctx asked).in_state s).gives) (λ _. each_goes_on none rows s ctx asked sound free))

@@ -1,0 +1,395 @@
+-- INSERT, UPDATE and DELETE keep the rows of a state sound.
+use Rattle.std.specs.Prelude.{◌≡◌, refl, ℕ, suc, List, [], ◌∷◌, ◌++◌, Option, Some, None, true, false, ◌||◌, Result, Ok, Err, IfOk, map}
+use Rattle.std.specs.List.{AllByRecursion}
+use Rattle.std.proofs.Common.{ap, sym, ◌∙◌, subst}
+use Rattle.std.proofs.lemmas.Bool.{true≢false}
+use Rattle.std.proofs.lemmas.Option.{none-some}
+use Rattle.rls_value.specs.declared.refusal.Refusal.{Refusal}
+use Rattle.rls_value.specs.declared.refusal.Refusal.TheVariants.{Undefined}
+use Rattle.rls_value.specs.declared.refusal.NameKind.TheVariants as named
+use Rattle.rls_value.specs.declared.row.RowId.{RowId}
+use Rattle.rls_value.specs.declared.value.Value.{Value}
+use Rattle.rls_value.specs.declared.verb.Privilege.TheVariants as privilege
+use Rattle.rls_value.specs.declared.verb.Kind.TheVariants as kind
+use Rattle.rls_value.specs.Giving.{and_then}
+use Rattle.rls_expr.specs.declared.table.TableDef.{TableDef}
+use Rattle.rls_expr.specs.Terms.{Term}
+use Rattle.rls_catalog.specs.declared.change.Change.{Change}
+use Rattle.rls_catalog.specs.declared.stored.Stored.{Stored}
+use Rattle.rls_catalog.specs.declared.verdict.Side.TheVariants as side
+use Rattle.rls_catalog.specs.State.{State, is_same_id, table_of}
+use Rattle.rls_catalog.specs.Changed.{changed_all}
+use Rattle.rls_catalog.specs.InOrder.{RowsInOrder}
+use Rattle.rls_catalog.specs.RowsChanged.{entries_of}
+use Rattle.rls_catalog.specs.SoundRows.{AreSound, RowsAreSound}
+use Rattle.rls_statement.specs.declared.changing.Delete.{Delete}
+use Rattle.rls_statement.specs.declared.changing.Update.{Update}
+use Rattle.rls_statement.specs.declared.statement.Insert.{Insert}
+use Rattle.rls_statement.specs.declared.statement.Select.{Select}
+use Rattle.rls_statement.specs.declared.statement.Selected.{Selected}
+use Rattle.rls_source.specs.Asked.{table_at}
+use Rattle.rls_source.specs.Askings.{known, followed_by}
+use Rattle.rls_source.specs.Named.{found_or, table_or_undefined}
+use Rattle.rls_source.specs.Sequences.{each_of}
+use Rattle.rls_guard.specs.declared.context.Ctx.{Ctx}
+use Rattle.rls_guard.specs.declared.guard.Watch.{Watch}
+use Rattle.rls_guard.specs.declared.reply.Decision.{Decision}
+use Rattle.rls_guard.specs.declared.standing.Standing.{Standing}
+use Rattle.rls_guard.specs.Eval.{over}
+use Rattle.rls_guard.specs.Guards.{watches_for}
+use Rattle.rls_guard.specs.Standings.{privilege_or_denied, standing_of}
+use Rattle.rls_guard.specs.Keeping.{IfDone, IsNoRow, KeepsRowsSound, LeavesRows}
+use Rattle.rls_judging.specs.Candidates.{candidates}
+use Rattle.rls_judging.specs.Judging.{decisions_of, hits, is_hit}
+use Rattle.rls_dml.specs.declared.addition.Addition.{Addition}
+use Rattle.rls_dml.specs.declared.deleting.Removal.{Removal}
+use Rattle.rls_dml.specs.declared.revision.Revision.{Revision}
+use Rattle.rls_dml.specs.declared.selecting.Query.{Query}
+use Rattle.rls_dml.specs.Checking.{returning_reads}
+use Rattle.rls_dml.specs.Deleting.{delete, delete_as, delete_from, delete_guarded, deleted, deleted_row, removal_of, removal_reads}
+use Rattle.rls_dml.specs.Inserting.{addition_of, insert, insert_as, insert_guarded, insert_into, insert_rows, inserted, inserted_row, new_rows, numbered, row_of_tuple}
+use Rattle.rls_dml.specs.NextRows.{NumberOn}
+use Rattle.rls_dml.specs.Numbers.{has_number}
+use Rattle.rls_dml.specs.Selecting.{listed_by, listed_for, query_of, select, select_as, select_from}
+use Rattle.rls_dml.specs.Updating.{changed_rows, places_set, revision_of, revision_reads, update, update_as, update_guarded, update_hits, update_in, update_rows, updated, updated_row}
+use Rattle.rls_dml.specs.Writing.{assigned, key_at, order_of, privileges_or_denied, rows_or_refused}
+use Rattle.rls_dml.proofs.FittingLemmas.{Apart, OtherThan, StandIn, candidates_stand, done_after, done_then, filter_stand, given_after, given_then, insert_done, numbered_apart}
+use Rattle.rls_dml.proofs.PassingLemmas.{KeysAreMade, Pass, each_free, rows_carry, rows_passed}
+use Rattle.rls_dml.proofs.SoundLemmas.{AreRenewed, changed_leave, deleted_leave, inserted_leave, left_rows_sound, sound_in}
+use Rattle.rls_dml.proofs.WrittenLemmas.{MayStand, keyed_of, left_sound, with_rows, without_rows, written_sound}
+
+-- the rows are sound with the changes
+abbrev pub Keeps : State → List Change → Type 0
+Keeps s changes = RowsAreSound (changed_all s changes)
+
+-- ---- the table
+
+found_there : (refusal : Refusal) (found : Option TableDef) → IfOk (found_or refusal found) (λ table. found ≡ Some table)
+found_there refusal (Some table) = refl
+found_there refusal None = tt
+
+-- a table that has to be there is there
+table_there : (s : State) (name : List ℕ) → IfOk ((table_or_undefined name).in_state s).gives (λ table. table_of s name ≡ Some table)
+unfolding table_at
+table_there s name = found_there (Undefined named.Relation name) (table_of s name)
+
+-- its rows stand in order
+in_order : (s : State) (name : List ℕ) (table : TableDef) → RowsAreSound s → table_of s name ≡ Some table → RowsInOrder s name
+in_order s name table sound there = (sound_in s name table sound there).ordered
+
+-- ---- new rows
+
+-- rows with numbers of their own, and keys that are made of their values
+record AreMade (table : TableDef) (rows : List Stored) : Type 0 where
+  apart : Apart rows
+  keys : KeysAreMade table rows
+
+-- rows that may be written in the places of others
+may_stand : (s : State) (name : List ℕ) (table : TableDef) (places : List ℕ) (replaced rows : List Stored) → RowsAreSound s → table_of s name ≡ Some table → AreMade table rows
+    → ((id : RowId) → has_number replaced id ≡ true → has_number rows id ≡ true) → Pass s name table.columns (order_of places table.columns) replaced rows
+    → MayStand table replaced rows (entries_of s name)
+may_stand s name table places replaced rows sound there made replaces pass = record {
+  apart = made.apart;
+  carried = rows_carry table places rows (sound_in s name table sound there).key pass.values made.keys;
+  once = pass.once;
+  free = each_free s name replaced rows pass.free;
+  replaces = replaces;
+}
+
+-- ---- INSERT
+
+numbered_made : (places : List ℕ) (txn next : ℕ) (rows : List (List Value)) → AllByRecursion (λ stored. stored.key ≡ key_at places stored.row) (numbered places txn next rows)
+numbered_made places txn next [] = tt
+numbered_made places txn next (row ∷ rows) = (refl, numbered_made places txn (suc next) rows)
+
+new_rows_made : (ctx : Ctx) (table : TableDef) (addition : Addition) → IfOk (new_rows ctx table addition) (AreMade table)
+new_rows_made ctx table addition =
+    given_then (AreMade table) (each_of (row_of_tuple table addition.places ctx.role) addition.tuples) (λ rows. Ok (numbered table.key ctx.txn ctx.next rows)) (λ rows.
+    record { apart = numbered_apart table.key ctx.txn ctx.next rows; keys = numbered_made table.key ctx.txn ctx.next rows })
+
+inserted_kept : (s : State) (name : List ℕ) (table : TableDef) (places : List ℕ) (rows : List Stored) → RowsAreSound s → table_of s name ≡ Some table → AreMade table rows
+    → Pass s name table.columns (order_of places table.columns) [] rows → Keeps s (map (inserted_row name) rows)
+inserted_kept s name table places rows sound there made pass =
+    left_rows_sound s name table (map (inserted_row name) rows) (with_rows rows (entries_of s name)) sound there (inserted_leave s name rows)
+    (written_sound table [] rows (entries_of s name) (sound_in s name table sound there)
+    (may_stand s name table places [] rows sound there made (λ id none. absurd (true≢false (sym none))) pass))
+
+inserted_if : (fact : List Change → Type 0) (name : List ℕ) (returning : Option Selected) (role : List ℕ) (decisions : List Decision) (rows : List Stored) (settled : Result (Unit {0}) Refusal)
+    → (settled ≡ Ok tt → fact (map (inserted_row name) rows)) → IfDone (Ok (inserted name returning role decisions rows settled)) fact
+inserted_if fact name returning role decisions rows (Ok _) is = is refl
+inserted_if fact name returning role decisions rows (Err refusal) is = tt
+
+insert_rows_keep : (s : State) (role name : List ℕ) (table : TableDef) (watches : List Watch) (addition : Addition) (rows : List Stored) → RowsAreSound s → table_of s name ≡ Some table
+    → AreMade table rows → IfDone ((insert_rows role name table watches addition rows).in_state s).gives (Keeps s)
+unfolding insert_rows
+insert_rows_keep s role name table watches addition rows sound there made =
+    let decisions : List Decision = decisions_of side.New watches role rows in
+    let order : List ℕ = order_of addition.places table.columns in
+    inserted_if (Keeps s) name addition.returning role decisions rows ((rows_or_refused name table.columns order decisions [] rows).in_state s).gives (λ passed.
+    inserted_kept s name table addition.places rows sound there made (rows_passed s name table.columns order decisions [] rows passed))
+
+insert_guarded_keep : (s : State) (ctx : Ctx) (name : List ℕ) (table : TableDef) (standing : Standing) (watches : List Watch) (addition : Addition) → RowsAreSound s → table_of s name ≡ Some table
+    → IfDone ((insert_guarded ctx name table standing watches addition).in_state s).gives (Keeps s)
+unfolding insert_guarded
+insert_guarded_keep s ctx name table standing watches addition sound there =
+    done_then (Keeps s) ((privileges_or_denied standing privilege.Insert (returning_reads addition.returning) name).in_state s).gives
+    (λ _. ((followed_by (known (new_rows ctx table addition)) (λ rows. insert_rows ctx.role name table watches addition rows)).in_state s).gives) (λ _.
+    done_after (AreMade table) (Keeps s) (new_rows ctx table addition) (λ rows. ((insert_rows ctx.role name table watches addition rows).in_state s).gives)
+    (new_rows_made ctx table addition) (λ rows made. insert_rows_keep s ctx.role name table watches addition rows sound there made))
+
+insert_as_keep : (s : State) (ctx : Ctx) (name : List ℕ) (table : TableDef) (standing : Standing) (addition : Addition) → RowsAreSound s → table_of s name ≡ Some table
+    → IfDone ((insert_as ctx name table standing addition).in_state s).gives (Keeps s)
+unfolding insert_as
+insert_as_keep s ctx name table standing addition sound there =
+    done_then (Keeps s) ((watches_for standing name table kind.Insert (returning_reads addition.returning) (side.New ∷ [])).in_state s).gives
+    (λ watches. ((insert_guarded ctx name table standing watches addition).in_state s).gives) (λ watches.
+    insert_guarded_keep s ctx name table standing watches addition sound there)
+
+insert_into_keep : (s : State) (ctx : Ctx) (name : List ℕ) (table : TableDef) (addition : Addition) → RowsAreSound s → table_of s name ≡ Some table
+    → IfDone ((insert_into ctx name table addition).in_state s).gives (Keeps s)
+unfolding insert_into
+insert_into_keep s ctx name table addition sound there =
+    done_then (Keeps s) ((standing_of ctx.role).in_state s).gives (λ standing. ((insert_as ctx name table standing addition).in_state s).gives) (λ standing.
+    insert_as_keep s ctx name table standing addition sound there)
+
+-- an INSERT keeps them sound
+pub insert_keeps : (ctx : Ctx) (asked : Insert) → KeepsRowsSound (insert ctx asked)
+insert_keeps ctx asked = λ s sound.
+    done_after (λ table. table_of s asked.table ≡ Some table) (Keeps s) ((table_or_undefined asked.table).in_state s).gives
+    (λ table. ((followed_by (known (addition_of ctx asked table)) (λ addition. insert_into ctx asked.table table addition)).in_state s).gives) (table_there s asked.table) (λ table there.
+    done_then (Keeps s) (addition_of ctx asked table) (λ addition. ((insert_into ctx asked.table table addition).in_state s).gives) (λ addition.
+    insert_into_keep s ctx asked.table table addition sound there))
+
+inserted_number_on : (name places : List ℕ) (txn next : ℕ) (rows : List (List Value)) → NumberOn txn next (map (inserted_row name) (numbered places txn next rows))
+inserted_number_on name places txn next [] = tt
+inserted_number_on name places txn next (row ∷ rows) = (λ _. refl, inserted_number_on name places txn (suc next) rows)
+
+-- an INSERT numbers its rows on from the transaction's next
+pub insert_numbers_on : (s : State) (ctx : Ctx) (asked : Insert) → IfDone ((insert ctx asked).in_state s).gives (NumberOn ctx.txn ctx.next)
+insert_numbers_on s ctx asked = insert_done (NumberOn ctx.txn ctx.next) s ctx asked (λ places rows _. inserted_number_on asked.table places ctx.txn ctx.next rows)
+
+-- ---- UPDATE
+
+-- the new rows of an UPDATE: their numbers are those of the old ones
+record AreUpdated (table : TableDef) (old new : List Stored) : Type 0 where
+  renewed : AreRenewed old new
+  keys : KeysAreMade table new
+
+row_made : (table : TableDef) (settings : List (ℕ × Term)) (role : List ℕ) (stored : Stored) → IfOk (updated_row table settings role stored) (λ new. (stored.id ≡ new.id) × (new.key ≡ key_at table.key new.row))
+row_made table settings role stored =
+    given_then (λ new. (stored.id ≡ new.id) × (new.key ≡ key_at table.key new.row))
+    (assigned table.columns (over role stored.row) (places_set settings) (map (λ setting. setting.1) settings) stored.row)
+    (λ row. Ok (record { id = stored.id; key = key_at table.key row; row = row })) (λ row. (refl, refl))
+
+updated_made : (table : TableDef) (settings : List (ℕ × Term)) (role : List ℕ) (old : List Stored) → IfOk (each_of (updated_row table settings role) old) (AreUpdated table old)
+updated_made table settings role [] = record { renewed = tt; keys = tt }
+updated_made table settings role (stored ∷ old) =
+    given_after (λ new. (stored.id ≡ new.id) × (new.key ≡ key_at table.key new.row)) (AreUpdated table (stored ∷ old)) (updated_row table settings role stored)
+    (λ new. and_then (each_of (updated_row table settings role) old) (λ news. Ok (new ∷ news)))
+    (row_made table settings role stored) (λ new one.
+    given_after (AreUpdated table old) (AreUpdated table (stored ∷ old)) (each_of (updated_row table settings role) old) (λ news. Ok (new ∷ news)) (updated_made table settings role old) (λ news others.
+    record { renewed = (one.0, others.renewed); keys = (one.1, others.keys) }))
+
+other_renewed : (id : RowId) (old new : List Stored) → AreRenewed old new → AllByRecursion (λ stored. is_same_id stored.id id ≡ false) old → AllByRecursion (λ stored. is_same_id stored.id id ≡ false) new
+other_renewed id [] [] renewed other = tt
+other_renewed id [] (new ∷ news) renewed other = absurd renewed
+other_renewed id (old ∷ olds) [] renewed other = absurd renewed
+other_renewed id (old ∷ olds) (new ∷ news) renewed other = (ap (λ i. is_same_id i id) (sym renewed.0) ∙ other.0, other_renewed id olds news renewed.1 other.1)
+
+-- rows with the numbers of others have different ones where those do
+apart_renewed : (old new : List Stored) → AreRenewed old new → Apart old → Apart new
+apart_renewed [] [] renewed apart = tt
+apart_renewed [] (new ∷ news) renewed apart = absurd renewed
+apart_renewed (old ∷ olds) [] renewed apart = absurd renewed
+apart_renewed (old ∷ olds) (new ∷ news) renewed apart =
+    (subst (λ id. OtherThan id news) renewed.0 (other_renewed old.id olds news renewed.1 apart.0), apart_renewed olds news renewed.1 apart.1)
+
+-- the same numbers are among them
+number_renewed : (id : RowId) (old new : List Stored) → AreRenewed old new → has_number old id ≡ has_number new id
+number_renewed id [] [] renewed = refl
+number_renewed id [] (new ∷ news) renewed = absurd renewed
+number_renewed id (old ∷ olds) [] renewed = absurd renewed
+number_renewed id (old ∷ olds) (new ∷ news) renewed = λ i. is_same_id id (renewed.0 i) || number_renewed id olds news renewed.1 i
+
+-- an UPDATE of rows of a table that is done
+record Renews (s : State) (name : List ℕ) (old new : List Stored) : Type 0 where
+  table : TableDef
+  places : List ℕ
+  there : table_of s name ≡ Some table
+  apart : Apart old
+  made : AreUpdated table old new
+  pass : Pass s name table.columns (order_of places table.columns) old new
+
+renewed_kept : (s : State) (name : List ℕ) (old new : List Stored) → RowsAreSound s → Renews s name old new → Keeps s (changed_rows name old new)
+renewed_kept s name old new sound by =
+    let standing : AreSound by.table (entries_of s name) = sound_in s name by.table sound by.there in
+    left_rows_sound s name by.table (changed_rows name old new) (with_rows new (entries_of s name)) sound by.there (changed_leave s name old new by.made.renewed)
+    (written_sound by.table old new (entries_of s name) standing
+    (may_stand s name by.table by.places old new sound by.there (record { apart = apart_renewed old new by.made.renewed by.apart; keys = by.made.keys })
+    (λ id has. sym (number_renewed id old new by.made.renewed) ∙ has) by.pass))
+
+-- it holds of the changes of such an UPDATE
+abbrev HoldsOfRenewed : (List Change → Type 0) → State → List ℕ → Type 0
+HoldsOfRenewed fact s name = (old new : List Stored) → Renews s name old new → fact (changed_rows name old new)
+
+updated_if : (fact : List Change → Type 0) (name : List ℕ) (revision : Revision) (role : List ℕ) (decisions : List Decision) (old new : List Stored) (settled : Result (Unit {0}) Refusal)
+    → (settled ≡ Ok tt → fact (changed_rows name old new)) → IfDone (Ok (updated name revision role decisions old new settled)) fact
+updated_if fact name revision role decisions old new (Ok _) is = is refl
+updated_if fact name revision role decisions old new (Err refusal) is = tt
+
+update_rows_hold : (fact : List Change → Type 0) (s : State) (role name : List ℕ) (table : TableDef) (watches : List Watch) (revision : Revision) (before : List Decision) (old new : List Stored)
+    → HoldsOfRenewed fact s name → table_of s name ≡ Some table → Apart old → AreUpdated table old new → IfDone ((update_rows role name table watches revision before old new).in_state s).gives fact
+unfolding update_rows
+update_rows_hold fact s role name table watches revision before old new all there apart made =
+    let after : List Decision = decisions_of side.New watches role new in
+    let order : List ℕ = order_of (places_set revision.settings) table.columns in
+    updated_if fact name revision role (before ++ after) old new ((rows_or_refused name table.columns order after old new).in_state s).gives (λ passed.
+    all old new (record { table = table; places = places_set revision.settings; there = there; apart = apart; made = made; pass = rows_passed s name table.columns order after old new passed }))
+
+update_hits_hold : (fact : List Change → Type 0) (s : State) (role name : List ℕ) (table : TableDef) (watches : List Watch) (revision : Revision) (rows : List Stored) → HoldsOfRenewed fact s name
+    → table_of s name ≡ Some table → Apart (hits watches revision.condition role rows) → IfDone ((update_hits role name table watches revision rows).in_state s).gives fact
+unfolding update_hits
+update_hits_hold fact s role name table watches revision rows all there apart =
+    let old : List Stored = hits watches revision.condition role rows in
+    let before : List Decision = decisions_of side.Old watches role rows in
+    done_after (AreUpdated table old) fact (each_of (updated_row table revision.settings role) old)
+    (λ new. ((update_rows role name table watches revision before old new).in_state s).gives) (updated_made table revision.settings role old) (λ new made.
+    update_rows_hold fact s role name table watches revision before old new all there apart made)
+
+update_guarded_hold : (fact : List Change → Type 0) (s : State) (standing : Standing) (watches : List Watch) (revision : Revision) (role name : List ℕ) (table : TableDef) → HoldsOfRenewed fact s name
+    → RowsAreSound s → table_of s name ≡ Some table → IfDone ((update_guarded standing watches revision role name table).in_state s).gives fact
+unfolding update_guarded
+update_guarded_hold fact s standing watches revision role name table all sound there =
+    done_then fact ((privileges_or_denied standing privilege.Update (revision_reads revision) name).in_state s).gives
+    (λ _. ((followed_by (candidates role name table revision.condition) (λ rows. update_hits role name table watches revision rows)).in_state s).gives) (λ _.
+    done_after (StandIn s name) fact ((candidates role name table revision.condition).in_state s).gives
+    (λ rows. ((update_hits role name table watches revision rows).in_state s).gives)
+    (candidates_stand s role name table revision.condition (in_order s name table sound there)) (λ rows stand.
+    update_hits_hold fact s role name table watches revision rows all there (filter_stand s name (is_hit watches revision.condition role) rows stand).apart))
+
+update_as_hold : (fact : List Change → Type 0) (s : State) (standing : Standing) (role name : List ℕ) (table : TableDef) (revision : Revision) → HoldsOfRenewed fact s name → RowsAreSound s
+    → table_of s name ≡ Some table → IfDone ((update_as standing role name table revision).in_state s).gives fact
+unfolding update_as
+update_as_hold fact s standing role name table revision all sound there =
+    done_then fact ((watches_for standing name table kind.Update (revision_reads revision) (side.Old ∷ side.New ∷ [])).in_state s).gives
+    (λ watches. ((update_guarded standing watches revision role name table).in_state s).gives) (λ watches.
+    update_guarded_hold fact s standing watches revision role name table all sound there)
+
+update_in_hold : (fact : List Change → Type 0) (s : State) (role name : List ℕ) (table : TableDef) (revision : Revision) → HoldsOfRenewed fact s name → RowsAreSound s → table_of s name ≡ Some table
+    → IfDone ((update_in role name table revision).in_state s).gives fact
+unfolding update_in
+update_in_hold fact s role name table revision all sound there =
+    done_then fact ((standing_of role).in_state s).gives (λ standing. ((update_as standing role name table revision).in_state s).gives) (λ standing.
+    update_as_hold fact s standing role name table revision all sound there)
+
+update_holds : (fact : List Change → Type 0) (s : State) (ctx : Ctx) (asked : Update) → HoldsOfRenewed fact s asked.table → RowsAreSound s → IfDone ((update ctx asked).in_state s).gives fact
+update_holds fact s ctx asked all sound =
+    done_after (λ table. table_of s asked.table ≡ Some table) fact ((table_or_undefined asked.table).in_state s).gives
+    (λ table. ((followed_by (known (revision_of asked table)) (λ revision. update_in ctx.role asked.table table revision)).in_state s).gives) (table_there s asked.table) (λ table there.
+    done_then fact (revision_of asked table) (λ revision. ((update_in ctx.role asked.table table revision).in_state s).gives) (λ revision.
+    update_in_hold fact s ctx.role asked.table table revision all sound there))
+
+-- an UPDATE keeps them sound
+pub update_keeps : (ctx : Ctx) (asked : Update) → KeepsRowsSound (update ctx asked)
+update_keeps ctx asked = λ s sound. update_holds (Keeps s) s ctx asked (λ old new by. renewed_kept s asked.table old new sound by) sound
+
+renewed_number_on : (txn next : ℕ) (name : List ℕ) (old new : List Stored) → NumberOn txn next (changed_rows name old new)
+renewed_number_on txn next name old [] = tt
+renewed_number_on txn next name [] (new ∷ news) = tt
+renewed_number_on txn next name (old ∷ olds) (new ∷ news) = (λ none. absurd (none-some (keyed_of old) (sym none)), renewed_number_on txn next name olds news)
+
+-- an UPDATE uses no number
+pub update_numbers_on : (s : State) (ctx : Ctx) (asked : Update) → RowsAreSound s → IfDone ((update ctx asked).in_state s).gives (NumberOn ctx.txn ctx.next)
+update_numbers_on s ctx asked sound = update_holds (NumberOn ctx.txn ctx.next) s ctx asked (λ old new _. renewed_number_on ctx.txn ctx.next asked.table old new) sound
+
+-- ---- DELETE
+
+deleted_kept : (s : State) (name : List ℕ) (table : TableDef) (rows : List Stored) → RowsAreSound s → table_of s name ≡ Some table → Keeps s (map (deleted_row name) rows)
+deleted_kept s name table rows sound there =
+    left_rows_sound s name table (map (deleted_row name) rows) (without_rows rows (entries_of s name)) sound there (deleted_leave s name rows)
+    (left_sound table rows (entries_of s name) (sound_in s name table sound there))
+
+-- it holds of the changes that take rows out of a table that is there
+abbrev HoldsOfGone : (List Change → Type 0) → State → List ℕ → Type 0
+HoldsOfGone fact s name = (table : TableDef) (rows : List Stored) → table_of s name ≡ Some table → fact (map (deleted_row name) rows)
+
+delete_guarded_hold : (fact : List Change → Type 0) (s : State) (standing : Standing) (watches : List Watch) (removal : Removal) (role name : List ℕ) (table : TableDef) → HoldsOfGone fact s name
+    → table_of s name ≡ Some table → IfDone ((delete_guarded standing watches removal role name table).in_state s).gives fact
+unfolding delete_guarded
+delete_guarded_hold fact s standing watches removal role name table all there =
+    done_then fact ((privileges_or_denied standing privilege.Delete (removal_reads removal) name).in_state s).gives
+    (λ _. ((followed_by (candidates role name table removal.condition) (λ rows. known (Ok (deleted name watches removal role rows)))).in_state s).gives) (λ _.
+    done_then fact ((candidates role name table removal.condition).in_state s).gives (λ rows. Ok (deleted name watches removal role rows)) (λ rows.
+    all table (hits watches removal.condition role rows) there))
+
+delete_as_hold : (fact : List Change → Type 0) (s : State) (standing : Standing) (role name : List ℕ) (table : TableDef) (removal : Removal) → HoldsOfGone fact s name → table_of s name ≡ Some table
+    → IfDone ((delete_as standing role name table removal).in_state s).gives fact
+unfolding delete_as
+delete_as_hold fact s standing role name table removal all there =
+    done_then fact ((watches_for standing name table kind.Delete (removal_reads removal) (side.Old ∷ [])).in_state s).gives
+    (λ watches. ((delete_guarded standing watches removal role name table).in_state s).gives) (λ watches.
+    delete_guarded_hold fact s standing watches removal role name table all there)
+
+delete_from_hold : (fact : List Change → Type 0) (s : State) (role name : List ℕ) (table : TableDef) (removal : Removal) → HoldsOfGone fact s name → table_of s name ≡ Some table
+    → IfDone ((delete_from role name table removal).in_state s).gives fact
+unfolding delete_from
+delete_from_hold fact s role name table removal all there =
+    done_then fact ((standing_of role).in_state s).gives (λ standing. ((delete_as standing role name table removal).in_state s).gives) (λ standing.
+    delete_as_hold fact s standing role name table removal all there)
+
+delete_holds : (fact : List Change → Type 0) (s : State) (ctx : Ctx) (asked : Delete) → HoldsOfGone fact s asked.table → IfDone ((delete ctx asked).in_state s).gives fact
+delete_holds fact s ctx asked all =
+    done_after (λ table. table_of s asked.table ≡ Some table) fact ((table_or_undefined asked.table).in_state s).gives
+    (λ table. ((followed_by (known (removal_of asked table)) (λ removal. delete_from ctx.role asked.table table removal)).in_state s).gives) (table_there s asked.table) (λ table there.
+    done_then fact (removal_of asked table) (λ removal. ((delete_from ctx.role asked.table table removal).in_state s).gives) (λ removal.
+    delete_from_hold fact s ctx.role asked.table table removal all there))
+
+-- a DELETE keeps them sound
+pub delete_keeps : (ctx : Ctx) (asked : Delete) → KeepsRowsSound (delete ctx asked)
+delete_keeps ctx asked = λ s sound. delete_holds (Keeps s) s ctx asked (λ table rows there. deleted_kept s asked.table table rows sound there)
+
+gone_number_on : (txn next : ℕ) (name : List ℕ) (rows : List Stored) → NumberOn txn next (map (deleted_row name) rows)
+gone_number_on txn next name [] = tt
+gone_number_on txn next name (stored ∷ rows) = (λ none. absurd (none-some (keyed_of stored) (sym none)), gone_number_on txn next name rows)
+
+-- a DELETE uses no number
+pub delete_numbers_on : (s : State) (ctx : Ctx) (asked : Delete) → IfDone ((delete ctx asked).in_state s).gives (NumberOn ctx.txn ctx.next)
+delete_numbers_on s ctx asked = delete_holds (NumberOn ctx.txn ctx.next) s ctx asked (λ table rows _. gone_number_on ctx.txn ctx.next asked.table rows)
+
+-- ---- SELECT
+
+listed_for_hold : (fact : List Change → Type 0) (s : State) (standing : Standing) (watches : List Watch) (query : Query) (role name : List ℕ) (table : TableDef) → fact []
+    → IfDone ((listed_for standing watches query role name table).in_state s).gives fact
+unfolding listed_for
+listed_for_hold fact s standing watches query role name table none =
+    done_then fact ((privilege_or_denied standing privilege.Select name).in_state s).gives
+    (λ _. ((followed_by (candidates role name table query.condition) (λ rows. known (Ok (listed_by watches query role rows)))).in_state s).gives) (λ _.
+    done_then fact ((candidates role name table query.condition).in_state s).gives (λ rows. Ok (listed_by watches query role rows)) (λ _. none))
+
+select_as_hold : (fact : List Change → Type 0) (s : State) (standing : Standing) (role name : List ℕ) (table : TableDef) (query : Query) → fact []
+    → IfDone ((select_as standing role name table query).in_state s).gives fact
+unfolding select_as
+select_as_hold fact s standing role name table query none =
+    done_then fact ((watches_for standing name table kind.Select false (side.Old ∷ [])).in_state s).gives
+    (λ watches. ((listed_for standing watches query role name table).in_state s).gives) (λ watches.
+    listed_for_hold fact s standing watches query role name table none)
+
+select_from_hold : (fact : List Change → Type 0) (s : State) (role name : List ℕ) (table : TableDef) (query : Query) → fact [] → IfDone ((select_from role name table query).in_state s).gives fact
+unfolding select_from
+select_from_hold fact s role name table query none =
+    done_then fact ((standing_of role).in_state s).gives (λ standing. ((select_as standing role name table query).in_state s).gives) (λ standing.
+    select_as_hold fact s standing role name table query none)
+
+select_holds : (fact : List Change → Type 0) (s : State) (ctx : Ctx) (asked : Select) → fact [] → IfDone ((select ctx asked).in_state s).gives fact
+select_holds fact s ctx asked none =
+    done_then fact ((table_or_undefined asked.table).in_state s).gives
+    (λ table. ((followed_by (known (query_of asked table)) (λ query. select_from ctx.role asked.table table query)).in_state s).gives) (λ table.
+    done_then fact (query_of asked table) (λ query. ((select_from ctx.role asked.table table query).in_state s).gives) (λ query.
+    select_from_hold fact s ctx.role asked.table table query none))
+
+-- a SELECT changes nothing
+pub select_leaves : (ctx : Ctx) (asked : Select) → LeavesRows (select ctx asked)
+select_leaves ctx asked = record {
+  writes_none = λ s. select_holds (AllByRecursion IsNoRow) s ctx asked tt;
+  sound = λ s sound. select_holds (Keeps s) s ctx asked sound;
+}

@@ -1,0 +1,36 @@
+-- What a statement that is done leaves of a state, with its changes put on.
+use Rattle.std.specs.Prelude.{List, Result, Ok, Err}
+use Rattle.std.specs.List.{AllByRecursion}
+use Rattle.rls_value.specs.declared.refusal.Refusal.{Refusal}
+use Rattle.rls_catalog.specs.declared.change.Change.{Change}
+use Rattle.rls_catalog.specs.declared.change.Change.TheVariants as c
+use Rattle.rls_catalog.specs.State.{State}
+use Rattle.rls_catalog.specs.Changed.{changed_all}
+use Rattle.rls_catalog.specs.SoundRows.{RowsAreSound}
+use Rattle.rls_source.specs.Askings.{Asking}
+use Rattle.rls_guard.specs.declared.effect.Effect.{Effect}
+use Rattle.rls_guard.specs.declared.effect.Effect.TheVariants as effect
+
+-- what holds of the changes of a statement, if it is done
+abbrev pub IfDone : Result Effect Refusal → (List Change → Type 0) → Type 0
+IfDone (Ok (effect.Done reply decisions changes role)) fact = fact changes
+IfDone (Ok (effect.Refused refusal decisions)) fact = Unit {0}
+IfDone (Err refusal) fact = Unit {0}
+
+-- it leaves sound rows sound
+abbrev pub KeepsRowsSound : Asking Effect → Type 0
+KeepsRowsSound asking = (s : State) → RowsAreSound s → IfDone (asking.in_state s).gives (λ changes. RowsAreSound (changed_all s changes))
+
+-- the change is not one of a row
+abbrev pub IsNoRow : Change → Type 0
+IsNoRow (c.Row change) = ⊥
+IsNoRow _ = Unit {0}
+
+-- it writes no row
+abbrev pub WritesNoRow : Asking Effect → Type 0
+WritesNoRow asking = (s : State) → IfDone (asking.in_state s).gives (AllByRecursion IsNoRow)
+
+-- it writes no row, and leaves sound rows sound
+pub record LeavesRows (asking : Asking Effect) : Type 0 where
+  pub writes_none : WritesNoRow asking
+  pub sound : KeepsRowsSound asking
