@@ -31,10 +31,10 @@ abbrev pub Finds : Option (Bor (List Token)) → Outcome (Unit {0}) → Type 0
 Finds (Some rest) read = read ≡ Some (tt, rest.now)
 Finds None read = read ≡ None
 
--- the token that must come is there
-abbrev pub Passes : Result (Bor (List Token)) Fault → Outcome (Unit {0}) → Type 0
-Passes (Ok rest) read = read ≡ Some (tt, rest.now)
-Passes (Err fault) read = Fails fault read
+-- the token that must come is there, behind this value
+abbrev pub Closes : {A : Type 0} → A → Result (A × Bor (List Token)) Fault → Outcome (Unit {0}) → Type 0
+Closes inner (Ok x) read = (x.0 ≡ inner) × (read ≡ Some (tt, x.1.now))
+Closes inner (Err fault) read = Fails fault read
 
 -- how many there were
 unfoldable pub counted : Outcome (List (Unit {0})) → Outcome ℕ

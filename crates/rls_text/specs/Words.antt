@@ -10,11 +10,11 @@ use Rattle.rls_text.specs.declared.token.Token.{Token}
 use Rattle.rls_text.specs.declared.token.Token.TheVariants as t
 
 -- space, tab, LF, CR
-abbrev pub is_blank : ℕ → Bool
+unfoldable pub is_blank : ℕ → Bool
 is_blank c = nat_eq c 32 || nat_eq c 9 || nat_eq c 10 || nat_eq c 13
 
 -- two minus signs
-abbrev pub begins_comment : ℕ → List ℕ → Bool
+unfoldable pub begins_comment : ℕ → List ℕ → Bool
 begins_comment c [] = false
 begins_comment c (d ∷ ds) = nat_eq c 45 && nat_eq d 45
 
@@ -83,12 +83,12 @@ unfoldable pub quoted : List ℕ → Token × List ℕ
 quoted cs = text_from cs (quoted_in (length cs) cs)
 
 -- two characters that are one sign
-abbrev pub double : ℕ → ℕ → Option Symbol
+unfoldable pub double : ℕ → ℕ → Option Symbol
 double c d = if nat_eq c 60 && nat_eq d 62 then Some s.NotEqual else (if nat_eq c 33 && nat_eq d 61 then Some s.NotEqual else
     (if nat_eq c 60 && nat_eq d 61 then Some s.LessOrEqual else (if nat_eq c 62 && nat_eq d 61 then Some s.GreaterOrEqual else None)))
 
 -- a sign of one character; another begins no word
-abbrev pub single : ℕ → Token
+unfoldable pub single : ℕ → Token
 single c = if nat_eq c 40 then t.Symbol s.LParen else (if nat_eq c 41 then t.Symbol s.RParen else (if nat_eq c 44 then t.Symbol s.Comma else
     (if nat_eq c 46 then t.Symbol s.Dot else (if nat_eq c 59 then t.Symbol s.Semicolon else (if nat_eq c 42 then t.Symbol s.Star else
     (if nat_eq c 43 then t.Symbol s.Plus else (if nat_eq c 45 then t.Symbol s.Minus else (if nat_eq c 61 then t.Symbol s.Equal else

@@ -10,7 +10,7 @@ ghost use Rattle.rls_text.specs.Grammar as g;
 ghost use Rattle.rls_text.specs.Values as values;
 
 use crate::fault::Fault;
-use crate::reading::{sees_one_of, word};
+use crate::reading::{only, sees_one_of, word};
 use crate::token::Token;
 use rls_statement::Attributes;
 use rls_value::Items;
@@ -33,8 +33,14 @@ pub fn attributes_of_role(
 ) -> Result<(Attributes, &[Token]), Fault>
     ensures { Gives result ((g.attributes_of_role is_user).parses.read tokens.now) }
 {
-    let (written, rest) = attributes_if_any(alloc, tokens)?;
-    Ok((gathered(opening(is_user), written.as_slice()), rest))
+    match attributes_if_any(alloc, tokens) {
+        Ok((written, rest)) => {
+            let attributes = gathered(opening(is_user), written.as_slice());
+            drop(written);
+            Ok((attributes, rest))
+        }
+        Err(fault) => Err(fault),
+    }
 }
 
 /// The attributes that are written, of which there is one at least.
@@ -46,8 +52,14 @@ pub fn written_attributes(alloc: Global, tokens: &[Token]) -> Result<(Attributes
         Some(rest) => rest,
         None => tokens,
     };
-    let (written, rest) = attributes(alloc, rest)?;
-    Ok((gathered(opening(false), written.as_slice()), rest))
+    match attributes(alloc, rest) {
+        Ok((written, rest)) => {
+            let attributes = gathered(opening(false), written.as_slice());
+            drop(written);
+            Ok((attributes, rest))
+        }
+        Err(fault) => Err(fault),
+    }
 }
 
 #[tactic(auto, unfolding(crate::specs::Grammar::attributes_if_any, crate::specs::Gives::or_no_items))]
@@ -70,11 +82,16 @@ fn attributes_if_any(
 fn attributes(alloc: Global, tokens: &[Token]) -> Result<(Items<RoleAttribute>, &[Token]), Fault>
     ensures { Gives result (g.attributes.parses.read tokens.now) }
 {
-    let (all, rest) = first_and_more(alloc, tokens)?;
-    if each_once(all.as_slice()) {
-        Ok((all, rest))
-    } else {
-        Err(Fault::Syntax)
+    match first_and_more(alloc, tokens) {
+        Ok((all, rest)) => {
+            if each_once(all.as_slice()) {
+                Ok((all, rest))
+            } else {
+                drop(all);
+                Err(Fault::Syntax)
+            }
+        }
+        Err(fault) => Err(fault),
     }
 }
 
@@ -85,10 +102,13 @@ fn first_and_more(
 ) -> Result<(Items<RoleAttribute>, &[Token]), Fault>
     ensures { Gives result (g.first_and_more.parses.read tokens.now) }
 {
-    let (first, rest) = attribute(tokens)?;
-    let mut all = Items::new(alloc);
-    all.push(first)?;
-    more_attributes(all, rest)
+    match attribute(tokens) {
+        Ok((first, rest)) => match only(alloc, first) {
+            Ok(all) => more_attributes(all, rest),
+            Err(_) => Err(Fault::NoMemory),
+        },
+        Err(fault) => Err(fault),
+    }
 }
 
 #[tactic(auto, using(crate::proofs::Loops::front_begins, crate::proofs::Loops::loop_stops, crate::proofs::Loops::loop_ends, crate::proofs::Loops::loop_fails, crate::proofs::Loops::loop_goes_on))]
@@ -104,9 +124,15 @@ fn more_attributes(
         if !starts_attribute(rest) {
             return Ok((all, rest));
         }
-        let (next, behind) = attribute(rest)?;
-        all.push(next)?;
-        rest = behind;
+        match attribute(rest) {
+            Ok((next, behind)) => {
+                if all.push(next).is_err() {
+                    return Err(Fault::NoMemory);
+                }
+                rest = behind;
+            }
+            Err(fault) => return Err(fault),
+        }
     }
     Ok((all, rest))
 }

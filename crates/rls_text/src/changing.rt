@@ -1,8 +1,8 @@
 //! UPDATE, DELETE and RETURNING from tokens.
 
-ghost use Rattle.std.specs.Prelude.{◌≡◌, [], ◌∷◌, length, IfOk};
+ghost use Rattle.std.specs.Prelude.{◌≡◌, [], ◌∷◌, length, codes, IfOk};
 ghost use Rattle.rls_text.specs.Gives.{Gives, folded};
-ghost use Rattle.rls_text.specs.Parses.{read_many};
+ghost use Rattle.rls_text.specs.Parses.{and_then, read_both, read_many, read_token};
 ghost use Rattle.rls_text.specs.Heads.{Sign};
 ghost use Rattle.rls_text.specs.Cut as cut;
 ghost use Rattle.rls_text.specs.Grammar as g;
@@ -11,7 +11,7 @@ ghost use Rattle.rls_text.specs.Trees as spec;
 
 use crate::expression::expr;
 use crate::fault::Fault;
-use crate::reading::{name, past_symbol, past_word, sees_symbol, symbol, word};
+use crate::reading::{name, only, sees_symbol, symbol, word};
 use crate::selecting::{columns, condition};
 use crate::token::{Symbol, Token};
 use crate::tree::{Draft, SetColumn, SetColumns, Tree, parted, with_set_column};
@@ -27,12 +27,42 @@ type Ending = (Option<Tree>, Option<Selected>);
 pub fn update(alloc: Global, depth: usize, tokens: &[Token]) -> Result<(Draft, &[Token]), Fault>
     ensures { Gives result ((g.update (g.expr depth)).read tokens.now) }
 {
-    let rest = past_word(tokens, b"update")?;
-    let (table, rest) = name(alloc, rest)?;
-    let rest = past_word(rest, b"set")?;
-    let (columns, rest) = set_columns(alloc, depth, rest)?;
-    let (ending, rest) = ending(alloc, depth, rest)?;
-    Ok((updated(table, columns, ending), rest))
+    let Some(rest) = word(tokens, b"update") else {
+        return Err(Fault::Syntax);
+    };
+    match name(alloc, rest) {
+        Ok((table, rest)) => match set_behind(alloc, depth, rest) {
+            Ok(((columns, ending), rest)) => Ok((updated(table, columns, ending), rest)),
+            Err(fault) => {
+                drop(table);
+                Err(fault)
+            }
+        },
+        Err(fault) => Err(fault),
+    }
+}
+
+/// SET, its columns, and by which UPDATE ends.
+fn set_behind(
+    alloc: Global,
+    depth: usize,
+    tokens: &[Token],
+) -> Result<((SetColumns, Ending), &[Token]), Fault>
+    ensures { Gives result (and_then (read_token (Token.Word (codes "set")) tokens.now) (λ _ rest. read_both (g.set_columns (g.expr depth)).read (g.ending (g.expr depth)).read rest)) }
+{
+    let Some(rest) = word(tokens, b"set") else {
+        return Err(Fault::Syntax);
+    };
+    match set_columns(alloc, depth, rest) {
+        Ok((columns, rest)) => match ending(alloc, depth, rest) {
+            Ok((ending, rest)) => Ok(((columns, ending), rest)),
+            Err(fault) => {
+                drop(columns);
+                Err(fault)
+            }
+        },
+        Err(fault) => Err(fault),
+    }
 }
 
 fn updated(table: Name, columns: SetColumns, ending: Ending) -> Draft
@@ -54,11 +84,22 @@ fn updated(table: Name, columns: SetColumns, ending: Ending) -> Draft
 pub fn delete(alloc: Global, depth: usize, tokens: &[Token]) -> Result<(Draft, &[Token]), Fault>
     ensures { Gives result ((g.delete (g.expr depth)).read tokens.now) }
 {
-    let rest = past_word(tokens, b"delete")?;
-    let rest = past_word(rest, b"from")?;
-    let (table, rest) = name(alloc, rest)?;
-    let (ending, rest) = ending(alloc, depth, rest)?;
-    Ok((deleted(table, ending), rest))
+    let Some(rest) = word(tokens, b"delete") else {
+        return Err(Fault::Syntax);
+    };
+    let Some(rest) = word(rest, b"from") else {
+        return Err(Fault::Syntax);
+    };
+    match name(alloc, rest) {
+        Ok((table, rest)) => match ending(alloc, depth, rest) {
+            Ok((ending, rest)) => Ok((deleted(table, ending), rest)),
+            Err(fault) => {
+                drop(table);
+                Err(fault)
+            }
+        },
+        Err(fault) => Err(fault),
+    }
 }
 
 fn deleted(table: Name, ending: Ending) -> Draft
@@ -79,20 +120,28 @@ fn deleted(table: Name, ending: Ending) -> Draft
 fn ending(alloc: Global, depth: usize, tokens: &[Token]) -> Result<(Ending, &[Token]), Fault>
     ensures { Gives result ((g.ending (g.expr depth)).read tokens.now) }
 {
-    let (condition, rest) = condition(alloc, depth, tokens)?;
-    let (returning, rest) = returning(alloc, rest)?;
-    Ok(((condition, returning), rest))
+    match condition(alloc, depth, tokens) {
+        Ok((condition, rest)) => match returning(alloc, rest) {
+            Ok((returning, rest)) => Ok(((condition, returning), rest)),
+            Err(fault) => {
+                drop(condition);
+                Err(fault)
+            }
+        },
+        Err(fault) => Err(fault),
+    }
 }
 
 #[tactic(auto, unfolding(crate::specs::Grammar::returning))]
 pub fn returning(alloc: Global, tokens: &[Token]) -> Result<(Option<Selected>, &[Token]), Fault>
     ensures { Gives result (g.returning.parses.read tokens.now) }
 {
-    if let Some(rest) = word(tokens, b"returning") {
-        let (selected, rest) = returned(alloc, rest)?;
-        Ok((Some(selected), rest))
-    } else {
-        Ok((None, tokens))
+    match word(tokens, b"returning") {
+        Some(rest) => match returned(alloc, rest) {
+            Ok((selected, rest)) => Ok((Some(selected), rest)),
+            Err(fault) => Err(fault),
+        },
+        None => Ok((None, tokens)),
     }
 }
 
@@ -100,11 +149,12 @@ pub fn returning(alloc: Global, tokens: &[Token]) -> Result<(Option<Selected>, &
 fn returned(alloc: Global, tokens: &[Token]) -> Result<(Selected, &[Token]), Fault>
     ensures { Gives result (g.returned.parses.read tokens.now) }
 {
-    if let Some(rest) = symbol(tokens, Symbol::Star) {
-        Ok((Selected::All, rest))
-    } else {
-        let (all, rest) = columns(alloc, tokens)?;
-        Ok((Selected::Items(all), rest))
+    match symbol(tokens, Symbol::Star) {
+        Some(rest) => Ok((Selected::All, rest)),
+        None => match columns(alloc, tokens) {
+            Ok((all, rest)) => Ok((Selected::Items(all), rest)),
+            Err(fault) => Err(fault),
+        },
     }
 }
 
@@ -117,11 +167,19 @@ fn set_columns(
 ) -> Result<(SetColumns, &[Token]), Fault>
     ensures { Gives result ((g.set_columns (g.expr depth)).read tokens.now) }
 {
-    let (columns, rest) = all_set_columns(alloc, depth, tokens)?;
-    if are_distinct_settings(alloc, columns.0.as_slice())? {
-        Ok((columns, rest))
-    } else {
-        Err(Fault::Syntax)
+    match all_set_columns(alloc, depth, tokens) {
+        Ok((columns, rest)) => match are_distinct_settings(alloc, columns.0.as_slice()) {
+            Ok(true) => Ok((columns, rest)),
+            Ok(false) => {
+                drop(columns);
+                Err(Fault::Syntax)
+            }
+            Err(_) => {
+                drop(columns);
+                Err(Fault::NoMemory)
+            }
+        },
+        Err(fault) => Err(fault),
     }
 }
 
@@ -147,10 +205,13 @@ fn all_set_columns(
 ) -> Result<(SetColumns, &[Token]), Fault>
     ensures { Gives result ((g.all_set_columns (g.expr depth)).read tokens.now) }
 {
-    let ((first, height), rest) = set_column(alloc, depth, tokens)?;
-    let mut all = Items::new(alloc);
-    all.push(first)?;
-    more_set_columns(alloc, depth, (all, height), rest)
+    match set_column(alloc, depth, tokens) {
+        Ok(((first, height), rest)) => match only(alloc, first) {
+            Ok(all) => more_set_columns(alloc, depth, (all, height), rest),
+            Err(_) => Err(Fault::NoMemory),
+        },
+        Err(fault) => Err(fault),
+    }
 }
 
 #[tactic(auto, using(crate::proofs::Loops::fold_begins, crate::proofs::Loops::fold_stops, crate::proofs::Loops::fold_ends, crate::proofs::Loops::fold_fails, crate::proofs::Loops::fold_goes_on))]
@@ -168,9 +229,19 @@ fn more_set_columns(
         if !sees_symbol(rest, Symbol::Comma) {
             return Ok((all, rest));
         }
-        let (next, behind) = next_set_column(alloc, depth, rest)?;
-        all = with_set_column(all, next)?;
-        rest = behind;
+        match next_set_column(alloc, depth, rest) {
+            Ok((next, behind)) => match with_set_column(all, next) {
+                Ok(more) => {
+                    all = more;
+                    rest = behind;
+                }
+                Err(_) => return Err(Fault::NoMemory),
+            },
+            Err(fault) => {
+                drop(all);
+                return Err(fault);
+            }
+        }
     }
     Ok((all, rest))
 }
@@ -183,16 +254,34 @@ fn next_set_column(
 ) -> Result<(SetColumn, &[Token]), Fault>
     ensures { Gives result ((cut.with_comma (g.set_column (g.expr depth))).read tokens.now) }
 {
-    let rest = past_symbol(tokens, Symbol::Comma)?;
-    set_column(alloc, depth, rest)
+    match symbol(tokens, Symbol::Comma) {
+        Some(rest) => set_column(alloc, depth, rest),
+        None => Err(Fault::Syntax),
+    }
 }
 
 #[tactic(auto, unfolding(crate::specs::Grammar::set_column))]
 fn set_column(alloc: Global, depth: usize, tokens: &[Token]) -> Result<(SetColumn, &[Token]), Fault>
     ensures { Gives result ((g.set_column (g.expr depth)).read tokens.now) }
 {
-    let (column, rest) = name(alloc, tokens)?;
-    let rest = past_symbol(rest, Symbol::Equal)?;
-    let ((value, depth), rest) = expr(alloc, depth, rest)?;
-    Ok(((Setting { column, value }, depth), rest))
+    match name(alloc, tokens) {
+        Ok((column, rest)) => match set_value(alloc, depth, rest) {
+            Ok(((value, depth), rest)) => Ok(((Setting { column, value }, depth), rest)),
+            Err(fault) => {
+                drop(column);
+                Err(fault)
+            }
+        },
+        Err(fault) => Err(fault),
+    }
+}
+
+/// `=` and the expression behind it.
+fn set_value(alloc: Global, depth: usize, tokens: &[Token]) -> Result<(Tree, &[Token]), Fault>
+    ensures { Gives result (and_then (read_token (Token.Symbol Symbol.Equal) tokens.now) (λ _ rest. (g.expr depth).read rest)) }
+{
+    match symbol(tokens, Symbol::Equal) {
+        Some(rest) => expr(alloc, depth, rest),
+        None => Err(Fault::Syntax),
+    }
 }

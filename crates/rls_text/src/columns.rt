@@ -8,7 +8,7 @@ ghost use Rattle.rls_text.specs.Grammar as g;
 ghost use Rattle.rls_text.specs.Values as values;
 
 use crate::fault::Fault;
-use crate::reading::{name, past_word, sees_word, word};
+use crate::reading::{name, sees_word, two_words, word};
 use crate::token::Token;
 use rls_expr::Column;
 use rls_statement::MarkedColumn;
@@ -27,10 +27,26 @@ pub enum ColumnMark {
 pub fn column(alloc: Global, tokens: &[Token]) -> Result<(MarkedColumn, &[Token]), Fault>
     ensures { Gives result (g.column_definition.parses.read tokens.now) }
 {
-    let (name, rest) = name(alloc, tokens)?;
-    let (kind, rest) = column_type(rest)?;
-    let (marks, rest) = column_marks(alloc, rest)?;
-    Ok((marked(name, kind, marks.as_slice()), rest))
+    match name(alloc, tokens) {
+        Ok((name, rest)) => match column_type(rest) {
+            Ok((kind, rest)) => match column_marks(alloc, rest) {
+                Ok((marks, rest)) => {
+                    let column = marked(name, kind, marks.as_slice());
+                    drop(marks);
+                    Ok((column, rest))
+                }
+                Err(fault) => {
+                    drop(name);
+                    Err(fault)
+                }
+            },
+            Err(fault) => {
+                drop(name);
+                Err(fault)
+            }
+        },
+        Err(fault) => Err(fault),
+    }
 }
 
 fn marked(name: Name, kind: ColType, marks: &[ColumnMark]) -> MarkedColumn
@@ -72,11 +88,16 @@ fn column_type(tokens: &[Token]) -> Result<(ColType, &[Token]), Fault>
 fn column_marks(alloc: Global, tokens: &[Token]) -> Result<(Items<ColumnMark>, &[Token]), Fault>
     ensures { Gives result (g.column_marks.parses.read tokens.now) }
 {
-    let (marks, rest) = all_marks(alloc, tokens)?;
-    if marked_once(marks.as_slice()) {
-        Ok((marks, rest))
-    } else {
-        Err(Fault::Syntax)
+    match all_marks(alloc, tokens) {
+        Ok((marks, rest)) => {
+            if marked_once(marks.as_slice()) {
+                Ok((marks, rest))
+            } else {
+                drop(marks);
+                Err(Fault::Syntax)
+            }
+        }
+        Err(fault) => Err(fault),
     }
 }
 
@@ -90,9 +111,15 @@ fn all_marks(alloc: Global, tokens: &[Token]) -> Result<(Items<ColumnMark>, &[To
         if !starts_mark(rest) {
             return Ok((all, rest));
         }
-        let (next, behind) = column_mark(rest)?;
-        all.push(next)?;
-        rest = behind;
+        match column_mark(rest) {
+            Ok((next, behind)) => {
+                if all.push(next).is_err() {
+                    return Err(Fault::NoMemory);
+                }
+                rest = behind;
+            }
+            Err(fault) => return Err(fault),
+        }
     }
     Ok((all, rest))
 }
@@ -109,12 +136,15 @@ fn column_mark(tokens: &[Token]) -> Result<(ColumnMark, &[Token]), Fault>
     ensures { Gives result (g.column_mark.parses.read tokens.now) }
 {
     if let Some(rest) = word(tokens, b"not") {
-        let rest = past_word(rest, b"null")?;
-        Ok((ColumnMark::NotNull, rest))
+        match word(rest, b"null") {
+            Some(rest) => Ok((ColumnMark::NotNull, rest)),
+            None => Err(Fault::Syntax),
+        }
     } else {
-        let rest = past_word(tokens, b"primary")?;
-        let rest = past_word(rest, b"key")?;
-        Ok((ColumnMark::PrimaryKey, rest))
+        match two_words(tokens, b"primary", b"key") {
+            Some(rest) => Ok((ColumnMark::PrimaryKey, rest)),
+            None => Err(Fault::Syntax),
+        }
     }
 }
 

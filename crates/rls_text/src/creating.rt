@@ -1,12 +1,14 @@
 //! CREATE and ALTER from tokens.
 
 ghost use Rattle.rls_text.specs.Gives.{Gives};
+ghost use Rattle.rls_text.specs.Parses.{read_mapped};
+ghost use Rattle.rls_text.specs.Trees.{flat};
 ghost use Rattle.rls_text.specs.Grammar as g;
 
 use crate::attributes::{attributes_of_role, written_attributes};
 use crate::fault::Fault;
 use crate::policies::{altered_policy, policy};
-use crate::reading::{name, past_word, word};
+use crate::reading::{name, word};
 use crate::tables::{altered_table, table};
 use crate::token::Token;
 use crate::tree::Draft;
@@ -18,29 +20,39 @@ use std::alloc::Global;
 pub fn create(alloc: Global, depth: usize, tokens: &[Token]) -> Result<(Draft, &[Token]), Fault>
     ensures { Gives result ((g.create (g.expr depth)).read tokens.now) }
 {
-    let rest = past_word(tokens, b"create")?;
+    let Some(rest) = word(tokens, b"create") else {
+        return Err(Fault::Syntax);
+    };
     if let Some(rest) = word(rest, b"role") {
-        let (role, rest) = role(alloc, false, rest)?;
-        Ok(((role, 0), rest))
+        role(alloc, false, rest)
     } else if let Some(rest) = word(rest, b"user") {
-        let (role, rest) = role(alloc, true, rest)?;
-        Ok(((role, 0), rest))
+        role(alloc, true, rest)
     } else if let Some(rest) = word(rest, b"table") {
-        let (table, rest) = table(alloc, rest)?;
-        Ok(((table, 0), rest))
-    } else {
-        let rest = past_word(rest, b"policy")?;
+        table(alloc, rest)
+    } else if let Some(rest) = word(rest, b"policy") {
         policy(alloc, depth, rest)
+    } else {
+        Err(Fault::Syntax)
     }
 }
 
 #[tactic(auto, unfolding(crate::specs::Grammar::role))]
-fn role(alloc: Global, is_user: bool, tokens: &[Token]) -> Result<(Statement, &[Token]), Fault>
-    ensures { Gives result ((g.role is_user).parses.read tokens.now) }
+fn role(alloc: Global, is_user: bool, tokens: &[Token]) -> Result<(Draft, &[Token]), Fault>
+    ensures { Gives result (read_mapped flat (g.role is_user).parses.read tokens.now) }
 {
-    let (name, rest) = name(alloc, tokens)?;
-    let (attributes, rest) = attributes_of_role(alloc, is_user, rest)?;
-    Ok((Statement::CreateRole(CreateRole { name, attributes }), rest))
+    match name(alloc, tokens) {
+        Ok((name, rest)) => match attributes_of_role(alloc, is_user, rest) {
+            Ok((attributes, rest)) => {
+                let create = CreateRole { name, attributes };
+                Ok(((Statement::CreateRole(create), 0), rest))
+            }
+            Err(fault) => {
+                drop(name);
+                Err(fault)
+            }
+        },
+        Err(fault) => Err(fault),
+    }
 }
 
 /// ALTER, whole.
@@ -48,24 +60,35 @@ fn role(alloc: Global, is_user: bool, tokens: &[Token]) -> Result<(Statement, &[
 pub fn alter(alloc: Global, depth: usize, tokens: &[Token]) -> Result<(Draft, &[Token]), Fault>
     ensures { Gives result ((g.alter (g.expr depth)).read tokens.now) }
 {
-    let rest = past_word(tokens, b"alter")?;
+    let Some(rest) = word(tokens, b"alter") else {
+        return Err(Fault::Syntax);
+    };
     if let Some(rest) = word(rest, b"role") {
-        let (role, rest) = altered_role(alloc, rest)?;
-        Ok(((role, 0), rest))
+        altered_role(alloc, rest)
     } else if let Some(rest) = word(rest, b"table") {
-        let (table, rest) = altered_table(alloc, rest)?;
-        Ok(((table, 0), rest))
-    } else {
-        let rest = past_word(rest, b"policy")?;
+        altered_table(alloc, rest)
+    } else if let Some(rest) = word(rest, b"policy") {
         altered_policy(alloc, depth, rest)
+    } else {
+        Err(Fault::Syntax)
     }
 }
 
 #[tactic(auto, unfolding(crate::specs::Grammar::altered_role))]
-fn altered_role(alloc: Global, tokens: &[Token]) -> Result<(Statement, &[Token]), Fault>
-    ensures { Gives result (g.altered_role.parses.read tokens.now) }
+fn altered_role(alloc: Global, tokens: &[Token]) -> Result<(Draft, &[Token]), Fault>
+    ensures { Gives result (read_mapped flat g.altered_role.parses.read tokens.now) }
 {
-    let (name, rest) = name(alloc, tokens)?;
-    let (attributes, rest) = written_attributes(alloc, rest)?;
-    Ok((Statement::AlterRole(AlterRole { name, attributes }), rest))
+    match name(alloc, tokens) {
+        Ok((name, rest)) => match written_attributes(alloc, rest) {
+            Ok((attributes, rest)) => {
+                let alter = AlterRole { name, attributes };
+                Ok(((Statement::AlterRole(alter), 0), rest))
+            }
+            Err(fault) => {
+                drop(name);
+                Err(fault)
+            }
+        },
+        Err(fault) => Err(fault),
+    }
 }

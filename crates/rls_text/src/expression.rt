@@ -6,14 +6,13 @@ ghost use Rattle.rls_text.specs.Gives.{Gives, folded};
 ghost use Rattle.rls_text.specs.Cut as cut;
 ghost use Rattle.rls_text.specs.Heads.{sees, Keyword};
 ghost use Rattle.rls_text.specs.Heads as heads;
-ghost use Rattle.rls_text.specs.Parses.{read_many};
+ghost use Rattle.rls_text.specs.Parses.{read_both, read_many, read_mapped};
+ghost use Rattle.rls_expr.specs.Terms as term;
 ghost use Rattle.rls_text.specs.Grammar as g;
 ghost use Rattle.rls_text.specs.Trees as spec;
 
 use crate::fault::Fault;
-use crate::reading::{
-    name, past_symbol, past_word, sees_symbol, sees_word, starts_name, symbol, word,
-};
+use crate::reading::{closed, name, only, sees_symbol, sees_word, starts_name, symbol, word};
 use crate::token::{Symbol, Token};
 use crate::tree::{
     Operands, Summed, Tree, Tuple, among_of, and_of, compare_of, leaf, not_of, null_test_of, or_of,
@@ -41,9 +40,15 @@ pub fn expr(alloc: Global, depth: usize, tokens: &[Token]) -> Result<(Tree, &[To
 fn or(alloc: Global, depth: usize, tokens: &[Token]) -> Result<(Tree, &[Token]), Fault>
     ensures { Gives result ((g.or (g.expr depth)).read tokens.now) }
 {
-    let ((first, height), rest) = and(alloc, depth, tokens)?;
-    let (operands, rest) = or_more(alloc, depth, Operands::One(first, height), rest)?;
-    Ok((or_of(operands), rest))
+    match and(alloc, depth, tokens) {
+        Ok(((first, height), rest)) => {
+            match or_more(alloc, depth, Operands::One(first, height), rest) {
+                Ok((operands, rest)) => Ok((or_of(operands), rest)),
+                Err(fault) => Err(fault),
+            }
+        }
+        Err(fault) => Err(fault),
+    }
 }
 
 #[cycle(expression)]
@@ -62,9 +67,19 @@ fn or_more(
         if !sees_word(rest, b"or") {
             return Ok((operands, rest));
         }
-        let (next, behind) = or_next(alloc, depth, rest)?;
-        operands = with_operand(alloc, operands, next)?;
-        rest = behind;
+        match or_next(alloc, depth, rest) {
+            Ok((next, behind)) => match with_operand(alloc, operands, next) {
+                Ok(more) => {
+                    operands = more;
+                    rest = behind;
+                }
+                Err(_) => return Err(Fault::NoMemory),
+            },
+            Err(fault) => {
+                drop(operands);
+                return Err(fault);
+            }
+        }
     }
     Ok((operands, rest))
 }
@@ -85,9 +100,15 @@ fn or_next(alloc: Global, depth: usize, tokens: &[Token]) -> Result<(Tree, &[Tok
 fn and(alloc: Global, depth: usize, tokens: &[Token]) -> Result<(Tree, &[Token]), Fault>
     ensures { Gives result ((g.and (g.expr depth)).read tokens.now) }
 {
-    let ((first, height), rest) = not(alloc, depth, tokens)?;
-    let (operands, rest) = and_more(alloc, depth, Operands::One(first, height), rest)?;
-    Ok((and_of(operands), rest))
+    match not(alloc, depth, tokens) {
+        Ok(((first, height), rest)) => {
+            match and_more(alloc, depth, Operands::One(first, height), rest) {
+                Ok((operands, rest)) => Ok((and_of(operands), rest)),
+                Err(fault) => Err(fault),
+            }
+        }
+        Err(fault) => Err(fault),
+    }
 }
 
 #[cycle(expression)]
@@ -106,9 +127,19 @@ fn and_more(
         if !sees_word(rest, b"and") {
             return Ok((operands, rest));
         }
-        let (next, behind) = and_next(alloc, depth, rest)?;
-        operands = with_operand(alloc, operands, next)?;
-        rest = behind;
+        match and_next(alloc, depth, rest) {
+            Ok((next, behind)) => match with_operand(alloc, operands, next) {
+                Ok(more) => {
+                    operands = more;
+                    rest = behind;
+                }
+                Err(_) => return Err(Fault::NoMemory),
+            },
+            Err(fault) => {
+                drop(operands);
+                return Err(fault);
+            }
+        }
     }
     Ok((operands, rest))
 }
@@ -130,8 +161,13 @@ fn not(alloc: Global, depth: usize, tokens: &[Token]) -> Result<(Tree, &[Token])
     ensures { Gives result ((g.not_ (g.expr depth)).read tokens.now) }
 {
     let (count, rest) = nots(tokens);
-    let (operand, rest) = is(alloc, depth, rest)?;
-    Ok((negated(alloc, count, operand)?, rest))
+    match is(alloc, depth, rest) {
+        Ok((operand, rest)) => match negated(alloc, count, operand) {
+            Ok(operand) => Ok((operand, rest)),
+            Err(_) => Err(Fault::NoMemory),
+        },
+        Err(fault) => Err(fault),
+    }
 }
 
 #[cycle(expression)]
@@ -139,8 +175,10 @@ fn not(alloc: Global, depth: usize, tokens: &[Token]) -> Result<(Tree, &[Token])
 fn is(alloc: Global, depth: usize, tokens: &[Token]) -> Result<(Tree, &[Token]), Fault>
     ensures { Gives result ((g.is (g.expr depth)).read tokens.now) }
 {
-    let (tested, rest) = cmp(alloc, depth, tokens)?;
-    null_tests(alloc, tested, rest)
+    match cmp(alloc, depth, tokens) {
+        Ok((tested, rest)) => null_tests(alloc, tested, rest),
+        Err(fault) => Err(fault),
+    }
 }
 
 #[cycle(expression)]
@@ -148,13 +186,41 @@ fn is(alloc: Global, depth: usize, tokens: &[Token]) -> Result<(Tree, &[Token]),
 fn cmp(alloc: Global, depth: usize, tokens: &[Token]) -> Result<(Tree, &[Token]), Fault>
     ensures { Gives result ((g.cmp (g.expr depth)).read tokens.now) }
 {
-    let (left, rest) = memb(alloc, depth, tokens)?;
-    if !starts_comparison(rest) {
-        return Ok((left, rest));
+    match memb(alloc, depth, tokens) {
+        Ok((left, rest)) => {
+            if starts_comparison(rest) {
+                match right_side(alloc, depth, rest) {
+                    Ok(((how, right), rest)) => match compare_of(alloc, how, left, right) {
+                        Ok(tree) => Ok((tree, rest)),
+                        Err(_) => Err(Fault::NoMemory),
+                    },
+                    Err(fault) => {
+                        drop(left);
+                        Err(fault)
+                    }
+                }
+            } else {
+                Ok((left, rest))
+            }
+        }
+        Err(fault) => Err(fault),
     }
-    let (how, rest) = comparison(rest)?;
-    let (right, rest) = memb(alloc, depth, rest)?;
-    Ok((compare_of(alloc, how, left, right)?, rest))
+}
+
+/// The sign of a comparison, and its right side.
+#[cycle(expression)]
+fn right_side(
+    alloc: Global,
+    depth: usize,
+    tokens: &[Token],
+) -> Result<((Comparison, Tree), &[Token]), Fault>
+    ensures { Gives result (read_both g.comparison.parses.read (g.memb (g.expr depth)).read tokens.now) }
+{
+    let (how, rest) = comparison(tokens)?;
+    match memb(alloc, depth, rest) {
+        Ok((right, rest)) => Ok(((how, right), rest)),
+        Err(fault) => Err(fault),
+    }
 }
 
 #[cycle(expression)]
@@ -162,12 +228,25 @@ fn cmp(alloc: Global, depth: usize, tokens: &[Token]) -> Result<(Tree, &[Token])
 fn memb(alloc: Global, depth: usize, tokens: &[Token]) -> Result<(Tree, &[Token]), Fault>
     ensures { Gives result ((g.memb (g.expr depth)).read tokens.now) }
 {
-    let (left, rest) = sum(alloc, depth, tokens)?;
-    if !starts_in(rest) {
-        return Ok((left, rest));
+    match sum(alloc, depth, tokens) {
+        Ok((left, rest)) => {
+            if starts_in(rest) {
+                match in_list(alloc, depth, rest) {
+                    Ok(((negated, list), rest)) => match among_of(alloc, left, negated, list) {
+                        Ok(tree) => Ok((tree, rest)),
+                        Err(_) => Err(Fault::NoMemory),
+                    },
+                    Err(fault) => {
+                        drop(left);
+                        Err(fault)
+                    }
+                }
+            } else {
+                Ok((left, rest))
+            }
+        }
+        Err(fault) => Err(fault),
     }
-    let ((negated, list), rest) = in_list(alloc, depth, rest)?;
-    Ok((among_of(alloc, left, negated, list)?, rest))
 }
 
 #[cycle(expression)]
@@ -180,8 +259,10 @@ fn in_list(
     ensures { Gives result ((g.in_list (g.expr depth)).read tokens.now) }
 {
     let (negated, rest) = in_word(tokens)?;
-    let (list, rest) = tuple(alloc, depth, rest)?;
-    Ok(((negated, list), rest))
+    match tuple(alloc, depth, rest) {
+        Ok((list, rest)) => Ok(((negated, list), rest)),
+        Err(fault) => Err(fault),
+    }
 }
 
 #[cycle(expression)]
@@ -189,10 +270,13 @@ fn in_list(
 pub fn tuple(alloc: Global, depth: usize, tokens: &[Token]) -> Result<(Tuple, &[Token]), Fault>
     ensures { Gives result ((g.tuple (g.expr depth)).read tokens.now) }
 {
-    let rest = past_symbol(tokens, Symbol::LParen)?;
-    let (parts, rest) = parts(alloc, depth, rest)?;
-    let rest = past_symbol(rest, Symbol::RParen)?;
-    Ok((parts, rest))
+    let Some(rest) = symbol(tokens, Symbol::LParen) else {
+        return Err(Fault::Syntax);
+    };
+    match parts(alloc, depth, rest) {
+        Ok((parts, rest)) => closed(parts, rest),
+        Err(fault) => Err(fault),
+    }
 }
 
 #[cycle(expression)]
@@ -200,10 +284,13 @@ pub fn tuple(alloc: Global, depth: usize, tokens: &[Token]) -> Result<(Tuple, &[
 fn parts(alloc: Global, depth: usize, tokens: &[Token]) -> Result<(Tuple, &[Token]), Fault>
     ensures { Gives result ((g.parts (g.expr depth)).read tokens.now) }
 {
-    let ((first, height), rest) = expr(alloc, depth, tokens)?;
-    let mut all = Items::new(alloc);
-    all.push(first)?;
-    more_parts(alloc, depth, (all, height), rest)
+    match expr(alloc, depth, tokens) {
+        Ok(((first, height), rest)) => match only(alloc, first) {
+            Ok(all) => more_parts(alloc, depth, (all, height), rest),
+            Err(_) => Err(Fault::NoMemory),
+        },
+        Err(fault) => Err(fault),
+    }
 }
 
 #[cycle(expression)]
@@ -222,9 +309,19 @@ fn more_parts(
         if !sees_symbol(rest, Symbol::Comma) {
             return Ok((all, rest));
         }
-        let (next, behind) = next_part(alloc, depth, rest)?;
-        all = with_part(all, next)?;
-        rest = behind;
+        match next_part(alloc, depth, rest) {
+            Ok((next, behind)) => match with_part(all, next) {
+                Ok(more) => {
+                    all = more;
+                    rest = behind;
+                }
+                Err(_) => return Err(Fault::NoMemory),
+            },
+            Err(fault) => {
+                drop(all);
+                return Err(fault);
+            }
+        }
     }
     Ok((all, rest))
 }
@@ -234,8 +331,10 @@ fn more_parts(
 fn next_part(alloc: Global, depth: usize, tokens: &[Token]) -> Result<(Tree, &[Token]), Fault>
     ensures { Gives result ((cut.with_comma (g.expr depth)).read tokens.now) }
 {
-    let rest = past_symbol(tokens, Symbol::Comma)?;
-    expr(alloc, depth, rest)
+    match symbol(tokens, Symbol::Comma) {
+        Some(rest) => expr(alloc, depth, rest),
+        None => Err(Fault::Syntax),
+    }
 }
 
 #[cycle(expression)]
@@ -243,10 +342,16 @@ fn next_part(alloc: Global, depth: usize, tokens: &[Token]) -> Result<(Tree, &[T
 fn sum(alloc: Global, depth: usize, tokens: &[Token]) -> Result<(Tree, &[Token]), Fault>
     ensures { Gives result ((g.sum (g.expr depth)).read tokens.now) }
 {
-    let ((first, height), rest) = prim(alloc, depth, tokens)?;
-    let first = (Operands::One(first, height), Items::new(alloc));
-    let (sum, rest) = sum_more(alloc, depth, first, rest)?;
-    Ok((sum_of(sum), rest))
+    match prim(alloc, depth, tokens) {
+        Ok(((first, height), rest)) => {
+            let first = (Operands::One(first, height), Items::new(alloc));
+            match sum_more(alloc, depth, first, rest) {
+                Ok((sum, rest)) => Ok((sum_of(sum), rest)),
+                Err(fault) => Err(fault),
+            }
+        }
+        Err(fault) => Err(fault),
+    }
 }
 
 #[cycle(expression)]
@@ -265,9 +370,19 @@ fn sum_more(
         if !starts_sign(rest) {
             return Ok((sum, rest));
         }
-        let (next, behind) = sum_next(alloc, depth, rest)?;
-        sum = with_summand(alloc, sum, next)?;
-        rest = behind;
+        match sum_next(alloc, depth, rest) {
+            Ok((next, behind)) => match with_summand(alloc, sum, next) {
+                Ok(more) => {
+                    sum = more;
+                    rest = behind;
+                }
+                Err(_) => return Err(Fault::NoMemory),
+            },
+            Err(fault) => {
+                drop(sum);
+                return Err(fault);
+            }
+        }
     }
     Ok((sum, rest))
 }
@@ -282,28 +397,61 @@ fn sum_next(
     ensures { Gives result ((g.sum_next (g.expr depth)).read tokens.now) }
 {
     let (sign, rest) = part_sign(tokens)?;
-    let (part, rest) = prim(alloc, depth, rest)?;
-    Ok(((sign, part), rest))
+    match prim(alloc, depth, rest) {
+        Ok((part, rest)) => Ok(((sign, part), rest)),
+        Err(fault) => Err(fault),
+    }
 }
 
 #[cycle(expression)]
-#[tactic(auto, unfolding(crate::specs::Grammar::prim))]
+#[tactic(auto, unfolding(crate::specs::Grammar::prim, crate::specs::Grammar::parenthesized))]
 fn prim(alloc: Global, depth: usize, tokens: &[Token]) -> Result<(Tree, &[Token]), Fault>
     ensures { Gives result ((g.prim (g.expr depth)).read tokens.now) }
 {
     if starts_literal(tokens) {
-        let (literal, rest) = literal(tokens)?;
-        Ok((leaf(Node::Literal(literal)), rest))
+        literal_leaf(tokens)
     } else if starts_name(tokens) {
-        let (name, rest) = name(alloc, tokens)?;
-        Ok((leaf(Node::Column(name)), rest))
+        column_leaf(alloc, tokens)
     } else if let Some(rest) = word(tokens, b"current_user") {
         Ok((leaf(Node::CurrentUser), rest))
     } else {
-        let rest = past_symbol(tokens, Symbol::LParen)?;
-        let (inner, rest) = expr(alloc, depth, rest)?;
-        let rest = past_symbol(rest, Symbol::RParen)?;
-        Ok((inner, rest))
+        parenthesized(alloc, depth, tokens)
+    }
+}
+
+#[cycle(expression)]
+#[tactic(auto, unfolding(crate::specs::Grammar::parenthesized))]
+pub fn parenthesized(
+    alloc: Global,
+    depth: usize,
+    tokens: &[Token],
+) -> Result<(Tree, &[Token]), Fault>
+    ensures { Gives result ((g.parenthesized (g.expr depth)).read tokens.now) }
+{
+    let Some(rest) = symbol(tokens, Symbol::LParen) else {
+        return Err(Fault::Syntax);
+    };
+    match expr(alloc, depth, rest) {
+        Ok((inner, rest)) => closed(inner, rest),
+        Err(fault) => Err(fault),
+    }
+}
+
+fn literal_leaf(tokens: &[Token]) -> Result<(Tree, &[Token]), Fault>
+    ensures { Gives result (read_mapped (λ value. spec.leaf (term.Literal value)) g.literal.parses.read tokens.now) }
+{
+    match literal(tokens) {
+        Ok((literal, rest)) => Ok((leaf(Node::Literal(literal)), rest)),
+        Err(fault) => Err(fault),
+    }
+}
+
+fn column_leaf(alloc: Global, tokens: &[Token]) -> Result<(Tree, &[Token]), Fault>
+    ensures { Gives result (read_mapped (λ name. spec.leaf (term.Column name)) g.name.parses.read tokens.now) }
+{
+    match name(alloc, tokens) {
+        Ok((name, rest)) => Ok((leaf(Node::Column(name)), rest)),
+        Err(fault) => Err(fault),
     }
 }
 
@@ -345,9 +493,19 @@ fn null_tests(alloc: Global, tested: Tree, tokens: &[Token]) -> Result<(Tree, &[
         if !sees_word(rest, b"is") {
             return Ok((tested, rest));
         }
-        let (negated, behind) = null_test(rest)?;
-        tested = null_test_of(alloc, tested, negated)?;
-        rest = behind;
+        match null_test(rest) {
+            Ok((negated, behind)) => match null_test_of(alloc, tested, negated) {
+                Ok(tree) => {
+                    tested = tree;
+                    rest = behind;
+                }
+                Err(_) => return Err(Fault::NoMemory),
+            },
+            Err(fault) => {
+                drop(tested);
+                return Err(fault);
+            }
+        }
     }
     Ok((tested, rest))
 }
@@ -356,11 +514,16 @@ fn null_tests(alloc: Global, tested: Tree, tokens: &[Token]) -> Result<(Tree, &[
 fn null_test(tokens: &[Token]) -> Result<(Option<()>, &[Token]), Fault>
     ensures { Gives result (g.null_test.parses.read tokens.now) }
 {
-    let rest = past_word(tokens, b"is")?;
-    if let Some(rest) = word(rest, b"not") {
-        Ok((Some(()), past_word(rest, b"null")?))
-    } else {
-        Ok((None, past_word(rest, b"null")?))
+    let Some(rest) = word(tokens, b"is") else {
+        return Err(Fault::Syntax);
+    };
+    let (negated, rest) = match word(rest, b"not") {
+        Some(rest) => (Some(()), rest),
+        None => (None, rest),
+    };
+    match word(rest, b"null") {
+        Some(rest) => Ok((negated, rest)),
+        None => Err(Fault::Syntax),
     }
 }
 
@@ -379,10 +542,13 @@ fn starts_in(tokens: &[Token]) -> bool
 fn in_word(tokens: &[Token]) -> Result<(Option<()>, &[Token]), Fault>
     ensures { Gives result (g.in_word.parses.read tokens.now) }
 {
-    if let Some(rest) = word(tokens, b"not") {
-        Ok((Some(()), past_word(rest, b"in")?))
-    } else {
-        Ok((None, past_word(tokens, b"in")?))
+    let (negated, rest) = match word(tokens, b"not") {
+        Some(rest) => (Some(()), rest),
+        None => (None, tokens),
+    };
+    match word(rest, b"in") {
+        Some(rest) => Ok((negated, rest)),
+        None => Err(Fault::Syntax),
     }
 }
 
@@ -455,24 +621,11 @@ fn starts_literal(tokens: &[Token]) -> bool
     }
 }
 
+#[tactic(auto, using(crate::proofs::Loops::sees_more, crate::proofs::Loops::sees_first))]
 fn starts_constant(tokens: &[Token]) -> bool
     ensures { result ≡ sees constant_heads tokens.now }
 {
-    match tokens {
-        [Token::Word(letters), ..] => {
-            let letters = letters.as_str().as_bytes();
-            if letters == b"true".as_slice() {
-                true
-            } else if letters == b"false".as_slice() {
-                true
-            } else if letters == b"null".as_slice() {
-                true
-            } else {
-                false
-            }
-        }
-        _ => false,
-    }
+    sees_word(tokens, b"true") || sees_word(tokens, b"false") || sees_word(tokens, b"null")
 }
 
 #[tactic(auto, unfolding(crate::specs::Grammar::literal))]
@@ -508,7 +661,10 @@ fn text(tokens: &[Token]) -> Result<(Value, &[Token]), Fault>
     ensures { Gives result (g.text.parses.read tokens.now) }
 {
     match tokens {
-        [Token::Text(content), rest @ ..] => Ok((Value::Text(content.copy()?), rest)),
+        [Token::Text(content), rest @ ..] => match content.copy() {
+            Ok(content) => Ok((Value::Text(content), rest)),
+            Err(_) => Err(Fault::NoMemory),
+        },
         _ => Err(Fault::Syntax),
     }
 }
@@ -517,20 +673,27 @@ fn text(tokens: &[Token]) -> Result<(Value, &[Token]), Fault>
 fn number(tokens: &[Token]) -> Result<(Value, &[Token]), Fault>
     ensures { Gives result (g.number.parses.read tokens.now) }
 {
-    if let Some(rest) = symbol(tokens, Symbol::Minus) {
-        let (digits, rest) = digits(rest)?;
-        if digits <= 1 << 63 {
-            Ok((Value::Int((0 - i128::from(digits)) as i64), rest))
-        } else {
-            Err(Fault::Syntax)
-        }
-    } else {
-        let (digits, rest) = digits(tokens)?;
-        if digits < 1 << 63 {
-            Ok((Value::Int(digits as i64), rest))
-        } else {
-            Err(Fault::Syntax)
-        }
+    match symbol(tokens, Symbol::Minus) {
+        Some(rest) => match digits(rest) {
+            Ok((digits, rest)) => {
+                if digits <= 1 << 63 {
+                    Ok((Value::Int((0 - i128::from(digits)) as i64), rest))
+                } else {
+                    Err(Fault::Syntax)
+                }
+            }
+            Err(fault) => Err(fault),
+        },
+        None => match digits(tokens) {
+            Ok((digits, rest)) => {
+                if digits < 1 << 63 {
+                    Ok((Value::Int(digits as i64), rest))
+                } else {
+                    Err(Fault::Syntax)
+                }
+            }
+            Err(fault) => Err(fault),
+        },
     }
 }
 
@@ -549,6 +712,8 @@ fn digits(tokens: &[Token]) -> Result<(u64, &[Token]), Fault>
 pub fn column(alloc: Global, tokens: &[Token]) -> Result<(Expr, &[Token]), Fault>
     ensures { Gives result (g.column.parses.read tokens.now) }
 {
-    let (name, rest) = name(alloc, tokens)?;
-    Ok((Expr::new(Node::Column(name)), rest))
+    match name(alloc, tokens) {
+        Ok((name, rest)) => Ok((Expr::new(Node::Column(name)), rest)),
+        Err(fault) => Err(fault),
+    }
 }

@@ -11,7 +11,7 @@ ghost use Rattle.rls_text.specs.Values as values;
 
 use crate::fault::Fault;
 use crate::memberships::granted_roles;
-use crate::reading::{name, past_symbol, past_word, sees_symbol, sees_word, word};
+use crate::reading::{name, only, sees_symbol, sees_word, symbol, two_words, word};
 use crate::token::{Symbol, Token};
 use rls_expr::Grantee;
 use rls_statement::{GrantPrivileges, Privileges, Statement};
@@ -22,7 +22,9 @@ use std::alloc::Global;
 pub fn grant(alloc: Global, tokens: &[Token]) -> Result<(Statement, &[Token]), Fault>
     ensures { Gives result (g.grant.parses.read tokens.now) }
 {
-    let rest = past_word(tokens, b"grant")?;
+    let Some(rest) = word(tokens, b"grant") else {
+        return Err(Fault::Syntax);
+    };
     if on_comes_first(rest) {
         granted_privileges(alloc, rest)
     } else {
@@ -58,15 +60,24 @@ fn follows_roles(tokens: &[Token]) -> bool
 fn granted_privileges(alloc: Global, tokens: &[Token]) -> Result<(Statement, &[Token]), Fault>
     ensures { Gives result (g.granted_privileges.parses.read tokens.now) }
 {
-    let ((privileges, table), rest) = privileges_on(alloc, tokens)?;
-    let ((to, with_option), rest) = granted_to(alloc, rest)?;
-    let grant = GrantPrivileges {
-        privileges,
-        table,
-        to,
-        with_option,
-    };
-    Ok((Statement::Grant(grant), rest))
+    match privileges_on(alloc, tokens) {
+        Ok(((privileges, table), rest)) => match granted_to(alloc, rest) {
+            Ok(((to, with_option), rest)) => {
+                let grant = GrantPrivileges {
+                    privileges,
+                    table,
+                    to,
+                    with_option,
+                };
+                Ok((Statement::Grant(grant), rest))
+            }
+            Err(fault) => {
+                drop(table);
+                Err(fault)
+            }
+        },
+        Err(fault) => Err(fault),
+    }
 }
 
 /// Privileges, and the table that they are on.
@@ -78,9 +89,13 @@ pub fn privileges_on(
     ensures { Gives result (g.privileges_on.parses.read tokens.now) }
 {
     let (privileges, rest) = privileges(tokens)?;
-    let rest = past_word(rest, b"on")?;
-    let (table, rest) = table_name(alloc, rest)?;
-    Ok(((privileges, table), rest))
+    let Some(rest) = word(rest, b"on") else {
+        return Err(Fault::Syntax);
+    };
+    match table_name(alloc, rest) {
+        Ok((table, rest)) => Ok(((privileges, table), rest)),
+        Err(fault) => Err(fault),
+    }
 }
 
 /// The grantees, and whether WITH GRANT OPTION is written.
@@ -88,21 +103,28 @@ pub fn privileges_on(
 fn granted_to(alloc: Global, tokens: &[Token]) -> Result<((Items<Grantee>, bool), &[Token]), Fault>
     ensures { Gives result (g.granted_to.parses.read tokens.now) }
 {
-    let (to, rest) = to_grantees(alloc, tokens)?;
-    let (with_option, rest) = with_option(rest)?;
-    Ok(((to, with_option), rest))
+    match to_grantees(alloc, tokens) {
+        Ok((to, rest)) => match with_option(rest) {
+            Ok((with_option, rest)) => Ok(((to, with_option), rest)),
+            Err(fault) => {
+                drop(to);
+                Err(fault)
+            }
+        },
+        Err(fault) => Err(fault),
+    }
 }
 
 #[tactic(auto, unfolding(crate::specs::Grammar::with_option))]
 fn with_option(tokens: &[Token]) -> Result<(bool, &[Token]), Fault>
     ensures { Gives result (g.with_option.parses.read tokens.now) }
 {
-    if let Some(rest) = word(tokens, b"with") {
-        let rest = past_word(rest, b"grant")?;
-        let rest = past_word(rest, b"option")?;
-        Ok((true, rest))
-    } else {
-        Ok((false, tokens))
+    match word(tokens, b"with") {
+        Some(rest) => match two_words(rest, b"grant", b"option") {
+            Some(rest) => Ok((true, rest)),
+            None => Err(Fault::Syntax),
+        },
+        None => Ok((false, tokens)),
     }
 }
 
@@ -135,8 +157,10 @@ fn privileges(tokens: &[Token]) -> Result<(Privileges, &[Token]), Fault>
 fn named_privileges(tokens: &[Token]) -> Result<(Privileges, &[Token]), Fault>
     ensures { Gives result (g.named_privileges.parses.read tokens.now) }
 {
-    let (first, rest) = privilege(tokens)?;
-    more_privileges(with_privilege(no_privileges(), first), rest)
+    match privilege(tokens) {
+        Ok((first, rest)) => more_privileges(with_privilege(no_privileges(), first), rest),
+        Err(fault) => Err(fault),
+    }
 }
 
 #[tactic(auto, using(crate::proofs::Loops::fold_begins, crate::proofs::Loops::fold_stops, crate::proofs::Loops::fold_ends, crate::proofs::Loops::fold_fails, crate::proofs::Loops::fold_goes_on))]
@@ -149,9 +173,13 @@ fn more_privileges(first: Privileges, tokens: &[Token]) -> Result<(Privileges, &
         if !sees_symbol(rest, Symbol::Comma) {
             return Ok((all, rest));
         }
-        let (next, behind) = next_privilege(rest)?;
-        all = with_privilege(all, next);
-        rest = behind;
+        match next_privilege(rest) {
+            Ok((next, behind)) => {
+                all = with_privilege(all, next);
+                rest = behind;
+            }
+            Err(fault) => return Err(fault),
+        }
     }
     Ok((all, rest))
 }
@@ -160,8 +188,10 @@ fn more_privileges(first: Privileges, tokens: &[Token]) -> Result<(Privileges, &
 fn next_privilege(tokens: &[Token]) -> Result<(Privilege, &[Token]), Fault>
     ensures { Gives result ((with_comma g.privilege).parses.read tokens.now) }
 {
-    let rest = past_symbol(tokens, Symbol::Comma)?;
-    privilege(rest)
+    match symbol(tokens, Symbol::Comma) {
+        Some(rest) => privilege(rest),
+        None => Err(Fault::Syntax),
+    }
 }
 
 #[tactic(auto, unfolding(crate::specs::Grammar::privilege))]
@@ -222,18 +252,23 @@ fn with_privilege(privileges: Privileges, privilege: Privilege) -> Privileges
 pub fn to_grantees(alloc: Global, tokens: &[Token]) -> Result<(Items<Grantee>, &[Token]), Fault>
     ensures { Gives result (g.to_grantees.parses.read tokens.now) }
 {
-    let rest = past_word(tokens, b"to")?;
-    grantees(alloc, rest)
+    match word(tokens, b"to") {
+        Some(rest) => grantees(alloc, rest),
+        None => Err(Fault::Syntax),
+    }
 }
 
 #[tactic(auto, unfolding(crate::specs::Grammar::grantees, crate::specs::Gives::with_front))]
 pub fn grantees(alloc: Global, tokens: &[Token]) -> Result<(Items<Grantee>, &[Token]), Fault>
     ensures { Gives result (g.grantees.parses.read tokens.now) }
 {
-    let (first, rest) = grantee(alloc, tokens)?;
-    let mut all = Items::new(alloc);
-    all.push(first)?;
-    more_grantees(alloc, all, rest)
+    match grantee(alloc, tokens) {
+        Ok((first, rest)) => match only(alloc, first) {
+            Ok(all) => more_grantees(alloc, all, rest),
+            Err(_) => Err(Fault::NoMemory),
+        },
+        Err(fault) => Err(fault),
+    }
 }
 
 #[tactic(auto, using(crate::proofs::Loops::front_begins, crate::proofs::Loops::loop_stops, crate::proofs::Loops::loop_ends, crate::proofs::Loops::loop_fails, crate::proofs::Loops::loop_goes_on))]
@@ -250,9 +285,15 @@ fn more_grantees(
         if !sees_symbol(rest, Symbol::Comma) {
             return Ok((all, rest));
         }
-        let (next, behind) = next_grantee(alloc, rest)?;
-        all.push(next)?;
-        rest = behind;
+        match next_grantee(alloc, rest) {
+            Ok((next, behind)) => {
+                if all.push(next).is_err() {
+                    return Err(Fault::NoMemory);
+                }
+                rest = behind;
+            }
+            Err(fault) => return Err(fault),
+        }
     }
     Ok((all, rest))
 }
@@ -261,18 +302,21 @@ fn more_grantees(
 fn next_grantee(alloc: Global, tokens: &[Token]) -> Result<(Grantee, &[Token]), Fault>
     ensures { Gives result ((with_comma g.grantee).parses.read tokens.now) }
 {
-    let rest = past_symbol(tokens, Symbol::Comma)?;
-    grantee(alloc, rest)
+    match symbol(tokens, Symbol::Comma) {
+        Some(rest) => grantee(alloc, rest),
+        None => Err(Fault::Syntax),
+    }
 }
 
 #[tactic(auto, unfolding(crate::specs::Grammar::grantee))]
 fn grantee(alloc: Global, tokens: &[Token]) -> Result<(Grantee, &[Token]), Fault>
     ensures { Gives result (g.grantee.parses.read tokens.now) }
 {
-    if let Some(rest) = word(tokens, b"public") {
-        Ok((Grantee::Public, rest))
-    } else {
-        let (role, rest) = name(alloc, tokens)?;
-        Ok((Grantee::Role(role), rest))
+    match word(tokens, b"public") {
+        Some(rest) => Ok((Grantee::Public, rest)),
+        None => match name(alloc, tokens) {
+            Ok((role, rest)) => Ok((Grantee::Role(role), rest)),
+            Err(fault) => Err(fault),
+        },
     }
 }

@@ -2,7 +2,7 @@
 
 ghost use Rattle.std.specs.Prelude.{◌≡◌, [], ◌∷◌, length, codes};
 ghost use Rattle.rls_text.specs.Gives.{Gives, with_front, or_no_items};
-ghost use Rattle.rls_text.specs.Parses.{read_many};
+ghost use Rattle.rls_text.specs.Parses.{and_then, read_both, read_many, read_token};
 ghost use Rattle.rls_text.specs.Heads.{Sign, Keyword};
 ghost use Rattle.rls_text.specs.Lang.{put_in};
 ghost use Rattle.rls_text.specs.Rule.{with_comma};
@@ -11,7 +11,7 @@ ghost use Rattle.rls_text.specs.Grammar as g;
 ghost use Rattle.rls_text.specs.Values as values;
 
 use crate::fault::Fault;
-use crate::reading::{name, past_symbol, past_word, sees_symbol, sees_word, word};
+use crate::reading::{name, only, sees_symbol, sees_word, symbol, two_words, word};
 use crate::token::{Symbol, Token};
 use rls_statement::{
     GrantRoles, MembershipOption, MembershipOptions, RevokeRoles, SetRole, Statement,
@@ -23,12 +23,41 @@ use std::alloc::Global;
 pub fn granted_roles(alloc: Global, tokens: &[Token]) -> Result<(Statement, &[Token]), Fault>
     ensures { Gives result (g.granted_roles.parses.read tokens.now) }
 {
-    let (roles, rest) = names(alloc, tokens)?;
-    let rest = past_word(rest, b"to")?;
-    let (to, rest) = names(alloc, rest)?;
-    let (options, rest) = options(alloc, rest)?;
-    let grant = GrantRoles { roles, to, options };
-    Ok((Statement::GrantRoles(grant), rest))
+    match names(alloc, tokens) {
+        Ok((roles, rest)) => match to_members(alloc, rest) {
+            Ok(((to, options), rest)) => {
+                let grant = GrantRoles { roles, to, options };
+                Ok((Statement::GrantRoles(grant), rest))
+            }
+            Err(fault) => {
+                drop(roles);
+                Err(fault)
+            }
+        },
+        Err(fault) => Err(fault),
+    }
+}
+
+/// TO, the members, and the options.
+fn to_members(
+    alloc: Global,
+    tokens: &[Token],
+) -> Result<((Items<Name>, MembershipOptions), &[Token]), Fault>
+    ensures { Gives result (and_then (read_token (Token.Word (codes "to")) tokens.now) (λ _ rest. read_both g.names.parses.read g.options.parses.read rest)) }
+{
+    let Some(rest) = word(tokens, b"to") else {
+        return Err(Fault::Syntax);
+    };
+    match names(alloc, rest) {
+        Ok((to, rest)) => match options(alloc, rest) {
+            Ok((options, rest)) => Ok(((to, options), rest)),
+            Err(fault) => {
+                drop(to);
+                Err(fault)
+            }
+        },
+        Err(fault) => Err(fault),
+    }
 }
 
 #[tactic(auto, unfolding(crate::specs::Grammar::revoked_memberships))]
@@ -57,36 +86,47 @@ fn revoked_option(alloc: Global, tokens: &[Token]) -> Result<(Statement, &[Token
     ensures { Gives result (g.revoked_option.parses.read tokens.now) }
 {
     let (option, rest) = option_for(tokens)?;
-    let ((roles, from), rest) = roles_from(alloc, rest)?;
-    let revoke = RevokeRoles {
-        option: Some(option),
-        roles,
-        from,
-    };
-    Ok((Statement::RevokeRoles(revoke), rest))
+    match roles_from(alloc, rest) {
+        Ok(((roles, from), rest)) => {
+            let revoke = RevokeRoles {
+                option: Some(option),
+                roles,
+                from,
+            };
+            Ok((Statement::RevokeRoles(revoke), rest))
+        }
+        Err(fault) => Err(fault),
+    }
 }
 
 #[tactic(auto, unfolding(crate::specs::Grammar::revoked_roles))]
 fn revoked_roles(alloc: Global, tokens: &[Token]) -> Result<(Statement, &[Token]), Fault>
     ensures { Gives result (g.revoked_roles.parses.read tokens.now) }
 {
-    let ((roles, from), rest) = roles_from(alloc, tokens)?;
-    let revoke = RevokeRoles {
-        option: None,
-        roles,
-        from,
-    };
-    Ok((Statement::RevokeRoles(revoke), rest))
+    match roles_from(alloc, tokens) {
+        Ok(((roles, from), rest)) => {
+            let revoke = RevokeRoles {
+                option: None,
+                roles,
+                from,
+            };
+            Ok((Statement::RevokeRoles(revoke), rest))
+        }
+        Err(fault) => Err(fault),
+    }
 }
 
 #[tactic(auto, unfolding(crate::specs::Grammar::option_for))]
 fn option_for(tokens: &[Token]) -> Result<(MembershipOption, &[Token]), Fault>
     ensures { Gives result (g.option_for.parses.read tokens.now) }
 {
-    let (option, rest) = option(tokens)?;
-    let rest = past_word(rest, b"option")?;
-    let rest = past_word(rest, b"for")?;
-    Ok((option, rest))
+    match option(tokens) {
+        Ok((option, rest)) => match two_words(rest, b"option", b"for") {
+            Some(rest) => Ok((option, rest)),
+            None => Err(Fault::Syntax),
+        },
+        Err(fault) => Err(fault),
+    }
 }
 
 #[tactic(auto, unfolding(crate::specs::Grammar::roles_from))]
@@ -96,10 +136,26 @@ fn roles_from(
 ) -> Result<((Items<Name>, Items<Name>), &[Token]), Fault>
     ensures { Gives result (g.roles_from.parses.read tokens.now) }
 {
-    let (roles, rest) = names(alloc, tokens)?;
-    let rest = past_word(rest, b"from")?;
-    let (from, rest) = members(alloc, rest)?;
-    Ok(((roles, from), rest))
+    match names(alloc, tokens) {
+        Ok((roles, rest)) => match from_members(alloc, rest) {
+            Ok((from, rest)) => Ok(((roles, from), rest)),
+            Err(fault) => {
+                drop(roles);
+                Err(fault)
+            }
+        },
+        Err(fault) => Err(fault),
+    }
+}
+
+/// FROM and the members.
+fn from_members(alloc: Global, tokens: &[Token]) -> Result<(Items<Name>, &[Token]), Fault>
+    ensures { Gives result (and_then (read_token (Token.Word (codes "from")) tokens.now) (λ _ rest. g.members.parses.read rest)) }
+{
+    match word(tokens, b"from") {
+        Some(rest) => members(alloc, rest),
+        None => Err(Fault::Syntax),
+    }
 }
 
 /// The members, and CASCADE or RESTRICT, which have no effect on memberships.
@@ -121,8 +177,10 @@ fn members(alloc: Global, tokens: &[Token]) -> Result<(Items<Name>, &[Token]), F
 pub fn set_role(alloc: Global, tokens: &[Token]) -> Result<(Statement, &[Token]), Fault>
     ensures { Gives result (g.set_role.parses.read tokens.now) }
 {
-    let (role, rest) = role_change(alloc, tokens)?;
-    Ok((Statement::SetRole(role), rest))
+    match role_change(alloc, tokens) {
+        Ok((role, rest)) => Ok((Statement::SetRole(role), rest)),
+        Err(fault) => Err(fault),
+    }
 }
 
 #[tactic(auto, unfolding(crate::specs::Grammar::role_change))]
@@ -140,29 +198,35 @@ fn role_change(alloc: Global, tokens: &[Token]) -> Result<(SetRole, &[Token]), F
 fn role_set(alloc: Global, tokens: &[Token]) -> Result<(SetRole, &[Token]), Fault>
     ensures { Gives result (g.role_set.parses.read tokens.now) }
 {
-    let rest = past_word(tokens, b"set")?;
-    let rest = past_word(rest, b"role")?;
-    chosen_role(alloc, rest)
+    let Some(rest) = word(tokens, b"set") else {
+        return Err(Fault::Syntax);
+    };
+    match word(rest, b"role") {
+        Some(rest) => chosen_role(alloc, rest),
+        None => Err(Fault::Syntax),
+    }
 }
 
 #[tactic(auto, unfolding(crate::specs::Grammar::role_reset))]
 fn role_reset(tokens: &[Token]) -> Result<(SetRole, &[Token]), Fault>
     ensures { Gives result (g.role_reset.parses.read tokens.now) }
 {
-    let rest = past_word(tokens, b"reset")?;
-    let rest = past_word(rest, b"role")?;
-    Ok((SetRole::Reset, rest))
+    match two_words(tokens, b"reset", b"role") {
+        Some(rest) => Ok((SetRole::Reset, rest)),
+        None => Err(Fault::Syntax),
+    }
 }
 
 #[tactic(auto, unfolding(crate::specs::Grammar::chosen_role))]
 fn chosen_role(alloc: Global, tokens: &[Token]) -> Result<(SetRole, &[Token]), Fault>
     ensures { Gives result (g.chosen_role.parses.read tokens.now) }
 {
-    if let Some(rest) = word(tokens, b"none") {
-        Ok((SetRole::None, rest))
-    } else {
-        let (role, rest) = name(alloc, tokens)?;
-        Ok((SetRole::To(role), rest))
+    match word(tokens, b"none") {
+        Some(rest) => Ok((SetRole::None, rest)),
+        None => match name(alloc, tokens) {
+            Ok((role, rest)) => Ok((SetRole::To(role), rest)),
+            Err(fault) => Err(fault),
+        },
     }
 }
 
@@ -170,10 +234,13 @@ fn chosen_role(alloc: Global, tokens: &[Token]) -> Result<(SetRole, &[Token]), F
 pub fn names(alloc: Global, tokens: &[Token]) -> Result<(Items<Name>, &[Token]), Fault>
     ensures { Gives result (g.names.parses.read tokens.now) }
 {
-    let (first, rest) = name(alloc, tokens)?;
-    let mut all = Items::new(alloc);
-    all.push(first)?;
-    more_names(alloc, all, rest)
+    match name(alloc, tokens) {
+        Ok((first, rest)) => match only(alloc, first) {
+            Ok(all) => more_names(alloc, all, rest),
+            Err(_) => Err(Fault::NoMemory),
+        },
+        Err(fault) => Err(fault),
+    }
 }
 
 #[tactic(auto, using(crate::proofs::Loops::front_begins, crate::proofs::Loops::loop_stops, crate::proofs::Loops::loop_ends, crate::proofs::Loops::loop_fails, crate::proofs::Loops::loop_goes_on))]
@@ -190,9 +257,15 @@ fn more_names(
         if !sees_symbol(rest, Symbol::Comma) {
             return Ok((all, rest));
         }
-        let (next, behind) = next_name(alloc, rest)?;
-        all.push(next)?;
-        rest = behind;
+        match next_name(alloc, rest) {
+            Ok((next, behind)) => {
+                if all.push(next).is_err() {
+                    return Err(Fault::NoMemory);
+                }
+                rest = behind;
+            }
+            Err(fault) => return Err(fault),
+        }
     }
     Ok((all, rest))
 }
@@ -201,8 +274,10 @@ fn more_names(
 fn next_name(alloc: Global, tokens: &[Token]) -> Result<(Name, &[Token]), Fault>
     ensures { Gives result ((with_comma g.name).parses.read tokens.now) }
 {
-    let rest = past_symbol(tokens, Symbol::Comma)?;
-    name(alloc, rest)
+    match symbol(tokens, Symbol::Comma) {
+        Some(rest) => name(alloc, rest),
+        None => Err(Fault::Syntax),
+    }
 }
 
 /// The options behind WITH, each once at most.
@@ -210,8 +285,14 @@ fn next_name(alloc: Global, tokens: &[Token]) -> Result<(Name, &[Token]), Fault>
 fn options(alloc: Global, tokens: &[Token]) -> Result<(MembershipOptions, &[Token]), Fault>
     ensures { Gives result (g.options.parses.read tokens.now) }
 {
-    let (written, rest) = settings_if_any(alloc, tokens)?;
-    Ok((gathered(written.as_slice()), rest))
+    match settings_if_any(alloc, tokens) {
+        Ok((written, rest)) => {
+            let options = gathered(written.as_slice());
+            drop(written);
+            Ok((options, rest))
+        }
+        Err(fault) => Err(fault),
+    }
 }
 
 #[tactic(auto, unfolding(crate::specs::Grammar::settings_if_any, crate::specs::Gives::or_no_items))]
@@ -235,11 +316,16 @@ fn settings(
 ) -> Result<(Items<(MembershipOption, bool)>, &[Token]), Fault>
     ensures { Gives result (g.settings.parses.read tokens.now) }
 {
-    let (all, rest) = all_settings(alloc, tokens)?;
-    if set_once(all.as_slice()) {
-        Ok((all, rest))
-    } else {
-        Err(Fault::Syntax)
+    match all_settings(alloc, tokens) {
+        Ok((all, rest)) => {
+            if set_once(all.as_slice()) {
+                Ok((all, rest))
+            } else {
+                drop(all);
+                Err(Fault::Syntax)
+            }
+        }
+        Err(fault) => Err(fault),
     }
 }
 
@@ -250,10 +336,13 @@ fn all_settings(
 ) -> Result<(Items<(MembershipOption, bool)>, &[Token]), Fault>
     ensures { Gives result (g.all_settings.parses.read tokens.now) }
 {
-    let (first, rest) = setting(tokens)?;
-    let mut all = Items::new(alloc);
-    all.push(first)?;
-    more_settings(all, rest)
+    match setting(tokens) {
+        Ok((first, rest)) => match only(alloc, first) {
+            Ok(all) => more_settings(all, rest),
+            Err(_) => Err(Fault::NoMemory),
+        },
+        Err(fault) => Err(fault),
+    }
 }
 
 #[tactic(auto, using(crate::proofs::Loops::front_begins, crate::proofs::Loops::loop_stops, crate::proofs::Loops::loop_ends, crate::proofs::Loops::loop_fails, crate::proofs::Loops::loop_goes_on))]
@@ -269,9 +358,15 @@ fn more_settings(
         if !sees_symbol(rest, Symbol::Comma) {
             return Ok((all, rest));
         }
-        let (next, behind) = next_setting(rest)?;
-        all.push(next)?;
-        rest = behind;
+        match next_setting(rest) {
+            Ok((next, behind)) => {
+                if all.push(next).is_err() {
+                    return Err(Fault::NoMemory);
+                }
+                rest = behind;
+            }
+            Err(fault) => return Err(fault),
+        }
     }
     Ok((all, rest))
 }
@@ -280,17 +375,23 @@ fn more_settings(
 fn next_setting(tokens: &[Token]) -> Result<((MembershipOption, bool), &[Token]), Fault>
     ensures { Gives result ((with_comma g.setting).parses.read tokens.now) }
 {
-    let rest = past_symbol(tokens, Symbol::Comma)?;
-    setting(rest)
+    match symbol(tokens, Symbol::Comma) {
+        Some(rest) => setting(rest),
+        None => Err(Fault::Syntax),
+    }
 }
 
 #[tactic(auto, unfolding(crate::specs::Grammar::setting))]
 fn setting(tokens: &[Token]) -> Result<((MembershipOption, bool), &[Token]), Fault>
     ensures { Gives result (g.setting.parses.read tokens.now) }
 {
-    let (option, rest) = option(tokens)?;
-    let (flag, rest) = flag(rest)?;
-    Ok(((option, flag), rest))
+    match option(tokens) {
+        Ok((option, rest)) => match flag(rest) {
+            Ok((flag, rest)) => Ok(((option, flag), rest)),
+            Err(fault) => Err(fault),
+        },
+        Err(fault) => Err(fault),
+    }
 }
 
 #[tactic(auto, unfolding(crate::specs::Grammar::option))]

@@ -85,13 +85,15 @@ fn column_count(statement: &Statement) -> usize
 fn whole(alloc: Global, tokens: &[Token]) -> Result<Draft, Fault>
     ensures { GivesWhole result (whole_of tokens.now) }
 {
-    let (statement, rest) = statement(alloc, tokens.len() + 1, tokens)?;
-    match rest {
-        [] => Ok(statement),
-        [_, ..] => {
-            drop(statement);
-            Err(Fault::Syntax)
-        }
+    match statement(alloc, tokens.len() + 1, tokens) {
+        Ok((statement, rest)) => match rest {
+            [] => Ok(statement),
+            [_, ..] => {
+                drop(statement);
+                Err(Fault::Syntax)
+            }
+        },
+        Err(fault) => Err(fault),
     }
 }
 
@@ -100,10 +102,12 @@ fn whole(alloc: Global, tokens: &[Token]) -> Result<Draft, Fault>
 fn statement(alloc: Global, depth: usize, tokens: &[Token]) -> Result<(Draft, &[Token]), Fault>
     ensures { Gives result ((g.statement depth).read tokens.now) }
 {
-    let (statement, rest) = body(alloc, depth, tokens)?;
-    match symbol(rest, Symbol::Semicolon) {
-        Some(rest) => Ok((statement, rest)),
-        None => Ok((statement, rest)),
+    match body(alloc, depth, tokens) {
+        Ok((statement, rest)) => match symbol(rest, Symbol::Semicolon) {
+            Some(rest) => Ok((statement, rest)),
+            None => Ok((statement, rest)),
+        },
+        Err(fault) => Err(fault),
     }
 }
 
@@ -124,8 +128,10 @@ fn body(alloc: Global, depth: usize, tokens: &[Token]) -> Result<(Draft, &[Token
     } else if sees_word(tokens, b"alter") {
         alter(alloc, depth, tokens)
     } else {
-        let (statement, rest) = flat_body(alloc, tokens)?;
-        Ok(((statement, 0), rest))
+        match flat_body(alloc, tokens) {
+            Ok((statement, rest)) => Ok(((statement, 0), rest)),
+            Err(fault) => Err(fault),
+        }
     }
 }
 

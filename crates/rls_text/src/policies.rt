@@ -1,14 +1,15 @@
 //! CREATE, ALTER and DROP of policies from tokens.
 
-ghost use Rattle.std.specs.Prelude.{◌≡◌};
+ghost use Rattle.std.specs.Prelude.{◌≡◌, codes};
 ghost use Rattle.rls_text.specs.Gives.{Gives};
+ghost use Rattle.rls_text.specs.Parses.{read_token, and_then};
 ghost use Rattle.rls_text.specs.Trees as trees;
 ghost use Rattle.rls_text.specs.Grammar as g;
 ghost use Rattle.rls_text.specs.Values as values;
 
 use crate::fault::Fault;
 use crate::policy_parts::{Conditions, conditions, for_grantees, grantees_if_any, policy_options};
-use crate::reading::{name, past_word};
+use crate::reading::{name, word};
 use crate::token::Token;
 use crate::tree::{Draft, parted};
 use rls_expr::{Grantee, Policy};
@@ -27,9 +28,16 @@ type PolicyChange = (Option<Items<Grantee>>, Conditions);
 pub fn policy(alloc: Global, depth: usize, tokens: &[Token]) -> Result<(Draft, &[Token]), Fault>
     ensures { Gives result ((g.policy (g.expr depth)).read tokens.now) }
 {
-    let (names, rest) = policy_on(alloc, tokens)?;
-    let (description, rest) = proper_description(alloc, depth, rest)?;
-    Ok((created(names, description), rest))
+    match policy_on(alloc, tokens) {
+        Ok((names, rest)) => match proper_description(alloc, depth, rest) {
+            Ok((description, rest)) => Ok((created(names, description), rest)),
+            Err(fault) => {
+                drop(names);
+                Err(fault)
+            }
+        },
+        Err(fault) => Err(fault),
+    }
 }
 
 fn created(names: (Name, Name), description: Description) -> Draft
@@ -62,9 +70,16 @@ pub fn altered_policy(
 ) -> Result<(Draft, &[Token]), Fault>
     ensures { Gives result ((g.altered_policy (g.expr depth)).read tokens.now) }
 {
-    let (names, rest) = policy_on(alloc, tokens)?;
-    let (change, rest) = proper_change(alloc, depth, rest)?;
-    Ok((altered(names, change), rest))
+    match policy_on(alloc, tokens) {
+        Ok((names, rest)) => match proper_change(alloc, depth, rest) {
+            Ok((change, rest)) => Ok((altered(names, change), rest)),
+            Err(fault) => {
+                drop(names);
+                Err(fault)
+            }
+        },
+        Err(fault) => Err(fault),
+    }
 }
 
 fn altered(names: (Name, Name), change: PolicyChange) -> Draft
@@ -89,10 +104,18 @@ fn altered(names: (Name, Name), change: PolicyChange) -> Draft
 pub fn dropped_policy(alloc: Global, tokens: &[Token]) -> Result<(Statement, &[Token]), Fault>
     ensures { Gives result (g.dropped_policy.parses.read tokens.now) }
 {
-    let rest = past_word(tokens, b"drop")?;
-    let rest = past_word(rest, b"policy")?;
-    let ((name, table), rest) = policy_on(alloc, rest)?;
-    Ok((Statement::DropPolicy(DropPolicy { name, table }), rest))
+    let Some(rest) = word(tokens, b"drop") else {
+        return Err(Fault::Syntax);
+    };
+    let Some(rest) = word(rest, b"policy") else {
+        return Err(Fault::Syntax);
+    };
+    match policy_on(alloc, rest) {
+        Ok(((name, table), rest)) => {
+            Ok((Statement::DropPolicy(DropPolicy { name, table }), rest))
+        }
+        Err(fault) => Err(fault),
+    }
 }
 
 /// The names of a policy and of its table.
@@ -100,10 +123,25 @@ pub fn dropped_policy(alloc: Global, tokens: &[Token]) -> Result<(Statement, &[T
 fn policy_on(alloc: Global, tokens: &[Token]) -> Result<((Name, Name), &[Token]), Fault>
     ensures { Gives result (g.policy_on.parses.read tokens.now) }
 {
-    let (policy, rest) = name(alloc, tokens)?;
-    let rest = past_word(rest, b"on")?;
-    let (table, rest) = name(alloc, rest)?;
-    Ok(((policy, table), rest))
+    match name(alloc, tokens) {
+        Ok((policy, rest)) => match on_table(alloc, rest) {
+            Ok((table, rest)) => Ok(((policy, table), rest)),
+            Err(fault) => {
+                drop(policy);
+                Err(fault)
+            }
+        },
+        Err(fault) => Err(fault),
+    }
+}
+
+fn on_table(alloc: Global, tokens: &[Token]) -> Result<(Name, &[Token]), Fault>
+    ensures { Gives result (and_then (read_token (Token.Word (codes "on")) tokens.now) (λ _ rest. g.name.parses.read rest)) }
+{
+    match word(tokens, b"on") {
+        Some(rest) => name(alloc, rest),
+        None => Err(Fault::Syntax),
+    }
 }
 
 /// What describes a policy; one of its kind may have its expressions.
@@ -115,11 +153,16 @@ fn proper_description(
 ) -> Result<(Description, &[Token]), Fault>
     ensures { Gives result ((g.proper_description (g.expr depth)).read tokens.now) }
 {
-    let (description, rest) = description(alloc, depth, tokens)?;
-    if is_policy(&description) {
-        Ok((description, rest))
-    } else {
-        Err(Fault::Syntax)
+    match description(alloc, depth, tokens) {
+        Ok((description, rest)) => {
+            if is_policy(&description) {
+                Ok((description, rest))
+            } else {
+                drop(description);
+                Err(Fault::Syntax)
+            }
+        }
+        Err(fault) => Err(fault),
     }
 }
 
@@ -150,9 +193,16 @@ fn description(
     ensures { Gives result ((g.description (g.expr depth)).read tokens.now) }
 {
     let (options, rest) = policy_options(tokens)?;
-    let (to, rest) = for_grantees(alloc, rest)?;
-    let (conditions, rest) = conditions(alloc, depth, rest)?;
-    Ok(((options, (to, conditions)), rest))
+    match for_grantees(alloc, rest) {
+        Ok((to, rest)) => match conditions(alloc, depth, rest) {
+            Ok((conditions, rest)) => Ok(((options, (to, conditions)), rest)),
+            Err(fault) => {
+                drop(to);
+                Err(fault)
+            }
+        },
+        Err(fault) => Err(fault),
+    }
 }
 
 /// What changes of a policy; something does.
@@ -164,11 +214,16 @@ fn proper_change(
 ) -> Result<(PolicyChange, &[Token]), Fault>
     ensures { Gives result ((g.proper_change (g.expr depth)).read tokens.now) }
 {
-    let (change, rest) = policy_change(alloc, depth, tokens)?;
-    if is_change(&change) {
-        Ok((change, rest))
-    } else {
-        Err(Fault::Syntax)
+    match policy_change(alloc, depth, tokens) {
+        Ok((change, rest)) => {
+            if is_change(&change) {
+                Ok((change, rest))
+            } else {
+                drop(change);
+                Err(Fault::Syntax)
+            }
+        }
+        Err(fault) => Err(fault),
     }
 }
 
@@ -187,7 +242,14 @@ fn policy_change(
 ) -> Result<(PolicyChange, &[Token]), Fault>
     ensures { Gives result ((g.policy_change (g.expr depth)).read tokens.now) }
 {
-    let (to, rest) = grantees_if_any(alloc, tokens)?;
-    let (conditions, rest) = conditions(alloc, depth, rest)?;
-    Ok(((to, conditions), rest))
+    match grantees_if_any(alloc, tokens) {
+        Ok((to, rest)) => match conditions(alloc, depth, rest) {
+            Ok((conditions, rest)) => Ok(((to, conditions), rest)),
+            Err(fault) => {
+                drop(to);
+                Err(fault)
+            }
+        },
+        Err(fault) => Err(fault),
+    }
 }

@@ -5,11 +5,11 @@ ghost use Rattle.rls_text.specs.Gives.{Gives};
 ghost use Rattle.rls_text.specs.Grammar as g;
 ghost use Rattle.rls_text.specs.Values as values;
 
-use crate::expression::expr;
+use crate::expression::parenthesized;
 use crate::fault::Fault;
 use crate::granting::to_grantees;
-use crate::reading::{past_symbol, past_word, sees_word, word};
-use crate::token::{Symbol, Token};
+use crate::reading::{only, sees_word, word};
+use crate::token::Token;
 use crate::tree::Tree;
 use rls_expr::Grantee;
 use rls_value::{Items, Kind, PolicyKind};
@@ -23,9 +23,13 @@ pub type Conditions = (Option<Tree>, Option<Tree>);
 pub fn policy_options(tokens: &[Token]) -> Result<((bool, PolicyKind), &[Token]), Fault>
     ensures { Gives result (g.policy_options.parses.read tokens.now) }
 {
-    let (permissive, rest) = permissive(tokens)?;
-    let (kind, rest) = for_commands(rest)?;
-    Ok(((permissive, kind), rest))
+    match permissive(tokens) {
+        Ok((permissive, rest)) => match for_commands(rest) {
+            Ok((kind, rest)) => Ok(((permissive, kind), rest)),
+            Err(fault) => Err(fault),
+        },
+        Err(fault) => Err(fault),
+    }
 }
 
 /// Without AS, a policy is permissive.
@@ -33,16 +37,15 @@ pub fn policy_options(tokens: &[Token]) -> Result<((bool, PolicyKind), &[Token])
 fn permissive(tokens: &[Token]) -> Result<(bool, &[Token]), Fault>
     ensures { Gives result (g.permissive.parses.read tokens.now) }
 {
-    if let Some(rest) = word(tokens, b"as") {
-        match word(rest, b"permissive") {
+    match word(tokens, b"as") {
+        Some(rest) => match word(rest, b"permissive") {
             Some(rest) => Ok((true, rest)),
-            None => {
-                let rest = past_word(rest, b"restrictive")?;
-                Ok((false, rest))
-            }
-        }
-    } else {
-        Ok((true, tokens))
+            None => match word(rest, b"restrictive") {
+                Some(rest) => Ok((false, rest)),
+                None => Err(Fault::Syntax),
+            },
+        },
+        None => Ok((true, tokens)),
     }
 }
 
@@ -69,9 +72,10 @@ fn policy_kind(tokens: &[Token]) -> Result<(PolicyKind, &[Token]), Fault>
         Ok((PolicyKind::Only(Kind::Insert), rest))
     } else if let Some(rest) = word(tokens, b"update") {
         Ok((PolicyKind::Only(Kind::Update), rest))
-    } else {
-        let rest = past_word(tokens, b"delete")?;
+    } else if let Some(rest) = word(tokens, b"delete") {
         Ok((PolicyKind::Only(Kind::Delete), rest))
+    } else {
+        Err(Fault::Syntax)
     }
 }
 
@@ -84,8 +88,10 @@ pub fn grantees_if_any(
     ensures { Gives result (g.grantees_if_any.parses.read tokens.now) }
 {
     if sees_word(tokens, b"to") {
-        let (to, rest) = to_grantees(alloc, tokens)?;
-        Ok((Some(to), rest))
+        match to_grantees(alloc, tokens) {
+            Ok((to, rest)) => Ok((Some(to), rest)),
+            Err(fault) => Err(fault),
+        }
     } else {
         Ok((None, tokens))
     }
@@ -99,16 +105,17 @@ pub fn for_grantees(alloc: Global, tokens: &[Token]) -> Result<(Items<Grantee>, 
     if sees_word(tokens, b"to") {
         to_grantees(alloc, tokens)
     } else {
-        Ok((public_alone(alloc)?, tokens))
+        match public_alone(alloc) {
+            Ok(to) => Ok((to, tokens)),
+            Err(_) => Err(Fault::NoMemory),
+        }
     }
 }
 
 fn public_alone(alloc: Global) -> Result<Items<Grantee>, AllocError>
     ensures { IfOk result (λ all. all ≡ values.or_public None) }
 {
-    let mut all = Items::new(alloc);
-    all.push(Grantee::Public)?;
-    Ok(all)
+    only(alloc, Grantee::Public)
 }
 
 /// USING and WITH CHECK, if they are written.
@@ -120,20 +127,28 @@ pub fn conditions(
 ) -> Result<(Conditions, &[Token]), Fault>
     ensures { Gives result ((g.conditions (g.expr depth)).read tokens.now) }
 {
-    let (using, rest) = using(alloc, depth, tokens)?;
-    let (check, rest) = check(alloc, depth, rest)?;
-    Ok(((using, check), rest))
+    match using(alloc, depth, tokens) {
+        Ok((using, rest)) => match check(alloc, depth, rest) {
+            Ok((check, rest)) => Ok(((using, check), rest)),
+            Err(fault) => {
+                drop(using);
+                Err(fault)
+            }
+        },
+        Err(fault) => Err(fault),
+    }
 }
 
 #[tactic(auto, unfolding(crate::specs::Grammar::using))]
 fn using(alloc: Global, depth: usize, tokens: &[Token]) -> Result<(Option<Tree>, &[Token]), Fault>
     ensures { Gives result ((g.using (g.expr depth)).read tokens.now) }
 {
-    if let Some(rest) = word(tokens, b"using") {
-        let (condition, rest) = parenthesized(alloc, depth, rest)?;
-        Ok((Some(condition), rest))
-    } else {
-        Ok((None, tokens))
+    match word(tokens, b"using") {
+        Some(rest) => match parenthesized(alloc, depth, rest) {
+            Ok((condition, rest)) => Ok((Some(condition), rest)),
+            Err(fault) => Err(fault),
+        },
+        None => Ok((None, tokens)),
     }
 }
 
@@ -141,21 +156,14 @@ fn using(alloc: Global, depth: usize, tokens: &[Token]) -> Result<(Option<Tree>,
 fn check(alloc: Global, depth: usize, tokens: &[Token]) -> Result<(Option<Tree>, &[Token]), Fault>
     ensures { Gives result ((g.check (g.expr depth)).read tokens.now) }
 {
-    if let Some(rest) = word(tokens, b"with") {
-        let rest = past_word(rest, b"check")?;
-        let (condition, rest) = parenthesized(alloc, depth, rest)?;
-        Ok((Some(condition), rest))
-    } else {
-        Ok((None, tokens))
+    let Some(rest) = word(tokens, b"with") else {
+        return Ok((None, tokens));
+    };
+    let Some(rest) = word(rest, b"check") else {
+        return Err(Fault::Syntax);
+    };
+    match parenthesized(alloc, depth, rest) {
+        Ok((condition, rest)) => Ok((Some(condition), rest)),
+        Err(fault) => Err(fault),
     }
-}
-
-#[tactic(auto, unfolding(crate::specs::Grammar::parenthesized))]
-fn parenthesized(alloc: Global, depth: usize, tokens: &[Token]) -> Result<(Tree, &[Token]), Fault>
-    ensures { Gives result ((g.parenthesized (g.expr depth)).read tokens.now) }
-{
-    let rest = past_symbol(tokens, Symbol::LParen)?;
-    let (inner, rest) = expr(alloc, depth, rest)?;
-    let rest = past_symbol(rest, Symbol::RParen)?;
-    Ok((inner, rest))
 }

@@ -1,16 +1,16 @@
 //! Single words at the front of a list of tokens.
 
-ghost use Rattle.std.specs.Prelude.{◌≡◌, [], ◌∷◌, map, is_some};
-ghost use Rattle.rls_text.specs.Gives.{Gives, GivesName, Finds, Passes};
+ghost use Rattle.std.specs.Prelude.{◌≡◌, [], ◌∷◌, map, is_some, IfOk};
+ghost use Rattle.rls_text.specs.Gives.{Gives, GivesName, Finds, Closes};
 ghost use Rattle.rls_text.specs.Heads.{Exact, Names, sees};
-ghost use Rattle.rls_text.specs.Parses.{read_token};
+ghost use Rattle.rls_text.specs.Parses.{read_token, and_then};
 ghost use Rattle.rls_text.specs.Grammar as g;
 ghost use Rattle.rls_text.specs.Values as values;
 
 use crate::fault::Fault;
 use crate::token::{Symbol, Token};
-use rls_value::{Limit, Name, Refusal, is_reserved};
-use std::alloc::Global;
+use rls_value::{Items, Limit, Name, Refusal, is_reserved};
+use std::alloc::{AllocError, Global};
 
 /// The tokens behind this word, if it comes next.
 pub fn word<'a>(tokens: &'a [Token], word: &[u8]) -> Option<&'a [Token]>
@@ -23,13 +23,13 @@ pub fn word<'a>(tokens: &'a [Token], word: &[u8]) -> Option<&'a [Token]>
     }
 }
 
-/// The tokens behind this word, which must come next.
-pub fn past_word<'a>(tokens: &'a [Token], expected: &[u8]) -> Result<&'a [Token], Fault>
-    ensures { Passes result (read_token (Token.Word expected.now) tokens.now) }
+/// The tokens behind these two words, if they come next.
+pub fn two_words<'a>(tokens: &'a [Token], first: &[u8], second: &[u8]) -> Option<&'a [Token]>
+    ensures { Finds result (and_then (read_token (Token.Word first.now) tokens.now) (λ _ rest. read_token (Token.Word second.now) rest)) }
 {
-    match word(tokens, expected) {
-        Some(rest) => Ok(rest),
-        None => Err(Fault::Syntax),
+    match word(tokens, first) {
+        Some(rest) => word(rest, second),
+        None => None,
     }
 }
 
@@ -67,13 +67,16 @@ pub fn symbol(tokens: &[Token], symbol: Symbol) -> Option<&[Token]>
     }
 }
 
-/// The tokens behind this symbol, which must come next.
-pub fn past_symbol(tokens: &[Token], expected: Symbol) -> Result<&[Token], Fault>
-    ensures { Passes result (read_token (Token.Symbol expected) tokens.now) }
+/// What stands in parentheses, of which the closing one must come next.
+pub fn closed<T: Drop>(inner: T, tokens: &[Token]) -> Result<(T, &[Token]), Fault>
+    ensures { Closes inner result (read_token (Token.Symbol Symbol.RParen) tokens.now) }
 {
-    match symbol(tokens, expected) {
-        Some(rest) => Ok(rest),
-        None => Err(Fault::Syntax),
+    match symbol(tokens, Symbol::RParen) {
+        Some(rest) => Ok((inner, rest)),
+        None => {
+            drop(inner);
+            Err(Fault::Syntax)
+        }
     }
 }
 
@@ -96,13 +99,30 @@ pub fn starts_name(tokens: &[Token]) -> bool
     }
 }
 
+/// A list of one item.
+pub fn only<T: Drop>(alloc: Global, item: T) -> Result<Items<T>, AllocError>
+    ensures { IfOk result (λ items. items ≡ item ∷ []) }
+{
+    let mut items = Items::new(alloc);
+    match items.push(item) {
+        Ok(()) => Ok(items),
+        Err(refused) => {
+            drop(items);
+            Err(refused)
+        }
+    }
+}
+
 #[tactic(auto, unfolding(crate::specs::Grammar::name))]
 pub fn name(alloc: Global, tokens: &[Token]) -> Result<(Name, &[Token]), Fault>
     ensures { Gives result (g.name.parses.read tokens.now) }
 {
     match tokens {
         [Token::Word(letters), rest @ ..] if !is_reserved(letters.as_str().as_bytes()) => {
-            Ok((named(alloc, letters.as_str())?, rest))
+            match named(alloc, letters.as_str()) {
+                Ok(name) => Ok((name, rest)),
+                Err(fault) => Err(fault),
+            }
         }
         _ => Err(Fault::Syntax),
     }

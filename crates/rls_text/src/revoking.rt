@@ -7,7 +7,7 @@ ghost use Rattle.rls_text.specs.Grammar as g;
 use crate::fault::Fault;
 use crate::granting::{grantees, on_comes_first, privileges_on};
 use crate::memberships::revoked_memberships;
-use crate::reading::{past_word, word};
+use crate::reading::{two_words, word};
 use crate::token::Token;
 use rls_expr::Grantee;
 use rls_statement::{RevokePrivileges, Statement};
@@ -18,7 +18,9 @@ use std::alloc::Global;
 pub fn revoke(alloc: Global, tokens: &[Token]) -> Result<(Statement, &[Token]), Fault>
     ensures { Gives result (g.revoke.parses.read tokens.now) }
 {
-    let rest = past_word(tokens, b"revoke")?;
+    let Some(rest) = word(tokens, b"revoke") else {
+        return Err(Fault::Syntax);
+    };
     if on_comes_first(rest) {
         revoked_privileges(alloc, rest)
     } else {
@@ -31,16 +33,25 @@ fn revoked_privileges(alloc: Global, tokens: &[Token]) -> Result<(Statement, &[T
     ensures { Gives result (g.revoked_privileges.parses.read tokens.now) }
 {
     let (option_only, rest) = option_only(tokens)?;
-    let ((privileges, table), rest) = privileges_on(alloc, rest)?;
-    let ((from, cascade), rest) = revoked_from(alloc, rest)?;
-    let revoke = RevokePrivileges {
-        option_only,
-        privileges,
-        table,
-        from,
-        cascade,
-    };
-    Ok((Statement::Revoke(revoke), rest))
+    match privileges_on(alloc, rest) {
+        Ok(((privileges, table), rest)) => match revoked_from(alloc, rest) {
+            Ok(((from, cascade), rest)) => {
+                let revoke = RevokePrivileges {
+                    option_only,
+                    privileges,
+                    table,
+                    from,
+                    cascade,
+                };
+                Ok((Statement::Revoke(revoke), rest))
+            }
+            Err(fault) => {
+                drop(table);
+                Err(fault)
+            }
+        },
+        Err(fault) => Err(fault),
+    }
 }
 
 /// Whether GRANT OPTION FOR is written.
@@ -48,12 +59,12 @@ fn revoked_privileges(alloc: Global, tokens: &[Token]) -> Result<(Statement, &[T
 fn option_only(tokens: &[Token]) -> Result<(bool, &[Token]), Fault>
     ensures { Gives result (g.option_only.parses.read tokens.now) }
 {
-    if let Some(rest) = word(tokens, b"grant") {
-        let rest = past_word(rest, b"option")?;
-        let rest = past_word(rest, b"for")?;
-        Ok((true, rest))
-    } else {
-        Ok((false, tokens))
+    match word(tokens, b"grant") {
+        Some(rest) => match two_words(rest, b"option", b"for") {
+            Some(rest) => Ok((true, rest)),
+            None => Err(Fault::Syntax),
+        },
+        None => Ok((false, tokens)),
     }
 }
 
@@ -65,10 +76,16 @@ fn revoked_from(
 ) -> Result<((Items<Grantee>, bool), &[Token]), Fault>
     ensures { Gives result (g.revoked_from.parses.read tokens.now) }
 {
-    let rest = past_word(tokens, b"from")?;
-    let (from, rest) = grantees(alloc, rest)?;
-    let (cascade, rest) = cascade(rest);
-    Ok(((from, cascade), rest))
+    let Some(rest) = word(tokens, b"from") else {
+        return Err(Fault::Syntax);
+    };
+    match grantees(alloc, rest) {
+        Ok((from, rest)) => {
+            let (cascade, rest) = cascade(rest);
+            Ok(((from, cascade), rest))
+        }
+        Err(fault) => Err(fault),
+    }
 }
 
 /// Whether CASCADE is written. RESTRICT says what holds without it.

@@ -1,8 +1,8 @@
 //! SELECT and INSERT from tokens.
 
-ghost use Rattle.std.specs.Prelude.{◌≡◌, [], ◌∷◌, length};
+ghost use Rattle.std.specs.Prelude.{◌≡◌, [], ◌∷◌, length, codes};
 ghost use Rattle.rls_text.specs.Gives.{Gives, with_front, folded};
-ghost use Rattle.rls_text.specs.Parses.{read_many};
+ghost use Rattle.rls_text.specs.Parses.{and_then, read_both, read_many, read_token};
 ghost use Rattle.rls_text.specs.Heads.{Sign};
 ghost use Rattle.rls_text.specs.Rule.{with_comma};
 ghost use Rattle.rls_text.specs.Ahead as ahead;
@@ -14,8 +14,8 @@ ghost use Rattle.rls_text.specs.Trees as spec;
 use crate::changing::returning;
 use crate::expression::{column, expr, tuple};
 use crate::fault::Fault;
-use crate::reading::{name, past_symbol, past_word, sees_symbol, symbol, word};
-use crate::tables::distinct_names;
+use crate::reading::{closed, name, only, sees_symbol, symbol, word};
+use crate::tables::listed_names;
 use crate::token::{Symbol, Token};
 use crate::tree::{Draft, Tree, Tuple, Tuples, parted, with_tuple};
 use rls_expr::Expr;
@@ -30,18 +30,55 @@ type Rows = (Option<Items<Name>>, Tuples);
 pub fn select(alloc: Global, depth: usize, tokens: &[Token]) -> Result<(Draft, &[Token]), Fault>
     ensures { Gives result ((g.select (g.expr depth)).read tokens.now) }
 {
-    let rest = past_word(tokens, b"select")?;
-    let (items, rest) = items(alloc, rest)?;
-    let rest = past_word(rest, b"from")?;
-    let (table, rest) = name(alloc, rest)?;
-    let (condition, rest) = condition(alloc, depth, rest)?;
+    let Some(rest) = word(tokens, b"select") else {
+        return Err(Fault::Syntax);
+    };
+    match items(alloc, rest) {
+        Ok((items, rest)) => match selected_from(alloc, depth, rest) {
+            Ok((from, rest)) => Ok((selected(items, from), rest)),
+            Err(fault) => {
+                drop(items);
+                Err(fault)
+            }
+        },
+        Err(fault) => Err(fault),
+    }
+}
+
+/// FROM, the table, and WHERE, if it is written.
+fn selected_from(
+    alloc: Global,
+    depth: usize,
+    tokens: &[Token],
+) -> Result<((Name, Option<Tree>), &[Token]), Fault>
+    ensures { Gives result (and_then (read_token (Token.Word (codes "from")) tokens.now) (λ _ rest. read_both g.name.parses.read (g.condition (g.expr depth)).read rest)) }
+{
+    let Some(rest) = word(tokens, b"from") else {
+        return Err(Fault::Syntax);
+    };
+    match name(alloc, rest) {
+        Ok((table, rest)) => match condition(alloc, depth, rest) {
+            Ok((condition, rest)) => Ok(((table, condition), rest)),
+            Err(fault) => {
+                drop(table);
+                Err(fault)
+            }
+        },
+        Err(fault) => Err(fault),
+    }
+}
+
+fn selected(items: Selected, from: (Name, Option<Tree>)) -> Draft
+    ensures { result ≡ spec.select_of (items, from) }
+{
+    let (table, condition) = from;
     let (condition, depth) = parted(condition);
     let select = Select {
         items,
         table,
         condition,
     };
-    Ok(((Statement::Select(select), depth), rest))
+    (Statement::Select(select), depth)
 }
 
 #[tactic(auto, unfolding(crate::specs::Grammar::condition))]
@@ -52,11 +89,12 @@ pub fn condition(
 ) -> Result<(Option<Tree>, &[Token]), Fault>
     ensures { Gives result ((g.condition (g.expr depth)).read tokens.now) }
 {
-    if let Some(rest) = word(tokens, b"where") {
-        let (condition, rest) = expr(alloc, depth, rest)?;
-        Ok((Some(condition), rest))
-    } else {
-        Ok((None, tokens))
+    match word(tokens, b"where") {
+        Some(rest) => match expr(alloc, depth, rest) {
+            Ok((condition, rest)) => Ok((Some(condition), rest)),
+            Err(fault) => Err(fault),
+        },
+        None => Ok((None, tokens)),
     }
 }
 
@@ -88,29 +126,39 @@ fn paren_second(tokens: &[Token]) -> bool
 fn count(tokens: &[Token]) -> Result<(Selected, &[Token]), Fault>
     ensures { Gives result (g.count.parses.read tokens.now) }
 {
-    let rest = past_word(tokens, b"count")?;
-    let rest = past_symbol(rest, Symbol::LParen)?;
-    let rest = past_symbol(rest, Symbol::Star)?;
-    let rest = past_symbol(rest, Symbol::RParen)?;
-    Ok((Selected::Count, rest))
+    let Some(rest) = word(tokens, b"count") else {
+        return Err(Fault::Syntax);
+    };
+    let Some(rest) = symbol(rest, Symbol::LParen) else {
+        return Err(Fault::Syntax);
+    };
+    let Some(rest) = symbol(rest, Symbol::Star) else {
+        return Err(Fault::Syntax);
+    };
+    closed(Selected::Count, rest)
 }
 
 #[tactic(auto, unfolding(crate::specs::Grammar::column_items))]
 fn column_items(alloc: Global, tokens: &[Token]) -> Result<(Selected, &[Token]), Fault>
     ensures { Gives result (g.column_items.parses.read tokens.now) }
 {
-    let (all, rest) = columns(alloc, tokens)?;
-    Ok((Selected::Items(all), rest))
+    match columns(alloc, tokens) {
+        Ok((all, rest)) => Ok((Selected::Items(all), rest)),
+        Err(fault) => Err(fault),
+    }
 }
 
 #[tactic(auto, unfolding(crate::specs::Grammar::columns, crate::specs::Gives::with_front))]
 pub fn columns(alloc: Global, tokens: &[Token]) -> Result<(Items<Expr>, &[Token]), Fault>
     ensures { Gives result (g.columns.parses.read tokens.now) }
 {
-    let (first, rest) = column(alloc, tokens)?;
-    let mut all = Items::new(alloc);
-    all.push(first)?;
-    more_columns(alloc, all, rest)
+    match column(alloc, tokens) {
+        Ok((first, rest)) => match only(alloc, first) {
+            Ok(all) => more_columns(alloc, all, rest),
+            Err(_) => Err(Fault::NoMemory),
+        },
+        Err(fault) => Err(fault),
+    }
 }
 
 #[tactic(auto, using(crate::proofs::Loops::front_begins, crate::proofs::Loops::loop_stops, crate::proofs::Loops::loop_ends, crate::proofs::Loops::loop_fails, crate::proofs::Loops::loop_goes_on))]
@@ -127,9 +175,15 @@ fn more_columns(
         if !sees_symbol(rest, Symbol::Comma) {
             return Ok((all, rest));
         }
-        let (next, behind) = next_column(alloc, rest)?;
-        all.push(next)?;
-        rest = behind;
+        match next_column(alloc, rest) {
+            Ok((next, behind)) => {
+                if all.push(next).is_err() {
+                    return Err(Fault::NoMemory);
+                }
+                rest = behind;
+            }
+            Err(fault) => return Err(fault),
+        }
     }
     Ok((all, rest))
 }
@@ -138,20 +192,51 @@ fn more_columns(
 fn next_column(alloc: Global, tokens: &[Token]) -> Result<(Expr, &[Token]), Fault>
     ensures { Gives result ((with_comma g.column).parses.read tokens.now) }
 {
-    let rest = past_symbol(tokens, Symbol::Comma)?;
-    column(alloc, rest)
+    match symbol(tokens, Symbol::Comma) {
+        Some(rest) => column(alloc, rest),
+        None => Err(Fault::Syntax),
+    }
 }
 
 #[tactic(auto, unfolding(crate::specs::Grammar::insert))]
 pub fn insert(alloc: Global, depth: usize, tokens: &[Token]) -> Result<(Draft, &[Token]), Fault>
     ensures { Gives result ((g.insert (g.expr depth)).read tokens.now) }
 {
-    let rest = past_word(tokens, b"insert")?;
-    let rest = past_word(rest, b"into")?;
-    let (table, rest) = name(alloc, rest)?;
-    let (rows, rest) = proper_rows(alloc, depth, rest)?;
-    let (returning, rest) = returning(alloc, rest)?;
-    Ok((inserted(table, rows, returning), rest))
+    let Some(rest) = word(tokens, b"insert") else {
+        return Err(Fault::Syntax);
+    };
+    let Some(rest) = word(rest, b"into") else {
+        return Err(Fault::Syntax);
+    };
+    match name(alloc, rest) {
+        Ok((table, rest)) => match rows_and_returning(alloc, depth, rest) {
+            Ok(((rows, returning), rest)) => Ok((inserted(table, rows, returning), rest)),
+            Err(fault) => {
+                drop(table);
+                Err(fault)
+            }
+        },
+        Err(fault) => Err(fault),
+    }
+}
+
+fn rows_and_returning(
+    alloc: Global,
+    depth: usize,
+    tokens: &[Token],
+) -> Result<((Rows, Option<Selected>), &[Token]), Fault>
+    ensures { Gives result (read_both (g.proper_rows (g.expr depth)).read g.returning.parses.read tokens.now) }
+{
+    match proper_rows(alloc, depth, tokens) {
+        Ok((rows, rest)) => match returning(alloc, rest) {
+            Ok((returning, rest)) => Ok(((rows, returning), rest)),
+            Err(fault) => {
+                drop(rows);
+                Err(fault)
+            }
+        },
+        Err(fault) => Err(fault),
+    }
 }
 
 fn inserted(table: Name, rows: Rows, returning: Option<Selected>) -> Draft
@@ -172,11 +257,16 @@ fn inserted(table: Name, rows: Rows, returning: Option<Selected>) -> Draft
 fn proper_rows(alloc: Global, depth: usize, tokens: &[Token]) -> Result<(Rows, &[Token]), Fault>
     ensures { Gives result ((g.proper_rows (g.expr depth)).read tokens.now) }
 {
-    let (rows, rest) = rows(alloc, depth, tokens)?;
-    if are_as_long(&rows) {
-        Ok((rows, rest))
-    } else {
-        Err(Fault::Syntax)
+    match rows(alloc, depth, tokens) {
+        Ok((rows, rest)) => {
+            if are_as_long(&rows) {
+                Ok((rows, rest))
+            } else {
+                drop(rows);
+                Err(Fault::Syntax)
+            }
+        }
+        Err(fault) => Err(fault),
     }
 }
 
@@ -194,10 +284,26 @@ fn are_as_long(rows: &Rows) -> bool
 fn rows(alloc: Global, depth: usize, tokens: &[Token]) -> Result<(Rows, &[Token]), Fault>
     ensures { Gives result ((g.rows (g.expr depth)).read tokens.now) }
 {
-    let (columns, rest) = columns_if_any(alloc, tokens)?;
-    let rest = past_word(rest, b"values")?;
-    let (tuples, rest) = even_tuples(alloc, depth, rest)?;
-    Ok(((columns, tuples), rest))
+    match columns_if_any(alloc, tokens) {
+        Ok((columns, rest)) => match values_behind(alloc, depth, rest) {
+            Ok((tuples, rest)) => Ok(((columns, tuples), rest)),
+            Err(fault) => {
+                drop(columns);
+                Err(fault)
+            }
+        },
+        Err(fault) => Err(fault),
+    }
+}
+
+/// VALUES and its tuples.
+fn values_behind(alloc: Global, depth: usize, tokens: &[Token]) -> Result<(Tuples, &[Token]), Fault>
+    ensures { Gives result (and_then (read_token (Token.Word (codes "values")) tokens.now) (λ _ rest. (g.even_tuples (g.expr depth)).read rest)) }
+{
+    match word(tokens, b"values") {
+        Some(rest) => even_tuples(alloc, depth, rest),
+        None => Err(Fault::Syntax),
+    }
 }
 
 /// The columns in parentheses, each once, if they are written.
@@ -205,10 +311,11 @@ fn rows(alloc: Global, depth: usize, tokens: &[Token]) -> Result<(Rows, &[Token]
 fn columns_if_any(alloc: Global, tokens: &[Token]) -> Result<(Option<Items<Name>>, &[Token]), Fault>
     ensures { Gives result (g.columns_if_any.parses.read tokens.now) }
 {
-    if let Some(rest) = symbol(tokens, Symbol::LParen) {
-        let (names, rest) = distinct_names(alloc, rest)?;
-        let rest = past_symbol(rest, Symbol::RParen)?;
-        Ok((Some(names), rest))
+    if sees_symbol(tokens, Symbol::LParen) {
+        match listed_names(alloc, tokens) {
+            Ok((names, rest)) => Ok((Some(names), rest)),
+            Err(fault) => Err(fault),
+        }
     } else {
         Ok((None, tokens))
     }
@@ -219,11 +326,16 @@ fn columns_if_any(alloc: Global, tokens: &[Token]) -> Result<(Option<Items<Name>
 fn even_tuples(alloc: Global, depth: usize, tokens: &[Token]) -> Result<(Tuples, &[Token]), Fault>
     ensures { Gives result ((g.even_tuples (g.expr depth)).read tokens.now) }
 {
-    let (tuples, rest) = tuples(alloc, depth, tokens)?;
-    if are_even(tuples.0.as_slice()) {
-        Ok((tuples, rest))
-    } else {
-        Err(Fault::Syntax)
+    match tuples(alloc, depth, tokens) {
+        Ok((tuples, rest)) => {
+            if are_even(tuples.0.as_slice()) {
+                Ok((tuples, rest))
+            } else {
+                drop(tuples);
+                Err(Fault::Syntax)
+            }
+        }
+        Err(fault) => Err(fault),
     }
 }
 
@@ -252,10 +364,13 @@ fn have_length(length: usize, mut tuples: &[Items<Expr>]) -> bool
 fn tuples(alloc: Global, depth: usize, tokens: &[Token]) -> Result<(Tuples, &[Token]), Fault>
     ensures { Gives result ((g.tuples (g.expr depth)).read tokens.now) }
 {
-    let ((first, height), rest) = tuple(alloc, depth, tokens)?;
-    let mut all = Items::new(alloc);
-    all.push(first)?;
-    more_tuples(alloc, depth, (all, height), rest)
+    match tuple(alloc, depth, tokens) {
+        Ok(((first, height), rest)) => match only(alloc, first) {
+            Ok(all) => more_tuples(alloc, depth, (all, height), rest),
+            Err(_) => Err(Fault::NoMemory),
+        },
+        Err(fault) => Err(fault),
+    }
 }
 
 #[tactic(auto, using(crate::proofs::Loops::fold_begins, crate::proofs::Loops::fold_stops, crate::proofs::Loops::fold_ends, crate::proofs::Loops::fold_fails, crate::proofs::Loops::fold_goes_on))]
@@ -273,9 +388,19 @@ fn more_tuples(
         if !sees_symbol(rest, Symbol::Comma) {
             return Ok((all, rest));
         }
-        let (next, behind) = next_tuple(alloc, depth, rest)?;
-        all = with_tuple(all, next)?;
-        rest = behind;
+        match next_tuple(alloc, depth, rest) {
+            Ok((next, behind)) => match with_tuple(all, next) {
+                Ok(more) => {
+                    all = more;
+                    rest = behind;
+                }
+                Err(_) => return Err(Fault::NoMemory),
+            },
+            Err(fault) => {
+                drop(all);
+                return Err(fault);
+            }
+        }
     }
     Ok((all, rest))
 }
@@ -284,6 +409,8 @@ fn more_tuples(
 fn next_tuple(alloc: Global, depth: usize, tokens: &[Token]) -> Result<(Tuple, &[Token]), Fault>
     ensures { Gives result ((cut.with_comma (g.tuple (g.expr depth))).read tokens.now) }
 {
-    let rest = past_symbol(tokens, Symbol::Comma)?;
-    tuple(alloc, depth, rest)
+    match symbol(tokens, Symbol::Comma) {
+        Some(rest) => tuple(alloc, depth, rest),
+        None => Err(Fault::Syntax),
+    }
 }

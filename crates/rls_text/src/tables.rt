@@ -1,10 +1,12 @@
 //! New tables and changes of row security from tokens.
 
-ghost use Rattle.std.specs.Prelude.{◌≡◌, [], ◌∷◌, length, IfOk};
-ghost use Rattle.rls_text.specs.Gives.{Gives, folded};
+ghost use Rattle.std.specs.Prelude.{◌≡◌, [], ◌∷◌, length, codes, refl, IfOk};
+ghost use Rattle.rls_text.specs.Gives.{Finds, Gives, folded};
 ghost use Rattle.rls_text.specs.Heads.{Sign};
-ghost use Rattle.rls_text.specs.Parses.{read_many};
-ghost use Rattle.rls_text.specs.Rule.{with_comma};
+ghost use Rattle.rls_text.specs.Parses.{read_many, read_mapped};
+ghost use Rattle.rls_text.specs.Rule.{with_comma, in_parentheses, before, after};
+ghost use Rattle.rls_text.specs.Rule.{word as g_word};
+ghost use Rattle.rls_text.specs.Trees.{flat};
 ghost use Rattle.rls_text.specs.Elements as spec;
 ghost use Rattle.rls_text.specs.Grammar as g;
 ghost use Rattle.rls_text.specs.Values as values;
@@ -12,8 +14,9 @@ ghost use Rattle.rls_text.specs.Values as values;
 use crate::columns::column;
 use crate::fault::Fault;
 use crate::memberships::names;
-use crate::reading::{name, past_symbol, past_word, sees_symbol, starts_name, word};
+use crate::reading::{closed, name, only, sees_symbol, starts_name, symbol, two_words, word};
 use crate::token::{Symbol, Token};
+use crate::tree::Draft;
 use rls_statement::{AlterTable, CreateTable, MarkedColumn, RowSecurity, Statement};
 use rls_value::{Items, Name};
 use std::alloc::{AllocError, Global};
@@ -37,14 +40,32 @@ pub struct TableElements {
 
 /// What stands behind CREATE TABLE.
 #[tactic(auto, unfolding(crate::specs::Grammar::table))]
-pub fn table(alloc: Global, tokens: &[Token]) -> Result<(Statement, &[Token]), Fault>
-    ensures { Gives result (g.table.parses.read tokens.now) }
+pub fn table(alloc: Global, tokens: &[Token]) -> Result<(Draft, &[Token]), Fault>
+    ensures { Gives result (read_mapped flat g.table.parses.read tokens.now) }
 {
-    let (name, rest) = name(alloc, tokens)?;
-    let rest = past_symbol(rest, Symbol::LParen)?;
-    let (elements, rest) = proper_elements(alloc, rest)?;
-    let rest = past_symbol(rest, Symbol::RParen)?;
-    Ok((created(name, elements), rest))
+    match name(alloc, tokens) {
+        Ok((name, rest)) => match all_elements(alloc, rest) {
+            Ok((elements, rest)) => Ok(((created(name, elements), 0), rest)),
+            Err(fault) => {
+                drop(name);
+                Err(fault)
+            }
+        },
+        Err(fault) => Err(fault),
+    }
+}
+
+/// The elements in parentheses.
+fn all_elements(alloc: Global, tokens: &[Token]) -> Result<(TableElements, &[Token]), Fault>
+    ensures { Gives result ((in_parentheses g.proper_elements refl).parses.read tokens.now) }
+{
+    let Some(rest) = symbol(tokens, Symbol::LParen) else {
+        return Err(Fault::Syntax);
+    };
+    match proper_elements(alloc, rest) {
+        Ok((elements, rest)) => closed(elements, rest),
+        Err(fault) => Err(fault),
+    }
 }
 
 fn created(name: Name, elements: TableElements) -> Statement
@@ -58,11 +79,19 @@ fn created(name: Name, elements: TableElements) -> Statement
 fn proper_elements(alloc: Global, tokens: &[Token]) -> Result<(TableElements, &[Token]), Fault>
     ensures { Gives result (g.proper_elements.parses.read tokens.now) }
 {
-    let (elements, rest) = columns_and_key(alloc, tokens)?;
-    if is_table(alloc, &elements)? {
-        Ok((elements, rest))
-    } else {
-        Err(Fault::Syntax)
+    match columns_and_key(alloc, tokens) {
+        Ok((elements, rest)) => match is_table(alloc, &elements) {
+            Ok(true) => Ok((elements, rest)),
+            Ok(false) => {
+                drop(elements);
+                Err(Fault::Syntax)
+            }
+            Err(_) => {
+                drop(elements);
+                Err(Fault::NoMemory)
+            }
+        },
+        Err(fault) => Err(fault),
     }
 }
 
@@ -71,11 +100,16 @@ fn proper_elements(alloc: Global, tokens: &[Token]) -> Result<(TableElements, &[
 fn columns_and_key(alloc: Global, tokens: &[Token]) -> Result<(TableElements, &[Token]), Fault>
     ensures { Gives result (g.columns_and_key.parses.read tokens.now) }
 {
-    let (elements, rest) = table_elements(alloc, tokens)?;
-    if elements.key_last {
-        Ok((elements, rest))
-    } else {
-        Err(Fault::Syntax)
+    match table_elements(alloc, tokens) {
+        Ok((elements, rest)) => {
+            if elements.key_last {
+                Ok((elements, rest))
+            } else {
+                drop(elements);
+                Err(Fault::Syntax)
+            }
+        }
+        Err(fault) => Err(fault),
     }
 }
 
@@ -141,21 +175,26 @@ fn are_distinct(alloc: Global, mut columns: &[MarkedColumn]) -> Result<bool, All
 fn table_elements(alloc: Global, tokens: &[Token]) -> Result<(TableElements, &[Token]), Fault>
     ensures { Gives result (g.table_elements.parses.read tokens.now) }
 {
-    let (first, rest) = column(alloc, tokens)?;
-    let first = only_column(alloc, first)?;
-    more_elements(alloc, first, rest)
+    match column(alloc, tokens) {
+        Ok((first, rest)) => match only_column(alloc, first) {
+            Ok(first) => more_elements(alloc, first, rest),
+            Err(_) => Err(Fault::NoMemory),
+        },
+        Err(fault) => Err(fault),
+    }
 }
 
 fn only_column(alloc: Global, column: MarkedColumn) -> Result<TableElements, AllocError>
     ensures { IfOk result (λ elements. elements ≡ spec.only_columns (column ∷ [])) }
 {
-    let mut columns = Items::new(alloc);
-    columns.push(column)?;
-    Ok(TableElements {
-        columns,
-        key: None,
-        key_last: true,
-    })
+    match only(alloc, column) {
+        Ok(columns) => Ok(TableElements {
+            columns,
+            key: None,
+            key_last: true,
+        }),
+        Err(refused) => Err(refused),
+    }
 }
 
 #[tactic(auto, using(crate::proofs::Loops::fold_begins, crate::proofs::Loops::fold_stops, crate::proofs::Loops::fold_ends, crate::proofs::Loops::fold_fails, crate::proofs::Loops::fold_goes_on))]
@@ -172,9 +211,19 @@ fn more_elements(
         if !sees_symbol(rest, Symbol::Comma) {
             return Ok((all, rest));
         }
-        let (next, behind) = next_element(alloc, rest)?;
-        all = with_element(all, next)?;
-        rest = behind;
+        match next_element(alloc, rest) {
+            Ok((next, behind)) => match with_element(all, next) {
+                Ok(more) => {
+                    all = more;
+                    rest = behind;
+                }
+                Err(_) => return Err(Fault::NoMemory),
+            },
+            Err(fault) => {
+                drop(all);
+                return Err(fault);
+            }
+        }
     }
     Ok((all, rest))
 }
@@ -191,18 +240,27 @@ fn with_element(elements: TableElements, element: TableElement) -> Result<TableE
     let key_last = key_last && key.is_none();
     match element {
         TableElement::Column(column) => {
-            columns.push(column)?;
+            match columns.push(column) {
+                Ok(()) => Ok(TableElements {
+                    columns,
+                    key,
+                    key_last,
+                }),
+                Err(refused) => {
+                    drop(columns);
+                    drop(key);
+                    Err(refused)
+                }
+            }
+        }
+        TableElement::Key(names) => {
+            drop(key);
             Ok(TableElements {
                 columns,
-                key,
+                key: Some(names),
                 key_last,
             })
         }
-        TableElement::Key(names) => Ok(TableElements {
-            columns,
-            key: Some(names),
-            key_last,
-        }),
     }
 }
 
@@ -210,8 +268,10 @@ fn with_element(elements: TableElements, element: TableElement) -> Result<TableE
 fn next_element(alloc: Global, tokens: &[Token]) -> Result<(TableElement, &[Token]), Fault>
     ensures { Gives result ((with_comma g.table_element).parses.read tokens.now) }
 {
-    let rest = past_symbol(tokens, Symbol::Comma)?;
-    table_element(alloc, rest)
+    match symbol(tokens, Symbol::Comma) {
+        Some(rest) => table_element(alloc, rest),
+        None => Err(Fault::Syntax),
+    }
 }
 
 #[tactic(auto, unfolding(crate::specs::Grammar::table_element))]
@@ -219,11 +279,15 @@ fn table_element(alloc: Global, tokens: &[Token]) -> Result<(TableElement, &[Tok
     ensures { Gives result (g.table_element.parses.read tokens.now) }
 {
     if starts_name(tokens) {
-        let (column, rest) = column(alloc, tokens)?;
-        Ok((TableElement::Column(column), rest))
+        match column(alloc, tokens) {
+            Ok((column, rest)) => Ok((TableElement::Column(column), rest)),
+            Err(fault) => Err(fault),
+        }
     } else {
-        let (key, rest) = primary_key(alloc, tokens)?;
-        Ok((TableElement::Key(key), rest))
+        match primary_key(alloc, tokens) {
+            Ok((key, rest)) => Ok((TableElement::Key(key), rest)),
+            Err(fault) => Err(fault),
+        }
     }
 }
 
@@ -232,23 +296,45 @@ fn table_element(alloc: Global, tokens: &[Token]) -> Result<(TableElement, &[Tok
 fn primary_key(alloc: Global, tokens: &[Token]) -> Result<(Items<Name>, &[Token]), Fault>
     ensures { Gives result (g.primary_key.parses.read tokens.now) }
 {
-    let rest = past_word(tokens, b"primary")?;
-    let rest = past_word(rest, b"key")?;
-    let rest = past_symbol(rest, Symbol::LParen)?;
-    let (names, rest) = distinct_names(alloc, rest)?;
-    let rest = past_symbol(rest, Symbol::RParen)?;
-    Ok((names, rest))
+    let Some(rest) = word(tokens, b"primary") else {
+        return Err(Fault::Syntax);
+    };
+    match word(rest, b"key") {
+        Some(rest) => listed_names(alloc, rest),
+        None => Err(Fault::Syntax),
+    }
+}
+
+/// Names in parentheses, each once.
+pub fn listed_names(alloc: Global, tokens: &[Token]) -> Result<(Items<Name>, &[Token]), Fault>
+    ensures { Gives result ((in_parentheses g.distinct_names refl).parses.read tokens.now) }
+{
+    let Some(rest) = symbol(tokens, Symbol::LParen) else {
+        return Err(Fault::Syntax);
+    };
+    match distinct_names(alloc, rest) {
+        Ok((names, rest)) => closed(names, rest),
+        Err(fault) => Err(fault),
+    }
 }
 
 #[tactic(auto, unfolding(crate::specs::Grammar::distinct_names))]
 pub fn distinct_names(alloc: Global, tokens: &[Token]) -> Result<(Items<Name>, &[Token]), Fault>
     ensures { Gives result (g.distinct_names.parses.read tokens.now) }
 {
-    let (names, rest) = names(alloc, tokens)?;
-    if are_distinct_names(alloc, names.as_slice())? {
-        Ok((names, rest))
-    } else {
-        Err(Fault::Syntax)
+    match names(alloc, tokens) {
+        Ok((names, rest)) => match are_distinct_names(alloc, names.as_slice()) {
+            Ok(true) => Ok((names, rest)),
+            Ok(false) => {
+                drop(names);
+                Err(Fault::Syntax)
+            }
+            Err(_) => {
+                drop(names);
+                Err(Fault::NoMemory)
+            }
+        },
+        Err(fault) => Err(fault),
     }
 }
 
@@ -268,15 +354,44 @@ fn are_distinct_names(alloc: Global, mut names: &[Name]) -> Result<bool, AllocEr
 
 /// What stands behind ALTER TABLE: the table, and the change of its row security.
 #[tactic(auto, unfolding(crate::specs::Grammar::altered_table))]
-pub fn altered_table(alloc: Global, tokens: &[Token]) -> Result<(Statement, &[Token]), Fault>
-    ensures { Gives result (g.altered_table.parses.read tokens.now) }
+pub fn altered_table(alloc: Global, tokens: &[Token]) -> Result<(Draft, &[Token]), Fault>
+    ensures { Gives result (read_mapped flat g.altered_table.parses.read tokens.now) }
 {
-    let (table, rest) = name(alloc, tokens)?;
-    let (change, rest) = row_change(rest)?;
-    let rest = past_word(rest, b"row")?;
-    let rest = past_word(rest, b"level")?;
-    let rest = past_word(rest, b"security")?;
-    Ok((Statement::AlterTable(AlterTable { table, change }), rest))
+    match name(alloc, tokens) {
+        Ok((table, rest)) => match security_change(rest) {
+            Ok((change, rest)) => {
+                let alter = AlterTable { table, change };
+                Ok(((Statement::AlterTable(alter), 0), rest))
+            }
+            Err(fault) => {
+                drop(table);
+                Err(fault)
+            }
+        },
+        Err(fault) => Err(fault),
+    }
+}
+
+/// The change, and ROW LEVEL SECURITY.
+fn security_change(tokens: &[Token]) -> Result<(RowSecurity, &[Token]), Fault>
+    ensures { Gives result ((before g.row_change (after (g_word (codes "row")) (after (g_word (codes "level")) (g_word (codes "security")) refl) refl) refl).parses.read tokens.now) }
+{
+    match row_change(tokens) {
+        Ok((change, rest)) => match row_level_security(rest) {
+            Some(rest) => Ok((change, rest)),
+            None => Err(Fault::Syntax),
+        },
+        Err(fault) => Err(fault),
+    }
+}
+
+fn row_level_security(tokens: &[Token]) -> Option<&[Token]>
+    ensures { Finds result ((after (g_word (codes "row")) (after (g_word (codes "level")) (g_word (codes "security")) refl) refl).parses.read tokens.now) }
+{
+    match word(tokens, b"row") {
+        Some(rest) => two_words(rest, b"level", b"security"),
+        None => None,
+    }
 }
 
 #[tactic(auto, unfolding(crate::specs::Grammar::row_change))]
@@ -290,8 +405,9 @@ fn row_change(tokens: &[Token]) -> Result<(RowSecurity, &[Token]), Fault>
     } else if let Some(rest) = word(tokens, b"force") {
         Ok((RowSecurity::Force, rest))
     } else {
-        let rest = past_word(tokens, b"no")?;
-        let rest = past_word(rest, b"force")?;
-        Ok((RowSecurity::NoForce, rest))
+        match two_words(tokens, b"no", b"force") {
+            Some(rest) => Ok((RowSecurity::NoForce, rest)),
+            None => Err(Fault::Syntax),
+        }
     }
 }

@@ -1,7 +1,8 @@
 //! Trees of limited depth: of a deeper one nothing is kept but that it was too deep.
 
-ghost use Rattle.std.specs.Prelude.{◌≡◌, IfOk};
+ghost use Rattle.std.specs.Prelude.{◌≡◌, [], ◌∷◌, ◌++◌, IfOk};
 ghost use Rattle.rls_expr.specs.ExprTerms.{term_of};
+ghost use Rattle.rls_expr.specs.Terms as term;
 ghost use Rattle.rls_text.specs.Trees as spec;
 
 use rls_expr::{Comparison, Expr, Node, Sign};
@@ -39,9 +40,26 @@ pub fn not_of(alloc: Global, operand: Tree) -> Result<Tree, AllocError>
 {
     let (operand, depth) = operand;
     if depth < MAX_DEPTH {
-        Ok((Expr::new(Node::Not(Box::new(alloc, operand)?)), depth + 1))
+        match boxed(alloc, operand) {
+            Ok(operand) => Ok((Expr::new(Node::Not(operand)), depth + 1)),
+            Err(refused) => Err(refused),
+        }
     } else {
+        drop(operand);
         Ok(cut())
+    }
+}
+
+/// The expression on the heap.
+fn boxed(alloc: Global, expr: Expr) -> Result<Box<Expr>, AllocError>
+    ensures { IfOk result (λ boxed. boxed.value ≡ expr) }
+{
+    match Box::new(alloc, expr) {
+        Ok(boxed) => Ok(boxed),
+        Err(refused) => {
+            drop(refused);
+            Err(AllocError)
+        }
     }
 }
 
@@ -52,12 +70,15 @@ pub fn null_test_of(alloc: Global, tested: Tree, negated: Option<()>) -> Result<
 {
     let (tested, depth) = tested;
     if depth < MAX_DEPTH {
-        let tested = Box::new(alloc, tested)?;
-        match negated {
-            None => Ok((Expr::new(Node::IsNull(tested)), depth + 1)),
-            Some(()) => Ok((Expr::new(Node::IsNotNull(tested)), depth + 1)),
+        match boxed(alloc, tested) {
+            Ok(tested) => match negated {
+                None => Ok((Expr::new(Node::IsNull(tested)), depth + 1)),
+                Some(()) => Ok((Expr::new(Node::IsNotNull(tested)), depth + 1)),
+            },
+            Err(refused) => Err(refused),
         }
     } else {
+        drop(tested);
         Ok(cut())
     }
 }
@@ -74,11 +95,32 @@ pub fn compare_of(
     let (right, other) = right;
     let depth = depth.max(other);
     if depth < MAX_DEPTH {
-        let left = Box::new(alloc, left)?;
-        let right = Box::new(alloc, right)?;
-        Ok((Expr::new(Node::Compare(how, left, right)), depth + 1))
+        match compared(alloc, how, left, right) {
+            Ok(expr) => Ok((expr, depth + 1)),
+            Err(refused) => Err(refused),
+        }
     } else {
+        drop(left);
+        drop(right);
         Ok(cut())
+    }
+}
+
+fn compared(alloc: Global, how: Comparison, left: Expr, right: Expr) -> Result<Expr, AllocError>
+    ensures { IfOk result (λ expr. expr ≡ term.Compare how left right) }
+{
+    match boxed(alloc, left) {
+        Ok(left) => match boxed(alloc, right) {
+            Ok(right) => Ok(Expr::new(Node::Compare(how, left, right))),
+            Err(refused) => {
+                drop(left);
+                Err(refused)
+            }
+        },
+        Err(refused) => {
+            drop(right);
+            Err(refused)
+        }
     }
 }
 
@@ -93,14 +135,41 @@ pub fn with_operand(
     let (operand, other) = operand;
     match operands {
         Operands::One(first, depth) => {
-            let mut all = Items::new(alloc);
-            all.push(first)?;
-            all.push(operand)?;
-            Ok(Operands::Several(all, depth.max(other)))
+            match pair(alloc, first, operand) {
+                Ok(all) => Ok(Operands::Several(all, depth.max(other))),
+                Err(refused) => Err(refused),
+            }
         }
-        Operands::Several(mut all, depth) => {
-            all.push(operand)?;
-            Ok(Operands::Several(all, depth.max(other)))
+        Operands::Several(all, depth) => {
+            match with_one_more(all, operand) {
+                Ok(all) => Ok(Operands::Several(all, depth.max(other))),
+                Err(refused) => Err(refused),
+            }
+        }
+    }
+}
+
+fn pair(alloc: Global, first: Expr, second: Expr) -> Result<Items<Expr>, AllocError>
+    ensures { IfOk result (λ all. all ≡ first ∷ second ∷ []) }
+{
+    match with_one_more(Items::new(alloc), first) {
+        Ok(all) => with_one_more(all, second),
+        Err(refused) => {
+            drop(second);
+            Err(refused)
+        }
+    }
+}
+
+fn with_one_more(all: Items<Expr>, next: Expr) -> Result<Items<Expr>, AllocError>
+    ensures { IfOk result (λ more. more ≡ all ++ next ∷ []) }
+{
+    let mut all = all;
+    match all.push(next) {
+        Ok(()) => Ok(all),
+        Err(refused) => {
+            drop(all);
+            Err(refused)
         }
     }
 }
@@ -144,10 +213,35 @@ pub type Summed = (Operands, Items<Sign>);
 pub fn with_summand(alloc: Global, sum: Summed, part: (Sign, Tree)) -> Result<Summed, AllocError>
     ensures { IfOk result (λ all. all ≡ spec.with_summand sum part) }
 {
-    let (parts, mut signs) = sum;
+    let (parts, signs) = sum;
     let (sign, part) = part;
-    signs.push(sign)?;
-    Ok((with_operand(alloc, parts, part)?, signs))
+    match with_sign(signs, sign) {
+        Ok(signs) => match with_operand(alloc, parts, part) {
+            Ok(parts) => Ok((parts, signs)),
+            Err(refused) => {
+                drop(signs);
+                Err(refused)
+            }
+        },
+        Err(refused) => {
+            drop(parts);
+            drop(part);
+            Err(refused)
+        }
+    }
+}
+
+fn with_sign(signs: Items<Sign>, sign: Sign) -> Result<Items<Sign>, AllocError>
+    ensures { IfOk result (λ all. all ≡ signs ++ sign ∷ []) }
+{
+    let mut signs = signs;
+    match signs.push(sign) {
+        Ok(()) => Ok(signs),
+        Err(refused) => {
+            drop(signs);
+            Err(refused)
+        }
+    }
 }
 
 /// One part alone makes no node.
@@ -229,13 +323,22 @@ pub fn among_of(
     let (list, other) = list;
     let depth = depth.max(other);
     if depth < MAX_DEPTH {
-        let left = Box::new(alloc, left)?;
-        let list = list.into_vec();
-        match negated {
-            None => Ok((Expr::new(Node::Among(left, list)), depth + 1)),
-            Some(()) => Ok((Expr::new(Node::NotAmong(left, list)), depth + 1)),
+        match boxed(alloc, left) {
+            Ok(left) => {
+                let list = list.into_vec();
+                match negated {
+                    None => Ok((Expr::new(Node::Among(left, list)), depth + 1)),
+                    Some(()) => Ok((Expr::new(Node::NotAmong(left, list)), depth + 1)),
+                }
+            }
+            Err(refused) => {
+                drop(list);
+                Err(refused)
+            }
         }
     } else {
+        drop(left);
+        drop(list);
         Ok(cut())
     }
 }

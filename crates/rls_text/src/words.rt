@@ -13,8 +13,14 @@ use std::alloc::{AllocError, Global};
 pub fn words(alloc: Global, text: &str) -> Result<Vec<Token>, AllocError>
     ensures { IfOk result (λ tokens. tokens.items ≡ spec.words_of text.now) }
 {
-    let chars = chars_of(alloc, text)?;
-    words_in(alloc, chars.as_slice())
+    match chars_of(alloc, text) {
+        Ok(chars) => {
+            let words = words_in(alloc, chars.as_slice());
+            drop(chars);
+            words
+        }
+        Err(refused) => Err(refused),
+    }
 }
 
 fn chars_of(alloc: Global, text: &str) -> Result<Vec<char>, AllocError>
@@ -49,7 +55,10 @@ fn next(alloc: Global, chars: &[char]) -> Result<Option<(Token, &[char])>, Alloc
     ensures { IfOk result (λ read. spec.next_word chars.now ≡ spec.read_now read) }
 {
     match behind_blanks(chars) {
-        [first, behind @ ..] => Ok(Some(word_from(alloc, *first, behind)?)),
+        [first, behind @ ..] => match word_from(alloc, *first, behind) {
+            Ok(read) => Ok(Some(read)),
+            Err(refused) => Err(refused),
+        },
         [] => Ok(None),
     }
 }
@@ -79,6 +88,7 @@ fn behind_blanks(chars: &[char]) -> &[char]
     rest
 }
 
+#[tactic(auto, unfolding(crate::specs::Words::is_blank))]
 fn is_blank(letter: char) -> bool
     ensures { result ≡ spec.is_blank letter }
 {
@@ -88,6 +98,7 @@ fn is_blank(letter: char) -> bool
     }
 }
 
+#[tactic(auto, unfolding(crate::specs::Words::begins_comment))]
 fn begins_comment(first: char, behind: &[char]) -> bool
     ensures { result ≡ spec.begins_comment first behind.now }
 {
@@ -227,6 +238,7 @@ fn sign(first: char, behind: &[char]) -> (Token, &[char])
 }
 
 /// The sign of two characters, if they are one.
+#[tactic(auto, unfolding(crate::specs::Words::double))]
 fn double(first: char, second: char) -> Option<Symbol>
     ensures { result ≡ spec.double first second }
 {
@@ -240,6 +252,7 @@ fn double(first: char, second: char) -> Option<Symbol>
 }
 
 /// The sign of one character.
+#[tactic(auto, unfolding(crate::specs::Words::single))]
 fn single(first: char) -> Token
     ensures { result ≡ spec.single first }
 {

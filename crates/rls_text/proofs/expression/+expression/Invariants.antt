@@ -28,6 +28,9 @@ decreases-tuple l = 32 * l.depth + 4
 abbrev pub decreases-in_list : goal.decreases-in_list
 decreases-in_list l = 32 * l.depth + 5
 
+abbrev pub decreases-parenthesized : goal.decreases-parenthesized
+decreases-parenthesized l = 32 * l.depth + 1
+
 abbrev pub decreases-prim : goal.decreases-prim
 decreases-prim l = 32 * l.depth + 6
 
@@ -43,32 +46,35 @@ decreases-sum l = 32 * l.depth + 9
 abbrev pub decreases-memb : goal.decreases-memb
 decreases-memb l = 32 * l.depth + 10
 
+abbrev pub decreases-right_side : goal.decreases-right_side
+decreases-right_side l = 32 * l.depth + 11
+
 abbrev pub decreases-cmp : goal.decreases-cmp
-decreases-cmp l = 32 * l.depth + 11
+decreases-cmp l = 32 * l.depth + 12
 
 abbrev pub decreases-is : goal.decreases-is
-decreases-is l = 32 * l.depth + 12
+decreases-is l = 32 * l.depth + 13
 
 abbrev pub decreases-not : goal.decreases-not
-decreases-not l = 32 * l.depth + 13
+decreases-not l = 32 * l.depth + 14
 
 abbrev pub decreases-and_next : goal.decreases-and_next
-decreases-and_next l = 32 * l.depth + 14
+decreases-and_next l = 32 * l.depth + 15
 
 abbrev pub decreases-and_more : goal.decreases-and_more
-decreases-and_more l = 32 * l.depth + 15
+decreases-and_more l = 32 * l.depth + 16
 
 abbrev pub decreases-and : goal.decreases-and
-decreases-and l = 32 * l.depth + 16
+decreases-and l = 32 * l.depth + 17
 
 abbrev pub decreases-or_next : goal.decreases-or_next
-decreases-or_next l = 32 * l.depth + 17
+decreases-or_next l = 32 * l.depth + 18
 
 abbrev pub decreases-or_more : goal.decreases-or_more
-decreases-or_more l = 32 * l.depth + 18
+decreases-or_more l = 32 * l.depth + 19
 
 abbrev pub decreases-or : goal.decreases-or
-decreases-or l = 32 * l.depth + 19
+decreases-or l = 32 * l.depth + 20
 
 -- what is read next is put into what was read
 abbrev pub invariant-more_parts-loop-turn : goal.invariant-more_parts-loop-turn
