@@ -1,38 +1,100 @@
 //! A source behind changes that aren't put on.
 
-use crate::states::{add_role, told};
+use crate::states::{add_role, says};
 use rls_catalog::{Catalog, Change, RoleDef};
 use rls_overlay::Overlay;
 use rls_role::has;
 use rls_source::Plain;
 use rls_value::{Items, Name, Refusal};
-use std::alloc::Global;
-use std::test::Fail;
+use std::alloc::{AllocError, Global};
 
 /// Whether `a` has the privileges of `postgres`, behind the changes.
 fn has_all(catalog: &Catalog, alloc: Global, changes: &[Change]) -> Result<bool, Refusal> {
     let a = Name::new(alloc, "a")?;
-    let postgres = Name::postgres(alloc)?;
-    let mut source = Overlay::new(alloc, Plain::new(catalog), changes)?;
-    Ok(has(alloc, &mut source, &a, &postgres)?)
+    let has = has_those_of_postgres(catalog, alloc, changes, &a);
+    drop(a);
+    Ok(has?)
 }
 
-/// A role that the changes make a superuser is one behind them, and not in the state below.
-#[test]
-fn changes_are_seen_behind_themselves(rt: HostRuntime) -> Result<(), Fail> {
-    let mut catalog = Catalog::new(rt.alloc())?;
-    add_role(&mut catalog, rt.alloc(), "a", false).map_err(told)?;
-    let superuser = RoleDef {
+fn has_those_of_postgres(
+    catalog: &Catalog,
+    alloc: Global,
+    changes: &[Change],
+    role: &Name,
+) -> Result<bool, AllocError> {
+    let postgres = Name::postgres(alloc)?;
+    let has = has_behind(catalog, alloc, changes, role, &postgres);
+    drop(postgres);
+    has
+}
+
+/// Whether the role has the privileges of the other, behind the changes.
+fn has_behind(
+    catalog: &Catalog,
+    alloc: Global,
+    changes: &[Change],
+    role: &Name,
+    of: &Name,
+) -> Result<bool, AllocError> {
+    let mut source = Overlay::new(alloc, Plain::new(catalog), changes)?;
+    let has = has(alloc, &mut source, role, of);
+    drop(source);
+    has
+}
+
+/// A state in which `a` is a role.
+fn with_a(alloc: Global) -> Result<Catalog, Refusal> {
+    let mut catalog = Catalog::new(alloc)?;
+    match add_role(&mut catalog, alloc, "a", false) {
+        Ok(()) => Ok(catalog),
+        Err(refusal) => {
+            drop(catalog);
+            Err(refusal)
+        }
+    }
+}
+
+/// A change that makes `a` a superuser.
+fn superuser(alloc: Global) -> Result<Items<Change>, Refusal> {
+    let def = RoleDef {
         superuser: true,
         login: true,
         bypass_rls: false,
     };
-    let a = Name::new(rt.alloc(), "a").map_err(told)?;
-    let mut changes = Items::new(rt.alloc());
-    changes.push(Change::Role(a, superuser))?;
-    let behind = has_all(&catalog, rt.alloc(), changes.as_slice()).map_err(told)?;
-    assert!(rt; behind);
-    let below = has_all(&catalog, rt.alloc(), &[]).map_err(told)?;
-    assert!(rt; !below);
-    Ok(())
+    let a = Name::new(alloc, "a")?;
+    let mut changes = Items::new(alloc);
+    changes.push(Change::Role(a, def))?;
+    Ok(changes)
+}
+
+/// Whether `a` has all privileges behind the changes, and no more than its own without them.
+fn is_superuser_behind(
+    catalog: &Catalog,
+    alloc: Global,
+    changes: &[Change],
+) -> Result<bool, Refusal> {
+    let behind = has_all(catalog, alloc, changes)?;
+    let below = has_all(catalog, alloc, &[])?;
+    Ok(behind && !below)
+}
+
+/// The same for the change that makes it a superuser.
+fn is_seen(alloc: Global, catalog: &Catalog) -> Result<bool, Refusal> {
+    let changes = superuser(alloc)?;
+    let seen = is_superuser_behind(catalog, alloc, changes.as_slice());
+    drop(changes);
+    seen
+}
+
+fn is_seen_behind_itself(alloc: Global) -> Result<bool, Refusal> {
+    let catalog = with_a(alloc)?;
+    let seen = is_seen(alloc, &catalog);
+    drop(catalog);
+    seen
+}
+
+/// A role that the changes make a superuser is one behind them, and not in the state below.
+#[test]
+fn changes_are_seen_behind_themselves(rt: HostRuntime) {
+    assert!(rt; says(is_seen_behind_itself(rt.alloc()), true));
 }

@@ -1,13 +1,12 @@
 //! Row security by worked examples (PostgreSQL manual, 5.9 and CREATE POLICY).
 
-use crate::states::{add_role, put, told};
-use rls_catalog::{Catalog, Change, Membership, PolicyList, Verdict};
+use crate::states::{add_role, membership, put_members, says};
+use rls_catalog::{Catalog, PolicyList, Verdict};
 use rls_expr::{Policy, TableDef};
 use rls_policy::{Judgement, combine, is_exempt};
 use rls_source::Plain;
 use rls_value::{Items, Loan, Name, PolicyKind, Refusal, Truth};
-use std::alloc::Global;
-use std::test::Fail;
+use std::alloc::{AllocError, Global};
 
 fn policy(alloc: Global, name: &str, permissive: bool) -> Result<Policy, Refusal> {
     Ok(Policy {
@@ -23,12 +22,40 @@ fn policy(alloc: Global, name: &str, permissive: bool) -> Result<Policy, Refusal
 /// Whether a permissive policy `p` and a restrictive one `r` say it together, by what each says.
 fn both_say(alloc: Global, p: Truth, r: Truth, want: &str) -> Result<bool, Refusal> {
     let permissive = policy(alloc, "p", true)?;
-    let restrictive = policy(alloc, "r", false)?;
-    let judgements = [(Loan::new(&permissive), p), (Loan::new(&restrictive), r)];
+    match policy(alloc, "r", false) {
+        Ok(restrictive) => {
+            let said = say_both(&permissive, p, &restrictive, r, want);
+            drop(restrictive);
+            drop(permissive);
+            Ok(said?)
+        }
+        Err(refusal) => {
+            drop(permissive);
+            Err(refusal)
+        }
+    }
+}
+
+fn say_both<'a>(
+    permissive: &'a Policy,
+    p: Truth,
+    restrictive: &'a Policy,
+    r: Truth,
+    want: &str,
+) -> Result<bool, AllocError> {
+    let judgements = [(Loan::new(permissive), p), (Loan::new(restrictive), r)];
     say(&judgements, want)
 }
 
-fn say(judgements: &[Judgement<'_>], want: &str) -> Result<bool, Refusal> {
+/// Whether a restrictive policy alone says it, where it passes.
+fn restrictive_says(alloc: Global, want: &str) -> Result<bool, Refusal> {
+    let restrictive = policy(alloc, "r", false)?;
+    let said = say(&[(Loan::new(&restrictive), Truth::True)], want);
+    drop(restrictive);
+    Ok(said?)
+}
+
+fn say(judgements: &[Judgement<'_>], want: &str) -> Result<bool, AllocError> {
     let verdict = combine(judgements)?;
     let is = named(&verdict) == want;
     drop(verdict);
@@ -46,7 +73,7 @@ fn named(verdict: &Verdict) -> &str {
 
 /// Only what is true passes, for both, and no permissive policy comes first.
 #[test]
-fn null_passes_no_policy(rt: HostRuntime) -> Result<(), Fail> {
+fn null_passes_no_policy(rt: HostRuntime) {
     let rows = [
         (Truth::True, Truth::True, "p"),
         (Truth::True, Truth::Unknown, "r"),
@@ -55,19 +82,16 @@ fn null_passes_no_policy(rt: HostRuntime) -> Result<(), Fail> {
         (Truth::Unknown, Truth::False, "no permissive policy"),
     ];
     for (p, r, want) in rows {
-        let is = both_say(rt.alloc(), p, r, want).map_err(told)?;
-        assert!(rt; is, "{p:?} and {r:?}");
+        assert!(rt;
+            says(both_say(rt.alloc(), p, r, want), true),
+            "{p:?} and {r:?}"
+        );
     }
-    Ok(())
 }
 
 #[test]
-fn restrictive_policy_alone_denies(rt: HostRuntime) -> Result<(), Fail> {
-    let restrictive = policy(rt.alloc(), "r", false).map_err(told)?;
-    let judgements = [(Loan::new(&restrictive), Truth::True)];
-    let is = say(&judgements, "no permissive policy").map_err(told)?;
-    assert!(rt; is);
-    Ok(())
+fn restrictive_policy_alone_denies(rt: HostRuntime) {
+    assert!(rt; says(restrictive_says(rt.alloc(), "no permissive policy"), true));
 }
 
 /// A list of one policy.
@@ -84,13 +108,17 @@ fn left_after(alloc: Global, list: PolicyList, name: &str) -> Result<usize, Refu
     Ok(left.as_slice().len())
 }
 
+/// Whether a list has one policy, and none once that is exchanged and taken away.
+fn is_put_and_taken(alloc: Global, name: &str) -> Result<bool, Refusal> {
+    let list = one_policy(alloc, name)?;
+    let has_one = list.as_slice().len() == 1;
+    let left = left_after(alloc, list, name)?;
+    Ok(has_one && left == 0)
+}
+
 #[test]
-fn policy_is_put_exchanged_and_taken_away(rt: HostRuntime) -> Result<(), Fail> {
-    let list = one_policy(rt.alloc(), "p").map_err(told)?;
-    assert_eq!(rt; list.as_slice().len(), 1);
-    let left = left_after(rt.alloc(), list, "p").map_err(told)?;
-    assert_eq!(rt; left, 0);
-    Ok(())
+fn policy_is_put_exchanged_and_taken_away(rt: HostRuntime) {
+    assert!(rt; says(is_put_and_taken(rt.alloc(), "p"), true));
 }
 
 /// A table of `c`.
@@ -112,40 +140,64 @@ fn add_member(
     inherit: bool,
 ) -> Result<(), Refusal> {
     let mut content = Items::new(alloc);
-    content.push(Membership {
-        role: Name::new(alloc, role)?,
-        admin: false,
-        inherit,
-        set: true,
-    })?;
-    put(
-        catalog,
-        alloc,
-        Change::Members(Name::new(alloc, member)?, content),
-    )
+    content.push(membership(alloc, role, inherit, true)?)?;
+    put_members(catalog, alloc, member, content)
 }
 
 /// `a` is a member of `b`, which has BYPASSRLS or not, and `b` of `c`, with INHERIT or not.
-fn chain(alloc: Global, bypass_rls: bool, inherit: bool) -> Result<Catalog, Refusal> {
-    let mut catalog = Catalog::new(alloc)?;
-    add_role(&mut catalog, alloc, "a", false)?;
-    add_role(&mut catalog, alloc, "b", bypass_rls)?;
-    add_role(&mut catalog, alloc, "c", false)?;
-    add_member(&mut catalog, alloc, "a", "b", true)?;
-    add_member(&mut catalog, alloc, "b", "c", inherit)?;
-    Ok(catalog)
+fn chain(
+    catalog: &mut Catalog,
+    alloc: Global,
+    bypass_rls: bool,
+    inherit: bool,
+) -> Result<(), Refusal> {
+    add_role(catalog, alloc, "a", false)?;
+    add_role(catalog, alloc, "b", bypass_rls)?;
+    add_role(catalog, alloc, "c", false)?;
+    add_member(catalog, alloc, "a", "b", true)?;
+    add_member(catalog, alloc, "b", "c", inherit)
 }
 
 /// Whether the role is exempt on the table of `c`.
 fn exempts(catalog: &Catalog, alloc: Global, role: &str, forced: bool) -> Result<bool, Refusal> {
-    let role = Name::new(alloc, role)?;
     let table = table(alloc, forced)?;
-    Ok(is_exempt(alloc, &mut Plain::new(catalog), &role, &table)?)
+    let exempt = exempts_on(catalog, alloc, role, &table);
+    drop(table);
+    exempt
+}
+
+fn exempts_on(
+    catalog: &Catalog,
+    alloc: Global,
+    role: &str,
+    table: &TableDef,
+) -> Result<bool, Refusal> {
+    let role = Name::new(alloc, role)?;
+    let exempt = is_exempt(alloc, &mut Plain::new(catalog), &role, table);
+    drop(role);
+    Ok(exempt?)
+}
+
+/// The same in the state of the chain.
+fn exempts_by_chain(
+    alloc: Global,
+    bypass_rls: bool,
+    inherit: bool,
+    role: &str,
+    forced: bool,
+) -> Result<bool, Refusal> {
+    let mut catalog = Catalog::new(alloc)?;
+    let exempt = match chain(&mut catalog, alloc, bypass_rls, inherit) {
+        Ok(()) => exempts(&catalog, alloc, role, forced),
+        Err(refusal) => Err(refusal),
+    };
+    drop(catalog);
+    exempt
 }
 
 /// Whether `b` has BYPASSRLS, whether it inherits from `c`, the role that asks, FORCE, and whether it is exempt.
 #[test]
-fn exemption_follows_ownership_and_nothing_else(rt: HostRuntime) -> Result<(), Fail> {
+fn exemption_follows_ownership_and_nothing_else(rt: HostRuntime) {
     let rows = [
         (false, true, "a", false, true),
         (false, false, "a", false, false),
@@ -157,40 +209,69 @@ fn exemption_follows_ownership_and_nothing_else(rt: HostRuntime) -> Result<(), F
         (false, true, "c", true, false),
     ];
     for (bypass_rls, inherit, role, forced, want) in rows {
-        let catalog = chain(rt.alloc(), bypass_rls, inherit).map_err(told)?;
-        let is = exempts(&catalog, rt.alloc(), role, forced).map_err(told)?;
-        assert_eq!(rt; is, want, "{role} with {bypass_rls} {inherit} {forced}");
+        let exempt = exempts_by_chain(rt.alloc(), bypass_rls, inherit, role, forced);
+        assert!(rt;
+            says(exempt, want),
+            "{role} with {bypass_rls} {inherit} {forced}"
+        );
     }
-    Ok(())
+}
+
+/// The role of a number, and its membership in the one of the next number, with INHERIT or not.
+fn add_link(
+    catalog: &mut Catalog,
+    alloc: Global,
+    n: u32,
+    next: u32,
+    inherit: bool,
+) -> Result<(), Refusal> {
+    let role = format!(in alloc; "r{n}")?;
+    let added = add_linked(catalog, alloc, role.as_str(), next, inherit);
+    drop(role);
+    added
+}
+
+fn add_linked(
+    catalog: &mut Catalog,
+    alloc: Global,
+    role: &str,
+    next: u32,
+    inherit: bool,
+) -> Result<(), Refusal> {
+    add_role(catalog, alloc, role, false)?;
+    let next = format!(in alloc; "r{next}")?;
+    let added = add_member(catalog, alloc, role, next.as_str(), inherit);
+    drop(next);
+    added
 }
 
 /// A chain of a thousand roles from `r0` up to `c`; the membership of the role numbered `broken` is without INHERIT.
-fn long_chain(alloc: Global, broken: u32) -> Result<Catalog, Refusal> {
-    let mut catalog = Catalog::new(alloc)?;
+fn long_chain(catalog: &mut Catalog, alloc: Global, broken: u32) -> Result<(), Refusal> {
     for n in 0..1000 {
-        let role = format!(in alloc; "r{n}")?;
-        let next = format!(in alloc; "r{}", n + 1)?;
-        add_role(&mut catalog, alloc, role.as_str(), false)?;
-        add_member(
-            &mut catalog,
-            alloc,
-            role.as_str(),
-            next.as_str(),
-            n != broken,
-        )?;
+        add_link(catalog, alloc, n, n + 1, n != broken)?;
     }
-    add_role(&mut catalog, alloc, "r1000", false)?;
-    add_member(&mut catalog, alloc, "r1000", "c", true)?;
-    add_role(&mut catalog, alloc, "c", false)?;
-    Ok(catalog)
+    add_role(catalog, alloc, "r1000", false)?;
+    add_member(catalog, alloc, "r1000", "c", true)?;
+    add_role(catalog, alloc, "c", false)
+}
+
+/// Whether the first of the long chain is exempt on the table of `c`.
+fn exempts_by_long_chain(alloc: Global, broken: u32) -> Result<bool, Refusal> {
+    let mut catalog = Catalog::new(alloc)?;
+    let exempt = match long_chain(&mut catalog, alloc, broken) {
+        Ok(()) => exempts(&catalog, alloc, "r0", false),
+        Err(refusal) => Err(refusal),
+    };
+    drop(catalog);
+    exempt
 }
 
 #[test]
-fn chain_of_a_thousand_roles_is_walked(rt: HostRuntime) -> Result<(), Fail> {
+fn chain_of_a_thousand_roles_is_walked(rt: HostRuntime) {
     for (broken, want) in [(5000, true), (500, false)] {
-        let catalog = long_chain(rt.alloc(), broken).map_err(told)?;
-        let is = exempts(&catalog, rt.alloc(), "r0", false).map_err(told)?;
-        assert_eq!(rt; is, want, "{broken}");
+        assert!(rt;
+            says(exempts_by_long_chain(rt.alloc(), broken), want),
+            "{broken}"
+        );
     }
-    Ok(())
 }

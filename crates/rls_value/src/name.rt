@@ -96,8 +96,7 @@ impl fmt::Display for Name {
     ghost output = { λ name. Some name };
 
     fn fmt<W: fmt::Write>(&self, f: &mut fmt::Formatter<W>) -> fmt::Result {
-        let letters = self.letters.as_str();
-        write!(f, "{letters}")
+        f.write_str(self.letters.as_str())
     }
 }
 

@@ -1,6 +1,6 @@
 //! What is versioned: the objects that statements read and changes write.
 
-ghost use Rattle.std.specs.Prelude.{◌≡◌, IfOk};
+ghost use Rattle.std.specs.Prelude.{◌≡◌, IfOk, ◌++◌, codes};
 ghost use Rattle.std.specs.Fmt.{WritesOnOk};
 ghost use Rattle.rls_value.specs.Values.{literals_text, further_text};
 ghost use Rattle.rls_value.specs.Objects as spec;
@@ -35,15 +35,28 @@ impl Object {
     pub fn copy(&self, alloc: Global) -> Result<Object, AllocError>
         ensures { IfOk result (λ object. object ≡ self.now) }
     {
+        let name = name_of(self).copy()?;
         match self {
-            Object::Role(role) => Ok(Object::Role(role.copy()?)),
-            Object::Members(member) => Ok(Object::Members(member.copy()?)),
-            Object::Table(table) => Ok(Object::Table(table.copy()?)),
-            Object::Grants(table) => Ok(Object::Grants(table.copy()?)),
-            Object::Policies(table) => Ok(Object::Policies(table.copy()?)),
-            Object::Rows(table) => Ok(Object::Rows(table.copy()?)),
-            Object::Key(table, key) => Ok(Object::Key(table.copy()?, key.copy(alloc)?)),
-            Object::RowOf(table, id) => Ok(Object::RowOf(table.copy()?, *id)),
+            Object::Role(_) => Ok(Object::Role(name)),
+            Object::Members(_) => Ok(Object::Members(name)),
+            Object::Table(_) => Ok(Object::Table(name)),
+            Object::Grants(_) => Ok(Object::Grants(name)),
+            Object::Policies(_) => Ok(Object::Policies(name)),
+            Object::Rows(_) => Ok(Object::Rows(name)),
+            Object::Key(_, key) => of_key(alloc, name, key),
+            Object::RowOf(_, id) => Ok(Object::RowOf(name, *id)),
+        }
+    }
+}
+
+fn of_key(alloc: Global, table: Name, key: &Row) -> Result<Object, AllocError>
+    ensures { IfOk result (λ object. object ≡ Object.Key table key.now) }
+{
+    match key.copy(alloc) {
+        Ok(key) => Ok(Object::Key(table, key)),
+        Err(refused) => {
+            drop(table);
+            Err(refused)
         }
     }
 }
@@ -168,20 +181,37 @@ impl fmt::Display for Object {
 
     fn fmt<W: fmt::Write>(&self, f: &mut fmt::Formatter<W>) -> fmt::Result {
         match self {
-            Object::Role(role) => write!(f, "role {role}"),
-            Object::Members(member) => write!(f, "members of {member}"),
-            Object::Table(table) => write!(f, "table {table}"),
-            Object::Grants(table) => write!(f, "grants on {table}"),
-            Object::Policies(table) => write!(f, "policies on {table}"),
-            Object::Rows(table) => write!(f, "rows of {table}"),
-            Object::Key(table, key) => {
-                write!(f, "key (")?;
-                write_values(f, key.as_slice())?;
-                write!(f, ") of {table}")
-            }
-            Object::RowOf(table, id) => write!(f, "row {id} of {table}"),
+            Object::Role(role) => write_named(f, "role ", role),
+            Object::Members(member) => write_named(f, "members of ", member),
+            Object::Table(table) => write_named(f, "table ", table),
+            Object::Grants(table) => write_named(f, "grants on ", table),
+            Object::Policies(table) => write_named(f, "policies on ", table),
+            Object::Rows(table) => write_named(f, "rows of ", table),
+            Object::Key(table, key) => write_key(f, table, key.as_slice()),
+            Object::RowOf(table, id) => write_row_of(f, table, *id),
         }
     }
+}
+
+fn write_named<W: fmt::Write>(f: &mut fmt::Formatter<W>, before: &str, name: &Name) -> fmt::Result
+    ensures { WritesOnOk W.write_str_gives f.old result (before.now ++ name.now) f.new }
+{
+    f.write_str(before)?;
+    f.write_str(name.as_str())
+}
+
+fn write_key<W: fmt::Write>(f: &mut fmt::Formatter<W>, table: &Name, key: &[Value]) -> fmt::Result
+    ensures { WritesOnOk W.write_str_gives f.old result (codes "key (" ++ (literals_text key.now ++ (codes ") of " ++ table.now))) f.new }
+{
+    f.write_str("key (")?;
+    write_values(f, key)?;
+    write_named(f, ") of ", table)
+}
+
+fn write_row_of<W: fmt::Write>(f: &mut fmt::Formatter<W>, table: &Name, id: RowId) -> fmt::Result
+    ensures { WritesOnOk W.write_str_gives f.old result (codes "row " ++ (spec.row_id_text id ++ (codes " of " ++ table.now))) f.new }
+{
+    write!(f, "row {id} of {table}")
 }
 
 fn write_values<W: fmt::Write>(f: &mut fmt::Formatter<W>, values: &[Value]) -> fmt::Result

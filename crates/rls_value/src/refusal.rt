@@ -1,7 +1,8 @@
 //! The refusals of the database, with their codes and texts.
 
 ghost use Rattle.std.specs.Prelude.{◌≡◌, IfOk, ◌++◌, codes};
-ghost use Rattle.std.specs.Fmt.{WritesOnOk};
+ghost use Rattle.std.specs.Fmt.{WritesOnOk, decimal};
+ghost use Rattle.rls_value.specs.Objects.{object_text};
 ghost use Rattle.rls_value.specs.Refusals as spec;
 
 use crate::name::Name;
@@ -294,20 +295,40 @@ impl Cause {
         ensures { IfOk result (λ cause. cause ≡ self.now) }
     {
         match self {
-            Cause::Written(object, other) => Ok(Cause::Written(object.copy(alloc)?, *other)),
+            Cause::Written(object, other) => match object.copy(alloc) {
+                Ok(object) => Ok(Cause::Written(object, *other)),
+                Err(refused) => Err(refused),
+            },
             Cause::Structure {
                 first,
                 read_by_first,
                 pivot,
                 read_by_pivot,
                 last,
-            } => Ok(Cause::Structure {
-                first: *first,
-                read_by_first: read_by_first.copy(alloc)?,
-                pivot: *pivot,
-                read_by_pivot: read_by_pivot.copy(alloc)?,
-                last: *last,
-            }),
+            } => match copy_both(alloc, read_by_first, read_by_pivot) {
+                Ok((read_by_first, read_by_pivot)) => Ok(Cause::Structure {
+                    first: *first,
+                    read_by_first,
+                    pivot: *pivot,
+                    read_by_pivot,
+                    last: *last,
+                }),
+                Err(refused) => Err(refused),
+            },
+        }
+    }
+}
+
+fn copy_both(alloc: Global, one: &Object, other: &Object) -> Result<(Object, Object), AllocError>
+    ensures one { IfOk result (λ both. both.0 ≡ one.now) }
+    ensures other { IfOk result (λ both. both.1 ≡ other.now) }
+{
+    let one = one.copy(alloc)?;
+    match other.copy(alloc) {
+        Ok(other) => Ok((one, other)),
+        Err(refused) => {
+            drop(one);
+            Err(refused)
         }
     }
 }
@@ -395,19 +416,25 @@ impl fmt::Display for Limit {
     ghost output = { λ limit. Some (limit_text limit) };
 
     fn fmt<W: fmt::Write>(&self, f: &mut fmt::Formatter<W>) -> fmt::Result {
-        match self {
-            Limit::Line => write!(f, "limit exceeded: line"),
-            Limit::Columns => write!(f, "limit exceeded: columns"),
-            Limit::Nesting => write!(f, "limit exceeded: nesting"),
-            Limit::Subqueries => write!(f, "limit exceeded: subqueries"),
-            Limit::Parentheses => write!(f, "limit exceeded: parentheses"),
-            Limit::Policies => write!(f, "limit exceeded: policies"),
-            Limit::Inserts => write!(f, "limit exceeded: inserts"),
-            Limit::Transactions => write!(f, "limit exceeded: transactions"),
-            Limit::Sessions => write!(f, "limit exceeded: sessions"),
-            Limit::Numbers => write!(f, "limit exceeded: numbers"),
-            Limit::Name => write!(f, "name too long"),
-        }
+        f.write_str(limit_text(*self))
+    }
+}
+
+fn limit_text(limit: Limit) -> &'static str
+    ensures { result.now ≡ spec.limit_text limit }
+{
+    match limit {
+        Limit::Line => "limit exceeded: line",
+        Limit::Columns => "limit exceeded: columns",
+        Limit::Nesting => "limit exceeded: nesting",
+        Limit::Subqueries => "limit exceeded: subqueries",
+        Limit::Parentheses => "limit exceeded: parentheses",
+        Limit::Policies => "limit exceeded: policies",
+        Limit::Inserts => "limit exceeded: inserts",
+        Limit::Transactions => "limit exceeded: transactions",
+        Limit::Sessions => "limit exceeded: sessions",
+        Limit::Numbers => "limit exceeded: numbers",
+        Limit::Name => "name too long",
     }
 }
 
@@ -419,11 +446,12 @@ impl fmt::Display for TxnState {
 
     fn fmt<W: fmt::Write>(&self, f: &mut fmt::Formatter<W>) -> fmt::Result {
         match self {
-            TxnState::AlreadyInProgress => write!(f, "there is already a transaction in progress"),
-            TxnState::NoneInProgress => write!(f, "there is no transaction in progress"),
-            TxnState::Over => write!(
-                f,
-                "transaction is over, commands are ignored until COMMIT or ROLLBACK"
+            TxnState::AlreadyInProgress => {
+                f.write_str("there is already a transaction in progress")
+            }
+            TxnState::NoneInProgress => f.write_str("there is no transaction in progress"),
+            TxnState::Over => f.write_str(
+                "transaction is over, commands are ignored until COMMIT or ROLLBACK",
             ),
             TxnState::ReadOnly(tag) => write!(f, "cannot execute {tag} in a read-only transaction"),
         }
@@ -437,12 +465,18 @@ impl fmt::Display for NameKind {
     ghost output = { λ kind. Some (name_kind_text kind) };
 
     fn fmt<W: fmt::Write>(&self, f: &mut fmt::Formatter<W>) -> fmt::Result {
-        match self {
-            NameKind::Relation => write!(f, "relation"),
-            NameKind::Column => write!(f, "column"),
-            NameKind::Role => write!(f, "role"),
-            NameKind::Policy => write!(f, "policy"),
-        }
+        f.write_str(name_kind_text(*self))
+    }
+}
+
+fn name_kind_text(kind: NameKind) -> &'static str
+    ensures { result.now ≡ spec.name_kind_text kind }
+{
+    match kind {
+        NameKind::Relation => "relation",
+        NameKind::Column => "column",
+        NameKind::Role => "role",
+        NameKind::Policy => "policy",
     }
 }
 
@@ -454,31 +488,69 @@ impl fmt::Display for Why {
 
     fn fmt<W: fmt::Write>(&self, f: &mut fmt::Formatter<W>) -> fmt::Result {
         match self {
-            Why::Privilege(privilege, table) => {
-                write!(
-                    f,
-                    "permission denied for table {table}: {privilege} is missing"
-                )
+            Why::Privilege(privilege, table) => write_missing(f, *privilege, table),
+            Why::Owner(table) => write_around(f, "must be owner of table ", table, ""),
+            Why::Admin(role) => {
+                write_around(f, "permission denied to manage role \"", role, "\"")
             }
-            Why::Owner(table) => write!(f, "must be owner of table {table}"),
-            Why::Admin(role) => write!(f, "permission denied to manage role \"{role}\""),
-            Why::SetRole(role) => write!(f, "permission denied to set role \"{role}\""),
-            Why::GrantOption(privilege, table) => {
-                write!(
-                    f,
-                    "permission denied for table {table}: no grant option for {privilege}"
-                )
-            }
-            Why::NoPermissive(table, kind) => write!(
-                f,
-                "new row violates row-level security policy for table \"{table}\": no permissive {kind} policy passes"
-            ),
-            Why::Restrictive(policy, table) => write!(
-                f,
-                "new row violates row-level security policy \"{policy}\" for table \"{table}\""
-            ),
+            Why::SetRole(role) => write_around(f, "permission denied to set role \"", role, "\""),
+            Why::GrantOption(privilege, table) => write_no_option(f, *privilege, table),
+            Why::NoPermissive(table, kind) => write_no_permissive(f, table, *kind),
+            Why::Restrictive(policy, table) => write_restrictive(f, policy, table),
         }
     }
+}
+
+fn write_missing<W: fmt::Write>(
+    f: &mut fmt::Formatter<W>,
+    privilege: Privilege,
+    table: &Name,
+) -> fmt::Result
+    ensures { WritesOnOk W.write_str_gives f.old result (spec.why_text (Why.Privilege privilege table.now)) f.new }
+{
+    write!(
+        f,
+        "permission denied for table {table}: {privilege} is missing"
+    )
+}
+
+fn write_no_option<W: fmt::Write>(
+    f: &mut fmt::Formatter<W>,
+    privilege: Privilege,
+    table: &Name,
+) -> fmt::Result
+    ensures { WritesOnOk W.write_str_gives f.old result (spec.why_text (Why.GrantOption privilege table.now)) f.new }
+{
+    write!(
+        f,
+        "permission denied for table {table}: no grant option for {privilege}"
+    )
+}
+
+fn write_no_permissive<W: fmt::Write>(
+    f: &mut fmt::Formatter<W>,
+    table: &Name,
+    kind: Kind,
+) -> fmt::Result
+    ensures { WritesOnOk W.write_str_gives f.old result (spec.why_text (Why.NoPermissive table.now kind)) f.new }
+{
+    write!(
+        f,
+        "new row violates row-level security policy for table \"{table}\": no permissive {kind} policy passes"
+    )
+}
+
+fn write_restrictive<W: fmt::Write>(
+    f: &mut fmt::Formatter<W>,
+    policy: &Name,
+    table: &Name,
+) -> fmt::Result
+    ensures { WritesOnOk W.write_str_gives f.old result (spec.why_text (Why.Restrictive policy.now table.now)) f.new }
+{
+    write!(
+        f,
+        "new row violates row-level security policy \"{policy}\" for table \"{table}\""
+    )
 }
 
 impl fmt::Display for GrantFault {
@@ -489,15 +561,19 @@ impl fmt::Display for GrantFault {
 
     fn fmt<W: fmt::Write>(&self, f: &mut fmt::Formatter<W>) -> fmt::Result {
         match self {
-            GrantFault::Cycle(member, role) => {
-                write!(f, "role \"{member}\" is a member of role \"{role}\"")
-            }
-            GrantFault::PublicOption => write!(f, "grant options cannot be granted to PUBLIC"),
+            GrantFault::Cycle(member, role) => write_cycle(f, member, role),
+            GrantFault::PublicOption => f.write_str("grant options cannot be granted to PUBLIC"),
             GrantFault::Back(_) => {
-                write!(f, "grant options cannot be granted back to the grantor")
+                f.write_str("grant options cannot be granted back to the grantor")
             }
         }
     }
+}
+
+fn write_cycle<W: fmt::Write>(f: &mut fmt::Formatter<W>, member: &Name, role: &Name) -> fmt::Result
+    ensures { WritesOnOk W.write_str_gives f.old result (spec.grant_fault_text (GrantFault.Cycle member.now role.now)) f.new }
+{
+    write!(f, "role \"{member}\" is a member of role \"{role}\"")
 }
 
 impl fmt::Display for Cause {
@@ -508,17 +584,39 @@ impl fmt::Display for Cause {
 
     fn fmt<W: fmt::Write>(&self, f: &mut fmt::Formatter<W>) -> fmt::Result {
         match self {
-            Cause::Written(object, other) => write!(f, "{object} was written by {other}"),
+            Cause::Written(object, other) => write_written(f, object, *other),
             Cause::Structure {
                 first,
                 read_by_first,
                 pivot,
                 read_by_pivot,
                 last,
-            } => {
-                write!(f, "{first} read {read_by_first}, {pivot} wrote it; ")?;
-                write!(f, "{pivot} read {read_by_pivot}, {last} wrote it")
-            }
+            } => write_structure(f, *first, read_by_first, *pivot, read_by_pivot, *last),
         }
     }
+}
+
+fn write_written<W: fmt::Write>(
+    f: &mut fmt::Formatter<W>,
+    object: &Object,
+    other: u64,
+) -> fmt::Result
+    ensures { WritesOnOk W.write_str_gives f.old result (spec.cause_text (Cause.Written object.now other)) f.new }
+{
+    write!(f, "{object} was written by {other}")
+}
+
+// Who read what, the pivot that wrote the one and read the other, and who wrote that.
+fn write_structure<W: fmt::Write>(
+    f: &mut fmt::Formatter<W>,
+    first: u64,
+    read_by_first: &Object,
+    pivot: u64,
+    read_by_pivot: &Object,
+    last: u64,
+) -> fmt::Result
+    ensures { WritesOnOk W.write_str_gives f.old result ((decimal first ++ (codes " read " ++ (object_text read_by_first.now ++ (codes ", " ++ (decimal pivot ++ codes " wrote it; "))))) ++ (decimal pivot ++ (codes " read " ++ (object_text read_by_pivot.now ++ (codes ", " ++ (decimal last ++ codes " wrote it")))))) f.new }
+{
+    write!(f, "{first} read {read_by_first}, {pivot} wrote it; ")?;
+    write!(f, "{pivot} read {read_by_pivot}, {last} wrote it")
 }

@@ -68,7 +68,6 @@ impl fmt::Display for Tag {
     ghost output = { λ tag. Some (tag_text tag) };
 
     fn fmt<W: fmt::Write>(&self, f: &mut fmt::Formatter<W>) -> fmt::Result {
-        let text = self.text();
-        write!(f, "{text}")
+        f.write_str(self.text())
     }
 }

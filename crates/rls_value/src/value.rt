@@ -151,11 +151,11 @@ impl fmt::Display for Value {
 
     fn fmt<W: fmt::Write>(&self, f: &mut fmt::Formatter<W>) -> fmt::Result {
         match self {
-            Value::Null => write!(f, "NULL"),
+            Value::Null => f.write_str("NULL"),
             Value::Int(number) => write!(f, "{number}"),
             Value::Text(text) => write_quoted(f, text.as_str()),
-            Value::Bool(true) => write!(f, "TRUE"),
-            Value::Bool(false) => write!(f, "FALSE"),
+            Value::Bool(true) => f.write_str("TRUE"),
+            Value::Bool(false) => f.write_str("FALSE"),
         }
     }
 }

@@ -1,5 +1,8 @@
 //! Privileges, and what a policy is for.
 
+ghost use Rattle.std.specs.Prelude.{◌≡◌};
+ghost use Rattle.rls_value.specs.Words.{privilege_word, kind_word};
+
 use std::fmt;
 
 /// A privilege on a table (PostgreSQL manual, 5.8, "Privileges").
@@ -34,12 +37,7 @@ impl fmt::Display for Privilege {
     ghost output = { λ privilege. Some (privilege_word privilege) };
 
     fn fmt<W: fmt::Write>(&self, f: &mut fmt::Formatter<W>) -> fmt::Result {
-        match self {
-            Privilege::Select => write!(f, "SELECT"),
-            Privilege::Insert => write!(f, "INSERT"),
-            Privilege::Update => write!(f, "UPDATE"),
-            Privilege::Delete => write!(f, "DELETE"),
-        }
+        f.write_str(privilege_text(*self))
     }
 }
 
@@ -50,11 +48,28 @@ impl fmt::Display for Kind {
     ghost output = { λ kind. Some (kind_word kind) };
 
     fn fmt<W: fmt::Write>(&self, f: &mut fmt::Formatter<W>) -> fmt::Result {
-        match self {
-            Kind::Select => write!(f, "SELECT"),
-            Kind::Insert => write!(f, "INSERT"),
-            Kind::Update => write!(f, "UPDATE"),
-            Kind::Delete => write!(f, "DELETE"),
-        }
+        f.write_str(kind_text(*self))
+    }
+}
+
+fn privilege_text(privilege: Privilege) -> &'static str
+    ensures { result.now ≡ privilege_word privilege }
+{
+    match privilege {
+        Privilege::Select => "SELECT",
+        Privilege::Insert => "INSERT",
+        Privilege::Update => "UPDATE",
+        Privilege::Delete => "DELETE",
+    }
+}
+
+fn kind_text(kind: Kind) -> &'static str
+    ensures { result.now ≡ kind_word kind }
+{
+    match kind {
+        Kind::Select => "SELECT",
+        Kind::Insert => "INSERT",
+        Kind::Update => "UPDATE",
+        Kind::Delete => "DELETE",
     }
 }
