@@ -19,7 +19,7 @@ is_named name policy = bytes_eq policy.name name
 abbrev pub has_policy : List Policy → List ℕ → Bool
 has_policy policies name = list_any (is_named name) policies
 
--- the name of the other is greater
+-- its name is the greater one
 abbrev pub is_after : Policy → Policy → Bool
 is_after policy other = is_lt (name_order policy.name other.name)
 
