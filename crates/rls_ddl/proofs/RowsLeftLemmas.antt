@@ -13,6 +13,7 @@ use Rattle.rls_catalog.specs.declared.grant.Grant.{Grant}
 use Rattle.rls_catalog.specs.declared.role.RoleDef.{RoleDef}
 use Rattle.rls_catalog.specs.Changed.{changed, changed_all}
 use Rattle.rls_catalog.specs.Membership.{fresh}
+use Rattle.rls_catalog.specs.PolicyLists.{with_policy, without_policy}
 use Rattle.rls_catalog.specs.SoundRows.{RowsAreSound}
 use Rattle.rls_catalog.specs.State.{State}
 use Rattle.rls_source.specs.Asked.{asked_grants, asked_policies, asked_role}
@@ -48,9 +49,9 @@ use Rattle.rls_ddl.specs.AlteringPolicies as alter_policies
 use Rattle.rls_ddl.specs.AlteringPolicies.{alter_policy, alteration_made, alteration_of, alteration_on, conditions_or_refused, with_altered}
 use Rattle.rls_ddl.specs.AlteringRoles.{alter_role, role_altered, role_changed}
 use Rattle.rls_ddl.specs.Conditions.{both_conditions, names_known}
-use Rattle.rls_ddl.specs.CreatingPolicies.{create_policy, policy_added, policy_made, policy_on, policy_or_refused, with_policy}
+use Rattle.rls_ddl.specs.CreatingPolicies.{create_policy, policy_added, policy_made, policy_on, policy_or_refused}
 use Rattle.rls_ddl.specs.CreatingRoles.{create_role, role_made, role_with}
-use Rattle.rls_ddl.specs.DroppingPolicies.{drop_on, drop_policy, policy_dropped, without_policy}
+use Rattle.rls_ddl.specs.DroppingPolicies.{drop_on, drop_policy, policy_dropped}
 use Rattle.rls_ddl.specs.Granting.{grant, grant_roles, revoke, revoke_roles, written}
 use Rattle.rls_ddl.specs.NamedPolicies.{policy_or_undefined}
 use Rattle.rls_ddl.specs.SettingRoles.{asked_may_set, role_set, set_or_denied, set_role}
