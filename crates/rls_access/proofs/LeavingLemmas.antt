@@ -1,6 +1,7 @@
 -- What each statement leaves of a state, by the laws of the statements: sound rows, changes that fit, and free numbers.
-use Rattle.std.specs.Prelude.{refl, List, [], ◌∷◌, Result, Ok, Err}
+use Rattle.std.specs.Prelude.{refl, ℕ, List, [], ◌∷◌, Result, Ok, Err}
 use Rattle.std.specs.List.{AllByRecursion}
+use Rattle.std.proofs.Common.{arith}
 use Rattle.rls_value.specs.declared.refusal.Refusal.{Refusal}
 use Rattle.rls_value.specs.Giving.{and_then}
 use Rattle.rls_catalog.specs.declared.change.Change.{Change}
@@ -45,7 +46,7 @@ use Rattle.rls_ddl.specs.SettingRoles.{set_role}
 use Rattle.rls_dml.specs.Deleting.{delete}
 use Rattle.rls_dml.specs.Fitting.{NumbersFree}
 use Rattle.rls_dml.specs.Inserting.{insert}
-use Rattle.rls_dml.specs.NextRows.{AllFree, NumberOn}
+use Rattle.rls_dml.specs.NextRows.{AllFree, InRange, NumberOn}
 use Rattle.rls_dml.specs.Selecting.{select}
 use Rattle.rls_dml.specs.Updating.{update}
 use Rattle.rls_access.specs.Leaving.{GoOn}
@@ -98,11 +99,11 @@ done_more fact more (Ok (effect.Done reply decisions changes role)) all is = all
 done_more fact more (Ok (effect.Refused refusal decisions)) all is = tt
 done_more fact more (Err refusal) all is = tt
 
--- two facts of the changes
-pub both_go_on : (s : State) (ctx : Ctx) (given : Result Effect Refusal) → IfDone given (FitsAll s) → IfDone given (NumberOn ctx.txn ctx.next) → GoesOn s ctx given
-both_go_on s ctx (Ok (effect.Done reply decisions changes role)) fit numbered = record { fit = fit; numbered = numbered }
-both_go_on s ctx (Ok (effect.Refused refusal decisions)) fit numbered = tt
-both_go_on s ctx (Err refusal) fit numbered = tt
+-- three facts of the changes
+pub all_go_on : (s : State) (ctx : Ctx) (given : Result Effect Refusal) → IfDone given (FitsAll s) → IfDone given (NumberOn ctx.txn ctx.next) → IfDone given (InRange ctx.next) → GoesOn s ctx given
+all_go_on s ctx (Ok (effect.Done reply decisions changes role)) fit numbered in_range = record { fit = fit; numbered = numbered; in_range = in_range }
+all_go_on s ctx (Ok (effect.Refused refusal decisions)) fit numbered in_range = tt
+all_go_on s ctx (Err refusal) fit numbered in_range = tt
 
 -- it holds of what the effect changes, nothing where it is refused
 of_effect : (fact : List Change → Type 0) (given : Result Effect Refusal) → fact [] → IfDone given fact → fact (changes_of (shown given))
@@ -110,14 +111,18 @@ of_effect fact (Ok (effect.Done reply decisions changes role)) none is = is
 of_effect fact (Ok (effect.Refused refusal decisions)) none is = none
 of_effect fact (Err refusal) none is = none
 
+-- no changes leave the next number
+none_in_range : (next : ℕ) → InRange next []
+none_in_range next = λ within. omega (arith, within)
+
 -- changes of no rows do
 no_rows_go_on : (s : State) (ctx : Ctx) (changes : List Change) → AllByRecursion IsNoRow changes → GoOn s ctx changes
-no_rows_go_on s ctx [] none = record { fit = tt; numbered = tt }
-no_rows_go_on s ctx (c.Role name def ∷ changes) none = let more = no_rows_go_on (changed s (c.Role name def)) ctx changes none.1 in record { fit = (refl, more.fit); numbered = (tt, more.numbered) }
-no_rows_go_on s ctx (c.Members name content ∷ changes) none = let more = no_rows_go_on (changed s (c.Members name content)) ctx changes none.1 in record { fit = (refl, more.fit); numbered = (tt, more.numbered) }
-no_rows_go_on s ctx (c.Table name def ∷ changes) none = let more = no_rows_go_on (changed s (c.Table name def)) ctx changes none.1 in record { fit = (refl, more.fit); numbered = (tt, more.numbered) }
-no_rows_go_on s ctx (c.Grants name content ∷ changes) none = let more = no_rows_go_on (changed s (c.Grants name content)) ctx changes none.1 in record { fit = (refl, more.fit); numbered = (tt, more.numbered) }
-no_rows_go_on s ctx (c.Policies name content ∷ changes) none = let more = no_rows_go_on (changed s (c.Policies name content)) ctx changes none.1 in record { fit = (refl, more.fit); numbered = (tt, more.numbered) }
+no_rows_go_on s ctx [] none = record { fit = tt; numbered = tt; in_range = none_in_range ctx.next }
+no_rows_go_on s ctx (c.Role name def ∷ changes) none = let more = no_rows_go_on (changed s (c.Role name def)) ctx changes none.1 in record { fit = (refl, more.fit); numbered = (tt, more.numbered); in_range = more.in_range }
+no_rows_go_on s ctx (c.Members name content ∷ changes) none = let more = no_rows_go_on (changed s (c.Members name content)) ctx changes none.1 in record { fit = (refl, more.fit); numbered = (tt, more.numbered); in_range = more.in_range }
+no_rows_go_on s ctx (c.Table name def ∷ changes) none = let more = no_rows_go_on (changed s (c.Table name def)) ctx changes none.1 in record { fit = (refl, more.fit); numbered = (tt, more.numbered); in_range = more.in_range }
+no_rows_go_on s ctx (c.Grants name content ∷ changes) none = let more = no_rows_go_on (changed s (c.Grants name content)) ctx changes none.1 in record { fit = (refl, more.fit); numbered = (tt, more.numbered); in_range = more.in_range }
+no_rows_go_on s ctx (c.Policies name content ∷ changes) none = let more = no_rows_go_on (changed s (c.Policies name content)) ctx changes none.1 in record { fit = (refl, more.fit); numbered = (tt, more.numbered); in_range = more.in_range }
 no_rows_go_on s ctx (c.Row change ∷ changes) none = absurd none.0
 
 none_goes_on : (s : State) (ctx : Ctx) (given : Result Effect Refusal) → IfDone given (AllByRecursion IsNoRow) → GoesOn s ctx given
@@ -171,5 +176,5 @@ each_goes_on none rows s ctx (statement.Select asked) sound free = none_goes_on 
 -- the changes of a statement go on
 pub step_goes_on : WriteNoRows → RowsGoOn → (s : State) (ctx : Ctx) (asked : Statement) → RowsAreSound s → AllFree s ctx.txn ctx.next → GoOn s ctx (changes_of (effect_in s ctx asked))
 step_goes_on none rows s ctx asked sound free =
-    of_effect (GoOn s ctx) ((step ctx asked).in_state s).gives (record { fit = tt; numbered = tt })
+    of_effect (GoOn s ctx) ((step ctx asked).in_state s).gives (record { fit = tt; numbered = tt; in_range = none_in_range ctx.next })
     (done_then (GoOn s ctx) (mode_or_refused ctx.mode (tag_of asked)) (λ _. ((done_by ctx asked).in_state s).gives) (λ _. each_goes_on none rows s ctx asked sound free))

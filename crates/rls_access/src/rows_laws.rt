@@ -12,7 +12,9 @@ ghost use Rattle.rls_access.specs.Leaving.{GoOn};
 ghost use Rattle.rls_access.specs.Statements.{effect_in};
 
 use rls_ddl::{grants_leave_rows, roles_and_policies_leave_rows, tables_leave_rows};
-use rls_dml::{changes_fit, numbers_stay_free, rows_are_numbered_on, sound_rows_mean};
+use rls_dml::{
+    changes_fit, numbers_stay_free, numbers_stay_in_range, rows_are_numbered_on, sound_rows_mean,
+};
 
 /// The rows of the opening state are sound, and a statement leaves sound rows sound: keys that were unique stay unique,
 /// each row carries its own, without a null, and rows stand in tables that there are.
@@ -38,6 +40,7 @@ pub fn changes_go_on()
     changes_fit();
     rows_are_numbered_on();
     sound_rows_mean();
+    numbers_stay_in_range();
 }
 
 /// Afterwards no row has a number of the transaction from the one on that the changes make the next: one further for each

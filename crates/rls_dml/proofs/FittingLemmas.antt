@@ -477,7 +477,7 @@ insert_as_done fact s ctx name table standing addition all =
     (λ watches. ((insert_guarded ctx name table standing watches addition).in_state s).gives) (λ watches.
     insert_guarded_done fact s ctx name table standing watches addition all)
 
-insert_into_done : (fact : List Change → Type 0) (s : State) (ctx : Ctx) (name : List ℕ) (table : TableDef) (addition : Addition)
+pub insert_into_done : (fact : List Change → Type 0) (s : State) (ctx : Ctx) (name : List ℕ) (table : TableDef) (addition : Addition)
     → HoldsOf fact ctx name (length addition.tuples) → IfDone ((insert_into ctx name table addition).in_state s).gives fact
 unfolding insert_into
 insert_into_done fact s ctx name table addition all =

@@ -171,9 +171,9 @@ insert_numbers_on s ctx asked = insert_done (NumberOn ctx.txn ctx.next) s ctx as
 -- ---- UPDATE
 
 -- the new rows of an UPDATE: their numbers are those of the old ones
-record AreUpdated (table : TableDef) (old new : List Stored) : Type 0 where
-  renewed : AreRenewed old new
-  keys : KeysAreMade table new
+pub record AreUpdated (table : TableDef) (old new : List Stored) : Type 0 where
+  pub renewed : AreRenewed old new
+  pub keys : KeysAreMade table new
 
 row_made : (table : TableDef) (settings : List (ℕ × Term)) (role : List ℕ) (stored : Stored) → IfOk (updated_row table settings role stored) (λ new. (stored.id ≡ new.id) × (new.key ≡ key_at table.key new.row))
 row_made table settings role stored =
@@ -212,13 +212,13 @@ number_renewed id (old ∷ olds) [] renewed = absurd renewed
 number_renewed id (old ∷ olds) (new ∷ news) renewed = λ i. is_same_id id (renewed.0 i) || number_renewed id olds news renewed.1 i
 
 -- an UPDATE of rows of a table that is done
-record Renews (s : State) (name : List ℕ) (old new : List Stored) : Type 0 where
-  table : TableDef
-  places : List ℕ
-  there : table_of s name ≡ Some table
-  apart : Apart old
-  made : AreUpdated table old new
-  pass : Pass s name table.columns (order_of places table.columns) old new
+pub record Renews (s : State) (name : List ℕ) (old new : List Stored) : Type 0 where
+  pub table : TableDef
+  pub places : List ℕ
+  pub there : table_of s name ≡ Some table
+  pub apart : Apart old
+  pub made : AreUpdated table old new
+  pub pass : Pass s name table.columns (order_of places table.columns) old new
 
 renewed_kept : (s : State) (name : List ℕ) (old new : List Stored) → RowsAreSound s → Renews s name old new → Keeps s (changed_rows name old new)
 renewed_kept s name old new sound by =
@@ -229,7 +229,7 @@ renewed_kept s name old new sound by =
     (λ id has. sym (number_renewed id old new by.made.renewed) ∙ has) by.pass))
 
 -- it holds of the changes of such an UPDATE
-abbrev HoldsOfRenewed : (List Change → Type 0) → State → List ℕ → Type 0
+abbrev pub HoldsOfRenewed : (List Change → Type 0) → State → List ℕ → Type 0
 HoldsOfRenewed fact s name = (old new : List Stored) → Renews s name old new → fact (changed_rows name old new)
 
 updated_if : (fact : List Change → Type 0) (name : List ℕ) (revision : Revision) (role : List ℕ) (decisions : List Decision) (old new : List Stored) (settled : Result (Unit {0}) Refusal)
@@ -282,7 +282,7 @@ update_in_hold fact s role name table revision all sound there =
     done_then fact ((standing_of role).in_state s).gives (λ standing. ((update_as standing role name table revision).in_state s).gives) (λ standing.
     update_as_hold fact s standing role name table revision all sound there)
 
-update_holds : (fact : List Change → Type 0) (s : State) (ctx : Ctx) (asked : Update) → HoldsOfRenewed fact s asked.table → RowsAreSound s → IfDone ((update ctx asked).in_state s).gives fact
+pub update_holds : (fact : List Change → Type 0) (s : State) (ctx : Ctx) (asked : Update) → HoldsOfRenewed fact s asked.table → RowsAreSound s → IfDone ((update ctx asked).in_state s).gives fact
 update_holds fact s ctx asked all sound =
     done_after (λ table. table_of s asked.table ≡ Some table) fact ((table_or_undefined asked.table).in_state s).gives
     (λ table. ((followed_by (known (revision_of asked table)) (λ revision. update_in ctx.role asked.table table revision)).in_state s).gives) (table_there s asked.table) (λ table there.
@@ -310,7 +310,7 @@ deleted_kept s name table rows sound there =
     (left_sound table rows (entries_of s name) (sound_in s name table sound there))
 
 -- it holds of the changes that take rows out of a table that is there
-abbrev HoldsOfGone : (List Change → Type 0) → State → List ℕ → Type 0
+abbrev pub HoldsOfGone : (List Change → Type 0) → State → List ℕ → Type 0
 HoldsOfGone fact s name = (table : TableDef) (rows : List Stored) → table_of s name ≡ Some table → fact (map (deleted_row name) rows)
 
 delete_guarded_hold : (fact : List Change → Type 0) (s : State) (standing : Standing) (watches : List Watch) (removal : Removal) (role name : List ℕ) (table : TableDef) → HoldsOfGone fact s name
@@ -337,7 +337,7 @@ delete_from_hold fact s role name table removal all there =
     done_then fact ((standing_of role).in_state s).gives (λ standing. ((delete_as standing role name table removal).in_state s).gives) (λ standing.
     delete_as_hold fact s standing role name table removal all there)
 
-delete_holds : (fact : List Change → Type 0) (s : State) (ctx : Ctx) (asked : Delete) → HoldsOfGone fact s asked.table → IfDone ((delete ctx asked).in_state s).gives fact
+pub delete_holds : (fact : List Change → Type 0) (s : State) (ctx : Ctx) (asked : Delete) → HoldsOfGone fact s asked.table → IfDone ((delete ctx asked).in_state s).gives fact
 delete_holds fact s ctx asked all =
     done_after (λ table. table_of s asked.table ≡ Some table) fact ((table_or_undefined asked.table).in_state s).gives
     (λ table. ((followed_by (known (removal_of asked table)) (λ removal. delete_from ctx.role asked.table table removal)).in_state s).gives) (table_there s asked.table) (λ table there.

@@ -10,3 +10,4 @@ pub mod SoundLemmas
 pub mod PassingLemmas
 pub mod KeepingLemmas
 pub mod FreeLemmas
+pub mod RangeLemmas

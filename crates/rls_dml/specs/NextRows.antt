@@ -1,5 +1,5 @@
 -- The numbers of new rows: each statement of a transaction numbers its new rows on, and its changes tell how far.
-use Rattle.std.specs.Prelude.{◌≡◌, ℕ, suc, List, [], ◌∷◌, None, Bool, false, ◌+◌, if◌then◌else◌, is_none, filter, length}
+use Rattle.std.specs.Prelude.{◌≡◌, ℕ, suc, ◌≤◌, List, [], ◌∷◌, None, Bool, false, ◌+◌, if◌then◌else◌, is_none, filter, length}
 use Rattle.rls_value.specs.declared.row.RowId.{RowId}
 use Rattle.rls_catalog.specs.declared.change.Change.{Change}
 use Rattle.rls_catalog.specs.declared.change.Change.TheVariants as c
@@ -18,6 +18,10 @@ new_rows changes = length (filter is_new_row changes)
 -- the number of the transaction's next new row after the changes: one further for each row that wasn't there before
 abbrev pub next_row : ℕ → List Change → ℕ
 next_row next changes = next + new_rows changes
+
+-- a transaction inserts at most 4294967295 rows: its next number stays within them
+abbrev pub InRange : ℕ → List Change → Type 0
+InRange next changes = next ≤ 4294967295 → next_row next changes ≤ 4294967295
 
 -- a new row has this number
 abbrev pub NewAt : RowId → Change → Type 0

@@ -23,6 +23,9 @@ pub use deleting::{Removal, run_delete};
 pub use inserting::run_insert;
 pub use laws::pinned_key_means_rows;
 pub use revision::Revision;
-pub use rows_laws::{numbers_stay_free, rows_are_numbered_on, rows_stay_sound, sound_rows_mean};
+pub use rows_laws::{
+    numbers_stay_free, numbers_stay_in_range, rows_are_numbered_on, rows_stay_sound,
+    sound_rows_mean,
+};
 pub use selecting::{Query, run_select};
 pub use updating::run_update;

@@ -17,7 +17,7 @@ ghost use Rattle.rls_guard.specs.declared.context.Ctx.{Ctx};
 ghost use Rattle.rls_dml.specs.Deleting.{delete};
 ghost use Rattle.rls_dml.specs.Inserting.{insert};
 ghost use Rattle.rls_dml.specs.Keys.{CarryKeys};
-ghost use Rattle.rls_dml.specs.NextRows.{AllFree, NumberOn, next_row};
+ghost use Rattle.rls_dml.specs.NextRows.{AllFree, InRange, NumberOn, next_row};
 ghost use Rattle.rls_dml.specs.Selecting.{select};
 ghost use Rattle.rls_dml.specs.Updating.{update};
 
@@ -37,6 +37,14 @@ pub fn rows_are_numbered_on()
     ensures insert { (s : State) (ctx : Ctx) (asked : Insert) → IfDone ((insert ctx asked).in_state s).gives (NumberOn ctx.txn ctx.next) }
     ensures update { (s : State) (ctx : Ctx) (asked : Update) → RowsAreSound s → IfDone ((update ctx asked).in_state s).gives (NumberOn ctx.txn ctx.next) }
     ensures delete { (s : State) (ctx : Ctx) (asked : Delete) → IfDone ((delete ctx asked).in_state s).gives (NumberOn ctx.txn ctx.next) }
+{}
+
+/// The next number stays in its range: an INSERT past the last one is refused.
+#[tactic(auto, using(crate::proofs::RangeLemmas::insert_in_range, crate::proofs::RangeLemmas::update_in_range, crate::proofs::RangeLemmas::delete_in_range))]
+pub fn numbers_stay_in_range()
+    ensures insert { (s : State) (ctx : Ctx) (asked : Insert) → IfDone ((insert ctx asked).in_state s).gives (InRange ctx.next) }
+    ensures update { (s : State) (ctx : Ctx) (asked : Update) → RowsAreSound s → IfDone ((update ctx asked).in_state s).gives (InRange ctx.next) }
+    ensures delete { (s : State) (ctx : Ctx) (asked : Delete) → IfDone ((delete ctx asked).in_state s).gives (InRange ctx.next) }
 {}
 
 /// Sound rows are what the other laws ask for: each row of a table is stored with its own key, and the rows of each table

@@ -1,7 +1,7 @@
 use Rattle.rls_dml.specs.Deleting.{delete}
 use Rattle.rls_dml.specs.Inserting.{insert}
 use Rattle.rls_dml.specs.Updating.{update}
-use Rattle.rls_access.proofs.LeavingLemmas.{RowsGoOn, WriteNoRows, both_go_on, step_goes_on}
+use Rattle.rls_access.proofs.LeavingLemmas.{RowsGoOn, WriteNoRows, all_go_on, step_goes_on}
 use Rattle.rls_access.proofs.rows_laws.changes_go_on.Goals as goal
 
 -- by the laws of each kind of statement
@@ -23,8 +23,8 @@ returns c =
       select = c.rows_stay_sound.ensures.select;
     } in
     let rows : RowsGoOn = record {
-      insert = λ s ctx asked free. both_go_on s ctx ((insert ctx asked).in_state s).gives (c.changes_fit.ensures.insert s ctx asked free) (c.rows_are_numbered_on.ensures.insert s ctx asked);
-      update = λ s ctx asked sound. both_go_on s ctx ((update ctx asked).in_state s).gives (c.changes_fit.ensures.update s ctx asked (c.sound_rows_mean.ensures.order s asked.table sound)) (c.rows_are_numbered_on.ensures.update s ctx asked sound);
-      delete = λ s ctx asked sound. both_go_on s ctx ((delete ctx asked).in_state s).gives (c.changes_fit.ensures.delete s ctx asked (c.sound_rows_mean.ensures.order s asked.table sound)) (c.rows_are_numbered_on.ensures.delete s ctx asked);
+      insert = λ s ctx asked free. all_go_on s ctx ((insert ctx asked).in_state s).gives (c.changes_fit.ensures.insert s ctx asked free) (c.rows_are_numbered_on.ensures.insert s ctx asked) (c.numbers_stay_in_range.ensures.insert s ctx asked);
+      update = λ s ctx asked sound. all_go_on s ctx ((update ctx asked).in_state s).gives (c.changes_fit.ensures.update s ctx asked (c.sound_rows_mean.ensures.order s asked.table sound)) (c.rows_are_numbered_on.ensures.update s ctx asked sound) (c.numbers_stay_in_range.ensures.update s ctx asked sound);
+      delete = λ s ctx asked sound. all_go_on s ctx ((delete ctx asked).in_state s).gives (c.changes_fit.ensures.delete s ctx asked (c.sound_rows_mean.ensures.order s asked.table sound)) (c.rows_are_numbered_on.ensures.delete s ctx asked) (c.numbers_stay_in_range.ensures.delete s ctx asked);
     } in
     step_goes_on none rows

@@ -1,0 +1,94 @@
+-- The numbers of new rows stay in their range.
+use Rattle.std.specs.Prelude.{◌≡◌, refl, ℕ, suc, ◌+◌, ◌≤◌, List, [], ◌∷◌, Bool, true, false, ◌&&◌, ◌||◌, nat_le, Result, Ok, Err, IfOk, if◌then◌else◌, length, map}
+use Rattle.std.specs.List.{list_all, list_any}
+use Rattle.std.proofs.Common.{arith, ap}
+use Rattle.std.proofs.lemmas.Bool.{leb-true}
+use Rattle.rls_value.specs.declared.refusal.Refusal.{Refusal}
+use Rattle.rls_value.specs.declared.refusal.Refusal.TheVariants.{Limit}
+use Rattle.rls_value.specs.declared.refusal.Limit.TheVariants as limit
+use Rattle.rls_value.specs.declared.value.Value.{Value}
+use Rattle.rls_value.specs.Giving.{and_then}
+use Rattle.rls_expr.specs.Parts.{has_sum}
+use Rattle.rls_expr.specs.declared.table.TableDef.{TableDef}
+use Rattle.rls_catalog.specs.declared.change.Change.{Change}
+use Rattle.rls_catalog.specs.declared.stored.Stored.{Stored}
+use Rattle.rls_catalog.specs.SoundRows.{RowsAreSound}
+use Rattle.rls_catalog.specs.State.{State}
+use Rattle.rls_statement.specs.declared.changing.Delete.{Delete}
+use Rattle.rls_statement.specs.declared.changing.Update.{Update}
+use Rattle.rls_statement.specs.declared.statement.Insert.{Insert}
+use Rattle.rls_source.specs.Askings.{known, followed_by}
+use Rattle.rls_source.specs.Named.{table_or_undefined}
+use Rattle.rls_guard.specs.declared.context.Ctx.{Ctx}
+use Rattle.rls_guard.specs.Keeping.{IfDone}
+use Rattle.rls_dml.specs.declared.addition.Addition.{Addition}
+use Rattle.rls_dml.specs.Checking.{fitting_or_fault, plain_or_unsupported, returning_fits, returning_sums}
+use Rattle.rls_dml.specs.Deleting.{delete, deleted_row}
+use Rattle.rls_dml.specs.Inserting.{addition_of, addition_or_refused, insert, insert_into, inserted_row, known_addition, numbered, room_or_limit, tuple_fits}
+use Rattle.rls_dml.specs.NextRows.{InRange, new_rows}
+use Rattle.rls_dml.specs.Updating.{changed_rows, update}
+use Rattle.rls_dml.proofs.FittingLemmas.{done_after, done_then, given_after, given_then, insert_into_done}
+use Rattle.rls_dml.proofs.KeepingLemmas.{delete_holds, update_holds}
+
+-- ---- INSERT
+
+-- each row of an INSERT is new
+all_new : (name places : List ℕ) (txn next : ℕ) (rows : List (List Value)) → new_rows (map (inserted_row name) (numbered places txn next rows)) ≡ length rows
+all_new name places txn next [] = refl
+all_new name places txn next (row ∷ rows) = ap suc (all_new name places txn (suc next) rows)
+
+-- room, or none
+abbrev room : Bool → Result (Unit {0}) Refusal
+room b = if b then Ok tt else Err (Limit limit.Inserts)
+
+room_if : (b : Bool) (next count : ℕ) → nat_le (next + count) 4294967295 ≡ b → IfOk (room b) (λ _. next + count ≤ 4294967295)
+room_if true next count is = leb-true (next + count) 4294967295 is
+room_if false next count is = tt
+
+-- there are numbers left for the tuples
+numbers_left : (next : ℕ) (table : TableDef) (addition : Addition) → IfOk (addition_or_refused next table addition) (λ _. next + length addition.tuples ≤ 4294967295)
+numbers_left next table addition =
+    let sums : Bool = list_any (list_any has_sum) addition.tuples || returning_sums addition.returning in
+    given_then (λ _. next + length addition.tuples ≤ 4294967295)
+    (fitting_or_fault (list_all (tuple_fits table.columns addition.places) addition.tuples && returning_fits (table ∷ []) addition.returning))
+    (λ _. and_then (plain_or_unsupported sums) (λ _. room_or_limit next (length addition.tuples))) (λ _.
+    given_then (λ _. next + length addition.tuples ≤ 4294967295) (plain_or_unsupported sums) (λ _. room_or_limit next (length addition.tuples)) (λ _.
+    room_if (nat_le (next + length addition.tuples) 4294967295) next (length addition.tuples) refl))
+
+addition_in_range : (ctx : Ctx) (asked : Insert) (table : TableDef) → IfOk (addition_of ctx asked table) (λ addition. ctx.next + length addition.tuples ≤ 4294967295)
+addition_in_range ctx asked table =
+    given_then (λ addition. ctx.next + length addition.tuples ≤ 4294967295) (known_addition asked table)
+    (λ addition. and_then (addition_or_refused ctx.next table addition) (λ _. Ok addition)) (λ addition.
+    given_after (λ _. ctx.next + length addition.tuples ≤ 4294967295) (λ other. ctx.next + length other.tuples ≤ 4294967295) (addition_or_refused ctx.next table addition) (λ _. Ok addition)
+    (numbers_left ctx.next table addition) (λ _ left. left))
+
+-- an INSERT leaves the next number in its range
+pub insert_in_range : (s : State) (ctx : Ctx) (asked : Insert) → IfDone ((insert ctx asked).in_state s).gives (InRange ctx.next)
+insert_in_range s ctx asked =
+    done_then (InRange ctx.next) ((table_or_undefined asked.table).in_state s).gives
+    (λ table. ((followed_by (known (addition_of ctx asked table)) (λ addition. insert_into ctx asked.table table addition)).in_state s).gives) (λ table.
+    done_after (λ addition. ctx.next + length addition.tuples ≤ 4294967295) (InRange ctx.next) (addition_of ctx asked table)
+    (λ addition. ((insert_into ctx asked.table table addition).in_state s).gives) (addition_in_range ctx asked table) (λ addition left.
+    insert_into_done (InRange ctx.next) s ctx asked.table table addition (λ places rows count _. omega (arith, left, count, all_new asked.table places ctx.txn ctx.next rows))))
+
+-- ---- UPDATE and DELETE
+
+none_new : (next : ℕ) (changes : List Change) → new_rows changes ≡ 0 → InRange next changes
+none_new next changes none = λ within. omega (arith, none, within)
+
+renewed_old : (name : List ℕ) (old new : List Stored) → new_rows (changed_rows name old new) ≡ 0
+renewed_old name old [] = refl
+renewed_old name [] (new ∷ news) = refl
+renewed_old name (old ∷ olds) (new ∷ news) = renewed_old name olds news
+
+-- an UPDATE leaves the next number as it is
+pub update_in_range : (s : State) (ctx : Ctx) (asked : Update) → RowsAreSound s → IfDone ((update ctx asked).in_state s).gives (InRange ctx.next)
+update_in_range s ctx asked sound = update_holds (InRange ctx.next) s ctx asked (λ old new _. none_new ctx.next (changed_rows asked.table old new) (renewed_old asked.table old new)) sound
+
+gone_old : (name : List ℕ) (rows : List Stored) → new_rows (map (deleted_row name) rows) ≡ 0
+gone_old name [] = refl
+gone_old name (stored ∷ rows) = gone_old name rows
+
+-- so does a DELETE
+pub delete_in_range : (s : State) (ctx : Ctx) (asked : Delete) → IfDone ((delete ctx asked).in_state s).gives (InRange ctx.next)
+delete_in_range s ctx asked = delete_holds (InRange ctx.next) s ctx asked (λ table rows _. none_new ctx.next (map (deleted_row asked.table) rows) (gone_old asked.table rows))
