@@ -13,7 +13,7 @@ use Rattle.rls_session.specs.Labels.{place_of, session_at, session_of, with_sess
 use Rattle.rls_session.specs.declared.answer.Answer.{Answer}
 use Rattle.rls_session.specs.declared.database.Database.{Database}
 use Rattle.rls_session.specs.declared.labels.Label.{Label}
-use Rattle.rls_command.specs.declared.session.Session.{Session}
+use Rattle.rls_session.specs.declared.session.Session.{Session}
 
 -- a label at its place has its name
 named_at : (labels : List Label) (name : List ℕ) (label : Label) → place_of labels name < length labels → label ≡ get_or labels (place_of labels name) label → label.name ≡ name

@@ -15,15 +15,14 @@ use Rattle.rls_guard.specs.declared.context.Ctx.{Ctx}
 use Rattle.rls_guard.specs.declared.effect.Effect.{Effect}
 use Rattle.rls_guard.specs.declared.effect.Effect.TheVariants as e
 use Rattle.rls_access.specs.Statements.{effect_in}
-use Rattle.rls_command.specs.Asking.{Asks}
-use Rattle.rls_session.specs.Sessions.{Given, connected, ran}
+use Rattle.rls_session.specs.Sessions.{Asks, Given, connected, ran}
 use Rattle.rls_session.specs.declared.answer.Answer.{Answer}
 use Rattle.rls_session.specs.declared.answer.Answer.TheVariants as a
-use Rattle.rls_command.specs.declared.asking.Asked.{Asked}
-use Rattle.rls_command.specs.declared.asking.Asked.TheVariants as k
+use Rattle.rls_session.specs.declared.asking.Asked.{Asked}
+use Rattle.rls_session.specs.declared.asking.Asked.TheVariants as k
 use Rattle.rls_session.specs.declared.database.Database.{Database}
-use Rattle.rls_command.specs.declared.session.Begin.{Begin}
-use Rattle.rls_command.specs.declared.session.Session.{Session}
+use Rattle.rls_session.specs.declared.session.Begin.{Begin}
+use Rattle.rls_session.specs.declared.session.Session.{Session}
 
 -- before the first command: the opening state, and the first transaction is number 1
 abbrev pub opening_database : Database

@@ -10,7 +10,7 @@ use Rattle.rls_session.specs.declared.answer.Answer.{Answer}
 use Rattle.rls_session.specs.declared.answer.Answer.TheVariants as a
 use Rattle.rls_session.specs.declared.database.Database.{Database}
 use Rattle.rls_session.specs.declared.labels.Label.{Label}
-use Rattle.rls_command.specs.declared.session.Session.{Session}
+use Rattle.rls_session.specs.declared.session.Session.{Session}
 use Rattle.rls_session.specs.declared.sessions.Sessions.{Sessions}
 
 -- the place of the label in the order in which they came; one that hasn't come is behind them all

@@ -1,3 +1,5 @@
+pub mod Lines
+pub mod Connects
 pub mod Sessions
 pub mod Databases
 pub mod Labels

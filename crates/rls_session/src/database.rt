@@ -7,9 +7,9 @@ ghost use Rattle.rls_catalog.specs.Changed.{changed_all};
 ghost use Rattle.rls_access.specs.Statements.{role_after};
 ghost use Rattle.rls_session.specs.Databases.{begun_by, came_of, changes_of, ctx_of, database_after, database_begun, next_after, opening_database};
 
+use crate::session::Begin;
 use rls_access::{Ctx, Effect, Outcome, run_statement};
 use rls_catalog::Catalog;
-use rls_command::Begin;
 use rls_source::Plain;
 use rls_statement::Statement;
 use rls_value::{Limit, Name, Refusal};

@@ -1,16 +1,16 @@
 //! One command under a label.
 
 ghost use Rattle.std.specs.Prelude.{◌≡◌, IfOk, IsOk, OnOk, OnErr};
-ghost use Rattle.rls_command.specs.Connects.{ConnectsToLongName};
-ghost use Rattle.rls_command.specs.Asking.{IsNothing};
-ghost use Rattle.rls_session.specs.Sessions.{answer_to, connected, ran, with_role};
+ghost use Rattle.rls_session.specs.Connects.{ConnectsToLongName};
+ghost use Rattle.rls_session.specs.Sessions.{IsNothing, answer_to, connected, ran, with_role};
 ghost use Rattle.rls_session.specs.Databases.{Executes, done_for, begun_by, came_of, database_after, database_begun};
 ghost use Rattle.rls_statement.specs.Tags.{tag_of};
 
 use crate::answer::Answer;
+use crate::asking::{Asked, ask};
 use crate::database::Database;
+use crate::session::{Begin, Session};
 use rls_access::{Effect, Outcome, Reply};
-use rls_command::{Asked, Begin, Session, ask};
 use rls_statement::Statement;
 use rls_value::{Name, Refusal, Tag};
 use std::alloc::{AllocError, Global};

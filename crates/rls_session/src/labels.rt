@@ -8,7 +8,7 @@ ghost use Rattle.rls_session.specs.Labels.{ExecutesUnder};
 use crate::answer::Answer;
 use crate::database::Database;
 use crate::executing::execute;
-use rls_command::Session;
+use crate::session::Session;
 use rls_value::Text;
 use std::alloc::{AllocError, Global};
 use std::marker::Model;

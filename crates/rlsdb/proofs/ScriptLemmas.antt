@@ -7,15 +7,15 @@ use Rattle.std.proofs.lemmas.List.Sums.{fails_before_first}
 use Rattle.std.proofs.lemmas.Grind.{common_steps}
 use Rattle.std.proofs.lemmas.Bool.Decides.{nat_tests}
 use Rattle.rls_catalog.specs.State.{State}
-use Rattle.rls_command.specs.Lines.{IsRead, ends_line, first_line_of, without_return}
+use Rattle.rls_session.specs.Lines.{IsRead, ends_line, first_line_of, without_return}
 use Rattle.rls_session.specs.Rendering.{answer_text}
 use Rattle.rls_session.specs.Labels.{opening_sessions, state_left, AnswersUnder}
 use Rattle.rls_session.specs.declared.sessions.Sessions.{Sessions}
 use Rattle.rlsdb.specs.Scripts.{RunsLine, RunsLines, RunsRead, RunsScript, IsScriptText, GrewBy}
 use Rattle.rlsdb.specs.Scripts.{none, next}
 use Rattle.rls_session.specs.declared.answer.Answer.{Answer}
-use Rattle.rls_command.specs.declared.line.Line.{Line}
-use Rattle.rls_command.specs.declared.line.Line.TheVariants as l
+use Rattle.rls_session.specs.declared.line.Line.{Line}
+use Rattle.rls_session.specs.declared.line.Line.TheVariants as l
 
 -- a part in front of others is a line of its own
 lines_of_more : (part : List ℕ) (parts : List (List ℕ)) → 0 < length parts → lines_of_parts (part ∷ parts) ≡ without_return part ∷ lines_of_parts parts

@@ -4,12 +4,12 @@ use Rattle.std.specs.Str.Lines.{lines}
 use Rattle.rls_value.specs.declared.refusal.Refusal.TheVariants as r
 use Rattle.rls_catalog.specs.State.{State}
 use Rattle.rls_session.specs.Labels.{opening_sessions, state_left, AnswersUnder}
-use Rattle.rls_command.specs.Lines.{IsRead}
+use Rattle.rls_session.specs.Lines.{IsRead}
 use Rattle.rls_session.specs.Rendering.{answer_text}
 use Rattle.rls_session.specs.declared.answer.Answer.{Answer}
 use Rattle.rls_session.specs.declared.answer.Answer.TheVariants as a
-use Rattle.rls_command.specs.declared.line.Line.{Line}
-use Rattle.rls_command.specs.declared.line.Line.TheVariants as l
+use Rattle.rls_session.specs.declared.line.Line.{Line}
+use Rattle.rls_session.specs.declared.line.Line.TheVariants as l
 use Rattle.rls_session.specs.declared.sessions.Sessions.{Sessions}
 
 -- a command under its label

@@ -7,8 +7,7 @@ ghost use Rattle.rlsdb.specs.Scripts.{GrewBy, IsScriptText, RunsRead, RunsScript
 use crate::fault::RunFault;
 use crate::stream::{Failed, ScriptIn, ScriptOut};
 use rls_catalog::Catalog;
-use rls_command::{Line, first_line, read_line};
-use rls_session::{Answer, Sessions, render};
+use rls_session::{Answer, Line, Sessions, first_line, read_line, render};
 use rls_value::Refusal;
 use std::alloc::Global;
 

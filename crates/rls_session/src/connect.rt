@@ -6,8 +6,8 @@ ghost use Rattle.rls_value.specs.Giving.{Gives};
 ghost use Rattle.rls_value.specs.Names.{is_letter_or_digit};
 ghost use Rattle.rls_text.specs.Answers.{first_limit};
 ghost use Rattle.rls_text.specs.Words.{words_of};
-ghost use Rattle.rls_command.specs.Connects as spec;
-ghost use Rattle.rls_command.specs.Connects.{IsConnect, is_white, is_long_name, limit_on_words, name_of, role_named};
+ghost use Rattle.rls_session.specs.Connects as spec;
+ghost use Rattle.rls_session.specs.Connects.{IsConnect, is_white, is_long_name, limit_on_words, name_of, role_named};
 
 use rls_text::parse;
 use rls_value::{Limit, MAX_NAME, Name, Refusal};

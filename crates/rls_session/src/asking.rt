@@ -1,8 +1,8 @@
 //! What a command asks of the database.
 
 ghost use Rattle.std.specs.Prelude.{◌≡◌, true, IfOk, OnOk, IsOkAnd};
-ghost use Rattle.rls_command.specs.Connects.{IsConnect, ConnectsToLongName, role_named, is_long_name};
-ghost use Rattle.rls_command.specs.Asking.{IsNothing, Asks, AsksAs, AsksToRun, asked_to_connect, asker_of, begin_of, within_line};
+ghost use Rattle.rls_session.specs.Connects.{IsConnect, ConnectsToLongName, role_named, is_long_name};
+ghost use Rattle.rls_session.specs.Sessions.{IsNothing, Asks, AsksAs, AsksToRun, asked_to_connect, asker_of, begin_of, within_line};
 
 use crate::connect::{behind_connect, role_in};
 use crate::session::{Begin, Session};

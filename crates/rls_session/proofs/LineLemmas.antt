@@ -7,8 +7,8 @@ use Rattle.std.proofs.lemmas.List.Sums.{prefix_len_passes, prefix_len-le-length}
 use Rattle.std.proofs.lemmas.Str.{IsCharBoundary-start, IsCharBoundary-after_ascii}
 use Rattle.std.proofs.lemmas.Str.Pattern.{split_once_first, IsSplitOnceResult}
 use Rattle.rls_value.specs.Names.{is_between, is_letter_or_digit}
-use Rattle.rls_command.specs.Connects.{is_white, word_len}
-use Rattle.rls_command.specs.Lines.{is_blank, is_colon}
+use Rattle.rls_session.specs.Connects.{is_white, word_len}
+use Rattle.rls_session.specs.Lines.{is_blank, is_colon}
 
 -- bytes of ASCII alone pass the test
 abbrev pub IsOfAscii : (ℕ → Bool) → Type 0

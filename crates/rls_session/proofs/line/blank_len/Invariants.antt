@@ -1,7 +1,7 @@
 use Rattle.std.proofs.Common.{◌≡◌, ◌+◌, length}
 use Rattle.std.specs.List.{prefix_len}
-use Rattle.rls_command.specs.Lines.{is_blank}
-use Rattle.rls_command.proofs.line.blank_len.Given as goal
+use Rattle.rls_session.specs.Lines.{is_blank}
+use Rattle.rls_session.proofs.line.blank_len.Given as goal
 
 -- what was passed is blank, and with what is left it is the whole
 abbrev pub invariant-loop-rest : goal.invariant-loop-rest

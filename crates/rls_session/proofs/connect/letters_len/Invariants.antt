@@ -1,7 +1,7 @@
 use Rattle.std.proofs.Common.{◌≡◌, ◌+◌, length}
 use Rattle.std.specs.List.{prefix_len}
 use Rattle.rls_value.specs.Names.{is_letter_or_digit}
-use Rattle.rls_command.proofs.connect.letters_len.Given as goal
+use Rattle.rls_session.proofs.connect.letters_len.Given as goal
 
 -- what was passed is such bytes, and with what is left it is the whole
 abbrev pub invariant-loop-rest : goal.invariant-loop-rest

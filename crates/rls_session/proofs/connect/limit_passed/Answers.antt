@@ -1,6 +1,6 @@
 use Rattle.std.proofs.Common.{◌∙◌}
-use Rattle.rls_command.proofs.LimitLemmas.{words_limit}
-use Rattle.rls_command.proofs.connect.limit_passed.Goals as goal
+use Rattle.rls_session.proofs.LimitLemmas.{words_limit}
+use Rattle.rls_session.proofs.connect.limit_passed.Goals as goal
 
 -- the limit that the parser answers, where it is on words, is the one that they pass
 pub returns-in-Err-Limit : goal.returns-in-Err-Limit

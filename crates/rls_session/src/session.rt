@@ -1,25 +1,25 @@
 //! A label's session.
 
 ghost use Rattle.std.specs.Prelude.{◌≡◌, IfOk};
-ghost use Rattle.rls_command.specs.Asking.{begin_of};
+ghost use Rattle.rls_session.specs.Sessions.{begin_of};
 
-use rls_guard::Mode;
+use rls_access::Mode;
 use rls_value::Name;
 use std::alloc::AllocError;
 
 /// A session: the role that it began as, and the current one.
 #[derive(Drop)]
 pub struct Session {
-    pub login: Name,
-    pub role: Name,
+    pub(crate) login: Name,
+    pub(crate) role: Name,
 }
 
 /// What a transaction begins with.
 #[derive(Drop)]
 pub struct Begin {
-    pub login: Name,
-    pub role: Name,
-    pub mode: Mode,
+    pub(crate) login: Name,
+    pub(crate) role: Name,
+    pub(crate) mode: Mode,
 }
 
 impl Session {

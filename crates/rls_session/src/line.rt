@@ -2,8 +2,8 @@
 
 ghost use Rattle.std.specs.Prelude.{◌≡◌, ◌<◌, false, length, drop};
 ghost use Rattle.std.specs.List.{position_or_len, after_first, prefix_len, list_all};
-ghost use Rattle.rls_command.specs.Lines as spec;
-ghost use Rattle.rls_command.specs.Lines.{IsRead, ends_line, first_line_of, is_skipped, is_phase, is_blank};
+ghost use Rattle.rls_session.specs.Lines as spec;
+ghost use Rattle.rls_session.specs.Lines.{IsRead, ends_line, first_line_of, is_skipped, is_phase, is_blank};
 
 use std::str;
 

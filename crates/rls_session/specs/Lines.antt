@@ -3,8 +3,8 @@ use Rattle.std.specs.Prelude.{ℕ, Bool, true, false, cond, nat_eq, nat_lt, nat_
 use Rattle.std.specs.List.{list_all, prefix_len, position_or_len, before_first, after_first}
 use Rattle.std.specs.Str.{IsUtf8, bytes_eq}
 use Rattle.rls_value.specs.Names.{is_between}
-use Rattle.rls_command.specs.declared.line.Line.{Line}
-use Rattle.rls_command.specs.declared.line.Line.TheVariants as l
+use Rattle.rls_session.specs.declared.line.Line.{Line}
+use Rattle.rls_session.specs.declared.line.Line.TheVariants as l
 
 -- LF
 abbrev pub ends_line : ℕ → Bool

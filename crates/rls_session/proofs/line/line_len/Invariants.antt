@@ -1,7 +1,7 @@
 use Rattle.std.proofs.Common.{◌≡◌, ◌+◌, length}
 use Rattle.std.specs.List.{position_or_len}
-use Rattle.rls_command.specs.Lines.{ends_line}
-use Rattle.rls_command.proofs.line.line_len.Given as goal
+use Rattle.rls_session.specs.Lines.{ends_line}
+use Rattle.rls_session.proofs.line.line_len.Given as goal
 
 -- what was passed holds no LF, and with what is left it is the whole
 abbrev pub invariant-loop-rest : goal.invariant-loop-rest

@@ -7,7 +7,7 @@ use Rattle.rls_value.specs.declared.refusal.Refusal.TheVariants as r
 use Rattle.rls_statement.specs.declared.statement.Statement.{Statement}
 use Rattle.rls_text.specs.Answers.{Answers, columns_of, first_limit, limit_from, limit_at, open_behind, or_next}
 use Rattle.rls_text.specs.Heights.{height_of}
-use Rattle.rls_command.specs.Connects.{limit_on_words}
+use Rattle.rls_session.specs.Connects.{limit_on_words}
 use Rattle.rls_text.specs.declared.token.Token.{Token}
 use Rattle.rls_text.specs.declared.token.Token.TheVariants as t
 use Rattle.rls_text.specs.declared.token.Symbol.TheVariants as s
