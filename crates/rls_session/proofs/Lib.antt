@@ -1,3 +1,4 @@
+pub mod AskingLemmas
 pub mod ExecuteLemmas
 pub mod Examples
 pub mod LabelLemmas
