@@ -19,6 +19,7 @@ use Rattle.rls_value.specs.Values.{listed, same_flag}
 use Rattle.rls_catalog.specs.declared.stored.Keyed.{Keyed}
 use Rattle.rls_catalog.specs.State.{id_order, is_same_row, is_same_value}
 use Rattle.rls_catalog.specs.Walks.{bytes_same}
+use Rattle.rls_catalog.specs.SameRows.{same_row}
 use Rattle.rls_catalog.specs.KeyIndex.{Covers, Grows, Keeps, ids_at, ids_in, is_among, is_empty_key, is_indexed, key_order, knows, stands_at}
 use Rattle.rls_catalog.proofs.Places.{absent_set, id_total, same_id}
 
@@ -45,41 +46,8 @@ both : (a b : Bool) → (a && b) ≡ true → (a ≡ true) × (b ≡ true)
 both true b is = (refl, is)
 both false b is = absurd (true≢false (sym is))
 
-same_flags : (a b : Bool) → same_flag a b ≡ true → a ≡ b
-same_flags true true is = refl
-same_flags true false is = absurd (true≢false (sym is))
-same_flags false true is = absurd (true≢false (sym is))
-same_flags false false is = refl
-
 pub no : {A : Type 0} → false ≡ true → A
 no is = absurd (true≢false (sym is))
-
-same_one : (x y : Value) → is_same_value x y ≡ true → x ≡ y
-same_one (v.Int a) (v.Int b) is = ap v.Int ((Decides-int_eq a b).0 is)
-same_one (v.Text a) (v.Text b) is = ap v.Text (bytes_same a b is)
-same_one (v.Bool a) (v.Bool b) is = ap v.Bool (same_flags a b is)
-same_one v.Null v.Null is = refl
-same_one v.Null (v.Int b) is = no is
-same_one v.Null (v.Text b) is = no is
-same_one v.Null (v.Bool b) is = no is
-same_one (v.Int a) v.Null is = no is
-same_one (v.Int a) (v.Text b) is = no is
-same_one (v.Int a) (v.Bool b) is = no is
-same_one (v.Text a) v.Null is = no is
-same_one (v.Text a) (v.Int b) is = no is
-same_one (v.Text a) (v.Bool b) is = no is
-same_one (v.Bool a) v.Null is = no is
-same_one (v.Bool a) (v.Int b) is = no is
-same_one (v.Bool a) (v.Text b) is = no is
-
--- rows with the same values are the same
-pub same_row : (xs ys : List Value) → is_same_row xs ys ≡ true → xs ≡ ys
-same_row [] [] is = refl
-same_row [] (y ∷ ys) is = no is
-same_row (x ∷ xs) [] is = no is
-same_row (x ∷ xs) (y ∷ ys) is =
-    let parts = both (is_same_value x y) (is_same_row xs ys) is in
-    λ i. same_one x y parts.0 i ∷ same_row xs ys parts.1 i
 
 -- ---- an index after a change under one key
 
@@ -217,3 +185,10 @@ covers_taken index slots after id taken =
 
 pub covers_none : (index : List (List Value × BTreeMap RowId (Unit {0}))) (slots : List (RowId × Option Keyed)) → slots ≡ [] → Covers index slots
 covers_none index slots none = λ id keyed found. no (ap is_some (ap (lookup (is_at (id_order id))) (sym none) ∙ found))
+
+-- the row of a place that has the key is indexed under it
+pub standing_indexed : (index : List (List Value × BTreeMap RowId (Unit {0}))) (slots : List (RowId × Option Keyed)) (key : List Value) (id : RowId) (found : Option (Option Keyed))
+    → lookup (is_at (id_order id)) slots ≡ found → stands_at key found ≡ true → Covers index slots → is_indexed index key id ≡ true
+standing_indexed index slots key id (Some (Some keyed)) is stands covers = ap (λ k. is_indexed index k id) (same_key key keyed.key stands) ∙ covers id keyed is
+standing_indexed index slots key id (Some None) is stands covers = no stands
+standing_indexed index slots key id None is stands covers = no stands

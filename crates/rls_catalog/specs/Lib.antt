@@ -10,6 +10,8 @@ pub mod Undone
 pub mod KeyIndex
 pub mod Contents
 pub mod Bases
+pub mod SameRows
+pub mod Writes
 pub mod RowsChanged
 pub mod SoundRows
 pub mod Covering

@@ -1,10 +1,10 @@
 //! The rows of one table, by number, in places that may stand empty, with an index by key.
 
-ghost use Rattle.std.specs.Prelude.{◌≡◌, [], None, Some, IfOk, OnOk, OnErr, map};
+ghost use Rattle.std.specs.Prelude.{◌≡◌, [], None, Some, true, IfOk, OnOk, OnErr, map};
 ghost use Rattle.std.specs.BTreeMap.{IsOrdered, is_at};
 ghost use Rattle.std.specs.Map.{lookup, remove_entry, set_value};
 ghost use Rattle.rls_catalog.specs.Changed.{with_row};
-ghost use Rattle.rls_catalog.specs.KeyIndex.{knows, picked, stands_at};
+ghost use Rattle.rls_catalog.specs.KeyIndex.{Covers, Grows, is_indexed, knows, picked, stands_at};
 ghost use Rattle.rls_catalog.specs.InOrder.{Ascend};
 ghost use Rattle.rls_catalog.specs.Kept.{present};
 ghost use Rattle.rls_catalog.specs.State.{id_order, stored_of, with_key};
@@ -95,7 +95,7 @@ impl Slots {
         ensures before { IfOk result (λ before. undone.put_back id_order id before self.new ≡ self.old) }
         ensures err { OnErr result (self.new ≡ self.old) }
     {
-        key_index::add(&mut self.index, alloc, &keyed.key, id)?;
+        add_to_index(&mut self.index, alloc, &self.slots, &keyed.key, id)?;
         let before = entries::put(&mut self.slots, id, Some(keyed))?;
         Ok(before)
     }
@@ -126,6 +126,9 @@ impl Slots {
     pub(crate) fn settle(&mut self, id: RowId, before: Option<Option<Keyed>>)
         ensures { present self.new ≡ present self.old }
     {
+        if has_its_key(&self.slots, id, &before) {
+            return;
+        }
         self.close(id);
         if let Some(content) = before {
             self.tidy(id, &content);
@@ -215,6 +218,37 @@ fn is_known(index: &BTreeMap<Row, BTreeMap<RowId, ()>>, id: RowId, content: &Opt
     match content {
         Some(keyed) => key_index::has(index, &keyed.key, id),
         None => true,
+    }
+}
+
+/// Adds the number under the key to the index, unless the row at the number has that key: then it is there.
+#[tactic(auto, using(crate::proofs::KeyIndexLemmas::standing_indexed))]
+fn add_to_index(
+    index: &mut BTreeMap<Row, BTreeMap<RowId, ()>>,
+    alloc: Global,
+    slots: &BTreeMap<RowId, Option<Keyed>>,
+    key: &Row,
+    id: RowId,
+) -> Result<(), AllocError>
+    ensures grows { Grows index.old.entries index.new.entries }
+    ensures ok { OnOk result (Covers index.old.entries slots.now.entries → is_indexed index.new.entries key.now id ≡ true) }
+{
+    if stands(slots, id, key) {
+        Ok(())
+    } else {
+        key_index::add(index, alloc, key, id)
+    }
+}
+
+/// Whether the row at the number has the key of the one that stood there, so that neither the place nor the index has to go.
+fn has_its_key(
+    slots: &BTreeMap<RowId, Option<Keyed>>,
+    id: RowId,
+    before: &Option<Option<Keyed>>,
+) -> bool {
+    match before {
+        Some(Some(keyed)) => stands(slots, id, &keyed.key),
+        Some(None) | None => false,
     }
 }
 

@@ -168,13 +168,13 @@ policy_made_beside role name table policies policy =
 policy_added_beside : (role name : List ℕ) (table : TableDef) (policy : Policy) → StaysBeside (policy_added role name table policy)
 unfolding policy_added
 policy_added_beside role name table policy =
-    after_any (asked_policies name) (λ policies. followed_by (known (policy_or_refused table policies policy)) (λ _. policy_made role name table policies policy)) (λ policies.
-    after_any (known (policy_or_refused table policies policy)) (λ _. policy_made role name table policies policy) (λ _. policy_made_beside role name table policies policy))
+    after_any (asked_policies name) (λ policies. followed_by (known (policy_or_refused name table policies policy)) (λ _. policy_made role name table policies policy)) (λ policies.
+    after_any (known (policy_or_refused name table policies policy)) (λ _. policy_made role name table policies policy) (λ _. policy_made_beside role name table policies policy))
 
 policy_on_beside : (role name : List ℕ) (table : TableDef) (policy : Policy) → StaysBeside (policy_on role name table policy)
 unfolding policy_on
 policy_on_beside role name table policy =
-    let conditions : Result (Unit {0}) Refusal = both_conditions (names_known (table ∷ [])) policy.using policy.check in
+    let conditions : Result (Unit {0}) Refusal = both_conditions (names_known ((name, table) ∷ [])) policy.using policy.check in
     after_any (grantees_or_undefined policy.to) (λ _. followed_by (known conditions) (λ _. policy_added role name table policy)) (λ _.
     after_any (known conditions) (λ _. policy_added role name table policy) (λ _. policy_added_beside role name table policy))
 

@@ -44,8 +44,8 @@ placed_or_unsupported kind alter = if has_no_place_for kind alter then Err Unsup
 -- the conditions that are written have to be right over the table, and for a policy of that kind
 abbrev pub conditions_or_refused : TableDef → PolicyKind → AlterPolicy → Result (Unit {0}) Refusal
 conditions_or_refused table kind alter =
-    and_then (both_conditions (names_known (table ∷ [])) alter.using alter.check) (λ _.
-    and_then (both_conditions (condition_fits (table ∷ [])) alter.using alter.check) (λ _.
+    and_then (both_conditions (names_known ((alter.table, table) ∷ [])) alter.using alter.check) (λ _.
+    and_then (both_conditions (condition_fits ((alter.table, table) ∷ [])) alter.using alter.check) (λ _.
     and_then (both_conditions no_sum alter.using alter.check) (λ _. placed_or_unsupported kind alter)))
 
 -- the policy with what is written

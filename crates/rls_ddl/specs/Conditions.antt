@@ -3,20 +3,20 @@ use Rattle.std.specs.Prelude.{List, Option, Some, None, Result, Ok, Err, if◌th
 use Rattle.rls_value.specs.declared.refusal.Refusal.{Refusal}
 use Rattle.rls_value.specs.declared.refusal.Refusal.TheVariants.{Unsupported}
 use Rattle.rls_value.specs.Giving.{and_then}
-use Rattle.rls_expr.specs.declared.table.TableDef.{TableDef}
+use Rattle.rls_expr.specs.Scopes.{InScope}
 use Rattle.rls_expr.specs.Terms.{Term}
 use Rattle.rls_expr.specs.Parts.{has_sum}
 use Rattle.rls_expr.specs.Resolving.{resolved}
 use Rattle.rls_expr.specs.Typing.{condition_checked}
 use Rattle.rls_guard.specs.Checks.{known_or_undefined}
 
--- its columns have to be known, if there is one
-abbrev pub names_known : List TableDef → Option Term → Result (Unit {0}) Refusal
+-- its names have to be known, if there is one
+abbrev pub names_known : List InScope → Option Term → Result (Unit {0}) Refusal
 names_known tables None = Ok tt
 names_known tables (Some term) = and_then (known_or_undefined (resolved term tables)) (λ _. Ok tt)
 
 -- it has to be a boolean, if there is one
-abbrev pub condition_fits : List TableDef → Option Term → Result (Unit {0}) Refusal
+abbrev pub condition_fits : List InScope → Option Term → Result (Unit {0}) Refusal
 condition_fits tables None = Ok tt
 condition_fits tables (Some term) = and_then (condition_checked term tables) (λ _. Ok tt)
 

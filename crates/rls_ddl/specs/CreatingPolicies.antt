@@ -29,10 +29,10 @@ abbrev pub room_for_policy : List Policy → Result (Unit {0}) Refusal
 room_for_policy policies = if nat_lt (length policies) 64 then Ok tt else Err (Limit limit.Policies)
 
 -- the policy has to be right over its table, beside those that are there
-abbrev pub policy_or_refused : TableDef → List Policy → Policy → Result (Unit {0}) Refusal
-policy_or_refused table policies policy =
+abbrev pub policy_or_refused : List ℕ → TableDef → List Policy → Policy → Result (Unit {0}) Refusal
+policy_or_refused name table policies policy =
     and_then (new_or_duplicate policies policy.name) (λ _.
-    and_then (both_conditions (condition_fits (table ∷ [])) policy.using policy.check) (λ _.
+    and_then (both_conditions (condition_fits ((name, table) ∷ [])) policy.using policy.check) (λ _.
     and_then (both_conditions no_sum policy.using policy.check) (λ _. room_for_policy policies)))
 
 -- the policy is made where the role has the privileges of the table's owner
@@ -43,12 +43,12 @@ policy_made role name table policies policy = followed_by (ownership role name t
 -- the policies that are there, and then the new one beside them
 unfoldable pub policy_added : List ℕ → List ℕ → TableDef → Policy → Asking Effect
 policy_added role name table policy = followed_by (asked_policies name) (λ policies.
-    followed_by (known (policy_or_refused table policies policy)) (λ _. policy_made role name table policies policy))
+    followed_by (known (policy_or_refused name table policies policy)) (λ _. policy_made role name table policies policy))
 
--- the roles have to be there, and the columns to be known
+-- the roles have to be there, and the names to be known
 unfoldable pub policy_on : List ℕ → List ℕ → TableDef → Policy → Asking Effect
 policy_on role name table policy = followed_by (grantees_or_undefined policy.to) (λ _.
-    followed_by (known (both_conditions (names_known (table ∷ [])) policy.using policy.check)) (λ _. policy_added role name table policy))
+    followed_by (known (both_conditions (names_known ((name, table) ∷ [])) policy.using policy.check)) (λ _. policy_added role name table policy))
 
 -- the table has to be there
 abbrev pub create_policy : Ctx → CreatePolicy → Asking Effect

@@ -2,7 +2,7 @@
 
 ghost use Rattle.std.specs.Prelude.{[], ◌∷◌};
 ghost use Rattle.rls_value.specs.Giving.{Gives};
-ghost use Rattle.rls_expr.specs.Scopes.{tables_in};
+ghost use Rattle.rls_expr.specs.Scopes.{in_scope, tables_in};
 ghost use Rattle.rls_ddl.specs.Conditions.{both_conditions, names_known, condition_fits, no_sum};
 
 use rls_expr::{Expr, FromTable, Scope, check_condition, has_sum};
@@ -10,14 +10,14 @@ use rls_guard::known_term;
 use rls_value::Refusal;
 use std::alloc::Global;
 
-/// The first unknown column of USING, then of WITH CHECK, is undefined.
+/// The first unknown name of USING, then of WITH CHECK, is undefined.
 pub fn require_names(
     alloc: Global,
     using: &Option<Expr>,
     check: &Option<Expr>,
     from: FromTable,
 ) -> Result<(), Refusal>
-    ensures { Gives result (both_conditions (names_known (from.entry.table.now ∷ [])) «using».now check.now) }
+    ensures { Gives result (both_conditions (names_known (in_scope from.entry ∷ [])) «using».now check.now) }
 {
     let tables = [from];
     let scope = Scope { tables: &tables };
@@ -41,7 +41,7 @@ pub fn require_booleans(
     check: &Option<Expr>,
     from: FromTable,
 ) -> Result<(), Refusal>
-    ensures { Gives result (both_conditions (condition_fits (from.entry.table.now ∷ [])) «using».now check.now) }
+    ensures { Gives result (both_conditions (condition_fits (in_scope from.entry ∷ [])) «using».now check.now) }
 {
     let tables = [from];
     let scope = Scope { tables: &tables };

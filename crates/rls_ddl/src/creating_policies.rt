@@ -133,7 +133,7 @@ fn require_policy(
     from: FromTable,
     policy: &Policy,
 ) -> Result<(), Refusal>
-    ensures given { Gives result (policy_or_refused from.entry.table.now policies.now policy.now) }
+    ensures given { Gives result (policy_or_refused from.entry.name.now from.entry.table.now policies.now policy.now) }
     ensures new { OnOk result (has_policy policies.now policy.now.name ≡ false) }
 {
     if is_there(policies, &policy.name) {

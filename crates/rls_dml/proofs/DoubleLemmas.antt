@@ -1,17 +1,19 @@
 -- Keys beside those that were seen before them.
-use Rattle.std.proofs.Common.{◌≡◌, Bool, ◌||◌, not, true, false, List, [], ◌∷◌, length, take, drop, ◌-◌, ◌<◌, refl, arith, ap, sym, subst, ◌∙◌}
+use Rattle.std.proofs.Common.{◌≡◌, Bool, ◌||◌, ◌&&◌, not, true, false, List, [], ◌∷◌, length, take, drop, ◌-◌, ◌<◌, refl, arith, ap, sym, subst, ◌∙◌}
 use Rattle.std.specs.Borrow.{Bor}
 use Rattle.std.specs.List.{list_any}
 use Rattle.std.specs.Cmp.Lexicographic.{slice_cmp}
-use Rattle.std.specs.Ordering.{is_eq, match_ordering}
+use Rattle.std.specs.Ordering.{is_eq, is_lt, match_ordering, ordering_reverse}
 use Rattle.std.specs.declared.cmp.Ordering.{Ordering}
 use Rattle.std.specs.declared.cmp.Ordering.TheVariants.{Less, Equal, Greater}
 use Rattle.std.specs.BTreeMap.{is_at}
 use Rattle.std.specs.BTreeSet.{insert_key}
 use Rattle.std.proofs.Math.Seq.{take-length}
+use Rattle.std.proofs.lemmas.Bool.{true≢false}
 use Rattle.rls_value.specs.declared.value.Value.{Value}
+use Rattle.rls_value.specs.Listing.{rows_total}
 use Rattle.rls_value.specs.Values.{listed}
-use Rattle.rls_dml.specs.Writing.{is_among, has_doubles}
+use Rattle.rls_dml.specs.Writing.{is_among, has_doubles, is_below, ascend}
 
 -- the order of borrowed keys
 abbrev pub key_order : Bor (List Value) → Bor (List Value) → Ordering
@@ -124,3 +126,36 @@ pub none_left : (whole : Bool) (seen : List (Bor (List Value))) (keys : List (Li
 unfolding any_seen
 none_left whole seen [] h few = h
 none_left whole seen (key ∷ keys) h few = absurd (omega arith)
+
+-- ---- keys that ascend
+
+below_then : (o : Ordering) → is_lt o ≡ true → o ≡ Less
+below_then Less is = refl
+below_then Equal is = absurd (true≢false (sym is))
+below_then Greater is = absurd (true≢false (sym is))
+
+both : (a b : Bool) → (a && b) ≡ true → (a ≡ true) × (b ≡ true)
+both true b is = (refl, is)
+both false b is = absurd (true≢false (sym is))
+
+-- a key below the one before keys that ascend from it is none of them
+below_rest : (key next : List Value) (keys : List (List Value)) → slice_cmp listed key next ≡ Less → is_below next keys ≡ true → ascend keys ≡ true → is_among key keys ≡ false
+below_rest key next [] first below up = refl
+below_rest key next (other ∷ keys) first below up =
+    let second = rows_total.trans key next other first (below_then (slice_cmp listed next other) below) in
+    let parts = both (is_below other keys) (ascend keys) up in
+    ap (λ o. is_eq o || is_among key keys) (rows_total.antisymm other key ∙ ap ordering_reverse second) ∙ below_rest key other keys second parts.0 parts.1
+
+below_all : (key : List Value) (keys : List (List Value)) → is_below key keys ≡ true → ascend keys ≡ true → is_among key keys ≡ false
+below_all key [] below up = refl
+below_all key (next ∷ keys) below up =
+    let first = below_then (slice_cmp listed key next) below in
+    let parts = both (is_below next keys) (ascend keys) up in
+    ap (λ o. is_eq o || is_among key keys) (rows_total.antisymm next key ∙ ap ordering_reverse first) ∙ below_rest key next keys first parts.0 parts.1
+
+-- keys that ascend stand there once
+pub ascending_once : (keys : List (List Value)) → ascend keys ≡ true → has_doubles keys ≡ false
+ascending_once [] up = refl
+ascending_once (key ∷ keys) up =
+    let parts = both (is_below key keys) (ascend keys) up in
+    ap (λ b. b || has_doubles keys) (below_all key keys parts.0 parts.1) ∙ ascending_once keys parts.1

@@ -487,16 +487,16 @@ insert_into_done fact s ctx name table addition all =
 -- there are as many tuples as the statement has
 tuples_length : (ctx : Ctx) (asked : Insert) (table : TableDef) → IfOk (addition_of ctx asked table) (λ addition. length addition.tuples ≡ length asked.tuples)
 tuples_length ctx asked table =
-    given_after (λ addition. length addition.tuples ≡ length asked.tuples) (λ addition. length addition.tuples ≡ length asked.tuples) (known_addition asked table)
-    (λ addition. and_then (addition_or_refused ctx.next table addition) (λ _. Ok addition))
+    given_after (λ addition. length addition.tuples ≡ length asked.tuples) (λ addition. length addition.tuples ≡ length asked.tuples) (known_addition asked (asked.table, table))
+    (λ addition. and_then (addition_or_refused ctx.next (asked.table, table) addition) (λ _. Ok addition))
     (given_then (λ addition. length addition.tuples ≡ length asked.tuples) (places_of table.columns asked.columns)
-    (λ places. and_then (each_of tuple_of asked.tuples) (λ tuples. and_then (known_returning (table ∷ []) asked.returning) (λ returning. Ok (record { places = places; tuples = tuples; returning = returning })))) (λ places.
+    (λ places. and_then (each_of tuple_of asked.tuples) (λ tuples. and_then (known_returning ((asked.table, table) ∷ []) asked.returning) (λ returning. Ok (record { places = places; tuples = tuples; returning = returning })))) (λ places.
     given_after (λ tuples. length tuples ≡ length asked.tuples) (λ addition. length addition.tuples ≡ length asked.tuples) (each_of tuple_of asked.tuples)
-    (λ tuples. and_then (known_returning (table ∷ []) asked.returning) (λ returning. Ok (record { places = places; tuples = tuples; returning = returning })))
+    (λ tuples. and_then (known_returning ((asked.table, table) ∷ []) asked.returning) (λ returning. Ok (record { places = places; tuples = tuples; returning = returning })))
     (each_length tuple_of asked.tuples) (λ tuples same.
-    given_then (λ addition. length addition.tuples ≡ length asked.tuples) (known_returning (table ∷ []) asked.returning)
+    given_then (λ addition. length addition.tuples ≡ length asked.tuples) (known_returning ((asked.table, table) ∷ []) asked.returning)
     (λ returning. Ok (record { places = places; tuples = tuples; returning = returning })) (λ _. same))))
-    (λ addition same. given_then (λ other. length other.tuples ≡ length asked.tuples) (addition_or_refused ctx.next table addition) (λ _. Ok addition) (λ _. same))
+    (λ addition same. given_then (λ other. length other.tuples ≡ length asked.tuples) (addition_or_refused ctx.next (asked.table, table) addition) (λ _. Ok addition) (λ _. same))
 
 pub insert_done : (fact : List Change → Type 0) (s : State) (ctx : Ctx) (asked : Insert) → HoldsOf fact ctx asked.table (length asked.tuples) → IfDone ((insert ctx asked).in_state s).gives fact
 insert_done fact s ctx asked all =

@@ -8,6 +8,7 @@ use Rattle.rls_value.specs.declared.refusal.Refusal.TheVariants.{Limit}
 use Rattle.rls_value.specs.declared.refusal.Limit.TheVariants as limit
 use Rattle.rls_value.specs.declared.value.Value.{Value}
 use Rattle.rls_value.specs.Giving.{and_then}
+use Rattle.rls_expr.specs.Scopes.{InScope}
 use Rattle.rls_expr.specs.Parts.{has_sum}
 use Rattle.rls_expr.specs.declared.table.TableDef.{TableDef}
 use Rattle.rls_catalog.specs.declared.change.Change.{Change}
@@ -46,21 +47,21 @@ room_if true next count is = leb-true (next + count) 4294967295 is
 room_if false next count is = tt
 
 -- there are numbers left for the tuples
-numbers_left : (next : ℕ) (table : TableDef) (addition : Addition) → IfOk (addition_or_refused next table addition) (λ _. next + length addition.tuples ≤ 4294967295)
-numbers_left next table addition =
+numbers_left : (next : ℕ) (from : InScope) (addition : Addition) → IfOk (addition_or_refused next from addition) (λ _. next + length addition.tuples ≤ 4294967295)
+numbers_left next from addition =
     let sums : Bool = list_any (list_any has_sum) addition.tuples || returning_sums addition.returning in
     given_then (λ _. next + length addition.tuples ≤ 4294967295)
-    (fitting_or_fault (list_all (tuple_fits table.columns addition.places) addition.tuples && returning_fits (table ∷ []) addition.returning))
+    (fitting_or_fault (list_all (tuple_fits from.1.columns addition.places) addition.tuples && returning_fits (from ∷ []) addition.returning))
     (λ _. and_then (plain_or_unsupported sums) (λ _. room_or_limit next (length addition.tuples))) (λ _.
     given_then (λ _. next + length addition.tuples ≤ 4294967295) (plain_or_unsupported sums) (λ _. room_or_limit next (length addition.tuples)) (λ _.
     room_if (nat_le (next + length addition.tuples) 4294967295) next (length addition.tuples) refl))
 
 addition_in_range : (ctx : Ctx) (asked : Insert) (table : TableDef) → IfOk (addition_of ctx asked table) (λ addition. ctx.next + length addition.tuples ≤ 4294967295)
 addition_in_range ctx asked table =
-    given_then (λ addition. ctx.next + length addition.tuples ≤ 4294967295) (known_addition asked table)
-    (λ addition. and_then (addition_or_refused ctx.next table addition) (λ _. Ok addition)) (λ addition.
-    given_after (λ _. ctx.next + length addition.tuples ≤ 4294967295) (λ other. ctx.next + length other.tuples ≤ 4294967295) (addition_or_refused ctx.next table addition) (λ _. Ok addition)
-    (numbers_left ctx.next table addition) (λ _ left. left))
+    given_then (λ addition. ctx.next + length addition.tuples ≤ 4294967295) (known_addition asked (asked.table, table))
+    (λ addition. and_then (addition_or_refused ctx.next (asked.table, table) addition) (λ _. Ok addition)) (λ addition.
+    given_after (λ _. ctx.next + length addition.tuples ≤ 4294967295) (λ other. ctx.next + length other.tuples ≤ 4294967295) (addition_or_refused ctx.next (asked.table, table) addition) (λ _. Ok addition)
+    (numbers_left ctx.next (asked.table, table) addition) (λ _ left. left))
 
 -- an INSERT leaves the next number in its range
 pub insert_in_range : (s : State) (ctx : Ctx) (asked : Insert) → IfDone ((insert ctx asked).in_state s).gives (InRange ctx.next)

@@ -7,9 +7,9 @@ use Rattle.rls_value.specs.declared.refusal.Refusal.TheVariants.{TypeFault, Unde
 use Rattle.rls_value.specs.declared.refusal.NameKind.TheVariants as kind
 use Rattle.rls_value.specs.Giving.{and_then}
 use Rattle.rls_expr.specs.declared.table.Column.{Column}
-use Rattle.rls_expr.specs.declared.table.TableDef.{TableDef}
 use Rattle.rls_expr.specs.declared.typing.Typing.{Typing}
 use Rattle.rls_expr.specs.declared.typing.Typing.TheVariants.{Fault, Null, Of}
+use Rattle.rls_expr.specs.Scopes.{InScope}
 use Rattle.rls_expr.specs.Terms.{Term}
 use Rattle.rls_expr.specs.Tables.{column_named}
 use Rattle.rls_expr.specs.Resolving.{resolved}
@@ -23,22 +23,22 @@ use Rattle.rls_guard.specs.Checks.{known_or_undefined}
 -- ---- names
 
 -- the term with its columns by their places
-abbrev pub known_term : List TableDef → Term → Result Term Refusal
+abbrev pub known_term : List InScope → Term → Result Term Refusal
 known_term tables term = known_or_undefined (resolved term tables)
 
 -- the condition, if there is one
-abbrev pub known_where : List TableDef → Option Term → Result (Option Term) Refusal
+abbrev pub known_where : List InScope → Option Term → Result (Option Term) Refusal
 known_where tables None = Ok None
 known_where tables (Some condition) = and_then (known_term tables condition) (λ found. Ok (Some found))
 
 -- `*` and `count(*)` name nothing
-abbrev pub known_selection : List TableDef → Selected → Result Selected Refusal
+abbrev pub known_selection : List InScope → Selected → Result Selected Refusal
 known_selection tables selected.All = Ok selected.All
 known_selection tables (selected.Items items) = and_then (each_of (known_term tables) items) (λ found. Ok (selected.Items found))
 known_selection tables selected.Count = Ok selected.Count
 
 -- RETURNING, if it is there
-abbrev pub known_returning : List TableDef → Option Selected → Result (Option Selected) Refusal
+abbrev pub known_returning : List InScope → Option Selected → Result (Option Selected) Refusal
 known_returning tables None = Ok None
 known_returning tables (Some items) = and_then (known_selection tables items) (λ found. Ok (Some found))
 
@@ -60,22 +60,22 @@ is_typed Null = true
 is_typed (Of type) = true
 
 -- the condition is a boolean, if there is one
-abbrev pub where_fits : List TableDef → Option Term → Bool
+abbrev pub where_fits : List InScope → Option Term → Bool
 where_fits tables None = true
 where_fits tables (Some condition) = takes_boolean (type_of condition tables)
 
 -- an item may be of any type
-abbrev pub item_fits : List TableDef → Term → Bool
+abbrev pub item_fits : List InScope → Term → Bool
 item_fits tables item = is_typed (type_of item tables)
 
 -- each item has a type
-abbrev pub selection_fits : List TableDef → Selected → Bool
+abbrev pub selection_fits : List InScope → Selected → Bool
 selection_fits tables selected.All = true
 selection_fits tables (selected.Items items) = list_all (item_fits tables) items
 selection_fits tables selected.Count = true
 
 -- so has each of RETURNING
-abbrev pub returning_fits : List TableDef → Option Selected → Bool
+abbrev pub returning_fits : List InScope → Option Selected → Bool
 returning_fits tables None = true
 returning_fits tables (Some items) = selection_fits tables items
 
@@ -85,7 +85,7 @@ goes_into_column typing None = false
 goes_into_column typing (Some column) = goes_into typing column.kind
 
 -- what is given to the column at that place fits it
-abbrev pub value_fits : List TableDef → List Column → ℕ → Term → Bool
+abbrev pub value_fits : List InScope → List Column → ℕ → Term → Bool
 value_fits tables columns place value = goes_into_column (type_of value tables) (slice_get columns place)
 
 -- types that don't fit are refused

@@ -6,6 +6,7 @@ use Rattle.rls_value.specs.declared.verb.Privilege.TheVariants as privilege
 use Rattle.rls_value.specs.declared.verb.Kind.TheVariants as kind
 use Rattle.rls_value.specs.Giving.{and_then}
 use Rattle.rls_expr.specs.declared.table.TableDef.{TableDef}
+use Rattle.rls_expr.specs.Scopes.{InScope}
 use Rattle.rls_catalog.specs.declared.change.Change.{Change}
 use Rattle.rls_catalog.specs.declared.change.Change.TheVariants as change
 use Rattle.rls_catalog.specs.declared.verdict.Side.TheVariants as side
@@ -28,11 +29,15 @@ use Rattle.rls_dml.specs.Listings.{reply_of}
 use Rattle.rls_dml.specs.Writing.{privileges_or_denied}
 
 -- the names of the condition and of RETURNING, then their types, then that no sum is in them
-abbrev pub removal_of : Delete → TableDef → Result Removal Refusal
-removal_of delete table = and_then (known_where (table ∷ []) delete.condition) (λ condition.
-    and_then (known_returning (table ∷ []) delete.returning) (λ returning.
-    and_then (fitting_or_fault (where_fits (table ∷ []) condition && returning_fits (table ∷ []) returning)) (λ _.
+abbrev pub removal_in : Delete → InScope → Result Removal Refusal
+removal_in delete from = and_then (known_where (from ∷ []) delete.condition) (λ condition.
+    and_then (known_returning (from ∷ []) delete.returning) (λ returning.
+    and_then (fitting_or_fault (where_fits (from ∷ []) condition && returning_fits (from ∷ []) returning)) (λ _.
     and_then (plain_or_unsupported (where_sums condition || returning_sums returning)) (λ _. Ok (record { condition = condition; returning = returning })))))
+
+-- the same; the table's name qualifies its columns
+abbrev pub removal_of : Delete → TableDef → Result Removal Refusal
+removal_of delete table = removal_in delete (delete.table, table)
 
 -- it reads the table where it mentions a column
 abbrev pub removal_reads : Removal → Bool

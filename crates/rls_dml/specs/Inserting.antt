@@ -14,6 +14,7 @@ use Rattle.rls_expr.specs.declared.table.Column.{Column}
 use Rattle.rls_expr.specs.declared.table.TableDef.{TableDef}
 use Rattle.rls_expr.specs.Terms.{Term}
 use Rattle.rls_expr.specs.Parts.{has_sum}
+use Rattle.rls_expr.specs.Scopes.{InScope}
 use Rattle.rls_catalog.specs.declared.change.Change.{Change}
 use Rattle.rls_catalog.specs.declared.change.Change.TheVariants as change
 use Rattle.rls_catalog.specs.declared.verdict.Side.TheVariants as side
@@ -65,21 +66,25 @@ abbrev pub room_or_limit : ℕ → ℕ → Result (Unit {0}) Refusal
 room_or_limit next count = if nat_le (next + count) 4294967295 then Ok tt else Err (Limit limit.Inserts)
 
 -- the names of the list, of the tuples and of RETURNING
-abbrev pub known_addition : Insert → TableDef → Result Addition Refusal
-known_addition insert table = and_then (places_of table.columns insert.columns) (λ places.
+abbrev pub known_addition : Insert → InScope → Result Addition Refusal
+known_addition insert from = and_then (places_of from.1.columns insert.columns) (λ places.
     and_then (each_of tuple_of insert.tuples) (λ tuples.
-    and_then (known_returning (table ∷ []) insert.returning) (λ returning. Ok (record { places = places; tuples = tuples; returning = returning }))))
+    and_then (known_returning (from ∷ []) insert.returning) (λ returning. Ok (record { places = places; tuples = tuples; returning = returning }))))
 
 -- their types, then that no sum is in them, then how many rows
-abbrev pub addition_or_refused : ℕ → TableDef → Addition → Result (Unit {0}) Refusal
-addition_or_refused next table addition =
-    and_then (fitting_or_fault (list_all (tuple_fits table.columns addition.places) addition.tuples && returning_fits (table ∷ []) addition.returning)) (λ _.
+abbrev pub addition_or_refused : ℕ → InScope → Addition → Result (Unit {0}) Refusal
+addition_or_refused next from addition =
+    and_then (fitting_or_fault (list_all (tuple_fits from.1.columns addition.places) addition.tuples && returning_fits (from ∷ []) addition.returning)) (λ _.
     and_then (plain_or_unsupported (list_any (list_any has_sum) addition.tuples || returning_sums addition.returning)) (λ _.
     room_or_limit next (length addition.tuples)))
 
 -- the parts of the statement, names before all else
+abbrev pub addition_in : Ctx → Insert → InScope → Result Addition Refusal
+addition_in ctx insert from = and_then (known_addition insert from) (λ addition. and_then (addition_or_refused ctx.next from addition) (λ _. Ok addition))
+
+-- the same; the table's name qualifies its columns
 abbrev pub addition_of : Ctx → Insert → TableDef → Result Addition Refusal
-addition_of ctx insert table = and_then (known_addition insert table) (λ addition. and_then (addition_or_refused ctx.next table addition) (λ _. Ok addition))
+addition_of ctx insert table = addition_in ctx insert (insert.table, table)
 
 -- ---- its rows
 

@@ -1,11 +1,12 @@
 -- SELECT (PostgreSQL manual, SELECT, and 5.9): names, then types, then the privilege; then the rows that row security
 -- shows and that WHERE holds of.
-use Rattle.std.specs.Prelude.{ℕ, List, [], ◌∷◌, None, false, ◌&&◌, ◌||◌, Result, Ok, map}
+use Rattle.std.specs.Prelude.{ℕ, List, [], ◌∷◌, None, false, ◌&&◌, ◌||◌, Result, Ok, map, unwrap_or}
 use Rattle.rls_value.specs.declared.refusal.Refusal.{Refusal}
 use Rattle.rls_value.specs.declared.verb.Privilege.TheVariants as privilege
 use Rattle.rls_value.specs.declared.verb.Kind.TheVariants as kind
 use Rattle.rls_value.specs.Giving.{and_then}
 use Rattle.rls_expr.specs.declared.table.TableDef.{TableDef}
+use Rattle.rls_expr.specs.Scopes.{InScope}
 use Rattle.rls_catalog.specs.declared.verdict.Side.TheVariants as side
 use Rattle.rls_catalog.specs.declared.stored.Stored.{Stored}
 use Rattle.rls_statement.specs.declared.statement.Select.{Select}
@@ -26,11 +27,19 @@ use Rattle.rls_judging.specs.Candidates.{candidates}
 use Rattle.rls_dml.specs.Listings.{answered}
 
 -- the names of the items and of the condition, then their types, then that no sum is in them
-abbrev pub query_of : Select → TableDef → Result Query Refusal
-query_of select table = and_then (known_selection (table ∷ []) select.items) (λ items.
-    and_then (known_where (table ∷ []) select.condition) (λ condition.
-    and_then (fitting_or_fault (selection_fits (table ∷ []) items && where_fits (table ∷ []) condition)) (λ _.
+abbrev pub query_in : Select → InScope → Result Query Refusal
+query_in select from = and_then (known_selection (from ∷ []) select.items) (λ items.
+    and_then (known_where (from ∷ []) select.condition) (λ condition.
+    and_then (fitting_or_fault (selection_fits (from ∷ []) items && where_fits (from ∷ []) condition)) (λ _.
     and_then (plain_or_unsupported (selection_sums items || where_sums condition)) (λ _. Ok (record { items = items; condition = condition })))))
+
+-- what qualifies the columns: the alias or, without one, the table's name
+abbrev pub qualifier_of : Select → List ℕ
+qualifier_of select = unwrap_or select.alias select.table
+
+-- the same, over the table under its qualifier
+abbrev pub query_of : Select → TableDef → Result Query Refusal
+query_of select table = query_in select (qualifier_of select, table)
 
 -- the answer from the rows that are allowed and meet the condition, and the decision on each row
 abbrev pub listed_by : List Watch → Query → List ℕ → List Stored → Effect

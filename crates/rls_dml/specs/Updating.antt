@@ -8,6 +8,7 @@ use Rattle.rls_value.specs.declared.verb.Kind.TheVariants as kind
 use Rattle.rls_value.specs.Giving.{and_then}
 use Rattle.rls_expr.specs.declared.table.TableDef.{TableDef}
 use Rattle.rls_expr.specs.Parts.{mentions}
+use Rattle.rls_expr.specs.Scopes.{InScope}
 use Rattle.rls_expr.specs.Terms.{Term}
 use Rattle.rls_catalog.specs.declared.change.Change.{Change}
 use Rattle.rls_catalog.specs.declared.change.Change.TheVariants as change
@@ -37,23 +38,27 @@ use Rattle.rls_dml.specs.Writing.{privileges_or_denied, assigned, key_at, order_
 -- ---- its parts
 
 -- a column by its place, and what it is set to
-abbrev pub setting_of : TableDef → Setting → Result (ℕ × Term) Refusal
-setting_of table setting = and_then (place_or_undefined table.columns setting.column) (λ place.
-    and_then (known_term (table ∷ []) setting.value) (λ value. Ok (place, value)))
+abbrev pub setting_of : InScope → Setting → Result (ℕ × Term) Refusal
+setting_of from setting = and_then (place_or_undefined from.1.columns setting.column) (λ place.
+    and_then (known_term (from ∷ []) setting.value) (λ value. Ok (place, value)))
 
 -- each column is set to what fits it
-abbrev pub settings_fit : TableDef → List (ℕ × Term) → Bool
-settings_fit table [] = true
-settings_fit table ((place, value) ∷ settings) = value_fits (table ∷ []) table.columns place value && settings_fit table settings
+abbrev pub settings_fit : InScope → List (ℕ × Term) → Bool
+settings_fit from [] = true
+settings_fit from ((place, value) ∷ settings) = value_fits (from ∷ []) from.1.columns place value && settings_fit from settings
 
 -- the names of SET, of the condition and of RETURNING, then their types, then that no sum is in the latter two
-abbrev pub revision_of : Update → TableDef → Result Revision Refusal
-revision_of update table = and_then (each_of (setting_of table) update.settings) (λ settings.
-    and_then (known_where (table ∷ []) update.condition) (λ condition.
-    and_then (known_returning (table ∷ []) update.returning) (λ returning.
-    and_then (fitting_or_fault (settings_fit table settings && (where_fits (table ∷ []) condition && returning_fits (table ∷ []) returning))) (λ _.
+abbrev pub revision_in : Update → InScope → Result Revision Refusal
+revision_in update from = and_then (each_of (setting_of from) update.settings) (λ settings.
+    and_then (known_where (from ∷ []) update.condition) (λ condition.
+    and_then (known_returning (from ∷ []) update.returning) (λ returning.
+    and_then (fitting_or_fault (settings_fit from settings && (where_fits (from ∷ []) condition && returning_fits (from ∷ []) returning))) (λ _.
     and_then (plain_or_unsupported (where_sums condition || returning_sums returning)) (λ _.
     Ok (record { settings = settings; condition = condition; returning = returning }))))))
+
+-- the same; the table's name qualifies its columns
+abbrev pub revision_of : Update → TableDef → Result Revision Refusal
+revision_of update table = revision_in update (update.table, table)
 
 -- it reads the table where it mentions a column, to the right of SET's equal signs too
 abbrev pub revision_reads : Revision → Bool

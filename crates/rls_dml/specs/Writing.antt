@@ -1,9 +1,9 @@
 -- New rows (PostgreSQL manual, INSERT, UPDATE, and 5.5): the values that columns are given, and what new rows are refused
 -- for: row security, then NOT NULL, then the primary key.
-use Rattle.std.specs.Prelude.{ℕ, suc, List, [], ◌∷◌, ◌++◌, Option, Some, None, Bool, false, not, ◌&&◌, ◌||◌, nat_eq, Result, Ok, Err, if◌then◌else◌, map, filter, slice_get, slice_set}
+use Rattle.std.specs.Prelude.{ℕ, suc, List, [], ◌∷◌, ◌++◌, Option, Some, None, Bool, true, false, not, ◌&&◌, ◌||◌, nat_eq, Result, Ok, Err, if◌then◌else◌, map, filter, slice_get, slice_set}
 use Rattle.std.specs.List.{list_any}
 use Rattle.std.specs.Cmp.Lexicographic.{slice_cmp}
-use Rattle.std.specs.Ordering.{is_eq}
+use Rattle.std.specs.Ordering.{is_eq, is_lt}
 use Rattle.rls_value.specs.declared.value.Value.{Value}
 use Rattle.rls_value.specs.declared.verb.Kind.{Kind}
 use Rattle.rls_value.specs.declared.verb.Privilege.{Privilege}
@@ -104,6 +104,16 @@ is_among key keys = list_any (λ other. is_eq (slice_cmp listed other key)) keys
 abbrev pub has_doubles : List (List Value) → Bool
 has_doubles [] = false
 has_doubles (key ∷ keys) = is_among key keys || has_doubles keys
+
+-- the key is below the next one, if there is one
+abbrev pub is_below : List Value → List (List Value) → Bool
+is_below key [] = true
+is_below key (next ∷ keys) = is_lt (slice_cmp listed key next)
+
+-- each key is below the next one
+abbrev pub ascend : List (List Value) → Bool
+ascend [] = true
+ascend (key ∷ keys) = is_below key keys && ascend keys
 
 -- one of the rows stays
 abbrev pub stays_any : List Stored → List Stored → Bool

@@ -4,6 +4,7 @@ ghost use Rattle.std.specs.Prelude.{◌≡◌, ◌+◌, ◌≤◌, length, IfOk,
 ghost use Rattle.std.specs.List.{list_any, list_all};
 ghost use Rattle.rls_value.specs.Giving.{Gives};
 ghost use Rattle.rls_expr.specs.Parts.{has_sum};
+ghost use Rattle.rls_expr.specs.Scopes.{in_scope};
 ghost use Rattle.rls_source.specs.Sequences.{each_of};
 ghost use Rattle.rls_dml.specs.Checking.{place_or_undefined};
 ghost use Rattle.rls_dml.specs.Inserting as spec;
@@ -33,7 +34,7 @@ pub fn check_addition<'x>(
     insert: &Insert,
     from: FromTable<'x>,
 ) -> Result<Addition, Refusal>
-    ensures given { Gives result (spec.addition_of ctx.now insert.now from.entry.table.now) }
+    ensures given { Gives result (spec.addition_in ctx.now insert.now (in_scope from.entry)) }
     ensures room { IfOk result (λ addition. ctx.now.next + length addition.tuples ≤ 4294967295) }
 {
     let addition = known_addition(alloc, insert, from)?;
@@ -52,7 +53,7 @@ fn known_addition<'x>(
     insert: &Insert,
     from: FromTable<'x>,
 ) -> Result<Addition, Refusal>
-    ensures { Gives result (spec.known_addition insert.now from.entry.table.now) }
+    ensures { Gives result (spec.known_addition insert.now (in_scope from.entry)) }
 {
     let tables = [from];
     let scope = Scope { tables: &tables };
@@ -68,7 +69,7 @@ fn known_addition<'x>(
 
 /// Types that don't fit, then sums, then too many rows are refused.
 fn require_addition<'x>(next: u32, from: FromTable<'x>, addition: &Addition) -> Result<(), Refusal>
-    ensures given { Gives result (spec.addition_or_refused next from.entry.table.now addition.now) }
+    ensures given { Gives result (spec.addition_or_refused next (in_scope from.entry) addition.now) }
     ensures room { OnOk result (next + length addition.now.tuples ≤ 4294967295) }
 {
     let tables = [from];

@@ -3,6 +3,7 @@
 ghost use Rattle.std.specs.Prelude.{◌≡◌, [], ◌∷◌, None, map, IfOk};
 ghost use Rattle.rls_value.specs.Giving.{Gives};
 ghost use Rattle.rls_source.specs.Answering.{Answers, Tells};
+ghost use Rattle.rls_expr.specs.Scopes.{in_scope};
 ghost use Rattle.rls_guard.specs.Guards.{watches_for};
 ghost use Rattle.rls_dml.specs.Deleting as spec;
 
@@ -50,7 +51,7 @@ pub fn run_delete<'c, S: RowSource<'c>>(
 }
 
 fn check_removal(alloc: Global, delete: &Delete, from: FromTable) -> Result<Removal, Refusal>
-    ensures { Gives result (spec.removal_of delete.now from.entry.table.now) }
+    ensures { Gives result (spec.removal_in delete.now (in_scope from.entry)) }
 {
     let tables = [from];
     let scope = Scope { tables: &tables };

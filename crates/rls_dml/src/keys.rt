@@ -1,8 +1,8 @@
 //! The primary keys of new rows.
 
-ghost use Rattle.std.specs.Prelude.{◌≡◌, map, IfOk};
+ghost use Rattle.std.specs.Prelude.{◌≡◌, map, IfOk, IsTrue};
 ghost use Rattle.std.specs.List.{list_any};
-ghost use Rattle.rls_value.specs.Values.{is_null};
+ghost use Rattle.rls_value.specs.Values.{is_null, value_at};
 ghost use Rattle.rls_source.specs.Answering.{Answers, Tells};
 ghost use Rattle.rls_dml.specs.Writing as spec;
 ghost use Rattle.rls_dml.specs.Writing.{unique_or_refused, keys_taken, has_doubles};
@@ -10,8 +10,9 @@ ghost use Rattle.rls_dml.specs.Writing.{unique_or_refused, keys_taken, has_doubl
 use crate::replaced::Replaced;
 use rls_catalog::{Lent, Stored};
 use rls_source::{Reads, RowSource, noted_key};
-use rls_value::{Name, Refusal, Row, Value};
+use rls_value::{Name, Refusal, Row, Value, cmp_values};
 use std::alloc::{AllocError, Global};
+use std::cmp::Ordering;
 use std::collections::BTreeSet;
 
 /// The values of the row at the places of a key; no places give the empty key.
@@ -23,6 +24,47 @@ pub fn key_at(alloc: Global, places: &[usize], row: &Row) -> Result<Row, AllocEr
         values.push(row.value(*place)?)?;
     }
     Row::new(values)
+}
+
+/// The same. Where the values are those of the other key, that one's are shared, and no memory is taken.
+pub fn key_like(alloc: Global, places: &[usize], row: &Row, other: &Row) -> Result<Row, AllocError>
+    ensures { IfOk result (λ key. key ≡ spec.key_at places.now row.now) }
+{
+    if is_key_at(other.as_slice(), places, row) {
+        other.copy(alloc)
+    } else {
+        key_at(alloc, places, row)
+    }
+}
+
+/// Whether the row has the values of the key at the places.
+fn is_key_at(key: &[Value], places: &[usize], row: &Row) -> bool
+    ensures { IsTrue result → key.now ≡ spec.key_at places.now row.now }
+{
+    let mut left = key;
+    for place in places {
+        match left {
+            [value, rest @ ..] => {
+                if !is_value_at(value, row, *place) {
+                    return false;
+                }
+                left = rest;
+            }
+            [] => return false,
+        }
+    }
+    left.is_empty()
+}
+
+/// Whether the row has the value at the place; it has a null where there is no such place.
+#[tactic(auto, using(rls_value::specs::Listing::values_same))]
+fn is_value_at(value: &Value, row: &Row, place: usize) -> bool
+    ensures { IsTrue result → value.now ≡ value_at row.now place }
+{
+    match row.get(place) {
+        Some(other) => cmp_values(value, other) == Ordering::Equal,
+        None => value.is_null(),
+    }
 }
 
 /// Refused where a key is that of a row that stays, or of two new rows. A key with a null is nobody's.
@@ -99,8 +141,43 @@ fn stays_any(replaced: &Replaced<'_, '_>, rows: &[Lent<'_>]) -> bool
     rows.iter().any(|row| !replaced.has(row.id()))
 }
 
-/// Whether two keys are the same.
-fn have_doubles(alloc: Global, mut keys: &[Row]) -> Result<bool, AllocError>
+/// Whether two keys are the same. Where they ascend, one look at each tells.
+#[tactic(auto, using(crate::proofs::DoubleLemmas::ascending_once))]
+fn have_doubles(alloc: Global, keys: &[Row]) -> Result<bool, AllocError>
+    ensures { IfOk result (λ doubles. doubles ≡ has_doubles keys.now) }
+{
+    if ascend(keys) {
+        Ok(false)
+    } else {
+        have_doubles_anywhere(alloc, keys)
+    }
+}
+
+/// Whether each key is below the next one.
+fn ascend(mut keys: &[Row]) -> bool
+    ensures { result ≡ spec.ascend keys.entry.now }
+{
+    while let [key, rest @ ..] = keys {
+        if !is_below(key, rest) {
+            return false;
+        }
+        keys = rest;
+    }
+    true
+}
+
+/// Whether the key is below the next one, if there is one.
+fn is_below(key: &Row, keys: &[Row]) -> bool
+    ensures { result ≡ spec.is_below key.now keys.now }
+{
+    match keys {
+        [next, ..] => key < next,
+        [] => true,
+    }
+}
+
+/// Whether two keys are the same, in whatever order they are.
+fn have_doubles_anywhere(alloc: Global, mut keys: &[Row]) -> Result<bool, AllocError>
     ensures { IfOk result (λ doubles. doubles ≡ has_doubles keys.entry.now) }
 {
     let mut seen = BTreeSet::new(alloc);

@@ -44,13 +44,20 @@ impl<'r, 'c> Replaced<'r, 'c> {
     }
 }
 
-/// The numbers of the rows.
+/// The numbers of the rows, in time linear in how many they are where they ascend.
 fn numbers_of(alloc: Global, rows: &[&Lent<'_>]) -> Result<BTreeSet<RowId>, AllocError>
     ensures { IfOk result (λ numbers. AreNumbers numbers.keys (map (λ row. row.now) rows.now)) }
 {
-    let mut numbers = BTreeSet::new(alloc);
+    let listed = list_numbers(alloc, rows)?;
+    Ok(BTreeSet::from_iter(alloc, listed)?)
+}
+
+fn list_numbers(alloc: Global, rows: &[&Lent<'_>]) -> Result<Vec<RowId>, AllocError>
+    ensures { IfOk result (λ numbers. numbers.items ≡ map (λ stored. stored.id) (map (λ row. row.now) rows.now)) }
+{
+    let mut numbers = Vec::with_capacity(alloc, rows.len())?;
     for row in rows {
-        numbers.insert(row.id())?;
+        numbers.push(row.id())?;
     }
     Ok(numbers)
 }

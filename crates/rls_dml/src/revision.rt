@@ -4,6 +4,7 @@ ghost use Rattle.std.specs.Prelude.{◌≡◌, IfOk};
 ghost use Rattle.std.specs.List.{list_any};
 ghost use Rattle.rls_value.specs.Giving.{Gives};
 ghost use Rattle.rls_expr.specs.Parts.{mentions};
+ghost use Rattle.rls_expr.specs.Scopes.{in_scope};
 ghost use Rattle.rls_source.specs.Sequences.{each_of};
 ghost use Rattle.rls_dml.specs.Updating as spec;
 
@@ -31,7 +32,7 @@ pub fn check_revision<'x>(
     update: &Update,
     from: FromTable<'x>,
 ) -> Result<Revision, Refusal>
-    ensures { Gives result (spec.revision_of update.now from.entry.table.now) }
+    ensures { Gives result (spec.revision_in update.now (in_scope from.entry)) }
 {
     let tables = [from];
     let scope = Scope { tables: &tables };
@@ -55,7 +56,7 @@ fn known_settings<'x>(
     settings: &[Setting],
     from: FromTable<'x>,
 ) -> Result<Items<(usize, Expr)>, Refusal>
-    ensures { Gives result (each_of (spec.setting_of from.entry.table.now) settings.now) }
+    ensures { Gives result (each_of (spec.setting_of (in_scope from.entry)) settings.now) }
 {
     let mut known = Items::new(alloc);
     for setting in settings {
@@ -70,7 +71,7 @@ fn known_setting<'x>(
     setting: &Setting,
     from: FromTable<'x>,
 ) -> Result<(usize, Expr), Refusal>
-    ensures { Gives result (spec.setting_of from.entry.table.now setting.now) }
+    ensures { Gives result (spec.setting_of (in_scope from.entry) setting.now) }
 {
     let tables = [from];
     let scope = Scope { tables: &tables };
@@ -80,7 +81,7 @@ fn known_setting<'x>(
 }
 
 fn settings_fit<'x>(settings: &[(usize, Expr)], from: FromTable<'x>) -> bool
-    ensures { result ≡ spec.settings_fit from.entry.table.now settings.now }
+    ensures { result ≡ spec.settings_fit (in_scope from.entry) settings.now }
 {
     let tables = [from];
     let scope = Scope { tables: &tables };

@@ -2,6 +2,7 @@
 
 ghost use Rattle.std.specs.Prelude.{◌≡◌, [], ◌∷◌, false, IfOk};
 ghost use Rattle.rls_value.specs.Giving.{Gives};
+ghost use Rattle.rls_expr.specs.Scopes.{in_scope};
 ghost use Rattle.rls_source.specs.Answering.{Answers};
 ghost use Rattle.rls_dml.specs.Selecting as spec;
 
@@ -11,7 +12,7 @@ use crate::checking::{
 };
 use crate::replying::{answered, standing_rows};
 use rls_catalog::{Delta, Lent, Side};
-use rls_expr::{Expr, FromTable, Scope};
+use rls_expr::{Expr, FromTable, Scope, TableDef};
 use rls_guard::{Ctx, Effect, Reply, Standing, Watch, standing_of, watches_of};
 use rls_judging::{candidates, hits_of};
 use rls_source::{Reads, RowSource, table_named};
@@ -41,14 +42,31 @@ pub fn run_select<'c, S: RowSource<'c>>(
         name: &select.table,
         table,
     };
-    let query = check_query(alloc, select, from)?;
+    let query = known_query(alloc, select, table)?;
     let listed = select_from(alloc, source, notes, &ctx.role, from, &query);
     drop(query);
     listed
 }
 
+fn known_query(alloc: Global, select: &Select, table: &TableDef) -> Result<Query, Refusal>
+    ensures { Gives result (spec.query_of select.now table.now) }
+{
+    let name = qualifier(select);
+    check_query(alloc, select, FromTable { name, table })
+}
+
+/// What qualifies the table's columns: its alias or, without one, its name.
+fn qualifier(select: &Select) -> &Name
+    ensures { result.now ≡ spec.qualifier_of select.now }
+{
+    match &select.alias {
+        Some(alias) => alias,
+        None => &select.table,
+    }
+}
+
 fn check_query(alloc: Global, select: &Select, from: FromTable) -> Result<Query, Refusal>
-    ensures { Gives result (spec.query_of select.now from.entry.table.now) }
+    ensures { Gives result (spec.query_in select.now (in_scope from.entry)) }
 {
     let tables = [from];
     let scope = Scope { tables: &tables };

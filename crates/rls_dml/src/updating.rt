@@ -10,7 +10,7 @@ ghost use Rattle.rls_dml.specs.Writing.{assigned, rows_or_refused, order_of as s
 ghost use Rattle.rls_guard.specs.Guards.{watches_for};
 ghost use Rattle.rls_dml.specs.Updating as spec;
 
-use crate::keys::key_at;
+use crate::keys::key_like;
 use crate::replaced::Replaced;
 use crate::replying::reply_of_new;
 use crate::revision::{Revision, check_revision, places_set, reads};
@@ -216,7 +216,7 @@ fn updated_row<'c>(
         role,
         stored.row(),
     )?;
-    let key = key_at(alloc, table.key.as_slice(), &row)?;
+    let key = key_like(alloc, table.key.as_slice(), &row, stored.key())?;
     Ok(Stored {
         id: stored.id(),
         key,

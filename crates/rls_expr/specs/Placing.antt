@@ -1,17 +1,17 @@
 -- Columns by their places, where they are there: for expressions that were checked against another table, or none.
-use Rattle.std.specs.Prelude.{ℕ, List, Option, Some, None}
-use Rattle.rls_expr.specs.declared.table.TableDef.{TableDef}
-use Rattle.rls_expr.specs.Scopes.{place_in}
+use Rattle.std.specs.Prelude.{ℕ, List, Result, Ok, Err}
+use Rattle.rls_expr.specs.declared.column_name.ColumnName.{ColumnName}
+use Rattle.rls_expr.specs.Scopes.{InScope, Unknown, place_in}
 use Rattle.rls_expr.specs.Terms.{Term, Terms, Literal, Column, Place, CurrentUser, Compare, And, Or, Not, IsNull, IsNotNull, Among, NotAmong, Sum, End, More}
 
--- the column by its place, or by its name where it isn't there
-abbrev pub column_placed : List ℕ → Option (ℕ × ℕ) → Term
-column_placed name (Some place) = Place place.0 place.1
-column_placed name None = Column name
+-- the column by its place, or by its name where that means none
+abbrev pub column_placed : ColumnName → Result (ℕ × ℕ) Unknown → Term
+column_placed name (Ok place) = Place place.0 place.1
+column_placed name (Err unknown) = Column name
 
 abbrev mutual
   -- each column by its place that is there
-  pub placed : Term → List TableDef → Term
+  pub placed : Term → List InScope → Term
   placed (Literal v) tables = Literal v
   placed (Column name) tables = column_placed name (place_in tables name)
   placed (Place out column) tables = Place out column
@@ -27,6 +27,6 @@ abbrev mutual
   placed (Sum signs ts) tables = Sum signs (placed_all ts tables)
 
   -- the same of a list of terms
-  pub placed_all : Terms → List TableDef → Terms
+  pub placed_all : Terms → List InScope → Terms
   placed_all End tables = End
   placed_all (More t ts) tables = More (placed t tables) (placed_all ts tables)

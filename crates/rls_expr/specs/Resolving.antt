@@ -1,27 +1,20 @@
--- Resolution: each column by its place, or the first unknown column in text order.
-use Rattle.std.specs.Prelude.{◌≡◌, ℕ, List, [], ◌∷◌, Option, Some, None, Result, Ok, Err}
+-- Resolution: each column by its place, or the first unknown name in text order.
+use Rattle.std.specs.Prelude.{◌≡◌, List, [], ◌∷◌, Result, Ok, Err}
 use Rattle.rls_value.specs.declared.refusal.Refusal.{Refusal}
 use Rattle.rls_value.specs.declared.refusal.Refusal.TheVariants.{NoMemory, Undefined}
-use Rattle.rls_value.specs.declared.refusal.NameKind.TheVariants as kind
-use Rattle.rls_expr.specs.declared.table.TableDef.{TableDef}
-use Rattle.rls_expr.specs.Scopes.{place_in}
+use Rattle.rls_expr.specs.Scopes.{InScope, Unknown, place_in}
 use Rattle.rls_expr.specs.Terms.{Term, Terms, Literal, Column, Place, CurrentUser, Compare, And, Or, Not, IsNull, IsNotNull, Among, NotAmong, Sum, End, More, terms_of}
 
 -- what is found, or the name that is not: the first one stands
-abbrev pub and_then : {A B : Type 0} → Result A (List ℕ) → (A → Result B (List ℕ)) → Result B (List ℕ)
+abbrev pub and_then : {A B : Type 0} → Result A Unknown → (A → Result B Unknown) → Result B Unknown
 and_then (Ok a) next = next a
-and_then (Err name) next = Err name
-
--- the column at its place, or its name where there is none
-abbrev pub at_place : List ℕ → Option (ℕ × ℕ) → Result Term (List ℕ)
-at_place name (Some place) = Ok (Place place.0 place.1)
-at_place name None = Err name
+and_then (Err unknown) next = Err unknown
 
 abbrev mutual
   -- the term with each column by its place
-  pub resolved : Term → List TableDef → Result Term (List ℕ)
+  pub resolved : Term → List InScope → Result Term Unknown
   resolved (Literal v) tables = Ok (Literal v)
-  resolved (Column name) tables = at_place name (place_in tables name)
+  resolved (Column name) tables = and_then (place_in tables name) (λ place. Ok (Place place.0 place.1))
   resolved (Place out column) tables = Ok (Place out column)
   resolved CurrentUser tables = Ok CurrentUser
   resolved (Compare how a b) tables = and_then (resolved a tables) (λ x. and_then (resolved b tables) (λ y. Ok (Compare how x y)))
@@ -35,23 +28,23 @@ abbrev mutual
   resolved (Sum signs ts) tables = and_then (resolved_all ts tables) (λ us. Ok (Sum signs us))
 
   -- the same of a list of terms
-  pub resolved_all : Terms → List TableDef → Result Terms (List ℕ)
+  pub resolved_all : Terms → List InScope → Result Terms Unknown
   resolved_all End tables = Ok End
   resolved_all (More t ts) tables = and_then (resolved t tables) (λ u. and_then (resolved_all ts tables) (λ us. Ok (More u us)))
 
--- a refusal says which column is unknown, unless memory ran out
-abbrev pub Misses : {A : Type 0} → Refusal → Result A (List ℕ) → Type 0
+-- a refusal says which name is unknown, unless memory ran out
+abbrev pub Misses : {A : Type 0} → Refusal → Result A Unknown → Type 0
 Misses NoMemory found = Unit {0}
-Misses (Undefined kind.Column name) found = found ≡ Err name
+Misses (Undefined kind name) found = found ≡ Err (kind, name)
 Misses _ found = ⊥
 
 -- what resolving gives is what is found
-abbrev pub ResolvesTo : Result Term Refusal → Result Term (List ℕ) → Type 0
+abbrev pub ResolvesTo : Result Term Refusal → Result Term Unknown → Type 0
 ResolvesTo (Ok t) found = found ≡ Ok t
 ResolvesTo (Err refusal) found = Misses refusal found
 
 -- the same of a list of terms
-abbrev pub ResolveTo : Result (List Term) Refusal → Result Terms (List ℕ) → Type 0
+abbrev pub ResolveTo : Result (List Term) Refusal → Result Terms Unknown → Type 0
 ResolveTo (Ok ts) found = found ≡ Ok (terms_of ts)
 ResolveTo (Err refusal) found = Misses refusal found
 

@@ -1,23 +1,57 @@
--- Scopes: the tables that names may mean, and the column that a name means.
-use Rattle.std.specs.Prelude.{ℕ, ◌+◌, List, [], ◌∷◌, Option, Some, None, map}
+-- Scopes: the tables that names may mean, and the column that a name means (PostgreSQL manual, 4.2.1 and 7.2.1.2).
+use Rattle.std.specs.Prelude.{ℕ, ◌+◌, List, [], ◌∷◌, Option, Some, None, Result, Ok, Err, map, if◌then◌else◌}
+use Rattle.std.specs.Borrow.{Bor}
+use Rattle.std.specs.Str.{bytes_eq}
+use Rattle.rls_value.specs.declared.refusal.NameKind.{NameKind}
+use Rattle.rls_value.specs.declared.refusal.NameKind.TheVariants as kind
+use Rattle.rls_expr.specs.declared.column_name.ColumnName.{ColumnName}
 use Rattle.rls_expr.specs.declared.table.TableDef.{TableDef}
+use Rattle.rls_expr.specs.declared.scope.FromTable.{FromTable}
 use Rattle.rls_expr.specs.declared.scope.Scope.{Scope}
 use Rattle.rls_expr.specs.Tables.{column_named}
 
--- the definitions of a scope's tables, the innermost first
-abbrev pub tables_in : Scope → List TableDef
-tables_in scope = map (λ from. from.table.now) scope.tables.now
+-- a table in scope: the name that qualifies its columns, and its definition
+abbrev pub InScope : Type 0
+InScope = List ℕ × TableDef
 
--- the place in this table, or else further out
-abbrev pub found_at : ℕ → Option ℕ → Option (ℕ × ℕ) → Option (ℕ × ℕ)
-found_at out (Some column) further = Some (out, column)
-found_at out None further = further
+-- a table of a FROM clause, in scope
+abbrev pub in_scope : FromTable → InScope
+in_scope from = (from.name.now, from.table.now)
 
--- the place of the innermost column of that name, the first table lying so many tables out
-abbrev pub place_from : ℕ → List TableDef → List ℕ → Option (ℕ × ℕ)
-place_from out [] name = None
-place_from out (table ∷ outer) name = found_at out (column_named table.columns name) (place_from (out + 1) outer name)
+-- a scope's tables, the innermost first
+abbrev pub tables_in : Scope → List InScope
+tables_in scope = map in_scope scope.tables.now
 
--- a name means the column of the innermost table that has one of that name
-abbrev pub place_in : List TableDef → List ℕ → Option (ℕ × ℕ)
-place_in tables name = place_from 0 tables name
+-- an unknown name: what it should be the name of, and the name
+abbrev pub Unknown : Type 0
+Unknown = NameKind × List ℕ
+
+-- the place in the table that lies so many tables out, if the column is there
+abbrev pub place_or : ℕ → Option ℕ → Result (ℕ × ℕ) Unknown → Result (ℕ × ℕ) Unknown
+place_or out (Some column) otherwise = Ok (out, column)
+place_or out None otherwise = otherwise
+
+-- a name alone means the column of the innermost table that has one of that name; the first table lies so many tables out
+abbrev pub unqualified_from : ℕ → List InScope → List ℕ → Result (ℕ × ℕ) Unknown
+unqualified_from out [] name = Err (kind.Column, name)
+unqualified_from out (from ∷ outer) name = place_or out (column_named from.1.columns name) (unqualified_from (out + 1) outer name)
+
+-- with a qualifier it means the column of the innermost table of that qualifier, and none further out
+abbrev pub qualified_from : ℕ → List InScope → List ℕ → List ℕ → Result (ℕ × ℕ) Unknown
+qualified_from out [] qualifier name = Err (kind.Relation, qualifier)
+qualified_from out (from ∷ outer) qualifier name =
+    if bytes_eq from.0 qualifier then place_or out (column_named from.1.columns name) (Err (kind.Column, name)) else qualified_from (out + 1) outer qualifier name
+
+-- the same, whether there is a qualifier or not
+abbrev pub place_by : List InScope → Option (List ℕ) → List ℕ → Result (ℕ × ℕ) Unknown
+place_by tables None name = unqualified_from 0 tables name
+place_by tables (Some qualifier) name = qualified_from 0 tables qualifier name
+
+-- the place that a column's name means, or which name is unknown
+abbrev pub place_in : List InScope → ColumnName → Result (ℕ × ℕ) Unknown
+place_in tables column = place_by tables column.qualifier column.name
+
+-- what a call gives that lends the unknown name
+abbrev pub place_lent : Result (ℕ × ℕ) (NameKind × Bor (List ℕ)) → Result (ℕ × ℕ) Unknown
+place_lent (Ok place) = Ok place
+place_lent (Err (kind, name)) = Err (kind, name.now)

@@ -1,8 +1,9 @@
 -- The code of terms, by which proofs tell them apart.
 use Rattle.std.specs.Prelude.{◌≡◌}
 use Rattle.std.proofs.Common.{ap, arith}
-use base.Stored.{Coded, Gv, gnil, gnum, gcons, num, coded_list, coded_ℕ}
+use base.Stored.{Coded, Gv, gnil, gnum, gcons, num, coded_list}
 use Rattle.rls_value.specs.contracts.value.Value as value
+use Rattle.rls_expr.specs.contracts.column_name.ColumnName as column
 use Rattle.rls_expr.specs.contracts.expr.Comparison as comparison
 use Rattle.rls_expr.specs.contracts.expr.Sign as sign
 use Rattle.rls_expr.specs.Terms.{Term, Terms, Literal, Column, Place, CurrentUser, Compare, And, Or, Not, IsNull, IsNotNull, Among, NotAmong, Sum, End, More}
@@ -22,7 +23,7 @@ rest (gcons a b) = b
 abbrev mutual
   pub code_t : Term → Gv
   code_t (Literal v) = gcons (gnum 0) (value.the_row.coded.code v)
-  code_t (Column name) = gcons (gnum 1) ((coded_list coded_ℕ).code name)
+  code_t (Column name) = gcons (gnum 1) (column.the_row.coded.code name)
   code_t (Place out column) = gcons (gnum 2) (gcons (gnum out) (gnum column))
   code_t CurrentUser = gcons (gnum 3) gnil
   code_t (Compare how a b) = gcons (gnum 4) (gcons (comparison.the_row.coded.code how) (gcons (code_t a) (code_t b)))
@@ -42,7 +43,7 @@ abbrev mutual
 mutual
   pub inj_t : (x y : Term) → code_t x ≡ code_t y → x ≡ y
   inj_t (Literal v) (Literal w) p = λ i. Literal (value.the_row.coded.inj v w (ap rest p) i)
-  inj_t (Column a) (Column b) p = λ i. Column ((coded_list coded_ℕ).inj a b (ap rest p) i)
+  inj_t (Column a) (Column b) p = λ i. Column (column.the_row.coded.inj a b (ap rest p) i)
   inj_t (Place a b) (Place c d) p = λ z. Place (num (first (rest (p z)))) (num (rest (rest (p z))))
   inj_t CurrentUser CurrentUser p = λ i. CurrentUser
   inj_t (Compare h a b) (Compare k c d) p = λ i. Compare (comparison.the_row.coded.inj h k (ap (λ g. first (rest g)) p) i) (inj_t a c (ap (λ g. first (rest (rest g))) p) i) (inj_t b d (ap (λ g. rest (rest (rest g))) p) i)

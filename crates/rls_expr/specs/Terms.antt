@@ -1,6 +1,7 @@
 -- Expressions as the definitions see them.
 use Rattle.std.specs.Prelude.{ℕ, ◌+◌, List, [], ◌∷◌}
 use Rattle.rls_value.specs.declared.value.Value.{Value}
+use Rattle.rls_expr.specs.declared.column_name.ColumnName.{ColumnName}
 use Rattle.rls_expr.specs.declared.expr.Comparison.{Comparison}
 use Rattle.rls_expr.specs.declared.expr.Sign.{Sign}
 
@@ -8,7 +9,7 @@ mutual
   pub data Term : Type 0 where
     Literal : Value → Term
     -- a column as it is written
-    Column : List ℕ → Term
+    Column : ColumnName → Term
     -- a column of the table that lies so many tables out, at its place there
     Place : ℕ → ℕ → Term
     CurrentUser : Term

@@ -7,8 +7,6 @@ use Rattle.rls_value.specs.declared.value.ColType.{ColType}
 use Rattle.rls_value.specs.declared.value.ColType.TheVariants as c
 use Rattle.rls_value.specs.declared.refusal.Refusal.{Refusal}
 use Rattle.rls_value.specs.declared.refusal.Refusal.TheVariants.{Undefined, TypeFault}
-use Rattle.rls_value.specs.declared.refusal.NameKind.TheVariants as kind
-use Rattle.rls_expr.specs.declared.table.TableDef.{TableDef}
 use Rattle.rls_expr.specs.declared.table.Column.{Column}
 use Rattle.rls_expr.specs.declared.typing.Category.{Category}
 use Rattle.rls_expr.specs.declared.typing.Category.TheVariants as t
@@ -17,6 +15,7 @@ use Rattle.rls_expr.specs.declared.typing.Typing.TheVariants.{Fault, Null, Of}
 use Rattle.rls_expr.specs.declared.typing.Typed.{Typed}
 use Rattle.rls_expr.specs.Terms.{Term, Terms, Literal, Place, CurrentUser, Compare, And, Or, Not, IsNull, IsNotNull, Among, NotAmong, Sum, End, More}
 use Rattle.rls_expr.specs.Terms as term
+use Rattle.rls_expr.specs.Scopes.{InScope, Unknown}
 use Rattle.rls_expr.specs.Resolving.{resolved}
 
 -- whether two categories are one
@@ -46,12 +45,12 @@ column_type (Some column) = Of (category_of column.kind)
 column_type None = Fault
 
 -- the column at that place, if there is one
-abbrev pub column_of : Option TableDef → ℕ → Option Column
-column_of (Some table) column = slice_get table.columns column
+abbrev pub column_of : Option InScope → ℕ → Option Column
+column_of (Some from) column = slice_get from.1.columns column
 column_of None column = None
 
 -- the type of the column at that place of the table that lies so many tables out
-abbrev pub place_type : List TableDef → ℕ → ℕ → Typing
+abbrev pub place_type : List InScope → ℕ → ℕ → Typing
 place_type tables out column = column_type (column_of (slice_get tables out) column)
 
 -- a boolean, if types fit
@@ -97,7 +96,7 @@ with_fitting one others = others
 
 abbrev mutual
   -- the type of a resolved term, over these tables
-  pub type_of : Term → List TableDef → Typing
+  pub type_of : Term → List InScope → Typing
   type_of (Literal v) tables = literal_type v
   type_of (term.Column name) tables = Fault
   type_of (Place out column) tables = place_type tables out column
@@ -113,17 +112,17 @@ abbrev mutual
   type_of (Sum signs us) tables = number_if (all_numbers us tables)
 
   -- each of them may stand where a boolean is wanted
-  pub all_booleans : Terms → List TableDef → Bool
+  pub all_booleans : Terms → List InScope → Bool
   all_booleans End tables = true
   all_booleans (More u us) tables = takes_boolean (type_of u tables) && all_booleans us tables
 
   -- each of them may stand where a whole number is wanted
-  pub all_numbers : Terms → List TableDef → Bool
+  pub all_numbers : Terms → List InScope → Bool
   all_numbers End tables = true
   all_numbers (More u us) tables = takes_number (type_of u tables) && all_numbers us tables
 
   -- IN compares with each of the list
-  pub among_type : Typing → Terms → List TableDef → Typing
+  pub among_type : Typing → Terms → List InScope → Typing
   among_type left End tables = tested left
   among_type left (More u us) tables = with_fitting (goes_with left (type_of u tables)) (among_type left us tables)
 
@@ -140,12 +139,12 @@ with_typing term Null = Ok (record { expr = term; kind = None })
 with_typing term (Of category) = Ok (record { expr = term; kind = Some category })
 
 -- the type of what was resolved
-abbrev pub with_type : List TableDef → Result Term (List ℕ) → Result Typed Refusal
+abbrev pub with_type : List InScope → Result Term Unknown → Result Typed Refusal
 with_type tables (Ok term) = with_typing term (type_of term tables)
-with_type tables (Err name) = Err (Undefined kind.Column name)
+with_type tables (Err (kind, name)) = Err (Undefined kind name)
 
--- the resolved expression with its type; else the first unknown column, or else that types don't fit
-abbrev pub checked : Term → List TableDef → Result Typed Refusal
+-- the resolved expression with its type; else the first unknown name, or else that types don't fit
+abbrev pub checked : Term → List InScope → Result Typed Refusal
 checked expr tables = with_type tables (resolved expr tables)
 
 -- the condition, if it is a boolean
@@ -154,10 +153,10 @@ boolean_or_fault term true = Ok term
 boolean_or_fault term false = Err TypeFault
 
 -- the condition that was resolved, if it is a boolean
-abbrev pub if_boolean : List TableDef → Result Term (List ℕ) → Result Term Refusal
+abbrev pub if_boolean : List InScope → Result Term Unknown → Result Term Refusal
 if_boolean tables (Ok term) = boolean_or_fault term (takes_boolean (type_of term tables))
-if_boolean tables (Err name) = Err (Undefined kind.Column name)
+if_boolean tables (Err (kind, name)) = Err (Undefined kind name)
 
 -- the same of a condition, which has to be a boolean or null
-abbrev pub condition_checked : Term → List TableDef → Result Term Refusal
+abbrev pub condition_checked : Term → List InScope → Result Term Refusal
 condition_checked expr tables = if_boolean tables (resolved expr tables)

@@ -3,7 +3,8 @@
 ghost use Rattle.std.specs.Prelude.{◌≡◌, IfOk};
 ghost use Rattle.rls_expr.specs.ExprTerms.{term_of};
 
-use rls_value::{Name, Value};
+use crate::column_name::ColumnName;
+use rls_value::Value;
 use std::alloc::{AllocError, Global};
 use std::marker::Model;
 
@@ -20,7 +21,7 @@ pub struct Expr {
 pub enum Node {
     Literal(Value),
     /// A column as it is written.
-    Column(Name),
+    Column(ColumnName),
     /// A column that is resolved: of the table that lies so many tables out, at that place.
     Place(usize, usize),
     CurrentUser,

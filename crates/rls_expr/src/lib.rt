@@ -1,6 +1,7 @@
 //! Definitions of tables and policies, expressions, and the typing of expressions.
 #![tactic(auto)]
 
+mod column_name;
 mod expr;
 mod parts;
 mod pinning;
@@ -11,6 +12,7 @@ mod scope;
 mod table;
 mod typing;
 
+pub use column_name::ColumnName;
 pub use expr::{Comparison, Expr, Node, Sign};
 pub use parts::{has_sum, reads_column_of};
 pub use pinning::pin_of;

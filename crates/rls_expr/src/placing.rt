@@ -6,12 +6,13 @@ ghost use Rattle.rls_expr.specs.Placing.{placed, placed_all, column_placed};
 ghost use Rattle.rls_expr.specs.Scopes.{tables_in, place_in};
 ghost use Rattle.rls_expr.specs.Terms.{terms_of};
 
+use crate::column_name::ColumnName;
 use crate::expr::{Expr, Node, boxed};
 use crate::scope::Scope;
-use rls_value::{Items, Name};
+use rls_value::Items;
 use std::alloc::{AllocError, Global};
 
-/// The expression with each known column by its place. A column that isn't there stays as it is, and is null where it is
+/// The expression with each known column by its place. A name that means none stays as it is, and is null where it is
 /// evaluated.
 #[cycle(placing)]
 pub fn place_columns(alloc: Global, expr: &Expr, scope: &Scope) -> Result<Expr, AllocError>
@@ -54,12 +55,12 @@ pub fn place_columns(alloc: Global, expr: &Expr, scope: &Scope) -> Result<Expr, 
     Ok(Expr::new(node))
 }
 
-fn column_node(name: &Name, scope: &Scope) -> Result<Node, AllocError>
+fn column_node(name: &ColumnName, scope: &Scope) -> Result<Node, AllocError>
     ensures { IfOk result (λ node. term_of node ≡ column_placed name.now (place_in (tables_in scope.now) name.now)) }
 {
     match scope.place(name) {
-        Some((out, column)) => Ok(Node::Place(out, column)),
-        None => Ok(Node::Column(name.copy()?)),
+        Ok((out, column)) => Ok(Node::Place(out, column)),
+        Err(_) => Ok(Node::Column(name.copy()?)),
     }
 }
 

@@ -7,10 +7,10 @@ ghost use Rattle.rls_expr.specs.Terms.{terms_of};
 
 use crate::expr::{Expr, Node, boxed};
 use crate::scope::Scope;
-use rls_value::{Items, NameKind, Refusal};
+use rls_value::{Items, Refusal};
 use std::alloc::Global;
 
-/// The expression with each column by its place; the first unknown one in text order is refused.
+/// The expression with each column by its place; the first unknown name in text order is refused.
 #[cycle(resolving)]
 pub fn resolve(alloc: Global, expr: &Expr, scope: &Scope) -> Result<Expr, Refusal>
     ensures { ResolvesTo result (resolved expr.now (tables_in scope.now)) }
@@ -18,8 +18,8 @@ pub fn resolve(alloc: Global, expr: &Expr, scope: &Scope) -> Result<Expr, Refusa
     let node = match expr.node() {
         Node::Literal(value) => Node::Literal(value.copy()?),
         Node::Column(name) => match scope.place(name) {
-            Some((out, column)) => Node::Place(out, column),
-            None => return Err(Refusal::Undefined(NameKind::Column, name.copy()?)),
+            Ok((out, column)) => Node::Place(out, column),
+            Err((kind, unknown)) => return Err(Refusal::Undefined(kind, unknown.copy()?)),
         },
         Node::Place(out, column) => Node::Place(*out, *column),
         Node::CurrentUser => Node::CurrentUser,

@@ -69,7 +69,7 @@ pub fn goes_into(typing: Typing, column: ColType) -> bool
     }
 }
 
-/// The expression with its columns resolved, and its type. The first unknown column in text order is refused,
+/// The expression with its columns resolved, and its type. The first unknown name in text order is refused,
 /// and only where all are known types that don't fit.
 pub fn check(alloc: Global, expr: &Expr, scope: &Scope) -> Result<Typed, Refusal>
     ensures { Gives result (checked expr.now (tables_in scope.now)) }

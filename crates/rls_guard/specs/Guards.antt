@@ -7,6 +7,7 @@ use Rattle.rls_value.specs.declared.verb.Kind.TheVariants as kinds
 use Rattle.rls_value.specs.Values.{truth_in}
 use Rattle.rls_expr.specs.declared.table.TableDef.{TableDef}
 use Rattle.rls_expr.specs.declared.policy.Policy.{Policy}
+use Rattle.rls_expr.specs.Scopes.{InScope}
 use Rattle.rls_expr.specs.Terms.{Term}
 use Rattle.rls_expr.specs.Placing.{placed}
 use Rattle.rls_catalog.specs.declared.verdict.Side.{Side}
@@ -23,44 +24,44 @@ use Rattle.rls_guard.specs.Standings.{has_owner}
 use Rattle.rls_guard.specs.Eval.{value_of, over}
 
 -- the policy with its condition in front of the others, where it has one
-abbrev pub with_condition : TableDef → Policy → Option Term → List (Policy × Term) → List (Policy × Term)
-with_condition table policy (Some term) conditions = (policy, placed term (table ∷ [])) ∷ conditions
-with_condition table policy None conditions = conditions
+abbrev pub with_condition : InScope → Policy → Option Term → List (Policy × Term) → List (Policy × Term)
+with_condition from policy (Some term) conditions = (policy, placed term (from ∷ [])) ∷ conditions
+with_condition from policy None conditions = conditions
 
 -- each policy with the expression that it is asked for, whose columns are by their places
-abbrev pub conditions_of : Kind → Side → TableDef → List Policy → List (Policy × Term)
-conditions_of kind side table [] = []
-conditions_of kind side table (policy ∷ policies) = with_condition table policy (expression_of policy kind side) (conditions_of kind side table policies)
+abbrev pub conditions_of : Kind → Side → InScope → List Policy → List (Policy × Term)
+conditions_of kind side from [] = []
+conditions_of kind side from (policy ∷ policies) = with_condition from policy (expression_of policy kind side) (conditions_of kind side from policies)
 
 -- the policies that apply to the role, with their conditions
-abbrev pub guard_by : Standing → Kind → Side → TableDef → List Policy → Guard
-guard_by standing kind side table policies = Policies (conditions_of kind side table (chosen standing.reach.superuser standing.reach.names kind side policies))
+abbrev pub guard_by : Standing → Kind → Side → InScope → List Policy → Guard
+guard_by standing kind side from policies = Policies (conditions_of kind side from (chosen standing.reach.superuser standing.reach.names kind side policies))
 
 -- the same, unless no policy counts, since the role is exempt
-abbrev pub guard_from : Standing → Kind → Side → TableDef → Option (List Policy) → Guard
-guard_from standing kind side table None = Exempt
-guard_from standing kind side table (Some policies) = guard_by standing kind side table policies
+abbrev pub guard_from : Standing → Kind → Side → InScope → Option (List Policy) → Guard
+guard_from standing kind side from None = Exempt
+guard_from standing kind side from (Some policies) = guard_by standing kind side from policies
 
 -- what guards the rows of one side from the role, for a type of command
-abbrev pub watch_by : Standing → Kind → Side → TableDef → Option (List Policy) → Watch
-watch_by standing kind side table policies = record { kind = kind; side = side; guard = guard_from standing kind side table policies }
+abbrev pub watch_by : Standing → Kind → Side → InScope → Option (List Policy) → Watch
+watch_by standing kind side from policies = record { kind = kind; side = side; guard = guard_from standing kind side from policies }
 
 -- for a command, and for reading where it reads
-abbrev pub watches_on : Standing → Kind → Bool → TableDef → Option (List Policy) → Side → List Watch
-watches_on standing kind reads table policies side =
-    watch_by standing kind side table policies ∷ (if reads then watch_by standing kinds.Select side table policies ∷ [] else [])
+abbrev pub watches_on : Standing → Kind → Bool → InScope → Option (List Policy) → Side → List Watch
+watches_on standing kind reads from policies side =
+    watch_by standing kind side from policies ∷ (if reads then watch_by standing kinds.Select side from policies ∷ [] else [])
 
 -- on each of the sides
-abbrev pub watches_by : Standing → Kind → Bool → TableDef → Option (List Policy) → List Side → List Watch
-watches_by standing kind reads table policies [] = []
-watches_by standing kind reads table policies (side ∷ sides) = watches_on standing kind reads table policies side ++ watches_by standing kind reads table policies sides
+abbrev pub watches_by : Standing → Kind → Bool → InScope → Option (List Policy) → List Side → List Watch
+watches_by standing kind reads from policies [] = []
+watches_by standing kind reads from policies (side ∷ sides) = watches_on standing kind reads from policies side ++ watches_by standing kind reads from policies sides
 
 -- what guards the rows of a table from the role that a command judges: on these sides, for its own type and, where it
 -- reads, for SELECT
 abbrev pub watches_for : Standing → List ℕ → TableDef → Kind → Bool → List Side → Asking (List Watch)
 watches_for standing name table kind reads sides =
-    asked_if (exempts standing.attributes table (has_owner standing table)) (known (Ok (watches_by standing kind reads table None sides)))
-    (followed_by (asked_policies name) (λ policies. known (Ok (watches_by standing kind reads table (Some policies) sides))))
+    asked_if (exempts standing.attributes table (has_owner standing table)) (known (Ok (watches_by standing kind reads (name, table) None sides)))
+    (followed_by (asked_policies name) (λ policies. known (Ok (watches_by standing kind reads (name, table) (Some policies) sides))))
 
 -- the truth value of a condition for the row
 abbrev pub truth_on : List ℕ → List Value → Term → Truth

@@ -1,4 +1,4 @@
-//! What a statement asks before it looks at rows: who may, and which columns are known.
+//! What a statement asks before it looks at rows: who may, and which names are known.
 
 ghost use Rattle.rls_value.specs.Giving.{Gives};
 ghost use Rattle.rls_expr.specs.Resolving.{resolved};
@@ -27,7 +27,7 @@ pub fn require_superuser<'c, S: RowSource<'c>>(
     }
 }
 
-/// The expression with its columns by their places, which have to be known.
+/// The expression with its columns by their places, whose names have to be known.
 pub fn known_term(alloc: Global, expr: &Expr, scope: &Scope) -> Result<Expr, Refusal>
     ensures { Gives result (known_or_undefined (resolved expr.now (tables_in scope.now))) }
 {

@@ -3,6 +3,7 @@
 ghost use Rattle.std.specs.Prelude.{◌≡◌, [], ◌∷◌, map, IfOk, OnOk};
 ghost use Rattle.std.specs.Option.{option_copied};
 ghost use Rattle.rls_expr.specs.Placing.{placed};
+ghost use Rattle.rls_expr.specs.Scopes.{in_scope};
 ghost use Rattle.rls_source.specs.Answering.{Tells};
 ghost use Rattle.rls_guard.specs.Guards as spec;
 
@@ -63,7 +64,7 @@ fn watches_by<'c, 'x>(
     policies: Option<&'c [Policy]>,
     sides: &[Side],
 ) -> Result<Items<Watch<'c>>, AllocError>
-    ensures { IfOk result (λ watches. watches ≡ spec.watches_by standing.now kind reads from.entry.table.now (option_copied policies.entry) sides.now) }
+    ensures { IfOk result (λ watches. watches ≡ spec.watches_by standing.now kind reads (in_scope from.entry) (option_copied policies.entry) sides.now) }
 {
     let mut watches = Items::new(alloc);
     for side in sides {
@@ -83,7 +84,7 @@ fn watch_by<'c, 'x>(
     side: Side,
     policies: Option<&'c [Policy]>,
 ) -> Result<Watch<'c>, AllocError>
-    ensures { IfOk result (λ watch. watch ≡ spec.watch_by standing.now kind side from.entry.table.now (option_copied policies.entry)) }
+    ensures { IfOk result (λ watch. watch ≡ spec.watch_by standing.now kind side (in_scope from.entry) (option_copied policies.entry)) }
 {
     let guard = match policies {
         None => Guard::Exempt,
@@ -100,7 +101,7 @@ fn guard_by<'c>(
     side: Side,
     policies: &'c [Policy],
 ) -> Result<Guard<'c>, AllocError>
-    ensures { IfOk result (λ guard. guard ≡ spec.guard_by standing.now kind side from.entry.table.now policies.now) }
+    ensures { IfOk result (λ guard. guard ≡ spec.guard_by standing.now kind side (in_scope from.entry) policies.now) }
 {
     let policies = chosen(alloc, policies, &standing.reach, kind, side)?;
     let conditions = conditions_of(alloc, policies.as_slice(), from, kind, side);
@@ -118,7 +119,7 @@ fn conditions_of<'c>(
     kind: Kind,
     side: Side,
 ) -> Result<Items<(Loan<'c, Policy>, Expr)>, AllocError>
-    ensures { IfOk result (λ conditions. conditions ≡ spec.conditions_of kind side from.entry.table.now policies.now) }
+    ensures { IfOk result (λ conditions. conditions ≡ spec.conditions_of kind side (in_scope from.entry) policies.now) }
 {
     let mut conditions = Items::new(alloc);
     for policy in policies {
@@ -130,9 +131,9 @@ fn conditions_of<'c>(
     Ok(conditions)
 }
 
-/// A policy's expression with its columns by their places. One that isn't there is null.
+/// A policy's expression with its columns by their places. A name that means none is null.
 fn condition_of(alloc: Global, expr: &Expr, from: FromTable) -> Result<Expr, AllocError>
-    ensures { IfOk result (λ condition. condition ≡ placed expr.now (from.entry.table.now ∷ [])) }
+    ensures { IfOk result (λ condition. condition ≡ placed expr.now (in_scope from.entry ∷ [])) }
 {
     let tables = [from];
     place_columns(alloc, expr, &Scope { tables: &tables })

@@ -1,5 +1,6 @@
 -- An object is in a footprint exactly where it was read, and it stands there once, in order.
 use Rattle.std.specs.Prelude.{◌≡◌, refl, List, [], ◌∷◌, ◌++◌, Bool, true, false, ◌||◌, ◌↔◌}
+use Rattle.std.specs.BTreeSet.{BTreeSet, IsFromIterResult}
 use Rattle.std.specs.List.{AllByRecursion}
 use Rattle.std.specs.List.Sorted.{IsStrictlySortedBy}
 use Rattle.std.specs.Ordering.{is_eq, is_lt, match_ordering, ordering_reverse}
@@ -160,3 +161,45 @@ with_reads_ordered objects (read ∷ reads) ordered =
 -- such objects are the footprint of themselves
 pub footprint_ordered : (objects : List Object) → IsInOrder objects → footprint_of objects ≡ objects
 footprint_ordered objects ordered = with_reads_ordered [] objects ordered
+
+-- ---- two lists in order with the same objects are the same list
+
+above_none : (x : Object) (objects : List Object) → AllByRecursion (λ y. object_order x y ≡ Less) objects → is_among objects x ≡ false
+above_none x [] all = refl
+above_none x (y ∷ objects) all = ap (λ order. is_eq order || is_among objects x) all.0 ∙ above_none x objects all.1
+
+among_itself : (x : Object) (objects : List Object) → is_among (x ∷ objects) x ≡ true
+among_itself x objects = ap (λ order. is_eq order || is_among objects x) (tied_itself objects_total x)
+
+others_if : (order : Ordering) (x object : Object) (one other : List Object) → object_order object x ≡ order → is_among one x ≡ false → is_among other x ≡ false
+    → (is_eq order || is_among one object) ≡ (is_eq order || is_among other object) → is_among one object ≡ is_among other object
+others_if Less x object one other is absent missing same = same
+others_if Equal x object one other is absent missing same =
+    ap (is_among one) (objects_same object x is) ∙ absent ∙ sym missing ∙ ap (is_among other) (sym (objects_same object x is))
+others_if Greater x object one other is absent missing same = same
+
+first_if : (order : Ordering) (x y : Object) (one other : List Object) → object_order x y ≡ order → IsInOrder (x ∷ one) → IsInOrder (y ∷ other)
+    → ((object : Object) → is_among (x ∷ one) object ≡ is_among (y ∷ other) object) → x ≡ y
+unfolding IsStrictlySortedBy
+first_if Less x y one other is ordered too same =
+    absurd (true≢false (sym (among_itself x one) ∙ same x ∙ above_none x (y ∷ other) (is, below_all x y other is too.0)))
+first_if Equal x y one other is ordered too same = objects_same x y is
+first_if Greater x y one other is ordered too same =
+    absurd (true≢false (sym (among_itself y other) ∙ sym (same y) ∙ above_none y (x ∷ one) (above y x is, below_all y x one (above y x is) ordered.0)))
+
+-- such lists have the same objects only where they are the same
+pub same_in_order : (one other : List Object) → IsInOrder one → IsInOrder other → ((object : Object) → is_among one object ≡ is_among other object) → one ≡ other
+unfolding IsStrictlySortedBy
+same_in_order [] [] ordered too same = refl
+same_in_order [] (y ∷ other) ordered too same = absurd (true≢false (sym (among_itself y other) ∙ sym (same y)))
+same_in_order (x ∷ one) [] ordered too same = absurd (true≢false (sym (among_itself x one) ∙ same x))
+same_in_order (x ∷ one) (y ∷ other) ordered too same =
+    let first = first_if (object_order x y) x y one other refl ordered too same in
+    let next : (object : Object) → is_among one object ≡ is_among other object =
+    λ object. others_if (object_order object x) x object one other refl (above_none x one ordered.0) (ap (is_among other) first ∙ above_none y other too.0)
+    (same object ∙ ap (λ z. is_object object z || is_among other object) (sym first)) in
+    ap (λ z. z ∷ one) first ∙ ap (λ rest. y ∷ rest) (same_in_order one other ordered.1 too.1 next)
+
+-- a set that has what was read holds the footprint
+pub set_of_reads : (reads : List Object) (set : BTreeSet Object) → IsFromIterResult object_order reads set → set.keys ≡ footprint_of reads
+set_of_reads reads set is = same_in_order set.keys (footprint_of reads) is.1 (footprint_in_order reads) (λ object. is.0 object ∙ sym (among_footprint reads object))

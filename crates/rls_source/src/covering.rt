@@ -1,14 +1,23 @@
 //! Which changes an object is covered by.
 
-ghost use Rattle.std.specs.Prelude.{◌≡◌};
+ghost use Rattle.std.specs.Prelude.{◌≡◌, ◌||◌};
 ghost use Rattle.rls_catalog.specs.Bases as spec;
+ghost use Rattle.rls_catalog.specs.Writes.{is_written, is_rows_of};
 
 use rls_catalog::{Change, Keyed, is_same_row};
 use rls_value::{Object, Row};
 
-/// Whether the object shows what stood at the place that the change overwrites, or what stands there now. A change of a
-/// row covers the row, the rows of its table, and the keys that it had and has.
+/// Whether the object shows what stood at the place that the change overwrites, or what stands there now: what the change
+/// writes, which of a row are the row and the keys that it had and has, and the rows of the table whose row changes.
 pub fn covers(object: &Object, change: &Change) -> bool
+    ensures covers { result ≡ spec.covers object.now change.now }
+    ensures writes { result ≡ (is_written object.now change.now || is_rows_of object.now change.now) }
+{
+    shows_either(object, change)
+}
+
+/// Whether the object shows what stood at the place that the change overwrites, or what stands there now.
+fn shows_either(object: &Object, change: &Change) -> bool
     ensures { result ≡ spec.covers object.now change.now }
 {
     match change {

@@ -38,15 +38,13 @@ impl Footprint {
         }
     }
 
-    /// The objects of the reads.
+    /// The objects of the reads. Where these come in order, in time linear in their number.
     pub fn from_reads(alloc: Global, reads: Reads) -> Result<Footprint, AllocError>
         ensures { IfOk result (λ footprint. footprint ≡ footprint_of reads) }
     {
-        let mut footprint = Footprint::new(alloc);
-        for object in reads.into_vec() {
-            footprint.note(object)?;
-        }
-        Ok(footprint)
+        Ok(Footprint {
+            objects: BTreeSet::from_iter(alloc, reads.into_vec())?,
+        })
     }
 
     /// Puts the object in its place, unless it is there.

@@ -195,6 +195,8 @@ pub struct Insert {
 pub struct Select {
     pub items: Selected,
     pub table: Name,
+    /// `AS` and a name: what qualifies the table's columns in place of its own name.
+    pub alias: Option<Name>,
     pub condition: Option<Expr>,
 }
 
@@ -526,15 +528,24 @@ impl Select {
     pub fn copy(&self, alloc: Global) -> Result<Select, AllocError>
         ensures { IfOk result (λ select. select ≡ self.now) }
     {
-        let condition = match &self.condition {
-            Some(condition) => Some(condition.copy(alloc)?),
-            None => None,
-        };
         Ok(Select {
-            items: self.items.copy(alloc)?,
             table: self.table.copy()?,
-            condition,
+            alias: copy_alias(&self.alias)?,
+            items: self.items.copy(alloc)?,
+            condition: copy_condition(alloc, &self.condition)?,
         })
+    }
+}
+
+fn copy_alias(alias: &Option<Name>) -> Result<Option<Name>, AllocError>
+    ensures { IfOk result (λ copy. copy ≡ alias.now) }
+{
+    match alias {
+        Some(name) => match name.copy() {
+            Ok(name) => Ok(Some(name)),
+            Err(refused) => Err(refused),
+        },
+        None => Ok(None),
     }
 }
 

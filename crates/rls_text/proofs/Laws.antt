@@ -97,8 +97,8 @@ module _ (k : ℕ) (i i' : Cut tree_of expr_heads expr_more false) (I : Within k
 
 module _ (k : ℕ) (i i' : Cut tree_of expr_heads expr_more false) (I : (j : ℕ) → j < k → Within j i.rule.spells i'.rule.spells) where
   pub prim_within : Within k (g.prim i).rule.spells (g.prim i').rule.spells
-  unfolding g.prim
-  prim_within = either_within k _ _ _ _ (same_lang k _) (either_within k _ _ _ _ (same_lang k _) (either_within k _ _ _ _ (same_lang k _) (shorter_within _ k _ _ (λ j h. mapped_within j _ _ _ (both_within j _ _ _ _ (I j h) (same_lang j _))))))
+  unfolding g.prim g.parenthesized
+  prim_within = either_within k _ _ _ _ (same_lang k _) (shorter_within _ k _ _ (λ j h. mapped_within j _ _ _ (both_within j _ _ _ _ (I j h) (same_lang j _))))
 
   sum_within : Within k (g.sum i).rule.spells (g.sum i').rule.spells
   unfolding g.sum g.sum_next
@@ -149,7 +149,7 @@ module _ (k : ℕ) (i i' : Cut tree_of expr_heads expr_more false) (I : Within k
 
   select_within : Within k (g.select i).rule.spells (g.select i').rule.spells
   unfolding g.select g.condition
-  select_within = mapped_within k _ _ _ (after_within k _ _ _ (both_within k _ _ _ _ (same_lang k _) (after_within k _ _ _ (both_within k _ _ _ _ (same_lang k _) (perhaps_within k _ _ (after_within k _ _ _ I))))))
+  select_within = mapped_within k _ _ _ (after_within k _ _ _ (both_within k _ _ _ _ (same_lang k _) (both_within k _ _ _ _ (same_lang k _) (perhaps_within k _ _ (after_within k _ _ _ I)))))
 
   tuples_within : Within k (g.even_tuples i).rule.spells (g.even_tuples i').rule.spells
   unfolding g.even_tuples g.tuples cut.with_comma

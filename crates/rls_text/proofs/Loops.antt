@@ -1,8 +1,9 @@
 -- Loops that read any number of phrases.
-use Rattle.std.proofs.Common.{◌≡◌, ℕ, zero, suc, ◌+◌, ◌-◌, ◌<◌, ◌≤◌, Bool, ◌||◌, true, false, List, [], ◌∷◌, ◌++◌, length, Some, None, refl, arith, ap, sym, append_assoc}
+use Rattle.std.proofs.Common.{◌≡◌, ℕ, zero, suc, ◌+◌, ◌-◌, ◌<◌, ◌≤◌, Bool, ◌||◌, true, false, List, [], ◌∷◌, ◌++◌, length, Some, None, refl, arith, ap, sym, append_assoc, ◌∙◌}
 use Rattle.rls_text.specs.declared.token.Token.{Token}
-use Rattle.rls_text.specs.Heads.{Head, sees, fits, begins, Keyword}
-use Rattle.rls_text.specs.Parses.{Outcome, and_then, read_many, read_token}
+use Rattle.rls_text.specs.FirstSets.{literal_heads, item_heads}
+use Rattle.rls_text.specs.Heads.{Head, Names, sees, fits, begins, Keyword}
+use Rattle.rls_text.specs.Parses.{begins-append, Outcome, and_then, read_many, read_token}
 use Rattle.rls_text.specs.declared.token.Token.TheVariants.{Word}
 use Rattle.std.specs.Prelude.{codes}
 use Rattle.rls_text.specs.Trees.{Tree, not_of}
@@ -91,6 +92,14 @@ nots_begin ts = let e : length ts - 0 ≡ length ts = omega arith in rw e (go (r
     go : (o : Outcome (List (Unit {0}))) → and_then o (λ xs rest. Some (length xs, rest)) ≡ added 0 (counted o)
     go None = refl
     go (Some x) = ap (λ z. Some (z, x.1)) (omega arith)
+
+sees_append : (hs ks : List Head) (ts : List Token) → sees (hs ++ ks) ts ≡ (sees hs ts || sees ks ts)
+sees_append hs ks [] = refl
+sees_append hs ks (t ∷ ts) = begins-append hs ks t
+
+-- an item begins as a literal, a column or CURRENT_USER
+pub sees_item : (ts : List Token) → sees item_heads ts ≡ (sees literal_heads ts || (sees (Names ∷ []) ts || sees (Keyword (codes "current_user") ∷ []) ts))
+sees_item ts = sees_append literal_heads (Names ∷ Keyword (codes "current_user") ∷ []) ts ∙ ap (λ b. sees literal_heads ts || b) (sees_append (Names ∷ []) (Keyword (codes "current_user") ∷ []) ts)
 
 pub sees_none : (ts : List Token) → sees [] ts ≡ false
 sees_none [] = refl

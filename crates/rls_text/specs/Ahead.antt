@@ -1,10 +1,10 @@
 -- Tests that look ahead among the tokens, and what is passed over in looking.
 use Rattle.std.specs.Prelude.{◌≡◌, Bool, true, false, if◌then◌else◌, List, [], ◌∷◌, ◌++◌, Option, Some, None, codes, refl}
-use Rattle.std.proofs.Common.{◌∙◌, append_assoc, inl, inr}
+use Rattle.std.proofs.Common.{◌∙◌, ap, append_assoc, inl, inr}
 use Rattle.rls_text.specs.declared.token.Token.{Token}
 use Rattle.rls_text.specs.Heads.{Head, Keyword, begins, apart, sees}
-use Rattle.rls_text.specs.Lang.{only, Both, Mapped, Either, Perhaps, Many, One, After}
-use Rattle.rls_text.specs.Parses.{unseen}
+use Rattle.rls_text.specs.Lang.{only, Both, Mapped, Either, Perhaps, Many, Checked, One, After}
+use Rattle.rls_text.specs.Parses.{Parses, unseen}
 
 -- one of the first comes before one of the others
 abbrev pub comes_first : List Head → List Head → List Token → Bool
@@ -81,6 +81,60 @@ module _ {A B : Type 0} (test : List Token → Bool) (p : List Token → A → T
   -- the second, where the first is passed over
   pub decided_behind : Skips test p → (b : Bool) → ((front rest : List Token) (c : B) → q front c → test (front ++ rest) ≡ b) → (front rest : List Token) (r : A × B) → Both p q front r → test (front ++ rest) ≡ b
   decided_behind P b decides front rest r h = rw (h.split, append_assoc) (P.passes h.front (h.rest ++ rest) r.0 h.one ∙ decides h.rest rest r.1 h.other)
+
+-- ---- the second token
+
+-- Each phrase has a token, and behind it none of these.
+pub record Begins {A : Type 0} (hs : List Head) (p : List Token → A → Type 0) : Type 0 where
+  pub parts : (ts : List Token) (a : A) → p ts a → (t : Token) × (us : List Token) × (ts ≡ t ∷ us) × (sees hs us ≡ false)
+
+sees_behind : (hs : List Head) (us rest : List Token) → sees hs us ≡ false → sees hs rest ≡ false → sees hs (us ++ rest) ≡ false
+sees_behind hs [] rest h stop = stop
+sees_behind hs (u ∷ us) rest h stop = h
+
+module _ (hs : List Head) where
+  pub only_begins : (t : Token) → Begins hs (only t)
+  only_begins t = record { parts = λ ts a h. (t, [], h, refl) }
+
+  pub one_begins : {A : Type 0} (f : Token → Option A) → Begins hs (One f)
+  one_begins f = record { parts = λ ts a h. (h.token, [], h.alone, refl) }
+
+module _ {A : Type 0} (hs : List Head) (p : List Token → A → Type 0) (P : Begins hs p) where
+  pub mapped_begins : {B : Type 0} (f : A → B) → Begins hs (Mapped f p)
+  mapped_begins f = record { parts = λ ts b h. P.parts ts h.source h.spelled }
+
+  pub checked_begins : (test : A → Bool) → Begins hs (Checked test p)
+  checked_begins test = record { parts = λ ts a h. P.parts ts a h.spelled }
+
+  -- behind such a phrase and none of these the second token isn't one
+  pub no_second : (front rest : List Token) (a : A) → p front a → sees hs rest ≡ false → second_is hs (front ++ rest) ≡ false
+  no_second front rest a h stop = let x = P.parts front a h in rw (x.2) (sees_behind hs x.1 rest x.3 stop)
+
+module _ {A : Type 0} (hs : List Head) (p q : List Token → A → Type 0) (P : Begins hs p) (Q : Begins hs q) where
+  pub either_begins : Begins hs (Either p q)
+  either_begins = record { parts = λ ts a h. elim h [ inl x ↦ P.parts ts a x | inr x ↦ Q.parts ts a x ] }
+
+module _ {A B : Type 0} (hs hq mq : List Head) (eq : Bool) (p : List Token → A → Type 0) (q : List Token → B → Type 0) (P : Begins hs p) (Q : Parses q hq mq eq) where
+  behind : apart hq hs ≡ true → (ts : List Token) (b : B) → q ts b → sees hs ts ≡ false
+  behind e ts b h = elim (Q.starts ts b h) [ inl x ↦ rw (x.0) refl | inr x ↦ unseen hq hs ts e x ]
+
+  -- what such a phrase goes on with begins with none of these
+  pub both_begins : apart hq hs ≡ true → Begins hs (Both p q)
+  both_begins e = record {
+    parts = λ ts r h.
+        let x = P.parts h.front r.0 h.one in
+        (x.0, x.1 ++ h.rest, h.split ∙ ap (λ z. z ++ h.rest) x.2, sees_behind hs x.1 h.rest x.3 (behind e h.rest r.1 h.other));
+  }
+
+  perhaps_parts : apart hq hs ≡ true → Begins hs q → (front rest : List Token) (a : Option A) (b : B) → Perhaps p front a → q rest b → (t : Token) × (us : List Token) × (front ++ rest ≡ t ∷ us) × (sees hs us ≡ false)
+  perhaps_parts e K front rest None b h k = rw h (K.parts rest b k)
+  perhaps_parts e K front rest (Some a) b h k =
+      let x = P.parts front a h in
+      (x.0, x.1 ++ rest, ap (λ z. z ++ rest) x.2, sees_behind hs x.1 rest x.3 (behind e rest b k))
+
+  -- the first may be left out
+  pub perhaps_begins : apart hq hs ≡ true → Begins hs q → Begins hs (Both (Perhaps p) q)
+  perhaps_begins e K = record { parts = λ ts r h. let x = perhaps_parts e K h.front h.rest r.0 r.1 h.one h.other in (x.0, x.1, h.split ∙ x.2, x.3) }
 
 -- each phrase is one token
 pub record Alone {A : Type 0} (p : List Token → A → Type 0) : Type 0 where

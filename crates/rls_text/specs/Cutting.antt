@@ -89,7 +89,7 @@ change_kept r = (r.0, conditions_kept r.1)
 
 -- a statement, with the depth of its deepest expression
 abbrev pub draft_of : Statement → Draft
-draft_of (st.Select x) = t.select_of (x.items, (x.table, of_some tree_of x.condition))
+draft_of (st.Select x) = t.select_of (x.items, ((x.table, x.alias), of_some tree_of x.condition))
 draft_of (st.Insert x) = t.insert_of (x.table, (rows_kept (x.columns, x.tuples), x.returning))
 draft_of (st.Update x) = t.update_of (x.table, (set_columns_kept x.settings, ending_kept (x.condition, x.returning)))
 draft_of (st.Delete x) = t.delete_of (x.table, ending_kept (x.condition, x.returning))
@@ -363,7 +363,7 @@ if_high None h = absurd (omega (arith, h))
 if_high (Some x) h = tree_high x h
 
 pub draft_low : (x : Statement) → (draft_of x).1 ≤ 64 → ((draft_of x).0 ≡ x) × ((draft_of x).1 ≡ height_of x)
-draft_low (st.Select x) h = let k = if_low x.condition h in (ap (λ z. st.Select record { items = x.items; table = x.table; condition = z }) k.0, k.1)
+draft_low (st.Select x) h = let k = if_low x.condition h in (ap (λ z. st.Select record { items = x.items; table = x.table; alias = x.alias; condition = z }) k.0, k.1)
 draft_low (st.Insert x) h = let k = tuples_low x.tuples h in (ap (λ z. st.Insert record x { tuples = z }) k.0, k.1)
 draft_low (st.Update x) h =
     let k = settings_low x.settings (omega (arith, h)) in

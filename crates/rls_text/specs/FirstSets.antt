@@ -13,13 +13,29 @@ constant_heads = Keyword (codes "true") ∷ Keyword (codes "false") ∷ Keyword 
 abbrev pub literal_heads : List Head
 literal_heads = constant_heads ++ Texts ∷ Sign s.Minus ∷ Numbers ∷ []
 
+-- an item
+abbrev pub item_heads : List Head
+item_heads = literal_heads ++ Names ∷ Keyword (codes "current_user") ∷ []
+
+-- what goes on behind an item: the dot behind a column's qualifier
+abbrev pub item_more : List Head
+item_more = Sign s.Dot ∷ []
+
+-- behind items
+abbrev pub items_more : List Head
+items_more = Sign s.Comma ∷ item_more
+
 -- an operand
 abbrev pub prim_heads : List Head
-prim_heads = literal_heads ++ Names ∷ Keyword (codes "current_user") ∷ Sign s.LParen ∷ []
+prim_heads = item_heads ++ Sign s.LParen ∷ []
 
 -- a sign between the parts of a sum
 abbrev pub sign_heads : List Head
 sign_heads = Sign s.Plus ∷ Sign s.Minus ∷ []
+
+-- what goes on behind a sum
+abbrev pub sum_more : List Head
+sum_more = sign_heads ++ item_more
 
 -- IN, NOT IN
 abbrev pub in_heads : List Head
@@ -27,7 +43,7 @@ in_heads = Keyword (codes "not") ∷ Keyword (codes "in") ∷ []
 
 -- what goes on behind a sum that may be the left side of IN
 abbrev pub memb_more : List Head
-memb_more = in_heads ++ sign_heads
+memb_more = in_heads ++ sum_more
 
 -- a comparison
 abbrev pub comparison_heads : List Head
@@ -49,13 +65,21 @@ expr_heads = Keyword (codes "not") ∷ prim_heads
 abbrev pub expr_more : List Head
 expr_more = Keyword (codes "or") ∷ Keyword (codes "and") ∷ is_more
 
+-- another name of a table
+abbrev pub alias_heads : List Head
+alias_heads = Keyword (codes "as") ∷ Names ∷ []
+
 -- behind a statement with a condition
 abbrev pub condition_more : List Head
 condition_more = Keyword (codes "where") ∷ expr_more
 
+-- behind SELECT
+abbrev pub select_more : List Head
+select_more = alias_heads ++ condition_more
+
 -- behind rows that are inserted
 abbrev pub inserted_more : List Head
-inserted_more = Sign s.Comma ∷ Keyword (codes "returning") ∷ []
+inserted_more = Sign s.Comma ∷ Sign s.Dot ∷ Keyword (codes "returning") ∷ []
 
 -- behind UPDATE and DELETE
 abbrev pub changed_more : List Head
@@ -123,19 +147,27 @@ body_heads = Keyword (codes "select") ∷ Keyword (codes "insert") ∷ Keyword (
 
 -- behind a statement
 abbrev pub body_more : List Head
-body_more = policy_more ++ attribute_heads ++ changed_more ++ revoked_more
+body_more = alias_heads ++ policy_more ++ attribute_heads ++ changed_more ++ revoked_more
 
-pub literal_apart : apart literal_heads (Names ∷ Keyword (codes "current_user") ∷ Sign s.LParen ∷ []) ≡ true
+pub literal_apart : apart literal_heads (Names ∷ Keyword (codes "current_user") ∷ []) ≡ true
 unfolding reserved
 literal_apart = refl
 
-pub name_apart : apart (Names ∷ []) (Keyword (codes "current_user") ∷ Sign s.LParen ∷ []) ≡ true
+pub name_apart : apart (Names ∷ []) (Keyword (codes "current_user") ∷ []) ≡ true
 unfolding reserved
 name_apart = refl
 
 pub not_apart : apart (Keyword (codes "not") ∷ []) prim_heads ≡ true
 unfolding reserved
 not_apart = refl
+
+pub as_apart : apart (Keyword (codes "as") ∷ []) (Names ∷ []) ≡ true
+unfolding reserved
+as_apart = refl
+
+pub alias_apart : apart alias_heads (Keyword (codes "where") ∷ []) ≡ true
+unfolding reserved
+alias_apart = refl
 
 pub public_apart : apart (Keyword (codes "public") ∷ []) (Names ∷ []) ≡ true
 unfolding reserved

@@ -15,6 +15,7 @@ use Rattle.rls_value.specs.declared.verb.Privilege.{Privilege}
 use Rattle.rls_value.specs.declared.verb.Privilege.TheVariants as p
 use Rattle.rls_expr.specs.Terms.{Term}
 use Rattle.rls_expr.specs.Terms as e
+use Rattle.rls_expr.specs.declared.column_name.ColumnName.{ColumnName}
 use Rattle.rls_expr.specs.declared.expr.Comparison.{Comparison}
 use Rattle.rls_expr.specs.declared.expr.Comparison.TheVariants as c
 use Rattle.rls_expr.specs.declared.expr.Sign.{Sign as PartSign}
@@ -48,8 +49,8 @@ use Rattle.rls_text.specs.declared.tables.TableElement.TheVariants as element
 use Rattle.rls_text.specs.declared.tables.TableElements.{TableElements}
 use Rattle.std.proofs.Common.{inl, inr}
 use Rattle.rls_text.specs.Heads.{Names, Numbers, Texts, Keyword, Sign, begins, sees}
-use Rattle.rls_text.specs.FirstSets.{constant_heads, literal_heads, prim_heads, sign_heads, in_heads, memb_more, comparison_heads, cmp_more, is_more, expr_heads, expr_more, condition_more, inserted_more, changed_more, attribute_heads, role_more, mark_heads, change_more, policy_more, create_more, alter_more, privilege_heads, privileges_heads, option_heads, granted_more, revoked_more, flat_heads, flat_more, body_heads, body_more, literal_apart, name_apart, not_apart, public_apart, primary_apart, table_apart, none_apart, on_apart, to_apart}
-use Rattle.rls_text.specs.Ahead.{on_comes_first, second_is, Skips, both_skips, mapped_skips, either_skips, perhaps_skips, many_skips, token_skips, one_skips, decided_at, decided_before, decided_behind, Alone, only_alone, mapped_alone, either_alone}
+use Rattle.rls_text.specs.FirstSets.{constant_heads, literal_heads, item_heads, item_more, items_more, prim_heads, sign_heads, sum_more, in_heads, memb_more, comparison_heads, cmp_more, is_more, expr_heads, expr_more, alias_heads, condition_more, select_more, inserted_more, changed_more, attribute_heads, role_more, mark_heads, change_more, policy_more, create_more, alter_more, privilege_heads, privileges_heads, option_heads, granted_more, revoked_more, flat_heads, flat_more, body_heads, body_more, literal_apart, name_apart, not_apart, as_apart, alias_apart, public_apart, primary_apart, table_apart, none_apart, on_apart, to_apart}
+use Rattle.rls_text.specs.Ahead.{on_comes_first, second_is, Skips, both_skips, mapped_skips, either_skips, perhaps_skips, many_skips, token_skips, one_skips, decided_at, decided_before, decided_behind, Begins, only_begins, one_begins, mapped_begins, checked_begins, either_begins, both_begins, perhaps_begins, no_second, Alone, only_alone, mapped_alone, either_alone}
 use Rattle.rls_text.specs.Elements.{elements_of}
 use Rattle.rls_text.specs.Elements as elements
 use Rattle.rls_text.specs.Lang.{only, Both, Mapped, Perhaps, Many, put_in}
@@ -100,6 +101,23 @@ literal = either constant (either text number refl) refl
 
 -- ---- expressions
 
+-- ["." name]
+unfoldable pub behind_dot : Rule (Option (List ℕ)) (Sign s.Dot ∷ []) item_more true
+behind_dot = perhaps (after (sign s.Dot) name refl)
+
+-- name ["." name], of which the first is the qualifier where there are two
+unfoldable pub column : Rule ColumnName (Names ∷ []) item_more false
+column = mapped g.column_name_of back.as_column_name back.column_name_law (both name behind_dot refl)
+
+-- literal | column | CURRENT_USER
+unfoldable pub item : Rule Term item_heads item_more false
+item = either (mapped e.Literal back.as_literal back.literal_law literal) (either (mapped e.Column back.as_column back.column_law column) (mapped (λ _. e.CurrentUser) back.as_user back.user_law (word (codes "current_user"))) name_apart) literal_apart
+
+-- an item is kept as it is, as a leaf
+pub item_kept : (ts : List Token) (x : Term) → item.spells ts x → tree_of x ≡ t.leaf x
+unfolding item
+item_kept ts x h = elim h [ inl y ↦ rw (y.value) refl | inr y ↦ elim y [ inl z ↦ rw (z.value) refl | inr z ↦ rw (z.value) refl ] ]
+
 -- "=" | "<>" | "<" | "<=" | ">" | ">="
 unfoldable pub comparison : Rule Comparison comparison_heads [] false
 comparison = either (sign_for back.comparisons c.Equal s.Equal) (either (sign_for back.comparisons c.NotEqual s.NotEqual) (either (sign_for back.comparisons c.Less s.Less)
@@ -127,19 +145,17 @@ module _ (inner : Cut tree_of expr_heads expr_more false) where
   unfoldable pub parenthesized : Cut tree_of (Sign s.LParen ∷ []) [] false
   parenthesized = cut.in_parentheses inner refl
 
-  -- literal | name | CURRENT_USER | "(" expr ")"
-  unfoldable pub prim : Cut tree_of prim_heads [] false
-  prim = cut.either (cut.mapped tree_of e.Literal (λ x. t.leaf (e.Literal x)) (λ x. refl) back.as_literal back.literal_law (cut.plain literal))
-      (cut.either (cut.mapped tree_of e.Column (λ x. t.leaf (e.Column x)) (λ x. refl) back.as_column back.column_law (cut.plain name))
-      (cut.either (cut.mapped tree_of (λ _. e.CurrentUser) (λ _. t.leaf e.CurrentUser) (λ x. refl) back.as_user back.user_law (cut.plain (word (codes "current_user")))) (cut.in_parentheses inner refl) refl) name_apart) literal_apart
+  -- item | "(" expr ")"
+  unfoldable pub prim : Cut tree_of prim_heads item_more false
+  prim = cut.either (cut.kept_as tree_of t.leaf item item_kept) parenthesized refl
 
   -- ("+" | "-") prim
-  unfoldable pub sum_next : Cut signed_kept sign_heads [] false
+  unfoldable pub sum_next : Cut signed_kept sign_heads item_more false
   sum_next = cut.both (cut.plain part_sign) prim refl
 
   -- prim {("+" | "-") prim}, one node with all its parts
-  unfoldable pub sum : Cut tree_of prim_heads sign_heads false
-  sum = cut.chain (λ r. g.sum_of r.0 r.1) (λ r. t.sum_of (t.summed r.0 r.1)) sum_kept back.as_sum back.sum_law prim prim.rule.prints (cut.many sum_next refl) [] refl (λ x. refl) refl
+  unfoldable pub sum : Cut tree_of prim_heads sum_more false
+  sum = cut.widened (cut.chain (λ r. g.sum_of r.0 r.1) (λ r. t.sum_of (t.summed r.0 r.1)) sum_kept back.as_sum back.sum_law prim prim.rule.prints (cut.many sum_next refl) [] refl (λ x. refl) refl) refl refl
 
   pub prim_sum : (ts : List Token) (x : Term) → prim.rule.spells ts x → sum.rule.spells ts x
   unfolding sum
@@ -227,17 +243,13 @@ expr (suc depth) = or (expr depth)
 
 -- ---- SELECT, INSERT, UPDATE and DELETE
 
--- a name, as an item
-unfoldable pub column : Rule Term (Names ∷ []) [] false
-column = mapped e.Column back.as_column back.column_law name
+-- item {"," item}
+unfoldable pub item_list : Rule (List Term) item_heads items_more false
+item_list = widened (mapped (λ r. r.0 ∷ r.1) as_list list_law (both item (many (with_comma item) refl) refl)) refl refl
 
--- column {"," column}
-unfoldable pub columns : Rule (List Term) (Names ∷ []) (Sign s.Comma ∷ []) false
-columns = listed column
-
--- columns, as what is selected, where no parenthesis follows
-unfoldable pub column_items : Rule Selected (Names ∷ []) (Sign s.LParen ∷ Sign s.Comma ∷ []) false
-column_items = widened (mapped selected.Items back.as_items back.items_law columns) refl refl
+-- items, as what is selected, where no parenthesis follows
+unfoldable pub selected_items : Rule Selected item_heads (Sign s.LParen ∷ items_more) false
+selected_items = widened (mapped selected.Items back.as_items back.items_law item_list) refl refl
 
 -- COUNT "(" "*" ")"
 unfoldable pub count : Rule Selected (Keyword (codes "count") ∷ []) [] false
@@ -251,28 +263,49 @@ paren_second front rest a h stop =
     let y = x.other.spelled in
     rw (x.split, x.one, y.split, y.one) refl
 
--- where columns are selected it is a comma, or what follows them
-pub no_paren_second : (front rest : List Token) (a : Selected) → column_items.spells front a → sees (Sign s.LParen ∷ Sign s.Comma ∷ []) rest ≡ false → second_is (Sign s.LParen ∷ []) (front ++ rest) ≡ false
-unfolding column_items columns column name with_comma
-no_paren_second front rest a h stop =
-    let x = h.spelled.spelled in
-    rw (x.split, x.one.spelled.alone) (go x.rest h.spelled.source.1 x.other)
-  where
-    go : (ts : List Token) (more : List Term) → Many (with_comma column).spells ts more → sees (Sign s.LParen ∷ []) (ts ++ rest) ≡ false
-    go ts [] m = rw m (unseen_parts (Sign s.LParen ∷ []) (Sign s.Comma ∷ []) rest stop).0
-    go ts (n ∷ more) m = rw (m.2, m.3.spelled.split, m.3.spelled.one) refl
+-- no parenthesis stands behind the first token of a literal,
+literal_begins : Begins (Sign s.LParen ∷ []) literal.spells
+unfolding literal constant text number digits
+literal_begins = either_begins _ _ _ (either_begins _ _ _ (mapped_begins _ _ (only_begins _ _) _) (either_begins _ _ _ (mapped_begins _ _ (only_begins _ _) _) (mapped_begins _ _ (only_begins _ _) _)))
+    (either_begins _ _ _ (mapped_begins _ _ (one_begins _ _) _) (mapped_begins _ _ (checked_begins _ _ (perhaps_begins _ _ _ _ _ _ (only_begins _ _) digits.parses refl (one_begins _ _)) _) _))
 
--- "*" | count | columns: where the second token is a parenthesis, rows are counted
-unfoldable pub items : Rule Selected (Sign s.Star ∷ Keyword (codes "count") ∷ Names ∷ []) (Sign s.LParen ∷ Sign s.Comma ∷ []) false
-items = either (mapped (λ _. selected.All) back.as_all back.all_law (sign s.Star)) (either_by (second_is (Sign s.LParen ∷ [])) count column_items paren_second no_paren_second) refl
+-- of an item
+item_begins : Begins (Sign s.LParen ∷ []) item.spells
+unfolding item column name
+item_begins = either_begins _ _ _ (mapped_begins _ _ literal_begins _) (either_begins _ _ _ (mapped_begins _ _ (mapped_begins _ _ (both_begins _ _ _ _ _ _ (one_begins _ _) behind_dot.parses refl) _) _) (mapped_begins _ _ (only_begins _ _) _))
 
--- "*" | columns
-unfoldable pub returned : Rule Selected (Sign s.Star ∷ Names ∷ []) (Sign s.Comma ∷ []) false
-returned = either (mapped (λ _. selected.All) back.as_all back.all_law (sign s.Star)) (mapped selected.Items back.as_items back.items_law columns) refl
+-- or of items
+items_begin : Begins (Sign s.LParen ∷ []) selected_items.spells
+unfolding selected_items item_list
+items_begin = mapped_begins _ _ (mapped_begins _ _ (both_begins _ _ _ _ _ _ item_begins (many (with_comma item) refl).parses refl) _) _
 
--- [RETURNING ("*" | columns)]
+-- so where items are selected the second token is none
+pub no_paren_second : (front rest : List Token) (a : Selected) → selected_items.spells front a → sees (Sign s.LParen ∷ items_more) rest ≡ false → second_is (Sign s.LParen ∷ []) (front ++ rest) ≡ false
+no_paren_second front rest a h stop = no_second _ _ items_begin front rest a h (unseen_parts (Sign s.LParen ∷ []) items_more rest stop).0
+
+-- "*" | count | items: where the second token is a parenthesis, rows are counted
+unfoldable pub items : Rule Selected (Sign s.Star ∷ Keyword (codes "count") ∷ item_heads) (Sign s.LParen ∷ items_more) false
+items = either (mapped (λ _. selected.All) back.as_all back.all_law (sign s.Star)) (either_by (second_is (Sign s.LParen ∷ [])) count selected_items paren_second no_paren_second) refl
+
+-- "*" | items
+unfoldable pub returned : Rule Selected (Sign s.Star ∷ item_heads) items_more false
+returned = either (mapped (λ _. selected.All) back.as_all back.all_law (sign s.Star)) (mapped selected.Items back.as_items back.items_law item_list) refl
+
+-- [RETURNING ("*" | items)]
 unfoldable pub returning : Rule (Option Selected) (Keyword (codes "returning") ∷ []) inserted_more true
 returning = perhaps (after (word (codes "returning")) returned refl)
+
+-- [AS] name; AS is written
+unfoldable pub alias : Rule (List ℕ) alias_heads [] false
+alias = after_as (Some tt) (perhaps (word (codes "as"))) name as_apart
+
+-- [[AS] name]
+unfoldable pub alias_if_any : Rule (Option (List ℕ)) alias_heads alias_heads true
+alias_if_any = perhaps alias
+
+-- FROM name [[AS] name]
+unfoldable pub from_table : Rule g.TableAndAlias (Keyword (codes "from") ∷ []) alias_heads false
+from_table = after (word (codes "from")) (both name alias_if_any refl) refl
 
 -- ["(" names ")"], no name twice
 unfoldable pub columns_if_any : Rule (Option (List (List ℕ))) (Sign s.LParen ∷ []) (Sign s.LParen ∷ []) true
@@ -283,10 +316,10 @@ module _ (inner : Cut tree_of expr_heads expr_more false) where
   unfoldable pub condition : Cut (of_some tree_of) (Keyword (codes "where") ∷ []) condition_more true
   condition = cut.widened (cut.perhaps (cut.after (word (codes "where")) inner refl)) refl refl
 
-  -- SELECT items FROM name [WHERE expr]
-  unfoldable pub select : Cut draft_of (Keyword (codes "select") ∷ []) condition_more false
+  -- SELECT items FROM name [[AS] name] [WHERE expr]
+  unfoldable pub select : Cut draft_of (Keyword (codes "select") ∷ []) select_more false
   select = cut.widened (cut.mapped draft_of g.select_of t.select_of (λ r. refl) back.as_select back.select_law
-      (cut.after (word (codes "select")) (cut.both (cut.plain items) (cut.after (word (codes "from")) (cut.both (cut.plain name) condition refl) refl) refl) refl)) refl refl
+      (cut.after (word (codes "select")) (cut.both (cut.plain items) (cut.both (cut.plain from_table) condition alias_apart) refl) refl)) refl refl
 
   -- tuple {"," tuple}
   unfoldable pub tuples : Cut tuples_kept (Sign s.LParen ∷ []) (Sign s.Comma ∷ []) false

@@ -96,7 +96,7 @@ unseen_back : (hs ks : List Head) (ts : List Token) → apart hs ks ≡ true →
 unseen_back hs ks [] e h = cc
 unseen_back hs ks (t ∷ ts) e h = not_true (begins hs t) (λ x. apart_is hs ks t e x h)
 
-begins-append : (hs ks : List Head) (t : Token) → begins (hs ++ ks) t ≡ (begins hs t || begins ks t)
+pub begins-append : (hs ks : List Head) (t : Token) → begins (hs ++ ks) t ≡ (begins hs t || begins ks t)
 begins-append [] ks t = refl
 begins-append (h ∷ hs) ks t = go (fits h t) (begins hs t) (begins ks t) (begins (hs ++ ks) t) (begins-append hs ks t)
   where

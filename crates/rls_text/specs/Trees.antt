@@ -13,7 +13,7 @@ use Rattle.rls_statement.specs.declared.statement.Statement.TheVariants as st
 use Rattle.rls_text.specs.declared.tree.Operands.{Operands}
 use Rattle.rls_text.specs.declared.tree.Operands.TheVariants.{One, Several}
 use Rattle.rls_text.specs.Lang.{put_in}
-use Rattle.rls_text.specs.Values.{Description, PolicyChange, Ending}
+use Rattle.rls_text.specs.Values.{Description, PolicyChange, Ending, TableAndAlias}
 
 -- an expression, or what stands for it, with its depth
 abbrev pub Tree : Type 0
@@ -158,8 +158,8 @@ abbrev pub flat : Statement → Draft
 flat statement = (statement, 0)
 
 -- SELECT, of its parts
-abbrev pub select_of : Selected × (List ℕ × Option Tree) → Draft
-select_of r = (st.Select record { items = r.0; table = r.1.0; condition = (parted r.1.1).0 }, (parted r.1.1).1)
+abbrev pub select_of : Selected × (TableAndAlias × Option Tree) → Draft
+select_of r = (st.Select record { items = r.0; table = r.1.0.0; alias = r.1.0.1; condition = (parted r.1.1).0 }, (parted r.1.1).1)
 
 -- the rows of INSERT: columns, if they are written, and tuples
 abbrev pub Rows : Type 0

@@ -14,6 +14,7 @@ use Rattle.rls_value.specs.declared.verb.PolicyKind.{PolicyKind}
 use Rattle.rls_value.specs.declared.verb.PolicyKind.TheVariants as kind
 use Rattle.rls_expr.specs.Terms.{Term, terms_of}
 use Rattle.rls_expr.specs.Terms as e
+use Rattle.rls_expr.specs.declared.column_name.ColumnName.{ColumnName}
 use Rattle.rls_expr.specs.declared.expr.Comparison.{Comparison}
 use Rattle.rls_expr.specs.declared.expr.Sign.{Sign}
 use Rattle.rls_expr.specs.declared.policy.Grantee.{Grantee}
@@ -75,6 +76,11 @@ signed (Some _, n) = v.Int (pos 0 -ℤ pos n)
 
 -- ---- expressions
 
+-- a column, of the name that stands first and of the one behind a dot, if there is one
+abbrev pub column_name_of : List ℕ × Option (List ℕ) → ColumnName
+column_name_of (name, None) = record { qualifier = None; name = name }
+column_name_of (qualifier, Some name) = record { qualifier = Some qualifier; name = name }
+
 -- the signs of the parts behind the first
 abbrev pub signs_of : List (Sign × Term) → List Sign
 signs_of [] = []
@@ -127,9 +133,13 @@ or_of first (second ∷ more) = e.Or (terms_of (first ∷ second ∷ more))
 
 -- ---- statements
 
+-- what stands behind FROM: a table, and its alias, if there is one
+abbrev pub TableAndAlias : Type 0
+TableAndAlias = List ℕ × Option (List ℕ)
+
 -- SELECT, of its parts
-abbrev pub select_of : Selected × (List ℕ × Option Term) → Statement
-select_of r = st.Select record { items = r.0; table = r.1.0; condition = r.1.1 }
+abbrev pub select_of : Selected × (TableAndAlias × Option Term) → Statement
+select_of r = st.Select record { items = r.0; table = r.1.0.0; alias = r.1.0.1; condition = r.1.1 }
 
 -- each is of that length
 abbrev pub have_length : ℕ → List (List Term) → Bool

@@ -14,6 +14,7 @@ use Rattle.rls_value.specs.contracts.verb.Privilege as privilege
 use Rattle.rls_value.specs.declared.verb.Privilege.TheVariants as p
 use Rattle.rls_expr.specs.Terms.{Term, Terms, terms_of}
 use Rattle.rls_expr.specs.Terms as e
+use Rattle.rls_expr.specs.declared.column_name.ColumnName.{ColumnName}
 use Rattle.rls_expr.specs.declared.expr.Comparison.{Comparison}
 use Rattle.rls_expr.specs.contracts.expr.Comparison as comparison
 use Rattle.rls_expr.specs.declared.expr.Sign.{Sign}
@@ -154,12 +155,28 @@ pub literal_law : (b : Term) (a : Value) → as_literal b ≡ Some a → b ≡ e
 literal_law (e.Literal x) a h = ap e.Literal (some_is x a h)
 literal_law _ a h = cc
 
+-- the name that stands first, and the one behind a dot: where there is a qualifier it stands first
+abbrev pub name_parts : Option (List ℕ) → List ℕ → Option (List ℕ × Option (List ℕ))
+name_parts None name = Some (name, None)
+name_parts (Some qualifier) name = Some (qualifier, Some name)
+
+-- those of a column
+abbrev pub as_column_name : ColumnName → Option (List ℕ × Option (List ℕ))
+as_column_name b = name_parts b.qualifier b.name
+
+column_name_back : (qualifier : Option (List ℕ)) (name : List ℕ) (a : List ℕ × Option (List ℕ)) → name_parts qualifier name ≡ Some a → record { qualifier = qualifier; name = name } ≡ g.column_name_of a
+column_name_back None name a h = ap g.column_name_of (some_is (name, None) a h)
+column_name_back (Some qualifier) name a h = ap g.column_name_of (some_is (qualifier, Some name) a h)
+
+pub column_name_law : (b : ColumnName) (a : List ℕ × Option (List ℕ)) → as_column_name b ≡ Some a → b ≡ g.column_name_of a
+column_name_law b a h = column_name_back b.qualifier b.name a h
+
 -- a column
-abbrev pub as_column : Term → Option (List ℕ)
+abbrev pub as_column : Term → Option ColumnName
 as_column (e.Column x) = Some x
 as_column _ = None
 
-pub column_law : (b : Term) (a : List ℕ) → as_column b ≡ Some a → b ≡ e.Column a
+pub column_law : (b : Term) (a : ColumnName) → as_column b ≡ Some a → b ≡ e.Column a
 column_law (e.Column x) a h = ap e.Column (some_is x a h)
 column_law _ a h = cc
 
@@ -338,13 +355,13 @@ pub count_law : (b : Selected) (a : Unit {0}) → as_count b ≡ Some a → b �
 count_law selected.Count a h = refl
 count_law _ a h = cc
 
--- items, table, condition
-abbrev pub as_select : Statement → Option (Selected × (List ℕ × Option Term))
-as_select (st.Select x) = Some (x.items, (x.table, x.condition))
+-- items, table and alias, condition
+abbrev pub as_select : Statement → Option (Selected × (g.TableAndAlias × Option Term))
+as_select (st.Select x) = Some (x.items, ((x.table, x.alias), x.condition))
 as_select _ = None
 
-pub select_law : (b : Statement) (a : Selected × (List ℕ × Option Term)) → as_select b ≡ Some a → b ≡ g.select_of a
-select_law (st.Select x) a h = ap g.select_of (some_is (x.items, (x.table, x.condition)) a h)
+pub select_law : (b : Statement) (a : Selected × (g.TableAndAlias × Option Term)) → as_select b ≡ Some a → b ≡ g.select_of a
+select_law (st.Select x) a h = ap g.select_of (some_is (x.items, ((x.table, x.alias), x.condition)) a h)
 select_law _ a h = cc
 
 -- ---- INSERT

@@ -11,8 +11,9 @@ ghost use Rattle.rls_text.specs.Trees as spec;
 
 use crate::expression::expr;
 use crate::fault::Fault;
+use crate::items::item_list;
 use crate::reading::{name, only, sees_symbol, symbol, word};
-use crate::selecting::{columns, condition};
+use crate::selecting::condition;
 use crate::token::{Symbol, Token};
 use crate::tree::{Draft, SetColumn, SetColumns, Tree, parted, with_set_column};
 use rls_statement::{Delete, Selected, Setting, Statement, Update};
@@ -151,7 +152,7 @@ fn returned(alloc: Global, tokens: &[Token]) -> Result<(Selected, &[Token]), Fau
 {
     match symbol(tokens, Symbol::Star) {
         Some(rest) => Ok((Selected::All, rest)),
-        None => match columns(alloc, tokens) {
+        None => match item_list(alloc, tokens) {
             Ok((all, rest)) => Ok((Selected::Items(all), rest)),
             Err(fault) => Err(fault),
         },

@@ -1,25 +1,25 @@
 //! Expressions from tokens.
 
 ghost use Rattle.std.specs.Prelude.{◌≡◌, [], ◌∷◌, codes, length, IfOk};
-ghost use Rattle.rls_text.specs.FirstSets.{constant_heads, literal_heads, sign_heads, in_heads, comparison_heads};
+ghost use Rattle.rls_text.specs.FirstSets.{sign_heads, in_heads, comparison_heads};
 ghost use Rattle.rls_text.specs.Gives.{Gives, folded};
 ghost use Rattle.rls_text.specs.Cut as cut;
 ghost use Rattle.rls_text.specs.Heads.{sees, Keyword};
 ghost use Rattle.rls_text.specs.Heads as heads;
 ghost use Rattle.rls_text.specs.Parses.{read_both, read_many, read_mapped};
-ghost use Rattle.rls_expr.specs.Terms as term;
 ghost use Rattle.rls_text.specs.Grammar as g;
 ghost use Rattle.rls_text.specs.Trees as spec;
 
 use crate::fault::Fault;
-use crate::reading::{closed, name, only, sees_symbol, sees_word, starts_name, symbol, word};
+use crate::items::{item, starts_item};
+use crate::reading::{closed, only, sees_symbol, sees_word, symbol, word};
 use crate::token::{Symbol, Token};
 use crate::tree::{
-    Operands, Summed, Tree, Tuple, among_of, and_of, compare_of, leaf, not_of, null_test_of, or_of,
+    Operands, Summed, Tree, Tuple, among_of, and_of, compare_of, not_of, null_test_of, or_of,
     sum_of, with_operand, with_part, with_summand,
 };
-use rls_expr::{Comparison, Expr, Node, Sign};
-use rls_value::{Items, Value};
+use rls_expr::{Comparison, Sign};
+use rls_value::Items;
 use std::alloc::{AllocError, Global};
 
 /// An expression with parentheses to this depth.
@@ -404,16 +404,12 @@ fn sum_next(
 }
 
 #[cycle(expression)]
-#[tactic(auto, unfolding(crate::specs::Grammar::prim, crate::specs::Grammar::parenthesized))]
+#[tactic(auto, unfolding(crate::specs::Grammar::prim))]
 fn prim(alloc: Global, depth: usize, tokens: &[Token]) -> Result<(Tree, &[Token]), Fault>
     ensures { Gives result ((g.prim (g.expr depth)).read tokens.now) }
 {
-    if starts_literal(tokens) {
-        literal_leaf(tokens)
-    } else if starts_name(tokens) {
-        column_leaf(alloc, tokens)
-    } else if let Some(rest) = word(tokens, b"current_user") {
-        Ok((leaf(Node::CurrentUser), rest))
+    if starts_item(tokens) {
+        item_leaf(alloc, tokens)
     } else {
         parenthesized(alloc, depth, tokens)
     }
@@ -437,20 +433,12 @@ pub fn parenthesized(
     }
 }
 
-fn literal_leaf(tokens: &[Token]) -> Result<(Tree, &[Token]), Fault>
-    ensures { Gives result (read_mapped (λ value. spec.leaf (term.Literal value)) g.literal.parses.read tokens.now) }
+/// An item, as an expression without operands.
+fn item_leaf(alloc: Global, tokens: &[Token]) -> Result<(Tree, &[Token]), Fault>
+    ensures { Gives result (read_mapped spec.leaf g.item.parses.read tokens.now) }
 {
-    match literal(tokens) {
-        Ok((literal, rest)) => Ok((leaf(Node::Literal(literal)), rest)),
-        Err(fault) => Err(fault),
-    }
-}
-
-fn column_leaf(alloc: Global, tokens: &[Token]) -> Result<(Tree, &[Token]), Fault>
-    ensures { Gives result (read_mapped (λ name. spec.leaf (term.Column name)) g.name.parses.read tokens.now) }
-{
-    match name(alloc, tokens) {
-        Ok((name, rest)) => Ok((leaf(Node::Column(name)), rest)),
+    match item(alloc, tokens) {
+        Ok((item, rest)) => Ok(((item, 1), rest)),
         Err(fault) => Err(fault),
     }
 }
@@ -604,116 +592,5 @@ fn comparison(tokens: &[Token]) -> Result<(Comparison, &[Token]), Fault>
             rest,
         )),
         _ => Err(Fault::Syntax),
-    }
-}
-
-fn starts_literal(tokens: &[Token]) -> bool
-    ensures { result ≡ sees literal_heads tokens.now }
-{
-    if let [
-        Token::Text(_) | Token::Number(_) | Token::Symbol(Symbol::Minus),
-        ..
-    ] = tokens
-    {
-        true
-    } else {
-        starts_constant(tokens)
-    }
-}
-
-#[tactic(auto, using(crate::proofs::Loops::sees_more, crate::proofs::Loops::sees_first))]
-fn starts_constant(tokens: &[Token]) -> bool
-    ensures { result ≡ sees constant_heads tokens.now }
-{
-    sees_word(tokens, b"true") || sees_word(tokens, b"false") || sees_word(tokens, b"null")
-}
-
-#[tactic(auto, unfolding(crate::specs::Grammar::literal))]
-fn literal(tokens: &[Token]) -> Result<(Value, &[Token]), Fault>
-    ensures { Gives result (g.literal.parses.read tokens.now) }
-{
-    if starts_constant(tokens) {
-        constant(tokens)
-    } else if let [Token::Text(_), ..] = tokens {
-        text(tokens)
-    } else {
-        number(tokens)
-    }
-}
-
-#[tactic(auto, unfolding(crate::specs::Grammar::constant))]
-fn constant(tokens: &[Token]) -> Result<(Value, &[Token]), Fault>
-    ensures { Gives result (g.constant.parses.read tokens.now) }
-{
-    if let Some(rest) = word(tokens, b"true") {
-        Ok((Value::Bool(true), rest))
-    } else if let Some(rest) = word(tokens, b"false") {
-        Ok((Value::Bool(false), rest))
-    } else if let Some(rest) = word(tokens, b"null") {
-        Ok((Value::Null, rest))
-    } else {
-        Err(Fault::Syntax)
-    }
-}
-
-#[tactic(auto, unfolding(crate::specs::Grammar::text))]
-fn text(tokens: &[Token]) -> Result<(Value, &[Token]), Fault>
-    ensures { Gives result (g.text.parses.read tokens.now) }
-{
-    match tokens {
-        [Token::Text(content), rest @ ..] => match content.copy() {
-            Ok(content) => Ok((Value::Text(content), rest)),
-            Err(_) => Err(Fault::NoMemory),
-        },
-        _ => Err(Fault::Syntax),
-    }
-}
-
-#[tactic(auto, unfolding(crate::specs::Grammar::number))]
-fn number(tokens: &[Token]) -> Result<(Value, &[Token]), Fault>
-    ensures { Gives result (g.number.parses.read tokens.now) }
-{
-    match symbol(tokens, Symbol::Minus) {
-        Some(rest) => match digits(rest) {
-            Ok((digits, rest)) => {
-                if digits <= 1 << 63 {
-                    Ok((Value::Int((0 - i128::from(digits)) as i64), rest))
-                } else {
-                    Err(Fault::Syntax)
-                }
-            }
-            Err(fault) => Err(fault),
-        },
-        None => match digits(tokens) {
-            Ok((digits, rest)) => {
-                if digits < 1 << 63 {
-                    Ok((Value::Int(digits as i64), rest))
-                } else {
-                    Err(Fault::Syntax)
-                }
-            }
-            Err(fault) => Err(fault),
-        },
-    }
-}
-
-#[tactic(auto, unfolding(crate::specs::Grammar::digits))]
-fn digits(tokens: &[Token]) -> Result<(u64, &[Token]), Fault>
-    ensures { Gives result (g.digits.parses.read tokens.now) }
-{
-    match tokens {
-        [Token::Number(number), rest @ ..] => Ok((*number, rest)),
-        _ => Err(Fault::Syntax),
-    }
-}
-
-/// A column alone, as a select item.
-#[tactic(auto, unfolding(crate::specs::Grammar::column))]
-pub fn column(alloc: Global, tokens: &[Token]) -> Result<(Expr, &[Token]), Fault>
-    ensures { Gives result (g.column.parses.read tokens.now) }
-{
-    match name(alloc, tokens) {
-        Ok((name, rest)) => Ok((Expr::new(Node::Column(name)), rest)),
-        Err(fault) => Err(fault),
     }
 }

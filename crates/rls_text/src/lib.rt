@@ -8,6 +8,7 @@ mod creating;
 mod expression;
 mod fault;
 mod granting;
+mod items;
 mod limits;
 mod memberships;
 mod parsing;

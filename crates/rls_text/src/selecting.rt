@@ -1,10 +1,10 @@
 //! SELECT and INSERT from tokens.
 
 ghost use Rattle.std.specs.Prelude.{◌≡◌, [], ◌∷◌, length, codes};
-ghost use Rattle.rls_text.specs.Gives.{Gives, with_front, folded};
+ghost use Rattle.rls_text.specs.FirstSets.{alias_heads};
+ghost use Rattle.rls_text.specs.Gives.{Gives, folded};
 ghost use Rattle.rls_text.specs.Parses.{and_then, read_both, read_many, read_token};
-ghost use Rattle.rls_text.specs.Heads.{Sign};
-ghost use Rattle.rls_text.specs.Rule.{with_comma};
+ghost use Rattle.rls_text.specs.Heads.{Sign, sees};
 ghost use Rattle.rls_text.specs.Ahead as ahead;
 ghost use Rattle.rls_text.specs.Cut as cut;
 ghost use Rattle.rls_text.specs.Grammar as g;
@@ -12,9 +12,10 @@ ghost use Rattle.rls_text.specs.Values as values;
 ghost use Rattle.rls_text.specs.Trees as spec;
 
 use crate::changing::returning;
-use crate::expression::{column, expr, tuple};
+use crate::expression::{expr, tuple};
 use crate::fault::Fault;
-use crate::reading::{closed, name, only, sees_symbol, symbol, word};
+use crate::items::item_list;
+use crate::reading::{closed, name, only, sees_symbol, sees_word, starts_name, symbol, word};
 use crate::tables::listed_names;
 use crate::token::{Symbol, Token};
 use crate::tree::{Draft, Tree, Tuple, Tuples, parted, with_tuple};
@@ -22,6 +23,9 @@ use rls_expr::Expr;
 use rls_statement::{Insert, Select, Selected, Statement};
 use rls_value::{Items, Name};
 use std::alloc::Global;
+
+/// A table, and its alias, if it is written.
+type TableAndAlias = (Name, Option<Name>);
 
 /// The columns of INSERT, if they are written, and its tuples.
 type Rows = (Option<Items<Name>>, Tuples);
@@ -45,18 +49,15 @@ pub fn select(alloc: Global, depth: usize, tokens: &[Token]) -> Result<(Draft, &
     }
 }
 
-/// FROM, the table, and WHERE, if it is written.
+/// FROM, and WHERE, if it is written.
 fn selected_from(
     alloc: Global,
     depth: usize,
     tokens: &[Token],
-) -> Result<((Name, Option<Tree>), &[Token]), Fault>
-    ensures { Gives result (and_then (read_token (Token.Word (codes "from")) tokens.now) (λ _ rest. read_both g.name.parses.read (g.condition (g.expr depth)).read rest)) }
+) -> Result<((TableAndAlias, Option<Tree>), &[Token]), Fault>
+    ensures { Gives result (read_both g.from_table.parses.read (g.condition (g.expr depth)).read tokens.now) }
 {
-    let Some(rest) = word(tokens, b"from") else {
-        return Err(Fault::Syntax);
-    };
-    match name(alloc, rest) {
+    match from_table(alloc, tokens) {
         Ok((table, rest)) => match condition(alloc, depth, rest) {
             Ok((condition, rest)) => Ok(((table, condition), rest)),
             Err(fault) => {
@@ -68,14 +69,70 @@ fn selected_from(
     }
 }
 
-fn selected(items: Selected, from: (Name, Option<Tree>)) -> Draft
+#[tactic(auto, unfolding(crate::specs::Grammar::from_table))]
+fn from_table(alloc: Global, tokens: &[Token]) -> Result<(TableAndAlias, &[Token]), Fault>
+    ensures { Gives result (g.from_table.parses.read tokens.now) }
+{
+    let Some(rest) = word(tokens, b"from") else {
+        return Err(Fault::Syntax);
+    };
+    match name(alloc, rest) {
+        Ok((table, rest)) => match alias_if_any(alloc, rest) {
+            Ok((alias, rest)) => Ok(((table, alias), rest)),
+            Err(fault) => {
+                drop(table);
+                Err(fault)
+            }
+        },
+        Err(fault) => Err(fault),
+    }
+}
+
+#[tactic(auto, unfolding(crate::specs::Grammar::alias_if_any))]
+fn alias_if_any(alloc: Global, tokens: &[Token]) -> Result<(Option<Name>, &[Token]), Fault>
+    ensures { Gives result (g.alias_if_any.parses.read tokens.now) }
+{
+    if starts_alias(tokens) {
+        match alias(alloc, tokens) {
+            Ok((alias, rest)) => Ok((Some(alias), rest)),
+            Err(fault) => Err(fault),
+        }
+    } else {
+        Ok((None, tokens))
+    }
+}
+
+#[tactic(auto, using(crate::proofs::Loops::sees_more, crate::proofs::Loops::sees_first))]
+fn starts_alias(tokens: &[Token]) -> bool
+    ensures { result ≡ sees alias_heads tokens.now }
+{
+    if sees_word(tokens, b"as") {
+        true
+    } else {
+        starts_name(tokens)
+    }
+}
+
+/// A name, before which AS may stand.
+#[tactic(auto, unfolding(crate::specs::Grammar::alias))]
+fn alias(alloc: Global, tokens: &[Token]) -> Result<(Name, &[Token]), Fault>
+    ensures { Gives result (g.alias.parses.read tokens.now) }
+{
+    match word(tokens, b"as") {
+        Some(rest) => name(alloc, rest),
+        None => name(alloc, tokens),
+    }
+}
+
+fn selected(items: Selected, from: (TableAndAlias, Option<Tree>)) -> Draft
     ensures { result ≡ spec.select_of (items, from) }
 {
-    let (table, condition) = from;
+    let ((table, alias), condition) = from;
     let (condition, depth) = parted(condition);
     let select = Select {
         items,
         table,
+        alias,
         condition,
     };
     (Statement::Select(select), depth)
@@ -107,11 +164,11 @@ fn items(alloc: Global, tokens: &[Token]) -> Result<(Selected, &[Token]), Fault>
     } else if paren_second(tokens) {
         count(tokens)
     } else {
-        column_items(alloc, tokens)
+        selected_items(alloc, tokens)
     }
 }
 
-/// Whether the second token is a parenthesis: no list of columns has it there.
+/// Whether the second token is a parenthesis: no list of items has it there.
 fn paren_second(tokens: &[Token]) -> bool
     ensures { result ≡ ahead.second_is (Sign Symbol.LParen ∷ []) tokens.now }
 {
@@ -138,63 +195,13 @@ fn count(tokens: &[Token]) -> Result<(Selected, &[Token]), Fault>
     closed(Selected::Count, rest)
 }
 
-#[tactic(auto, unfolding(crate::specs::Grammar::column_items))]
-fn column_items(alloc: Global, tokens: &[Token]) -> Result<(Selected, &[Token]), Fault>
-    ensures { Gives result (g.column_items.parses.read tokens.now) }
+#[tactic(auto, unfolding(crate::specs::Grammar::selected_items))]
+fn selected_items(alloc: Global, tokens: &[Token]) -> Result<(Selected, &[Token]), Fault>
+    ensures { Gives result (g.selected_items.parses.read tokens.now) }
 {
-    match columns(alloc, tokens) {
+    match item_list(alloc, tokens) {
         Ok((all, rest)) => Ok((Selected::Items(all), rest)),
         Err(fault) => Err(fault),
-    }
-}
-
-#[tactic(auto, unfolding(crate::specs::Grammar::columns, crate::specs::Gives::with_front))]
-pub fn columns(alloc: Global, tokens: &[Token]) -> Result<(Items<Expr>, &[Token]), Fault>
-    ensures { Gives result (g.columns.parses.read tokens.now) }
-{
-    match column(alloc, tokens) {
-        Ok((first, rest)) => match only(alloc, first) {
-            Ok(all) => more_columns(alloc, all, rest),
-            Err(_) => Err(Fault::NoMemory),
-        },
-        Err(fault) => Err(fault),
-    }
-}
-
-#[tactic(auto, using(crate::proofs::Loops::front_begins, crate::proofs::Loops::loop_stops, crate::proofs::Loops::loop_ends, crate::proofs::Loops::loop_fails, crate::proofs::Loops::loop_goes_on))]
-fn more_columns(
-    alloc: Global,
-    first: Items<Expr>,
-    tokens: &[Token],
-) -> Result<(Items<Expr>, &[Token]), Fault>
-    ensures { Gives result (with_front first (read_many (Sign Symbol.Comma ∷ []) (with_comma g.column).parses.read (length tokens.now) tokens.now)) }
-{
-    let mut all = first;
-    let mut rest = tokens;
-    for _turn in 0..tokens.len() {
-        if !sees_symbol(rest, Symbol::Comma) {
-            return Ok((all, rest));
-        }
-        match next_column(alloc, rest) {
-            Ok((next, behind)) => {
-                if all.push(next).is_err() {
-                    return Err(Fault::NoMemory);
-                }
-                rest = behind;
-            }
-            Err(fault) => return Err(fault),
-        }
-    }
-    Ok((all, rest))
-}
-
-#[tactic(auto, unfolding(crate::specs::Rule::with_comma))]
-fn next_column(alloc: Global, tokens: &[Token]) -> Result<(Expr, &[Token]), Fault>
-    ensures { Gives result ((with_comma g.column).parses.read tokens.now) }
-{
-    match symbol(tokens, Symbol::Comma) {
-        Some(rest) => column(alloc, rest),
-        None => Err(Fault::Syntax),
     }
 }
 

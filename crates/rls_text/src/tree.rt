@@ -1,7 +1,6 @@
 //! Trees of limited depth: of a deeper one nothing is kept but that it was too deep.
 
 ghost use Rattle.std.specs.Prelude.{◌≡◌, [], ◌∷◌, ◌++◌, IfOk};
-ghost use Rattle.rls_expr.specs.ExprTerms.{term_of};
 ghost use Rattle.rls_expr.specs.Terms as term;
 ghost use Rattle.rls_text.specs.Trees as spec;
 
@@ -21,12 +20,6 @@ pub type Tree = (Expr, u32);
 pub enum Operands {
     One(Expr, u32),
     Several(Items<Expr>, u32),
-}
-
-pub fn leaf(node: Node) -> Tree
-    ensures { result ≡ spec.leaf (term_of node) }
-{
-    (Expr::new(node), 1)
 }
 
 pub fn cut() -> Tree

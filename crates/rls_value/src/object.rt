@@ -1,7 +1,9 @@
 //! What is versioned: the objects that statements read and changes write.
 
 ghost use Rattle.std.specs.Prelude.{◌≡◌, IfOk, ◌++◌, codes};
+ghost use Rattle.std.specs.Cmp.Lexicographic.{slice_cmp};
 ghost use Rattle.std.specs.Fmt.{WritesOnOk};
+ghost use Rattle.std.specs.Ordering.{nat_cmp, ordering_then};
 ghost use Rattle.rls_value.specs.Values.{literals_text, further_text};
 ghost use Rattle.rls_value.specs.Objects as spec;
 
@@ -127,10 +129,20 @@ impl Eq for Object {
 pub fn cmp_objects(left: &Object, right: &Object) -> Ordering
     ensures { result ≡ spec.object_order left.now right.now }
 {
-    kind_of(left)
-        .cmp(&kind_of(right))
-        .then(name_of(left).cmp(name_of(right)))
-        .then(cmp_parts(left, right))
+    match cmp_names(left, right) {
+        Ordering::Equal => cmp_parts(left, right),
+        order => order,
+    }
+}
+
+/// By kind, then by name.
+fn cmp_names(left: &Object, right: &Object) -> Ordering
+    ensures { result ≡ ordering_then (nat_cmp (spec.kind_of left.now) (spec.kind_of right.now)) (slice_cmp nat_cmp (spec.name_of left.now) (spec.name_of right.now)) }
+{
+    match kind_of(left).cmp(&kind_of(right)) {
+        Ordering::Equal => name_of(left).cmp(name_of(right)),
+        order => order,
+    }
 }
 
 fn kind_of(object: &Object) -> u8

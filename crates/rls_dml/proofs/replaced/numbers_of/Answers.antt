@@ -1,9 +1,12 @@
-use Rattle.std.proofs.Common.{rules, arith, ◌≡◌, ◌+◌, ◌++◌, ◌∷◌, [], map, take}
-use Rattle.std.proofs.lemmas.Grind.{common_steps}
-use Rattle.rls_dml.proofs.NumberLemmas.{number_put}
+use Rattle.std.proofs.Common.{subst, map, ◌∙◌}
+use Rattle.std.specs.BTreeSet.{IsFromIterResult}
+use Rattle.std.proofs.IntoIterSteps.{All-taken}
+use Rattle.rls_catalog.specs.State.{id_order}
+use Rattle.rls_dml.proofs.NumberLemmas.{set_of_numbers}
 use Rattle.rls_dml.proofs.replaced.numbers_of.Goals as goal
 
-pub loop-row-preserved : goal.loop-row-preserved
-loop-row-preserved c id =
-    let more : map (λ row. row.now) (take (c.loop-row.row-index + 1) c.args.rows.now) ≡ map (λ row. row.now) (take c.loop-row.row-index c.args.rows.now) ++ c.row-item.result.now ∷ [] = grind (arith, common_steps) in
-    number_put id c.loop-row.numbers.keys _ c.row-item.result.now (map (λ row. row.now) (take c.loop-row.row-index c.args.rows.now)) _ (c.loop-row.invariant id) (search rules) more
+pub returns : goal.returns
+returns c =
+    let h = c.in_ok-from_iter.ensures.ran in
+    let taken = All-taken h.0 h.1 ((h.3.2 tt).0, (h.3.0, h.3.1, (h.3.2 tt).1)) ∙ h.2.0 ∙ c.in_ok-listed.ensures in
+    set_of_numbers (map (λ row. row.now) c.args.rows.now) c.in_ok-from_iter.field-0 (subst (λ ids. IsFromIterResult id_order ids c.in_ok-from_iter.field-0) taken h.4)

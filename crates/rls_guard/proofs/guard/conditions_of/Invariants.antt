@@ -1,7 +1,8 @@
 use Rattle.std.proofs.Common.{◌≡◌, ◌++◌, drop}
 use Rattle.rls_guard.specs.Guards as spec
+use Rattle.rls_expr.specs.Scopes.{in_scope}
 use Rattle.rls_guard.proofs.guard.conditions_of.Given as goal
 
 -- the conditions so far, and those of the policies that are left, are the conditions of all
 abbrev pub invariant-loop-policy : goal.invariant-loop-policy
-invariant-loop-policy l = l.conditions ++ spec.conditions_of l.kind l.side l.from.table.now (drop l.policy-index l.policies) ≡ spec.conditions_of l.kind l.side l.from.table.now l.policies
+invariant-loop-policy l = l.conditions ++ spec.conditions_of l.kind l.side (in_scope l.from) (drop l.policy-index l.policies) ≡ spec.conditions_of l.kind l.side (in_scope l.from) l.policies

@@ -9,9 +9,9 @@ use Rattle.rls_catalog.proofs.slots.Slots.fill.Goals as goal
 
 pub invariant_of-self-2 : goal.invariant_of-self-2
 invariant_of-self-2 c = λ complete.
-    covers_came c.add.new.index.entries c.self.inside.slots.entries c.put.new.map.entries c.args.id (Some c.args.keyed) c.in_ok-before.ensures.updates.0
-    (λ keyed is. ap (knows c.add.new.index.entries c.args.id) (sym is) ∙ c.in_ok-add.ensures.ok)
-    (covers_grown c.self.inside.index.entries c.add.new.index.entries c.self.inside.slots.entries c.add.ensures.grows (c.self.invariant complete))
+    covers_came c.add_to_index.new.index.entries c.self.inside.slots.entries c.put.new.map.entries c.args.id (Some c.args.keyed) c.in_ok-before.ensures.updates.0
+    (λ keyed is. ap (knows c.add_to_index.new.index.entries c.args.id) (sym is) ∙ c.in_ok-add_to_index.ensures.ok (c.self.invariant complete))
+    (covers_grown c.self.inside.index.entries c.add_to_index.new.index.entries c.self.inside.slots.entries c.add_to_index.ensures.grows (c.self.invariant complete))
 
 pub returns-clause-ok : goal.returns-clause-ok
 returns-clause-ok c =

@@ -1,7 +1,7 @@
 use Rattle.std.proofs.Common.{rules, refl, ap, sym, ◌≡◌, ◌||◌, ◌∷◌, drop}
 use Rattle.rls_dml.specs.Writing.{has_doubles}
 use Rattle.rls_dml.proofs.DoubleLemmas.{none_seen, none_left, seen_more, seen_twice}
-use Rattle.rls_dml.proofs.keys.have_doubles.Goals as goal
+use Rattle.rls_dml.proofs.keys.have_doubles_anywhere.Goals as goal
 
 pub loop-keys-init : goal.loop-keys-init
 loop-keys-init c = sym (ap (λ seen. seen || has_doubles c.args.keys.now) (none_seen c.new-seen.result.keys c.args.keys.now c.new-seen.ensures.empty))

@@ -1,7 +1,7 @@
 use Rattle.std.proofs.Common.{◌≡◌, ◌||◌, length}
 use Rattle.rls_dml.specs.Writing.{has_doubles}
 use Rattle.rls_dml.proofs.DoubleLemmas.{any_seen}
-use Rattle.rls_dml.proofs.keys.have_doubles.Given as goal
+use Rattle.rls_dml.proofs.keys.have_doubles_anywhere.Given as goal
 
 -- the whole has doubles where what is left has, or some of it was seen
 abbrev pub invariant-loop-keys : goal.invariant-loop-keys
