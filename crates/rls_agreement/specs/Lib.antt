@@ -1,0 +1,2 @@
+pub mod LookedUp
+pub use Rattle.rls_catalog.specs.State

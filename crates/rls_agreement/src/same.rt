@@ -1,0 +1,41 @@
+//! Equality of what contracts see.
+
+ghost use Rattle.std.specs.Prelude.{◌≡◌, true, ◌↔◌};
+ghost use Rattle.std.specs.Option.{option_copied};
+
+/// Values that can be told apart.
+pub trait Same {
+    /// Whether the two are the same. It takes no memory.
+    fn is_same(&self, other: &Self) -> bool
+        ensures { (result ≡ true) ↔ (self.now ≡ other.now) };
+}
+
+/// Whether the two lists have the same elements, in order.
+pub fn are_same<T: Same>(mut left: &[T], mut right: &[T]) -> bool
+    ensures { (result ≡ true) ↔ (left.entry.now ≡ right.entry.now) }
+{
+    while let [first, rest @ ..] = left {
+        match right {
+            [other, others @ ..] => {
+                if !first.is_same(other) {
+                    return false;
+                }
+                right = others;
+            }
+            [] => return false,
+        }
+        left = rest;
+    }
+    right.is_empty()
+}
+
+/// Whether both are there and the same, or neither is there.
+pub fn are_both_same<T: Same>(left: Option<&T>, right: Option<&T>) -> bool
+    ensures { (result ≡ true) ↔ (option_copied left.entry ≡ option_copied right.entry) }
+{
+    match (left, right) {
+        (Some(left), Some(right)) => left.is_same(right),
+        (None, None) => true,
+        (_, _) => false,
+    }
+}
