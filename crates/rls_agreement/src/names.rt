@@ -3,7 +3,7 @@
 ghost use Rattle.std.specs.Prelude.{◌≡◌};
 
 use crate::same::{Same, are_both_same, are_same};
-use rls_expr::ColumnName;
+use rls_expr::{ColumnName, FromItem, Place, Selects};
 use rls_value::{Name, Row, RowId, Value, cmp_rows, cmp_values};
 use std::cmp::Ordering;
 
@@ -50,5 +50,23 @@ impl Same for ColumnName {
     fn is_same(&self, other: &ColumnName) -> bool {
         are_both_same(self.qualifier.as_ref(), other.qualifier.as_ref())
             && self.name.is_same(&other.name)
+    }
+}
+
+impl Same for FromItem {
+    fn is_same(&self, other: &FromItem) -> bool {
+        are_both_same(self.alias.as_ref(), other.alias.as_ref()) && self.table.is_same(&other.table)
+    }
+}
+
+impl Same for Selects {
+    fn is_same(&self, other: &Selects) -> bool {
+        *self == *other
+    }
+}
+
+impl Same for Place {
+    fn is_same(&self, other: &Place) -> bool {
+        *self == *other
     }
 }

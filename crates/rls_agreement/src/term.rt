@@ -1,10 +1,11 @@
 //! Equality of expressions.
 
 ghost use Rattle.std.specs.Prelude.{◌≡◌, ◌↔◌, true};
-ghost use Rattle.rls_expr.specs.Terms.{terms_of};
+ghost use Rattle.rls_expr.specs.ExprTerms.{query_of};
+ghost use Rattle.rls_expr.specs.Terms.{maybe_term, terms_of};
 
 use crate::same::{Same, are_same};
-use rls_expr::{Comparison, Expr, Node, Sign};
+use rls_expr::{Comparison, Expr, Node, Sign, Subquery};
 
 impl Same for Comparison {
     fn is_same(&self, other: &Comparison) -> bool {
@@ -31,9 +32,7 @@ fn is_same_term(left: &Expr, right: &Expr) -> bool
     match (left.node(), right.node()) {
         (Node::Literal(left), Node::Literal(right)) => left.is_same(right),
         (Node::Column(left), Node::Column(right)) => left.is_same(right),
-        (Node::Place(left, column), Node::Place(right, other)) => {
-            *left == *right && *column == *other
-        }
+        (Node::Place(left), Node::Place(right)) => left.is_same(right),
         (Node::CurrentUser, Node::CurrentUser) => true,
         (Node::Compare(how, a, b), Node::Compare(other, c, d)) => {
             *how == *other && is_same_term(a, c) && is_same_term(b, d)
@@ -49,9 +48,39 @@ fn is_same_term(left: &Expr, right: &Expr) -> bool
         (Node::NotAmong(left, list), Node::NotAmong(right, others)) => {
             is_same_term(left, right) && are_same_terms(list, others)
         }
+        (Node::Exists(left), Node::Exists(right)) => is_same_query(left, right),
+        (Node::Within(a, left), Node::Within(b, right)) => {
+            is_same_term(a, b) && is_same_query(left, right)
+        }
+        (Node::NotWithin(a, left), Node::NotWithin(b, right)) => {
+            is_same_term(a, b) && is_same_query(left, right)
+        }
+        (Node::Scalar(left), Node::Scalar(right)) => is_same_query(left, right),
         (Node::Sum(signs, left), Node::Sum(others, right)) => {
             are_same(signs, others) && are_same_terms(left, right)
         }
+        (_, _) => false,
+    }
+}
+
+#[cycle(comparing)]
+fn is_same_query(left: &Subquery, right: &Subquery) -> bool
+    ensures { (result ≡ true) ↔ (query_of left.now ≡ query_of right.now) }
+{
+    left.from.is_same(&right.from)
+        && are_same(&left.key, &right.key)
+        && left.selects.is_same(&right.selects)
+        && are_same_terms(&left.items, &right.items)
+        && are_same_conditions(&left.condition, &right.condition)
+}
+
+#[cycle(comparing)]
+fn are_same_conditions(left: &Option<Expr>, right: &Option<Expr>) -> bool
+    ensures { (result ≡ true) ↔ (maybe_term left.now ≡ maybe_term right.now) }
+{
+    match (left, right) {
+        (None, None) => true,
+        (Some(left), Some(right)) => is_same_term(left, right),
         (_, _) => false,
     }
 }

@@ -7,6 +7,7 @@ use Rattle.rls_value.specs.declared.refusal.DefinedKind.TheVariants as defined
 use Rattle.rls_value.specs.Giving.{and_then}
 use Rattle.rls_expr.specs.declared.table.TableDef.{TableDef}
 use Rattle.rls_expr.specs.declared.policy.Policy.{Policy}
+use Rattle.rls_expr.specs.Scopes.{InScope}
 use Rattle.rls_catalog.specs.declared.change.Change.{Change}
 use Rattle.rls_catalog.specs.declared.change.Change.TheVariants as c
 use Rattle.rls_catalog.specs.declared.grant.Grant.{Grant}
@@ -33,6 +34,7 @@ use Rattle.rls_guard.specs.declared.effect.Effect.TheVariants as effect
 use Rattle.rls_guard.specs.Checks.{superuser_or_denied}
 use Rattle.rls_guard.specs.Effects.{writes}
 use Rattle.rls_guard.specs.Keeping.{IfDone, IsNoRow, LeavesRows}
+use Rattle.rls_guard.specs.Naming.{named, names_over}
 use Rattle.rls_guard.specs.Standings.{ownership}
 use Rattle.rls_statement.specs.declared.statement.SetRole.{SetRole}
 use Rattle.rls_statement.specs.declared.statement.SetRole.TheVariants as set
@@ -46,9 +48,9 @@ use Rattle.rls_statement.specs.declared.statement.GrantRoles.{GrantRoles}
 use Rattle.rls_statement.specs.declared.statement.RevokePrivileges.{RevokePrivileges}
 use Rattle.rls_statement.specs.declared.statement.RevokeRoles.{RevokeRoles}
 use Rattle.rls_ddl.specs.AlteringPolicies as alter_policies
-use Rattle.rls_ddl.specs.AlteringPolicies.{alter_policy, alteration_made, alteration_of, alteration_on, conditions_or_refused, with_altered}
+use Rattle.rls_ddl.specs.AlteringPolicies.{alter_policy, alteration_made, alteration_of, alteration_over, alteration_on, conditions_or_refused, with_altered}
 use Rattle.rls_ddl.specs.AlteringRoles.{alter_role, role_altered, role_changed}
-use Rattle.rls_ddl.specs.Conditions.{both_conditions, names_known}
+use Rattle.rls_ddl.specs.Conditions.{condition_names}
 use Rattle.rls_ddl.specs.CreatingPolicies.{create_policy, policy_added, policy_made, policy_on, policy_or_refused}
 use Rattle.rls_ddl.specs.CreatingRoles.{create_role, role_made, role_with}
 use Rattle.rls_ddl.specs.DroppingPolicies.{drop_on, drop_policy, policy_dropped}
@@ -165,18 +167,18 @@ unfolding policy_made
 policy_made_beside role name table policies policy =
     after_any (ownership role name table) (λ _. known (Ok (writes (c.Policies name (with_policy policies policy) ∷ [])))) (λ _ s. (tt, tt))
 
-policy_added_beside : (role name : List ℕ) (table : TableDef) (policy : Policy) → StaysBeside (policy_added role name table policy)
+policy_added_beside : (role name : List ℕ) (table : TableDef) (found : List InScope) (policy : Policy) → StaysBeside (policy_added role name table found policy)
 unfolding policy_added
-policy_added_beside role name table policy =
-    after_any (asked_policies name) (λ policies. followed_by (known (policy_or_refused name table policies policy)) (λ _. policy_made role name table policies policy)) (λ policies.
-    after_any (known (policy_or_refused name table policies policy)) (λ _. policy_made role name table policies policy) (λ _. policy_made_beside role name table policies policy))
+policy_added_beside role name table found policy =
+    after_any (asked_policies name) (λ policies. followed_by (known (policy_or_refused (names_over (name, table) found) policies policy)) (λ _. policy_made role name table policies policy)) (λ policies.
+    after_any (known (policy_or_refused (names_over (name, table) found) policies policy)) (λ _. policy_made role name table policies policy) (λ _. policy_made_beside role name table policies policy))
 
 policy_on_beside : (role name : List ℕ) (table : TableDef) (policy : Policy) → StaysBeside (policy_on role name table policy)
 unfolding policy_on
 policy_on_beside role name table policy =
-    let conditions : Result (Unit {0}) Refusal = both_conditions (names_known ((name, table) ∷ [])) policy.using policy.check in
-    after_any (grantees_or_undefined policy.to) (λ _. followed_by (known conditions) (λ _. policy_added role name table policy)) (λ _.
-    after_any (known conditions) (λ _. policy_added role name table policy) (λ _. policy_added_beside role name table policy))
+    let names : Asking (List InScope) = named (condition_names policy.using policy.check) ((name, table) ∷ []) [] in
+    after_any (grantees_or_undefined policy.to) (λ _. followed_by names (λ found. policy_added role name table found policy)) (λ _.
+    after_any names (λ found. policy_added role name table found policy) (λ found. policy_added_beside role name table found policy))
 
 pub create_policy_leaves : (ctx : Ctx) (asked : CreatePolicy) → LeavesRows (create_policy ctx asked)
 create_policy_leaves ctx asked = leaves (create_policy ctx asked) (
@@ -187,12 +189,17 @@ unfolding alteration_made
 alteration_made_beside role table policies asked =
     after_any (ownership role asked.table table) (λ _. known (Ok (writes (c.Policies asked.table (with_altered asked policies) ∷ [])))) (λ _ s. (tt, tt))
 
+alteration_over_beside : (role : List ℕ) (table : TableDef) (found : List InScope) (policies : List Policy) (policy : Policy) (asked : AlterPolicy) → StaysBeside (alteration_over role table found policies policy asked)
+unfolding alteration_over
+alteration_over_beside role table found policies policy asked =
+    after_any (known (conditions_or_refused (names_over (asked.table, table) found) policy.kind asked)) (λ _. alteration_made role table policies asked) (λ _. alteration_made_beside role table policies asked)
+
 alteration_of_beside : (role : List ℕ) (table : TableDef) (policies : List Policy) (policy : Policy) (asked : AlterPolicy) → StaysBeside (alteration_of role table policies policy asked)
 unfolding alteration_of
 alteration_of_beside role table policies policy asked =
-    let conditions : Result (Unit {0}) Refusal = conditions_or_refused table policy.kind asked in
-    after_any (alter_policies.roles_or_undefined asked.to) (λ _. followed_by (known conditions) (λ _. alteration_made role table policies asked)) (λ _.
-    after_any (known conditions) (λ _. alteration_made role table policies asked) (λ _. alteration_made_beside role table policies asked))
+    let names : Asking (List InScope) = named (condition_names asked.using asked.check) ((asked.table, table) ∷ []) [] in
+    after_any (alter_policies.roles_or_undefined asked.to) (λ _. followed_by names (λ found. alteration_over role table found policies policy asked)) (λ _.
+    after_any names (λ found. alteration_over role table found policies policy asked) (λ found. alteration_over_beside role table found policies policy asked))
 
 alteration_on_beside : (role : List ℕ) (table : TableDef) (asked : AlterPolicy) → StaysBeside (alteration_on role table asked)
 unfolding alteration_on

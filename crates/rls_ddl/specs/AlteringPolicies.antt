@@ -1,5 +1,5 @@
--- ALTER POLICY (PostgreSQL manual, ALTER POLICY): that the policy is there, names, then types, then sums, and what a policy
--- of its kind has no place for, then that the role is one that owns the table. What is written changes, the rest stays.
+-- ALTER POLICY (PostgreSQL manual, ALTER POLICY): that the policy is there, names, then types, then what isn't supported,
+-- and what a policy of its kind has no place for, then that the role is one that owns the table. What is written changes, the rest stays.
 use Rattle.std.specs.Prelude.{ℕ, List, [], ◌∷◌, Option, Some, None, Bool, false, Result, Ok, Err, is_some, unwrap_or, map, if◌then◌else◌}
 use Rattle.std.specs.Option.{option_or}
 use Rattle.rls_value.specs.declared.refusal.Refusal.{Refusal}
@@ -11,6 +11,8 @@ use Rattle.rls_value.specs.Giving.{and_then}
 use Rattle.rls_expr.specs.declared.table.TableDef.{TableDef}
 use Rattle.rls_expr.specs.declared.policy.Grantee.{Grantee}
 use Rattle.rls_expr.specs.declared.policy.Policy.{Policy}
+use Rattle.rls_expr.specs.Placing.{Names}
+use Rattle.rls_expr.specs.Scopes.{InScope}
 use Rattle.rls_catalog.specs.declared.change.Change.TheVariants as change
 use Rattle.rls_catalog.specs.PolicyLists.{is_named}
 use Rattle.rls_statement.specs.declared.statement.AlterPolicy.{AlterPolicy}
@@ -18,10 +20,11 @@ use Rattle.rls_guard.specs.declared.context.Ctx.{Ctx}
 use Rattle.rls_source.specs.Askings.{Asking, known, followed_by}
 use Rattle.rls_source.specs.Asked.{asked_policies}
 use Rattle.rls_source.specs.Named.{table_or_undefined, grantees_or_undefined}
+use Rattle.rls_guard.specs.Naming.{named, names_over}
 use Rattle.rls_guard.specs.Standings.{ownership}
 use Rattle.rls_guard.specs.declared.effect.Effect.{Effect}
 use Rattle.rls_guard.specs.Effects.{writes}
-use Rattle.rls_ddl.specs.Conditions.{names_known, condition_fits, no_sum, both_conditions}
+use Rattle.rls_ddl.specs.Conditions.{condition_names, condition_fits, is_supported, both_conditions}
 use Rattle.rls_ddl.specs.NamedPolicies.{policy_or_undefined}
 
 -- the roles that are written behind TO have to be there
@@ -42,11 +45,10 @@ abbrev pub placed_or_unsupported : PolicyKind → AlterPolicy → Result (Unit {
 placed_or_unsupported kind alter = if has_no_place_for kind alter then Err Unsupported else Ok tt
 
 -- the conditions that are written have to be right over the table, and for a policy of that kind
-abbrev pub conditions_or_refused : TableDef → PolicyKind → AlterPolicy → Result (Unit {0}) Refusal
-conditions_or_refused table kind alter =
-    and_then (both_conditions (names_known ((alter.table, table) ∷ [])) alter.using alter.check) (λ _.
-    and_then (both_conditions (condition_fits ((alter.table, table) ∷ [])) alter.using alter.check) (λ _.
-    and_then (both_conditions no_sum alter.using alter.check) (λ _. placed_or_unsupported kind alter)))
+abbrev pub conditions_or_refused : Names → PolicyKind → AlterPolicy → Result (Unit {0}) Refusal
+conditions_or_refused names kind alter =
+    and_then (both_conditions (condition_fits names) alter.using alter.check) (λ _.
+    and_then (both_conditions is_supported alter.using alter.check) (λ _. placed_or_unsupported kind alter))
 
 -- the policy with what is written
 abbrev pub altered : AlterPolicy → Policy → Policy
@@ -66,9 +68,14 @@ alteration_made role table policies alter = followed_by (ownership role alter.ta
     known (Ok (writes (change.Policies alter.table (with_altered alter policies) ∷ []))))
 
 -- what is written has to be right for the policy
+unfoldable pub alteration_over : List ℕ → TableDef → List InScope → List Policy → Policy → AlterPolicy → Asking Effect
+alteration_over role table found policies policy alter =
+    followed_by (known (conditions_or_refused (names_over (alter.table, table) found) policy.kind alter)) (λ _. alteration_made role table policies alter)
+
+-- the roles have to be there, and the names to be known
 unfoldable pub alteration_of : List ℕ → TableDef → List Policy → Policy → AlterPolicy → Asking Effect
 alteration_of role table policies policy alter = followed_by (roles_or_undefined alter.to) (λ _.
-    followed_by (known (conditions_or_refused table policy.kind alter)) (λ _. alteration_made role table policies alter))
+    followed_by (named (condition_names alter.using alter.check) ((alter.table, table) ∷ []) []) (λ found. alteration_over role table found policies policy alter))
 
 -- the policies that are there, among them the one of the name
 unfoldable pub alteration_on : List ℕ → TableDef → AlterPolicy → Asking Effect

@@ -1,29 +1,27 @@
 -- The conditions of a policy, USING and WITH CHECK, over its table (PostgreSQL manual, CREATE POLICY).
-use Rattle.std.specs.Prelude.{List, Option, Some, None, Result, Ok, Err, if◌then◌else◌}
+use Rattle.std.specs.Prelude.{List, ◌++◌, Option, Some, None, Result, Ok, Err, if◌then◌else◌}
 use Rattle.rls_value.specs.declared.refusal.Refusal.{Refusal}
-use Rattle.rls_value.specs.declared.refusal.Refusal.TheVariants.{Unsupported}
+use Rattle.rls_value.specs.declared.refusal.Refusal.TheVariants.{TypeFault, Unsupported}
 use Rattle.rls_value.specs.Giving.{and_then}
-use Rattle.rls_expr.specs.Scopes.{InScope}
-use Rattle.rls_expr.specs.Terms.{Term}
-use Rattle.rls_expr.specs.Parts.{has_sum}
-use Rattle.rls_expr.specs.Resolving.{resolved}
-use Rattle.rls_expr.specs.Typing.{condition_checked}
-use Rattle.rls_guard.specs.Checks.{known_or_undefined}
+use Rattle.rls_expr.specs.Naming.{Step, names_all}
+use Rattle.rls_expr.specs.Placing.{Names, placed}
+use Rattle.rls_expr.specs.Terms.{Term, maybe_term}
+use Rattle.rls_expr.specs.Typing.{type_of, takes_boolean}
+use Rattle.rls_guard.specs.Checks.{is_unsupported}
 
--- its names have to be known, if there is one
-abbrev pub names_known : List InScope → Option Term → Result (Unit {0}) Refusal
-names_known tables None = Ok tt
-names_known tables (Some term) = and_then (known_or_undefined (resolved term tables)) (λ _. Ok tt)
+-- the names in them, which have to be there
+abbrev pub condition_names : Option Term → Option Term → List Step
+condition_names using check = names_all (maybe_term using) ++ names_all (maybe_term check)
 
 -- it has to be a boolean, if there is one
-abbrev pub condition_fits : List InScope → Option Term → Result (Unit {0}) Refusal
-condition_fits tables None = Ok tt
-condition_fits tables (Some term) = and_then (condition_checked term tables) (λ _. Ok tt)
+abbrev pub condition_fits : Names → Option Term → Result (Unit {0}) Refusal
+condition_fits names None = Ok tt
+condition_fits names (Some term) = if takes_boolean (type_of (placed term names)) then Ok tt else Err TypeFault
 
--- no sum may stand in it, if there is one
-abbrev pub no_sum : Option Term → Result (Unit {0}) Refusal
-no_sum None = Ok tt
-no_sum (Some term) = if has_sum term then Err Unsupported else Ok tt
+-- nothing may stand in it that isn't supported, if there is one
+abbrev pub is_supported : Option Term → Result (Unit {0}) Refusal
+is_supported None = Ok tt
+is_supported (Some term) = if is_unsupported term then Err Unsupported else Ok tt
 
 -- USING, then WITH CHECK
 abbrev pub both_conditions : (Option Term → Result (Unit {0}) Refusal) → Option Term → Option Term → Result (Unit {0}) Refusal

@@ -7,14 +7,15 @@ ghost use Rattle.rls_value.specs.Giving.{Gives};
 ghost use Rattle.rls_catalog.specs.PolicyLists.{InNameOrder, is_named};
 ghost use Rattle.rls_source.specs.Answering.{Answers};
 ghost use Rattle.rls_guard.specs.Effects.{writes};
+ghost use Rattle.rls_guard.specs.Naming.{names_over};
 ghost use Rattle.rls_ddl.specs.AlteringPolicies as spec;
-ghost use Rattle.rls_ddl.specs.AlteringPolicies.{alter_policy, alteration_on, alteration_of, alteration_made, conditions_or_refused, roles_or_undefined};
+ghost use Rattle.rls_ddl.specs.AlteringPolicies.{alter_policy, alteration_on, alteration_of, alteration_over, alteration_made, conditions_or_refused, roles_or_undefined};
 
-use crate::conditions::{require_booleans, require_names, require_no_sums};
+use crate::conditions::{found_for, require_booleans, require_supported};
 use crate::named_policies::{find_policy, policy_named};
 use crate::policies_written::written;
 use rls_catalog::{Change, PolicyList};
-use rls_expr::{Expr, FromTable, Grantee, Policy, TableDef};
+use rls_expr::{Expr, Grantee, NamedTable, Policy, TableDef};
 use rls_guard::{Ctx, Effect, require_ownership};
 use rls_source::{Reads, RowSource, noted_policies, require_grantees, table_named};
 use rls_statement::AlterPolicy;
@@ -42,7 +43,7 @@ fn alter_on<'c, S: RowSource<'c>>(
     source: &mut S,
     notes: &mut Reads,
     role: &Name,
-    table: &TableDef,
+    table: &'c TableDef,
     alter: &AlterPolicy,
 ) -> Result<Effect, Refusal>
     ensures { Answers S.state S.after (alteration_on role.now table.now alter.now) source.old source.new notes.old notes.new result }
@@ -52,14 +53,14 @@ fn alter_on<'c, S: RowSource<'c>>(
     alter_named(alloc, source, notes, role, table, policies, policy, alter)
 }
 
-/// Alters the policy where what is written is right for it.
+/// Alters the policy where the roles and names that are written are there.
 #[tactic(auto, unfolding(crate::specs::AlteringPolicies::alteration_of))]
 fn alter_named<'c, S: RowSource<'c>>(
     alloc: Global,
     source: &mut S,
     notes: &mut Reads,
     role: &Name,
-    table: &TableDef,
+    table: &'c TableDef,
     policies: &[Policy],
     policy: &Policy,
     alter: &AlterPolicy,
@@ -68,7 +69,47 @@ fn alter_named<'c, S: RowSource<'c>>(
     ensures { Answers S.state S.after (alteration_of role.now table.now policies.now policy.now alter.now) source.old source.new notes.old notes.new result }
 {
     require_roles(alloc, source, notes, &alter.to)?;
-    require_conditions(alloc, table, policy.kind, alter)?;
+    let found = found_for(
+        alloc,
+        source,
+        notes,
+        &alter.using,
+        &alter.check,
+        &alter.table,
+        table,
+    )?;
+    let effect = alter_over(
+        alloc,
+        source,
+        notes,
+        role,
+        table,
+        found.as_slice(),
+        policies,
+        policy,
+        alter,
+    );
+    drop(found);
+    effect
+}
+
+/// Alters the policy where what is written is right for it.
+#[tactic(auto, unfolding(crate::specs::AlteringPolicies::alteration_over))]
+fn alter_over<'c, 'x, S: RowSource<'c>>(
+    alloc: Global,
+    source: &mut S,
+    notes: &mut Reads,
+    role: &Name,
+    table: &'x TableDef,
+    known: &'x [NamedTable<'x>],
+    policies: &[Policy],
+    policy: &Policy,
+    alter: &AlterPolicy,
+) -> Result<Effect, Refusal>
+    requires ordered { InNameOrder policies.now }
+    ensures { Answers S.state S.after (alteration_over role.now table.now known.now policies.now policy.now alter.now) source.old source.new notes.old notes.new result }
+{
+    require_conditions(alloc, table, known, policy.kind, alter)?;
     make_alteration(alloc, source, notes, role, table, policies, alter)
 }
 
@@ -105,23 +146,25 @@ fn require_roles<'c, S: RowSource<'c>>(
     }
 }
 
-/// What is written has to name columns of the table, to be booleans without sums, and to have a place in a policy of that
-/// kind.
-fn require_conditions(
+/// What is written has to be booleans, to be supported, and to have a place in a policy of that kind.
+fn require_conditions<'x>(
     alloc: Global,
-    table: &TableDef,
+    table: &'x TableDef,
+    known: &'x [NamedTable<'x>],
     kind: PolicyKind,
     alter: &AlterPolicy,
 ) -> Result<(), Refusal>
-    ensures { Gives result (conditions_or_refused table.now kind alter.now) }
+    ensures { Gives result (conditions_or_refused (names_over (alter.now.table, table.now) known.now) kind alter.now) }
 {
-    let from = FromTable {
-        name: &alter.table,
+    require_booleans(
+        alloc,
+        &alter.using,
+        &alter.check,
+        &alter.table,
         table,
-    };
-    require_names(alloc, &alter.using, &alter.check, from)?;
-    require_booleans(alloc, &alter.using, &alter.check, from)?;
-    require_no_sums(&alter.using, &alter.check)?;
+        known,
+    )?;
+    require_supported(&alter.using, &alter.check)?;
     if has_no_place_for(kind, alter) {
         return Err(Refusal::Unsupported);
     }

@@ -1,76 +1,108 @@
 //! The conditions of a policy, over its table.
 
-ghost use Rattle.std.specs.Prelude.{[], ◌∷◌};
+ghost use Rattle.std.specs.Prelude.{◌≡◌, [], ◌∷◌, Some, map, IfOk};
 ghost use Rattle.rls_value.specs.Giving.{Gives};
-ghost use Rattle.rls_expr.specs.Scopes.{in_scope, tables_in};
-ghost use Rattle.rls_ddl.specs.Conditions.{both_conditions, names_known, condition_fits, no_sum};
+ghost use Rattle.rls_expr.specs.Naming.{step_of};
+ghost use Rattle.rls_expr.specs.Placing.{names_in};
+ghost use Rattle.rls_source.specs.Answering.{Answers};
+ghost use Rattle.rls_guard.specs.Naming.{named, names_over};
+ghost use Rattle.rls_ddl.specs.Conditions as spec;
+ghost use Rattle.rls_ddl.specs.Conditions.{both_conditions, condition_fits, condition_names};
 
-use rls_expr::{Expr, FromTable, Scope, check_condition, has_sum};
-use rls_guard::known_term;
-use rls_value::Refusal;
-use std::alloc::Global;
+use rls_expr::{
+    Expr, NameStep, NamedTable, Scope, TableDef, is_boolean, place_columns, put_names_if, typing_of,
+};
+use rls_guard::{Found, is_unsupported, named_over};
+use rls_source::{Reads, RowSource};
+use rls_value::{Name, Refusal};
+use std::alloc::{AllocError, Global};
 
-/// The first unknown name of USING, then of WITH CHECK, is undefined.
-pub fn require_names(
+/// The first unknown name of USING, then of WITH CHECK, is undefined; the tables that their subqueries name.
+pub fn found_for<'c, S: RowSource<'c>>(
     alloc: Global,
+    source: &mut S,
+    notes: &mut Reads,
     using: &Option<Expr>,
     check: &Option<Expr>,
-    from: FromTable,
-) -> Result<(), Refusal>
-    ensures { Gives result (both_conditions (names_known (in_scope from.entry ∷ [])) «using».now check.now) }
+    name: &Name,
+    table: &'c TableDef,
+) -> Result<Found<'c>, Refusal>
+    ensures { Answers S.state S.after (named (condition_names «using».now check.now) ((name.now, table.now) ∷ []) []) source.old source.new notes.old notes.new result }
 {
-    let tables = [from];
-    let scope = Scope { tables: &tables };
-    require_known(alloc, using, &scope)?;
-    require_known(alloc, check, &scope)
+    let steps = names_of(alloc, using, check)?;
+    let found = named_over(alloc, source, notes, &steps, name, table);
+    drop(steps);
+    found
 }
 
-fn require_known(alloc: Global, condition: &Option<Expr>, scope: &Scope) -> Result<(), Refusal>
-    ensures { Gives result (names_known (tables_in scope.now) condition.now) }
+fn names_of<'x>(
+    alloc: Global,
+    using: &'x Option<Expr>,
+    check: &'x Option<Expr>,
+) -> Result<Vec<NameStep<'x>>, AllocError>
+    ensures { IfOk result (λ steps. map step_of steps.items ≡ condition_names «using».now check.now) }
 {
-    if let Some(expr) = condition {
-        known_term(alloc, expr, scope)?;
-    }
-    Ok(())
+    let mut steps = Vec::new(alloc);
+    put_names_if(&mut steps, using)?;
+    put_names_if(&mut steps, check)?;
+    Ok(steps)
 }
 
 /// USING and WITH CHECK have to be booleans.
-pub fn require_booleans(
+pub fn require_booleans<'x>(
     alloc: Global,
     using: &Option<Expr>,
     check: &Option<Expr>,
-    from: FromTable,
+    name: &Name,
+    table: &'x TableDef,
+    known: &'x [NamedTable<'x>],
 ) -> Result<(), Refusal>
-    ensures { Gives result (both_conditions (condition_fits (in_scope from.entry ∷ [])) «using».now check.now) }
+    ensures { Gives result (both_conditions (condition_fits (names_over (name.now, table.now) known.now)) «using».now check.now) }
 {
-    let tables = [from];
-    let scope = Scope { tables: &tables };
+    let tables = [NamedTable::new(name, table)?];
+    let scope = Scope {
+        tables: &tables,
+        known,
+    };
     require_boolean(alloc, using, &scope)?;
     require_boolean(alloc, check, &scope)
 }
 
 fn require_boolean(alloc: Global, condition: &Option<Expr>, scope: &Scope) -> Result<(), Refusal>
-    ensures { Gives result (condition_fits (tables_in scope.now) condition.now) }
-{
-    if let Some(expr) = condition {
-        check_condition(alloc, expr, scope)?;
-    }
-    Ok(())
-}
-
-/// No sum may stand in USING or in WITH CHECK.
-pub fn require_no_sums(using: &Option<Expr>, check: &Option<Expr>) -> Result<(), Refusal>
-    ensures { Gives result (both_conditions no_sum «using».now check.now) }
-{
-    require_no_sum(using)?;
-    require_no_sum(check)
-}
-
-fn require_no_sum(condition: &Option<Expr>) -> Result<(), Refusal>
-    ensures { Gives result (no_sum condition.now) }
+    ensures { Gives result (condition_fits (names_in scope.now) condition.now) }
 {
     match condition {
-        Some(expr) if has_sum(expr) => Err(Refusal::Unsupported),
+        None => Ok(()),
+        Some(expr) => require_boolean_expr(alloc, expr, scope),
+    }
+}
+
+fn require_boolean_expr(alloc: Global, expr: &Expr, scope: &Scope) -> Result<(), Refusal>
+    ensures { Gives result (condition_fits (names_in scope.now) (Some expr.now)) }
+{
+    let placed = place_columns(alloc, expr, scope)?;
+    let fits = is_boolean(typing_of(&placed));
+    drop(placed);
+    if fits {
+        Ok(())
+    } else {
+        Err(Refusal::TypeFault)
+    }
+}
+
+/// Nothing may stand in USING or in WITH CHECK that isn't supported.
+pub fn require_supported(using: &Option<Expr>, check: &Option<Expr>) -> Result<(), Refusal>
+    ensures { Gives result (both_conditions spec.is_supported «using».now check.now) }
+{
+    require_one_supported(using)?;
+    require_one_supported(check)
+}
+
+fn require_one_supported(condition: &Option<Expr>) -> Result<(), Refusal>
+    ensures { Gives result (spec.is_supported condition.now) }
+{
+    match condition {
+        Some(expr) if is_unsupported(expr) => Err(Refusal::Unsupported),
         _ => Ok(()),
     }
 }

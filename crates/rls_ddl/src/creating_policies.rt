@@ -5,14 +5,15 @@ ghost use Rattle.rls_value.specs.Giving.{Gives};
 ghost use Rattle.rls_catalog.specs.PolicyLists.{InNameOrder, has_policy, with_policy};
 ghost use Rattle.rls_source.specs.Answering.{Answers};
 ghost use Rattle.rls_guard.specs.Effects.{writes};
+ghost use Rattle.rls_guard.specs.Naming.{names_over};
 ghost use Rattle.rls_ddl.specs.CreatingPolicies as spec;
 ghost use Rattle.rls_ddl.specs.CreatingPolicies.{create_policy, policy_added, policy_made, policy_or_refused};
 
-use crate::conditions::{require_booleans, require_names, require_no_sums};
+use crate::conditions::{found_for, require_booleans, require_supported};
 use crate::named_policies::is_there;
 use crate::policies_written::written;
 use rls_catalog::{Change, PolicyList};
-use rls_expr::{FromTable, Policy};
+use rls_expr::{NamedTable, Policy, TableDef};
 use rls_guard::{Ctx, Effect, require_ownership};
 use rls_source::{Reads, RowSource, noted_policies, require_grantees, table_named};
 use rls_statement::CreatePolicy;
@@ -33,27 +34,52 @@ pub fn run_create_policy<'c, S: RowSource<'c>>(
     ensures { Answers S.state S.after (create_policy ctx.now create.now) source.old source.new notes.old notes.new result }
 {
     let table = table_named(alloc, source, notes, &create.table)?;
-    let from = FromTable {
-        name: &create.table,
+    policy_on(
+        alloc,
+        source,
+        notes,
+        &ctx.role,
+        &create.table,
         table,
-    };
-    policy_on(alloc, source, notes, &ctx.role, from, &create.policy)
+        &create.policy,
+    )
 }
 
+/// Adds the policy where its roles and names are there.
 #[tactic(auto, unfolding(crate::specs::CreatingPolicies::policy_on))]
-fn policy_on<'c, 'x, S: RowSource<'c>>(
+fn policy_on<'c, S: RowSource<'c>>(
     alloc: Global,
     source: &mut S,
     notes: &mut Reads,
     role: &Name,
-    from: FromTable<'x>,
+    name: &Name,
+    table: &'c TableDef,
     policy: &Policy,
 ) -> Result<Effect, Refusal>
-    ensures { Answers S.state S.after (spec.policy_on role.now from.entry.name.now from.entry.table.now policy.now) source.old source.new notes.old notes.new result }
+    ensures { Answers S.state S.after (spec.policy_on role.now name.now table.now policy.now) source.old source.new notes.old notes.new result }
 {
     require_grantees(alloc, source, notes, policy.to.as_slice())?;
-    require_names(alloc, &policy.using, &policy.check, from)?;
-    add_policy(alloc, source, notes, role, from, policy)
+    let found = found_for(
+        alloc,
+        source,
+        notes,
+        &policy.using,
+        &policy.check,
+        name,
+        table,
+    )?;
+    let effect = add_policy(
+        alloc,
+        source,
+        notes,
+        role,
+        name,
+        table,
+        found.as_slice(),
+        policy,
+    );
+    drop(found);
+    effect
 }
 
 /// Adds the policy where it is right beside those that are there.
@@ -63,33 +89,36 @@ fn add_policy<'c, 'x, S: RowSource<'c>>(
     source: &mut S,
     notes: &mut Reads,
     role: &Name,
-    from: FromTable<'x>,
+    name: &Name,
+    table: &'x TableDef,
+    known: &'x [NamedTable<'x>],
     policy: &Policy,
 ) -> Result<Effect, Refusal>
-    ensures { Answers S.state S.after (policy_added role.now from.entry.name.now from.entry.table.now policy.now) source.old source.new notes.old notes.new result }
+    ensures { Answers S.state S.after (policy_added role.now name.now table.now known.now policy.now) source.old source.new notes.old notes.new result }
 {
-    let policies = noted_policies(alloc, source, notes, from.name)?;
-    require_policy(alloc, policies, from, policy)?;
-    make_policy(alloc, source, notes, role, from, policies, policy)
+    let policies = noted_policies(alloc, source, notes, name)?;
+    require_policy(alloc, policies, name, table, known, policy)?;
+    make_policy(alloc, source, notes, role, name, table, policies, policy)
 }
 
 /// Adds the policy where the role has the privileges of the table's owner.
 #[tactic(auto, unfolding(crate::specs::CreatingPolicies::policy_made))]
-fn make_policy<'c, 'x, S: RowSource<'c>>(
+fn make_policy<'c, S: RowSource<'c>>(
     alloc: Global,
     source: &mut S,
     notes: &mut Reads,
     role: &Name,
-    from: FromTable<'x>,
+    name: &Name,
+    table: &TableDef,
     policies: &[Policy],
     policy: &Policy,
 ) -> Result<Effect, Refusal>
     requires ordered { InNameOrder policies.now }
     requires new { has_policy policies.now policy.now.name ≡ false }
-    ensures { Answers S.state S.after (policy_made role.now from.entry.name.now from.entry.table.now policies.now policy.now) source.old source.new notes.old notes.new result }
+    ensures { Answers S.state S.after (policy_made role.now name.now table.now policies.now policy.now) source.old source.new notes.old notes.new result }
 {
-    require_ownership(alloc, source, notes, role, from.name, from.table)?;
-    Ok(policies_changed(alloc, from.name, policies, policy)?)
+    require_ownership(alloc, source, notes, role, name, table)?;
+    Ok(policies_changed(alloc, name, policies, policy)?)
 }
 
 fn policies_changed(
@@ -126,21 +155,23 @@ fn policies_with(
     }
 }
 
-/// The policy's name has to be new, its conditions to be booleans without sums, and there to be room for it.
-fn require_policy(
+/// The policy's name has to be new, its conditions to be booleans and supported, and there to be room for it.
+fn require_policy<'x>(
     alloc: Global,
     policies: &[Policy],
-    from: FromTable,
+    name: &Name,
+    table: &'x TableDef,
+    known: &'x [NamedTable<'x>],
     policy: &Policy,
 ) -> Result<(), Refusal>
-    ensures given { Gives result (policy_or_refused from.entry.name.now from.entry.table.now policies.now policy.now) }
+    ensures given { Gives result (policy_or_refused (names_over (name.now, table.now) known.now) policies.now policy.now) }
     ensures new { OnOk result (has_policy policies.now policy.now.name ≡ false) }
 {
     if is_there(policies, &policy.name) {
         return Err(Refusal::Duplicate(DefinedKind::Policy, policy.name.copy()?));
     }
-    require_booleans(alloc, &policy.using, &policy.check, from)?;
-    require_no_sums(&policy.using, &policy.check)?;
+    require_booleans(alloc, &policy.using, &policy.check, name, table, known)?;
+    require_supported(&policy.using, &policy.check)?;
     if policies.len() >= MAX_POLICIES {
         return Err(Refusal::Limit(Limit::Policies));
     }

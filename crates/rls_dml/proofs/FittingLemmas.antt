@@ -1,5 +1,6 @@
 -- The changes of INSERT, UPDATE and DELETE name as before what the earlier ones leave at their places, and they are at
 -- the numbers of the rows that are hit, or at new ones.
+use lib.ListN.{length-map}
 use Rattle.std.specs.Prelude.{◌≡◌, refl, ℕ, zero, suc, ◌≤◌, ◌<◌, List, [], ◌∷◌, ◌++◌, Option, Some, None, Bool, true, false, cond, Result, Ok, Err, IfOk, if◌then◌else◌, length, map, filter}
 use Rattle.std.specs.BTreeMap.{is_at, insert_entry}
 use Rattle.std.specs.List.{AllByRecursion, list_any}
@@ -51,13 +52,13 @@ use Rattle.rls_source.specs.Named.{table_or_undefined}
 use Rattle.rls_dml.specs.declared.addition.Addition.{Addition}
 use Rattle.rls_dml.specs.declared.revision.Revision.{Revision}
 use Rattle.rls_dml.specs.declared.deleting.Removal.{Removal}
-use Rattle.rls_dml.specs.Checking.{known_returning, returning_reads}
+use Rattle.rls_dml.specs.Checking.{names_over_none, returning_reads}
 use Rattle.rls_judging.specs.Judging.{is_hit, hits, decisions_of}
 use Rattle.rls_judging.specs.Candidates.{pinned_key, candidates_with, candidates}
 use Rattle.rls_dml.specs.Writing.{privileges_or_denied, order_of, rows_or_refused}
-use Rattle.rls_dml.specs.Inserting.{places_of, tuple_of, known_addition, addition_or_refused, addition_of, row_of_tuple, numbered, new_rows, inserted_row, inserted, insert_rows, insert_guarded, insert_as, insert_into, insert}
-use Rattle.rls_dml.specs.Updating.{revision_of, revision_reads, places_set, updated_row, changed_rows, updated, update_rows, update_hits, update_guarded, update_as, update_in, update}
-use Rattle.rls_dml.specs.Deleting.{removal_of, removal_reads, deleted_row, deleted, delete_guarded, delete_as, delete_from, delete}
+use Rattle.rls_dml.specs.Inserting.{places_of, tuple_placed, addition_named, addition_placed, addition_in, addition_or_refused, addition_for, row_of_tuple, numbered, new_rows, inserted_row, inserted, insert_rows, insert_guarded, insert_as, insert_into, insert}
+use Rattle.rls_dml.specs.Updating.{revision_for, revision_reads, places_set, updated_row, changed_rows, updated, update_rows, update_hits, update_guarded, update_as, update_in, update}
+use Rattle.rls_dml.specs.Deleting.{removal_for, removal_reads, deleted_row, deleted, delete_guarded, delete_as, delete_from, delete}
 use Rattle.rls_dml.specs.Fitting.{IfDone, NumbersFree, numbers_from, Overwrite}
 
 -- ---- numbers
@@ -324,8 +325,8 @@ delete_from_fit s role name table removal ordered =
 pub delete_fits : (s : State) (ctx : Ctx) (asked : Delete) → RowsInOrder s asked.table → IfDone ((delete ctx asked).in_state s).gives (FitsAll s)
 delete_fits s ctx asked ordered =
     done_then (FitsAll s) ((table_or_undefined asked.table).in_state s).gives
-    (λ table. ((followed_by (known (removal_of asked table)) (λ removal. delete_from ctx.role asked.table table removal)).in_state s).gives) (λ table.
-    done_then (FitsAll s) (removal_of asked table) (λ removal. ((delete_from ctx.role asked.table table removal).in_state s).gives) (λ removal.
+    (λ table. ((followed_by (removal_for asked table) (λ removal. delete_from ctx.role asked.table table removal)).in_state s).gives) (λ table.
+    done_then (FitsAll s) ((removal_for asked table).in_state s).gives (λ removal. ((delete_from ctx.role asked.table table removal).in_state s).gives) (λ removal.
     delete_from_fit s ctx.role asked.table table removal ordered))
 
 -- ---- UPDATE
@@ -398,8 +399,8 @@ update_in_fit s role name table revision ordered =
 pub update_fits : (s : State) (ctx : Ctx) (asked : Update) → RowsInOrder s asked.table → IfDone ((update ctx asked).in_state s).gives (FitsAll s)
 update_fits s ctx asked ordered =
     done_then (FitsAll s) ((table_or_undefined asked.table).in_state s).gives
-    (λ table. ((followed_by (known (revision_of asked table)) (λ revision. update_in ctx.role asked.table table revision)).in_state s).gives) (λ table.
-    done_then (FitsAll s) (revision_of asked table) (λ revision. ((update_in ctx.role asked.table table revision).in_state s).gives) (λ revision.
+    (λ table. ((followed_by (revision_for asked table) (λ revision. update_in ctx.role asked.table table revision)).in_state s).gives) (λ table.
+    done_then (FitsAll s) ((revision_for asked table).in_state s).gives (λ revision. ((update_in ctx.role asked.table table revision).in_state s).gives) (λ revision.
     update_in_fit s ctx.role asked.table table revision ordered))
 
 -- ---- INSERT
@@ -485,25 +486,21 @@ insert_into_done fact s ctx name table addition all =
     insert_as_done fact s ctx name table standing addition all)
 
 -- there are as many tuples as the statement has
-tuples_length : (ctx : Ctx) (asked : Insert) (table : TableDef) → IfOk (addition_of ctx asked table) (λ addition. length addition.tuples ≡ length asked.tuples)
-tuples_length ctx asked table =
-    given_after (λ addition. length addition.tuples ≡ length asked.tuples) (λ addition. length addition.tuples ≡ length asked.tuples) (known_addition asked (asked.table, table))
-    (λ addition. and_then (addition_or_refused ctx.next (asked.table, table) addition) (λ _. Ok addition))
-    (given_then (λ addition. length addition.tuples ≡ length asked.tuples) (places_of table.columns asked.columns)
-    (λ places. and_then (each_of tuple_of asked.tuples) (λ tuples. and_then (known_returning ((asked.table, table) ∷ []) asked.returning) (λ returning. Ok (record { places = places; tuples = tuples; returning = returning })))) (λ places.
-    given_after (λ tuples. length tuples ≡ length asked.tuples) (λ addition. length addition.tuples ≡ length asked.tuples) (each_of tuple_of asked.tuples)
-    (λ tuples. and_then (known_returning ((asked.table, table) ∷ []) asked.returning) (λ returning. Ok (record { places = places; tuples = tuples; returning = returning })))
-    (each_length tuple_of asked.tuples) (λ tuples same.
-    given_then (λ addition. length addition.tuples ≡ length asked.tuples) (known_returning ((asked.table, table) ∷ []) asked.returning)
-    (λ returning. Ok (record { places = places; tuples = tuples; returning = returning })) (λ _. same))))
-    (λ addition same. given_then (λ other. length other.tuples ≡ length asked.tuples) (addition_or_refused ctx.next (asked.table, table) addition) (λ _. Ok addition) (λ _. same))
+tuples_length : (s : State) (ctx : Ctx) (asked : Insert) (table : TableDef) → IfOk ((addition_for ctx asked table).in_state s).gives (λ addition. length addition.tuples ≡ length asked.tuples)
+tuples_length s ctx asked table =
+    given_then (λ addition. length addition.tuples ≡ length asked.tuples) (places_of table.columns asked.columns)
+    (λ places. ((followed_by (addition_named asked (asked.table, table)) (λ found. known (addition_in ctx.next asked (asked.table, table) places found))).in_state s).gives) (λ places.
+    given_then (λ addition. length addition.tuples ≡ length asked.tuples) ((addition_named asked (asked.table, table)).in_state s).gives
+    (λ found. addition_in ctx.next asked (asked.table, table) places found) (λ found.
+    given_then (λ addition. length addition.tuples ≡ length asked.tuples) (addition_or_refused ctx.next table.columns (addition_placed asked (asked.table, table) places found))
+    (λ _. Ok (addition_placed asked (asked.table, table) places found)) (λ _. length-map asked.tuples (tuple_placed (names_over_none found)))))
 
 pub insert_done : (fact : List Change → Type 0) (s : State) (ctx : Ctx) (asked : Insert) → HoldsOf fact ctx asked.table (length asked.tuples) → IfDone ((insert ctx asked).in_state s).gives fact
 insert_done fact s ctx asked all =
     done_then fact ((table_or_undefined asked.table).in_state s).gives
-    (λ table. ((followed_by (known (addition_of ctx asked table)) (λ addition. insert_into ctx asked.table table addition)).in_state s).gives) (λ table.
-    done_after (λ addition. length addition.tuples ≡ length asked.tuples) fact (addition_of ctx asked table)
-    (λ addition. ((insert_into ctx asked.table table addition).in_state s).gives) (tuples_length ctx asked table) (λ addition same.
+    (λ table. ((followed_by (addition_for ctx asked table) (λ addition. insert_into ctx asked.table table addition)).in_state s).gives) (λ table.
+    done_after (λ addition. length addition.tuples ≡ length asked.tuples) fact ((addition_for ctx asked table).in_state s).gives
+    (λ addition. ((insert_into ctx asked.table table addition).in_state s).gives) (tuples_length s ctx asked table) (λ addition same.
     insert_into_done fact s ctx asked.table table addition (λ places rows count. all places rows (count ∙ same))))
 
 -- the changes of an INSERT fit the state

@@ -46,12 +46,12 @@ use Rattle.rls_dml.specs.declared.deleting.Removal.{Removal}
 use Rattle.rls_dml.specs.declared.revision.Revision.{Revision}
 use Rattle.rls_dml.specs.declared.selecting.Query.{Query}
 use Rattle.rls_dml.specs.Checking.{returning_reads}
-use Rattle.rls_dml.specs.Deleting.{delete, delete_as, delete_from, delete_guarded, deleted, deleted_row, removal_of, removal_reads}
-use Rattle.rls_dml.specs.Inserting.{addition_of, insert, insert_as, insert_guarded, insert_into, insert_rows, inserted, inserted_row, new_rows, numbered, row_of_tuple}
+use Rattle.rls_dml.specs.Deleting.{delete, delete_as, delete_from, delete_guarded, deleted, deleted_row, removal_for, removal_reads}
+use Rattle.rls_dml.specs.Inserting.{addition_for, insert, insert_as, insert_guarded, insert_into, insert_rows, inserted, inserted_row, new_rows, numbered, row_of_tuple}
 use Rattle.rls_dml.specs.NextRows.{NumberOn}
 use Rattle.rls_dml.specs.Numbers.{has_number}
-use Rattle.rls_dml.specs.Selecting.{listed_by, listed_for, query_of, select, select_as, select_from}
-use Rattle.rls_dml.specs.Updating.{changed_rows, places_set, revision_of, revision_reads, update, update_as, update_guarded, update_hits, update_in, update_rows, updated, updated_row}
+use Rattle.rls_dml.specs.Selecting.{listed_by, listed_for, qualifier_of, query_for, select, select_as, select_from}
+use Rattle.rls_dml.specs.Updating.{changed_rows, places_set, revision_for, revision_reads, update, update_as, update_guarded, update_hits, update_in, update_rows, updated, updated_row}
 use Rattle.rls_dml.specs.Writing.{assigned, key_at, order_of, privileges_or_denied, rows_or_refused}
 use Rattle.rls_dml.proofs.FittingLemmas.{Apart, OtherThan, StandIn, candidates_stand, done_after, done_then, filter_stand, given_after, given_then, insert_done, numbered_apart}
 use Rattle.rls_dml.proofs.PassingLemmas.{KeysAreMade, Pass, each_free, rows_carry, rows_passed}
@@ -156,8 +156,8 @@ insert_into_keep s ctx name table addition sound there =
 pub insert_keeps : (ctx : Ctx) (asked : Insert) → KeepsRowsSound (insert ctx asked)
 insert_keeps ctx asked = λ s sound.
     done_after (λ table. table_of s asked.table ≡ Some table) (Keeps s) ((table_or_undefined asked.table).in_state s).gives
-    (λ table. ((followed_by (known (addition_of ctx asked table)) (λ addition. insert_into ctx asked.table table addition)).in_state s).gives) (table_there s asked.table) (λ table there.
-    done_then (Keeps s) (addition_of ctx asked table) (λ addition. ((insert_into ctx asked.table table addition).in_state s).gives) (λ addition.
+    (λ table. ((followed_by (addition_for ctx asked table) (λ addition. insert_into ctx asked.table table addition)).in_state s).gives) (table_there s asked.table) (λ table there.
+    done_then (Keeps s) ((addition_for ctx asked table).in_state s).gives (λ addition. ((insert_into ctx asked.table table addition).in_state s).gives) (λ addition.
     insert_into_keep s ctx asked.table table addition sound there))
 
 inserted_number_on : (name places : List ℕ) (txn next : ℕ) (rows : List (List Value)) → NumberOn txn next (map (inserted_row name) (numbered places txn next rows))
@@ -285,8 +285,8 @@ update_in_hold fact s role name table revision all sound there =
 pub update_holds : (fact : List Change → Type 0) (s : State) (ctx : Ctx) (asked : Update) → HoldsOfRenewed fact s asked.table → RowsAreSound s → IfDone ((update ctx asked).in_state s).gives fact
 update_holds fact s ctx asked all sound =
     done_after (λ table. table_of s asked.table ≡ Some table) fact ((table_or_undefined asked.table).in_state s).gives
-    (λ table. ((followed_by (known (revision_of asked table)) (λ revision. update_in ctx.role asked.table table revision)).in_state s).gives) (table_there s asked.table) (λ table there.
-    done_then fact (revision_of asked table) (λ revision. ((update_in ctx.role asked.table table revision).in_state s).gives) (λ revision.
+    (λ table. ((followed_by (revision_for asked table) (λ revision. update_in ctx.role asked.table table revision)).in_state s).gives) (table_there s asked.table) (λ table there.
+    done_then fact ((revision_for asked table).in_state s).gives (λ revision. ((update_in ctx.role asked.table table revision).in_state s).gives) (λ revision.
     update_in_hold fact s ctx.role asked.table table revision all sound there))
 
 -- an UPDATE keeps them sound
@@ -340,8 +340,8 @@ delete_from_hold fact s role name table removal all there =
 pub delete_holds : (fact : List Change → Type 0) (s : State) (ctx : Ctx) (asked : Delete) → HoldsOfGone fact s asked.table → IfDone ((delete ctx asked).in_state s).gives fact
 delete_holds fact s ctx asked all =
     done_after (λ table. table_of s asked.table ≡ Some table) fact ((table_or_undefined asked.table).in_state s).gives
-    (λ table. ((followed_by (known (removal_of asked table)) (λ removal. delete_from ctx.role asked.table table removal)).in_state s).gives) (table_there s asked.table) (λ table there.
-    done_then fact (removal_of asked table) (λ removal. ((delete_from ctx.role asked.table table removal).in_state s).gives) (λ removal.
+    (λ table. ((followed_by (removal_for asked table) (λ removal. delete_from ctx.role asked.table table removal)).in_state s).gives) (table_there s asked.table) (λ table there.
+    done_then fact ((removal_for asked table).in_state s).gives (λ removal. ((delete_from ctx.role asked.table table removal).in_state s).gives) (λ removal.
     delete_from_hold fact s ctx.role asked.table table removal all there))
 
 -- a DELETE keeps them sound
@@ -383,8 +383,8 @@ select_from_hold fact s role name table query none =
 select_holds : (fact : List Change → Type 0) (s : State) (ctx : Ctx) (asked : Select) → fact [] → IfDone ((select ctx asked).in_state s).gives fact
 select_holds fact s ctx asked none =
     done_then fact ((table_or_undefined asked.table).in_state s).gives
-    (λ table. ((followed_by (known (query_of asked table)) (λ query. select_from ctx.role asked.table table query)).in_state s).gives) (λ table.
-    done_then fact (query_of asked table) (λ query. ((select_from ctx.role asked.table table query).in_state s).gives) (λ query.
+    (λ table. ((followed_by (query_for asked (qualifier_of asked, table)) (λ query. select_from ctx.role asked.table table query)).in_state s).gives) (λ table.
+    done_then fact ((query_for asked (qualifier_of asked, table)).in_state s).gives (λ query. ((select_from ctx.role asked.table table query).in_state s).gives) (λ query.
     select_from_hold fact s ctx.role asked.table table query none))
 
 -- a SELECT changes nothing

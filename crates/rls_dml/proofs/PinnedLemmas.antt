@@ -106,9 +106,9 @@ known_value user row t is = no is
 
 -- the column's value is the row's at its place
 column_value : (user : List ℕ) (row : List Value) (place : ℕ) (t : Term) → is_column place t ≡ true → value_of t (over user row) ≡ value_at row place
-column_value user row place (Place out column) is =
+column_value user row place (Place at) is =
     let parts = and_parts _ _ is in
-    λ i. value_at (row_at (row ∷ []) (eqb-true out 0 parts.0 i)) (eqb-true column place parts.1 i)
+    λ i. value_at (row_at (row ∷ []) (eqb-true at.out 0 parts.0 i)) (eqb-true at.column place parts.1 i)
 column_value user row place t is = no is
 
 -- the column on the one side, what is known on the other

@@ -8,8 +8,7 @@ use Rattle.rls_value.specs.declared.refusal.Refusal.TheVariants.{Limit}
 use Rattle.rls_value.specs.declared.refusal.Limit.TheVariants as limit
 use Rattle.rls_value.specs.declared.value.Value.{Value}
 use Rattle.rls_value.specs.Giving.{and_then}
-use Rattle.rls_expr.specs.Scopes.{InScope}
-use Rattle.rls_expr.specs.Parts.{has_sum}
+use Rattle.rls_expr.specs.declared.table.Column.{Column}
 use Rattle.rls_expr.specs.declared.table.TableDef.{TableDef}
 use Rattle.rls_catalog.specs.declared.change.Change.{Change}
 use Rattle.rls_catalog.specs.declared.stored.Stored.{Stored}
@@ -21,11 +20,12 @@ use Rattle.rls_statement.specs.declared.statement.Insert.{Insert}
 use Rattle.rls_source.specs.Askings.{known, followed_by}
 use Rattle.rls_source.specs.Named.{table_or_undefined}
 use Rattle.rls_guard.specs.declared.context.Ctx.{Ctx}
+use Rattle.rls_guard.specs.Checks.{is_unsupported}
 use Rattle.rls_guard.specs.Keeping.{IfDone}
 use Rattle.rls_dml.specs.declared.addition.Addition.{Addition}
-use Rattle.rls_dml.specs.Checking.{fitting_or_fault, plain_or_unsupported, returning_fits, returning_sums}
+use Rattle.rls_dml.specs.Checking.{fitting_or_fault, supported_or_refused, returning_fits, returning_unsupported}
 use Rattle.rls_dml.specs.Deleting.{delete, deleted_row}
-use Rattle.rls_dml.specs.Inserting.{addition_of, addition_or_refused, insert, insert_into, inserted_row, known_addition, numbered, room_or_limit, tuple_fits}
+use Rattle.rls_dml.specs.Inserting.{addition_for, addition_in, addition_named, addition_or_refused, addition_placed, insert, insert_into, inserted_row, numbered, places_of, room_or_limit, tuple_fits}
 use Rattle.rls_dml.specs.NextRows.{InRange, new_rows}
 use Rattle.rls_dml.specs.Updating.{changed_rows, update}
 use Rattle.rls_dml.proofs.FittingLemmas.{done_after, done_then, given_after, given_then, insert_into_done}
@@ -47,29 +47,32 @@ room_if true next count is = leb-true (next + count) 4294967295 is
 room_if false next count is = tt
 
 -- there are numbers left for the tuples
-numbers_left : (next : ℕ) (from : InScope) (addition : Addition) → IfOk (addition_or_refused next from addition) (λ _. next + length addition.tuples ≤ 4294967295)
-numbers_left next from addition =
-    let sums : Bool = list_any (list_any has_sum) addition.tuples || returning_sums addition.returning in
+numbers_left : (next : ℕ) (columns : List Column) (addition : Addition) → IfOk (addition_or_refused next columns addition) (λ _. next + length addition.tuples ≤ 4294967295)
+numbers_left next columns addition =
+    let unsupported : Bool = list_any (list_any is_unsupported) addition.tuples || returning_unsupported addition.returning in
     given_then (λ _. next + length addition.tuples ≤ 4294967295)
-    (fitting_or_fault (list_all (tuple_fits from.1.columns addition.places) addition.tuples && returning_fits (from ∷ []) addition.returning))
-    (λ _. and_then (plain_or_unsupported sums) (λ _. room_or_limit next (length addition.tuples))) (λ _.
-    given_then (λ _. next + length addition.tuples ≤ 4294967295) (plain_or_unsupported sums) (λ _. room_or_limit next (length addition.tuples)) (λ _.
+    (fitting_or_fault (list_all (tuple_fits columns addition.places) addition.tuples && returning_fits addition.returning))
+    (λ _. and_then (supported_or_refused unsupported) (λ _. room_or_limit next (length addition.tuples))) (λ _.
+    given_then (λ _. next + length addition.tuples ≤ 4294967295) (supported_or_refused unsupported) (λ _. room_or_limit next (length addition.tuples)) (λ _.
     room_if (nat_le (next + length addition.tuples) 4294967295) next (length addition.tuples) refl))
 
-addition_in_range : (ctx : Ctx) (asked : Insert) (table : TableDef) → IfOk (addition_of ctx asked table) (λ addition. ctx.next + length addition.tuples ≤ 4294967295)
-addition_in_range ctx asked table =
-    given_then (λ addition. ctx.next + length addition.tuples ≤ 4294967295) (known_addition asked (asked.table, table))
-    (λ addition. and_then (addition_or_refused ctx.next (asked.table, table) addition) (λ _. Ok addition)) (λ addition.
-    given_after (λ _. ctx.next + length addition.tuples ≤ 4294967295) (λ other. ctx.next + length other.tuples ≤ 4294967295) (addition_or_refused ctx.next (asked.table, table) addition) (λ _. Ok addition)
-    (numbers_left ctx.next (asked.table, table) addition) (λ _ left. left))
+addition_in_range : (s : State) (ctx : Ctx) (asked : Insert) (table : TableDef) → IfOk ((addition_for ctx asked table).in_state s).gives (λ addition. ctx.next + length addition.tuples ≤ 4294967295)
+addition_in_range s ctx asked table =
+    given_then (λ addition. ctx.next + length addition.tuples ≤ 4294967295) (places_of table.columns asked.columns)
+    (λ places. ((followed_by (addition_named asked (asked.table, table)) (λ found. known (addition_in ctx.next asked (asked.table, table) places found))).in_state s).gives) (λ places.
+    given_then (λ addition. ctx.next + length addition.tuples ≤ 4294967295) ((addition_named asked (asked.table, table)).in_state s).gives
+    (λ found. addition_in ctx.next asked (asked.table, table) places found) (λ found.
+    let addition : Addition = addition_placed asked (asked.table, table) places found in
+    given_after (λ _. ctx.next + length addition.tuples ≤ 4294967295) (λ other. ctx.next + length other.tuples ≤ 4294967295) (addition_or_refused ctx.next table.columns addition) (λ _. Ok addition)
+    (numbers_left ctx.next table.columns addition) (λ _ left. left)))
 
 -- an INSERT leaves the next number in its range
 pub insert_in_range : (s : State) (ctx : Ctx) (asked : Insert) → IfDone ((insert ctx asked).in_state s).gives (InRange ctx.next)
 insert_in_range s ctx asked =
     done_then (InRange ctx.next) ((table_or_undefined asked.table).in_state s).gives
-    (λ table. ((followed_by (known (addition_of ctx asked table)) (λ addition. insert_into ctx asked.table table addition)).in_state s).gives) (λ table.
-    done_after (λ addition. ctx.next + length addition.tuples ≤ 4294967295) (InRange ctx.next) (addition_of ctx asked table)
-    (λ addition. ((insert_into ctx asked.table table addition).in_state s).gives) (addition_in_range ctx asked table) (λ addition left.
+    (λ table. ((followed_by (addition_for ctx asked table) (λ addition. insert_into ctx asked.table table addition)).in_state s).gives) (λ table.
+    done_after (λ addition. ctx.next + length addition.tuples ≤ 4294967295) (InRange ctx.next) ((addition_for ctx asked table).in_state s).gives
+    (λ addition. ((insert_into ctx asked.table table addition).in_state s).gives) (addition_in_range s ctx asked table) (λ addition left.
     insert_into_done (InRange ctx.next) s ctx asked.table table addition (λ places rows count _. omega (arith, left, count, all_new asked.table places ctx.txn ctx.next rows))))
 
 -- ---- UPDATE and DELETE

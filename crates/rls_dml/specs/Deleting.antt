@@ -1,12 +1,14 @@
 -- DELETE (PostgreSQL manual, DELETE, and 5.9): names, then types, then the privileges; then the rows that row security
 -- lets go and that WHERE holds of. A row that it hides stays, and nothing is said of it.
-use Rattle.std.specs.Prelude.{ℕ, List, [], ◌∷◌, Some, None, Bool, ◌&&◌, ◌||◌, Result, Ok, map}
+use Rattle.std.specs.Prelude.{ℕ, List, [], ◌∷◌, ◌++◌, Some, None, Bool, ◌&&◌, ◌||◌, Result, Ok, map}
 use Rattle.rls_value.specs.declared.refusal.Refusal.{Refusal}
 use Rattle.rls_value.specs.declared.verb.Privilege.TheVariants as privilege
 use Rattle.rls_value.specs.declared.verb.Kind.TheVariants as kind
 use Rattle.rls_value.specs.Giving.{and_then}
 use Rattle.rls_expr.specs.declared.table.TableDef.{TableDef}
 use Rattle.rls_expr.specs.Scopes.{InScope}
+use Rattle.rls_expr.specs.Naming.{Step}
+use Rattle.rls_expr.specs.Placing.{Names}
 use Rattle.rls_catalog.specs.declared.change.Change.{Change}
 use Rattle.rls_catalog.specs.declared.change.Change.TheVariants as change
 use Rattle.rls_catalog.specs.declared.verdict.Side.TheVariants as side
@@ -17,27 +19,38 @@ use Rattle.rls_guard.specs.declared.standing.Standing.{Standing}
 use Rattle.rls_guard.specs.declared.guard.Watch.{Watch}
 use Rattle.rls_guard.specs.declared.effect.Effect.{Effect}
 use Rattle.rls_guard.specs.declared.effect.Effect.TheVariants as effect
+use Rattle.rls_guard.specs.Naming.{named, names_over}
 use Rattle.rls_guard.specs.Standings.{standing_of}
 use Rattle.rls_guard.specs.Guards.{watches_for}
 use Rattle.rls_source.specs.Askings.{Asking, known, followed_by}
 use Rattle.rls_source.specs.Named.{table_or_undefined}
 use Rattle.rls_dml.specs.declared.deleting.Removal.{Removal}
-use Rattle.rls_dml.specs.Checking.{known_where, known_returning, where_fits, returning_fits, fitting_or_fault, where_sums, returning_sums, plain_or_unsupported, where_reads, returning_reads}
+use Rattle.rls_dml.specs.Checking.{where_names, returning_names, where_placed, returning_placed, where_fits, returning_fits, fitting_or_fault, where_unsupported, returning_unsupported, supported_or_refused, where_reads, returning_reads}
 use Rattle.rls_judging.specs.Judging.{hits, decisions_of}
 use Rattle.rls_judging.specs.Candidates.{candidates}
 use Rattle.rls_dml.specs.Listings.{reply_of}
 use Rattle.rls_dml.specs.Writing.{privileges_or_denied}
 
--- the names of the condition and of RETURNING, then their types, then that no sum is in them
-abbrev pub removal_in : Delete → InScope → Result Removal Refusal
-removal_in delete from = and_then (known_where (from ∷ []) delete.condition) (λ condition.
-    and_then (known_returning (from ∷ []) delete.returning) (λ returning.
-    and_then (fitting_or_fault (where_fits (from ∷ []) condition && returning_fits (from ∷ []) returning)) (λ _.
-    and_then (plain_or_unsupported (where_sums condition || returning_sums returning)) (λ _. Ok (record { condition = condition; returning = returning })))))
+-- the names of the condition and of RETURNING
+abbrev pub removal_names : Delete → List Step
+removal_names delete = where_names delete.condition ++ returning_names delete.returning
 
--- the same; the table's name qualifies its columns
-abbrev pub removal_of : Delete → TableDef → Result Removal Refusal
-removal_of delete table = removal_in delete (delete.table, table)
+-- the condition and RETURNING, with columns by their places
+abbrev pub removal_placed : Delete → Names → Removal
+removal_placed delete names = record { condition = where_placed names delete.condition; returning = returning_placed names delete.returning }
+
+-- their types, then that nothing in them isn't supported
+abbrev pub removal_or_refused : Removal → Result (Unit {0}) Refusal
+removal_or_refused removal = and_then (fitting_or_fault (where_fits removal.condition && returning_fits removal.returning)) (λ _.
+    supported_or_refused (where_unsupported removal.condition || returning_unsupported removal.returning))
+
+-- the parts, where those tables were found for subqueries
+abbrev pub removal_in : Delete → InScope → List InScope → Result Removal Refusal
+removal_in delete from found = and_then (removal_or_refused (removal_placed delete (names_over from found))) (λ _. Ok (removal_placed delete (names_over from found)))
+
+-- the parts of the statement, names before all else; the table's name qualifies its columns
+abbrev pub removal_for : Delete → TableDef → Asking Removal
+removal_for delete table = followed_by (named (removal_names delete) ((delete.table, table) ∷ []) []) (λ found. known (removal_in delete (delete.table, table) found))
 
 -- it reads the table where it mentions a column
 abbrev pub removal_reads : Removal → Bool
@@ -69,4 +82,4 @@ delete_from role name table removal = followed_by (standing_of role) (λ standin
 -- the table has to be there, the names and types to be right
 abbrev pub delete : Ctx → Delete → Asking Effect
 delete ctx asked = followed_by (table_or_undefined asked.table) (λ table.
-    followed_by (known (removal_of asked table)) (λ removal. delete_from ctx.role asked.table table removal))
+    followed_by (removal_for asked table) (λ removal. delete_from ctx.role asked.table table removal))

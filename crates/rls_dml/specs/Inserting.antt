@@ -1,6 +1,6 @@
 -- INSERT .. VALUES (PostgreSQL manual, INSERT, and 5.9): names, then types, then how many rows, then the privileges, then
 -- the ranges; then the rows are judged: row security, then NOT NULL, then the primary key.
-use Rattle.std.specs.Prelude.{ℕ, suc, ◌+◌, List, [], ◌∷◌, Option, Some, None, Bool, true, false, ◌&&◌, ◌||◌, nat_le, Result, Ok, Err, length, if◌then◌else◌, map}
+use Rattle.std.specs.Prelude.{ℕ, suc, ◌+◌, List, [], ◌∷◌, ◌++◌, Option, Some, None, Bool, true, false, ◌&&◌, ◌||◌, nat_le, Result, Ok, Err, length, if◌then◌else◌, map}
 use Rattle.std.specs.List.{list_any, list_all}
 use Rattle.rls_value.specs.declared.value.Value.{Value}
 use Rattle.rls_value.specs.declared.value.Value.TheVariants.{Null}
@@ -12,9 +12,10 @@ use Rattle.rls_value.specs.declared.refusal.Limit.TheVariants as limit
 use Rattle.rls_value.specs.Giving.{and_then}
 use Rattle.rls_expr.specs.declared.table.Column.{Column}
 use Rattle.rls_expr.specs.declared.table.TableDef.{TableDef}
-use Rattle.rls_expr.specs.Terms.{Term}
-use Rattle.rls_expr.specs.Parts.{has_sum}
+use Rattle.rls_expr.specs.Terms.{Term, terms_of}
 use Rattle.rls_expr.specs.Scopes.{InScope}
+use Rattle.rls_expr.specs.Naming.{Step, names_all}
+use Rattle.rls_expr.specs.Placing.{Names}
 use Rattle.rls_catalog.specs.declared.change.Change.{Change}
 use Rattle.rls_catalog.specs.declared.change.Change.TheVariants as change
 use Rattle.rls_catalog.specs.declared.verdict.Side.TheVariants as side
@@ -28,13 +29,15 @@ use Rattle.rls_guard.specs.declared.reply.Decision.{Decision}
 use Rattle.rls_guard.specs.declared.effect.Effect.{Effect}
 use Rattle.rls_guard.specs.declared.effect.Effect.TheVariants as effect
 use Rattle.rls_guard.specs.Eval.{alone}
+use Rattle.rls_guard.specs.Checks.{is_unsupported}
+use Rattle.rls_guard.specs.Naming.{named, names_over}
 use Rattle.rls_guard.specs.Standings.{standing_of}
 use Rattle.rls_guard.specs.Guards.{watches_for}
 use Rattle.rls_source.specs.Askings.{Asking, known, followed_by, settled}
 use Rattle.rls_source.specs.Sequences.{each_of}
 use Rattle.rls_source.specs.Named.{table_or_undefined}
 use Rattle.rls_dml.specs.declared.addition.Addition.{Addition}
-use Rattle.rls_dml.specs.Checking.{known_term, known_returning, place_or_undefined, value_fits, returning_fits, fitting_or_fault, returning_sums, plain_or_unsupported, returning_reads}
+use Rattle.rls_dml.specs.Checking.{names_over_none, returning_names, place_in, returning_placed, place_or_undefined, value_fits, returning_fits, fitting_or_fault, returning_unsupported, supported_or_refused, returning_reads}
 use Rattle.rls_judging.specs.Judging.{decisions_of}
 use Rattle.rls_dml.specs.Listings.{reply_of}
 use Rattle.rls_dml.specs.Writing.{privileges_or_denied, assigned, key_at, order_of, rows_or_refused}
@@ -51,40 +54,49 @@ abbrev pub places_of : List Column → Option (List (List ℕ)) → Result (List
 places_of columns None = Ok (places_from 0 columns)
 places_of columns (Some names) = each_of (place_or_undefined columns) names
 
--- a tuple's terms, with nothing in scope
-abbrev pub tuple_of : List Term → Result (List Term) Refusal
-tuple_of = each_of (known_term [])
+-- the names of the tuples
+abbrev pub tuples_names : List (List Term) → List Step
+tuples_names [] = []
+tuples_names (tuple ∷ tuples) = names_all (terms_of tuple) ++ tuples_names tuples
+
+-- a tuple's terms, which have no columns
+abbrev pub tuple_placed : Names → List Term → List Term
+tuple_placed names tuple = map (place_in names) tuple
 
 -- each term goes into its column, and there are no more terms than places
 abbrev pub tuple_fits : List Column → List ℕ → List Term → Bool
 tuple_fits columns places [] = true
 tuple_fits columns [] (term ∷ terms) = false
-tuple_fits columns (place ∷ places) (term ∷ terms) = value_fits [] columns place term && tuple_fits columns places terms
+tuple_fits columns (place ∷ places) (term ∷ terms) = value_fits columns place term && tuple_fits columns places terms
 
 -- a transaction inserts at most 4294967295 rows
 abbrev pub room_or_limit : ℕ → ℕ → Result (Unit {0}) Refusal
 room_or_limit next count = if nat_le (next + count) 4294967295 then Ok tt else Err (Limit limit.Inserts)
 
--- the names of the list, of the tuples and of RETURNING
-abbrev pub known_addition : Insert → InScope → Result Addition Refusal
-known_addition insert from = and_then (places_of from.1.columns insert.columns) (λ places.
-    and_then (each_of tuple_of insert.tuples) (λ tuples.
-    and_then (known_returning (from ∷ []) insert.returning) (λ returning. Ok (record { places = places; tuples = tuples; returning = returning }))))
+-- the names of the tuples, which have no table in scope, and of RETURNING
+abbrev pub addition_named : Insert → InScope → Asking (List InScope)
+addition_named insert from = followed_by (named (tuples_names insert.tuples) [] []) (λ found. named (returning_names insert.returning) (from ∷ []) found)
 
--- their types, then that no sum is in them, then how many rows
-abbrev pub addition_or_refused : ℕ → InScope → Addition → Result (Unit {0}) Refusal
-addition_or_refused next from addition =
-    and_then (fitting_or_fault (list_all (tuple_fits from.1.columns addition.places) addition.tuples && returning_fits (from ∷ []) addition.returning)) (λ _.
-    and_then (plain_or_unsupported (list_any (list_any has_sum) addition.tuples || returning_sums addition.returning)) (λ _.
+-- the parts, with columns by their places
+abbrev pub addition_placed : Insert → InScope → List ℕ → List InScope → Addition
+addition_placed insert from places found =
+    record { places = places; tuples = map (tuple_placed (names_over_none found)) insert.tuples; returning = returning_placed (names_over from found) insert.returning }
+
+-- their types, then that nothing in them isn't supported, then how many rows
+abbrev pub addition_or_refused : ℕ → List Column → Addition → Result (Unit {0}) Refusal
+addition_or_refused next columns addition =
+    and_then (fitting_or_fault (list_all (tuple_fits columns addition.places) addition.tuples && returning_fits addition.returning)) (λ _.
+    and_then (supported_or_refused (list_any (list_any is_unsupported) addition.tuples || returning_unsupported addition.returning)) (λ _.
     room_or_limit next (length addition.tuples)))
 
--- the parts of the statement, names before all else
-abbrev pub addition_in : Ctx → Insert → InScope → Result Addition Refusal
-addition_in ctx insert from = and_then (known_addition insert from) (λ addition. and_then (addition_or_refused ctx.next from addition) (λ _. Ok addition))
+-- the parts, where those places are written and those tables were found for subqueries
+abbrev pub addition_in : ℕ → Insert → InScope → List ℕ → List InScope → Result Addition Refusal
+addition_in next insert from places found = and_then (addition_or_refused next from.1.columns (addition_placed insert from places found)) (λ _. Ok (addition_placed insert from places found))
 
--- the same; the table's name qualifies its columns
-abbrev pub addition_of : Ctx → Insert → TableDef → Result Addition Refusal
-addition_of ctx insert table = addition_in ctx insert (insert.table, table)
+-- the parts of the statement, names before all else, those of the list first; the table's name qualifies its columns
+abbrev pub addition_for : Ctx → Insert → TableDef → Asking Addition
+addition_for ctx insert table = followed_by (known (places_of table.columns insert.columns)) (λ places.
+    followed_by (addition_named insert (insert.table, table)) (λ found. known (addition_in ctx.next insert (insert.table, table) places found)))
 
 -- ---- its rows
 
@@ -140,4 +152,4 @@ insert_into ctx name table addition = followed_by (standing_of ctx.role) (λ sta
 -- the table has to be there, and the parts to be right
 abbrev pub insert : Ctx → Insert → Asking Effect
 insert ctx asked = followed_by (table_or_undefined asked.table) (λ table.
-    followed_by (known (addition_of ctx asked table)) (λ addition. insert_into ctx asked.table table addition))
+    followed_by (addition_for ctx asked table) (λ addition. insert_into ctx asked.table table addition))

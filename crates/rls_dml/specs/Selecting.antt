@@ -1,12 +1,14 @@
 -- SELECT (PostgreSQL manual, SELECT, and 5.9): names, then types, then the privilege; then the rows that row security
 -- shows and that WHERE holds of.
-use Rattle.std.specs.Prelude.{ℕ, List, [], ◌∷◌, None, false, ◌&&◌, ◌||◌, Result, Ok, map, unwrap_or}
+use Rattle.std.specs.Prelude.{ℕ, List, [], ◌∷◌, ◌++◌, None, false, ◌&&◌, ◌||◌, Result, Ok, map, unwrap_or}
 use Rattle.rls_value.specs.declared.refusal.Refusal.{Refusal}
 use Rattle.rls_value.specs.declared.verb.Privilege.TheVariants as privilege
 use Rattle.rls_value.specs.declared.verb.Kind.TheVariants as kind
 use Rattle.rls_value.specs.Giving.{and_then}
 use Rattle.rls_expr.specs.declared.table.TableDef.{TableDef}
 use Rattle.rls_expr.specs.Scopes.{InScope}
+use Rattle.rls_expr.specs.Naming.{Step}
+use Rattle.rls_expr.specs.Placing.{Names}
 use Rattle.rls_catalog.specs.declared.verdict.Side.TheVariants as side
 use Rattle.rls_catalog.specs.declared.stored.Stored.{Stored}
 use Rattle.rls_statement.specs.declared.statement.Select.{Select}
@@ -16,30 +18,41 @@ use Rattle.rls_guard.specs.declared.guard.Watch.{Watch}
 use Rattle.rls_guard.specs.declared.reply.Reply.TheVariants.{Rows}
 use Rattle.rls_guard.specs.declared.effect.Effect.{Effect}
 use Rattle.rls_guard.specs.declared.effect.Effect.TheVariants as effect
+use Rattle.rls_guard.specs.Naming.{named, names_over}
 use Rattle.rls_guard.specs.Standings.{standing_of, privilege_or_denied}
 use Rattle.rls_guard.specs.Guards.{watches_for}
 use Rattle.rls_source.specs.Askings.{Asking, known, followed_by}
 use Rattle.rls_source.specs.Named.{table_or_undefined}
 use Rattle.rls_dml.specs.declared.selecting.Query.{Query}
-use Rattle.rls_dml.specs.Checking.{known_selection, known_where, selection_fits, where_fits, fitting_or_fault, selection_sums, where_sums, plain_or_unsupported}
+use Rattle.rls_dml.specs.Checking.{selection_names, where_names, selection_placed, where_placed, selection_fits, where_fits, fitting_or_fault, selection_unsupported, where_unsupported, supported_or_refused}
 use Rattle.rls_judging.specs.Judging.{hits, decisions_of}
 use Rattle.rls_judging.specs.Candidates.{candidates}
 use Rattle.rls_dml.specs.Listings.{answered}
-
--- the names of the items and of the condition, then their types, then that no sum is in them
-abbrev pub query_in : Select → InScope → Result Query Refusal
-query_in select from = and_then (known_selection (from ∷ []) select.items) (λ items.
-    and_then (known_where (from ∷ []) select.condition) (λ condition.
-    and_then (fitting_or_fault (selection_fits (from ∷ []) items && where_fits (from ∷ []) condition)) (λ _.
-    and_then (plain_or_unsupported (selection_sums items || where_sums condition)) (λ _. Ok (record { items = items; condition = condition })))))
 
 -- what qualifies the columns: the alias or, without one, the table's name
 abbrev pub qualifier_of : Select → List ℕ
 qualifier_of select = unwrap_or select.alias select.table
 
--- the same, over the table under its qualifier
-abbrev pub query_of : Select → TableDef → Result Query Refusal
-query_of select table = query_in select (qualifier_of select, table)
+-- the names of the items and of the condition
+abbrev pub query_names : Select → List Step
+query_names select = selection_names select.items ++ where_names select.condition
+
+-- the items and the condition, with columns by their places
+abbrev pub query_placed : Select → Names → Query
+query_placed select names = record { items = selection_placed names select.items; condition = where_placed names select.condition }
+
+-- their types, then that nothing in them isn't supported
+abbrev pub query_or_refused : Query → Result (Unit {0}) Refusal
+query_or_refused query = and_then (fitting_or_fault (selection_fits query.items && where_fits query.condition)) (λ _.
+    supported_or_refused (selection_unsupported query.items || where_unsupported query.condition))
+
+-- the parts, where those tables were found for subqueries
+abbrev pub query_in : Select → InScope → List InScope → Result Query Refusal
+query_in select from found = and_then (query_or_refused (query_placed select (names_over from found))) (λ _. Ok (query_placed select (names_over from found)))
+
+-- the parts of the statement, names before all else
+abbrev pub query_for : Select → InScope → Asking Query
+query_for select from = followed_by (named (query_names select) (from ∷ []) []) (λ found. known (query_in select from found))
 
 -- the answer from the rows that are allowed and meet the condition, and the decision on each row
 abbrev pub listed_by : List Watch → Query → List ℕ → List Stored → Effect
@@ -63,4 +76,4 @@ select_from role name table query = followed_by (standing_of role) (λ standing.
 -- the table has to be there, the query's names and types to be right
 abbrev pub select : Ctx → Select → Asking Effect
 select ctx asked = followed_by (table_or_undefined asked.table) (λ table.
-    followed_by (known (query_of asked table)) (λ query. select_from ctx.role asked.table table query))
+    followed_by (query_for asked (qualifier_of asked, table)) (λ query. select_from ctx.role asked.table table query))

@@ -6,9 +6,12 @@ use Rattle.rls_value.specs.declared.refusal.Refusal.{Refusal}
 use Rattle.rls_value.specs.declared.verb.Privilege.TheVariants as privilege
 use Rattle.rls_value.specs.declared.verb.Kind.TheVariants as kind
 use Rattle.rls_value.specs.Giving.{and_then}
+use Rattle.rls_expr.specs.declared.table.Column.{Column}
 use Rattle.rls_expr.specs.declared.table.TableDef.{TableDef}
-use Rattle.rls_expr.specs.Parts.{mentions}
+use Rattle.rls_expr.specs.Parts.{has_query, mentions}
 use Rattle.rls_expr.specs.Scopes.{InScope}
+use Rattle.rls_expr.specs.Naming.{Step, Look, names_of}
+use Rattle.rls_expr.specs.Placing.{Names}
 use Rattle.rls_expr.specs.Terms.{Term}
 use Rattle.rls_catalog.specs.declared.change.Change.{Change}
 use Rattle.rls_catalog.specs.declared.change.Change.TheVariants as change
@@ -23,13 +26,14 @@ use Rattle.rls_guard.specs.declared.reply.Decision.{Decision}
 use Rattle.rls_guard.specs.declared.effect.Effect.{Effect}
 use Rattle.rls_guard.specs.declared.effect.Effect.TheVariants as effect
 use Rattle.rls_guard.specs.Eval.{over}
+use Rattle.rls_guard.specs.Naming.{named, names_over}
 use Rattle.rls_guard.specs.Standings.{standing_of}
 use Rattle.rls_guard.specs.Guards.{watches_for}
 use Rattle.rls_source.specs.Askings.{Asking, known, followed_by, settled}
 use Rattle.rls_source.specs.Sequences.{each_of}
 use Rattle.rls_source.specs.Named.{table_or_undefined}
 use Rattle.rls_dml.specs.declared.revision.Revision.{Revision}
-use Rattle.rls_dml.specs.Checking.{known_term, known_where, known_returning, place_or_undefined, value_fits, where_fits, returning_fits, fitting_or_fault, where_sums, returning_sums, plain_or_unsupported, where_reads, returning_reads}
+use Rattle.rls_dml.specs.Checking.{where_names, returning_names, place_in, where_placed, returning_placed, place_or_undefined, value_fits, where_fits, returning_fits, fitting_or_fault, where_unsupported, returning_unsupported, supported_or_refused, where_reads, returning_reads}
 use Rattle.rls_judging.specs.Judging.{hits, decisions_of}
 use Rattle.rls_judging.specs.Candidates.{candidates}
 use Rattle.rls_dml.specs.Listings.{reply_of}
@@ -37,28 +41,46 @@ use Rattle.rls_dml.specs.Writing.{privileges_or_denied, assigned, key_at, order_
 
 -- ---- its parts
 
--- a column by its place, and what it is set to
-abbrev pub setting_of : InScope → Setting → Result (ℕ × Term) Refusal
-setting_of from setting = and_then (place_or_undefined from.1.columns setting.column) (λ place.
-    and_then (known_term (from ∷ []) setting.value) (λ value. Ok (place, value)))
+-- the names of SET: each column of the target, and then those of what it is set to
+abbrev pub settings_names : List Setting → List Step
+settings_names [] = []
+settings_names (setting ∷ settings) = Look (record { qualifier = None; name = setting.column }) ∷ (names_of setting.value ++ settings_names settings)
+
+-- the names of SET, of the condition and of RETURNING
+abbrev pub revision_names : Update → List Step
+revision_names update = settings_names update.settings ++ (where_names update.condition ++ returning_names update.returning)
+
+-- a column by its place, which was found, and what it is set to
+abbrev pub setting_placed : List Column → Names → Setting → Result (ℕ × Term) Refusal
+setting_placed columns names setting = and_then (place_or_undefined columns setting.column) (λ place. Ok (place, place_in names setting.value))
+
+-- the parts, with columns by their places
+abbrev pub revision_placed : Update → List Column → Names → Result Revision Refusal
+revision_placed update columns names = and_then (each_of (setting_placed columns names) update.settings) (λ settings.
+    Ok (record { settings = settings; condition = where_placed names update.condition; returning = returning_placed names update.returning }))
 
 -- each column is set to what fits it
-abbrev pub settings_fit : InScope → List (ℕ × Term) → Bool
-settings_fit from [] = true
-settings_fit from ((place, value) ∷ settings) = value_fits (from ∷ []) from.1.columns place value && settings_fit from settings
+abbrev pub settings_fit : List Column → List (ℕ × Term) → Bool
+settings_fit columns [] = true
+settings_fit columns ((place, value) ∷ settings) = value_fits columns place value && settings_fit columns settings
 
--- the names of SET, of the condition and of RETURNING, then their types, then that no sum is in the latter two
-abbrev pub revision_in : Update → InScope → Result Revision Refusal
-revision_in update from = and_then (each_of (setting_of from) update.settings) (λ settings.
-    and_then (known_where (from ∷ []) update.condition) (λ condition.
-    and_then (known_returning (from ∷ []) update.returning) (λ returning.
-    and_then (fitting_or_fault (settings_fit from settings && (where_fits (from ∷ []) condition && returning_fits (from ∷ []) returning))) (λ _.
-    and_then (plain_or_unsupported (where_sums condition || returning_sums returning)) (λ _.
-    Ok (record { settings = settings; condition = condition; returning = returning }))))))
+-- a subquery stands in what a column is set to
+abbrev pub settings_unsupported : List (ℕ × Term) → Bool
+settings_unsupported settings = list_any (λ setting. has_query setting.1) settings
 
--- the same; the table's name qualifies its columns
-abbrev pub revision_of : Update → TableDef → Result Revision Refusal
-revision_of update table = revision_in update (update.table, table)
+-- types, then that nothing isn't supported; in what a column is set to a sum is
+abbrev pub revision_or_refused : List Column → Revision → Result (Unit {0}) Refusal
+revision_or_refused columns revision =
+    and_then (fitting_or_fault (settings_fit columns revision.settings && (where_fits revision.condition && returning_fits revision.returning))) (λ _.
+    supported_or_refused (settings_unsupported revision.settings || (where_unsupported revision.condition || returning_unsupported revision.returning)))
+
+-- the parts, where those tables were found for subqueries
+abbrev pub revision_in : Update → InScope → List InScope → Result Revision Refusal
+revision_in update from found = and_then (revision_placed update from.1.columns (names_over from found)) (λ revision. and_then (revision_or_refused from.1.columns revision) (λ _. Ok revision))
+
+-- the parts of the statement, names before all else; the table's name qualifies its columns
+abbrev pub revision_for : Update → TableDef → Asking Revision
+revision_for update table = followed_by (named (revision_names update) ((update.table, table) ∷ []) []) (λ found. known (revision_in update (update.table, table) found))
 
 -- it reads the table where it mentions a column, to the right of SET's equal signs too
 abbrev pub revision_reads : Revision → Bool
@@ -123,4 +145,4 @@ update_in role name table revision = followed_by (standing_of role) (λ standing
 -- the table has to be there, the names and types to be right
 abbrev pub update : Ctx → Update → Asking Effect
 update ctx asked = followed_by (table_or_undefined asked.table) (λ table.
-    followed_by (known (revision_of asked table)) (λ revision. update_in ctx.role asked.table table revision))
+    followed_by (revision_for asked table) (λ revision. update_in ctx.role asked.table table revision))

@@ -1,82 +1,109 @@
-//! The parts of a statement on rows, checked: names, then types, then that no sum stands where none may.
+//! The parts of a statement on rows, checked: names, then types, then that nothing isn't supported.
 
-ghost use Rattle.std.specs.Prelude.{◌≡◌, slice_get};
+ghost use Rattle.std.specs.Prelude.{◌≡◌, ◌++◌, map, slice_get, IfOk, OnOk};
 ghost use Rattle.std.specs.List.{list_any, list_all};
 ghost use Rattle.rls_value.specs.Giving.{Gives};
-ghost use Rattle.rls_expr.specs.Parts.{has_sum, mentions};
-ghost use Rattle.rls_expr.specs.Scopes.{tables_in};
-ghost use Rattle.rls_expr.specs.Typing.{takes_boolean};
-ghost use Rattle.rls_source.specs.Sequences.{each_of};
+ghost use Rattle.rls_expr.specs.Parts.{mentions};
+ghost use Rattle.rls_expr.specs.Naming.{step_of};
+ghost use Rattle.rls_expr.specs.Placing.{names_in};
+ghost use Rattle.rls_guard.specs.Checks.{is_unsupported as spec_is_unsupported};
 ghost use Rattle.rls_dml.specs.Checking as spec;
 
 use rls_expr::{
-    Category, Column, Expr, Scope, TableDef, Typing, goes_into, has_sum, reads_column_of, typing_of,
+    Column, Expr, NameStep, NamedTable, Scope, TableDef, goes_into, has_query, has_sum, is_boolean,
+    is_typed, place_columns, put_all_names, reads_target, typing_of,
 };
-use rls_guard::known_term;
+use rls_guard::is_unsupported;
 use rls_statement::Selected;
 use rls_value::{Items, Name, NameKind, Refusal};
-use std::alloc::Global;
+use std::alloc::{AllocError, Global};
+
+/// Puts the names of what is selected behind the steps.
+pub fn put_selection_names<'x>(
+    steps: &mut Vec<NameStep<'x>>,
+    selected: &'x Selected,
+) -> Result<(), AllocError>
+    ensures { OnOk result (map step_of steps.new.items ≡ map step_of steps.old.items ++ spec.selection_names selected.now) }
+{
+    match selected {
+        Selected::All | Selected::Count => Ok(()),
+        Selected::Items(items) => put_all_names(steps, items.as_slice()),
+    }
+}
+
+/// The same of RETURNING, if it is there.
+pub fn put_returning_names<'x>(
+    steps: &mut Vec<NameStep<'x>>,
+    returning: &'x Option<Selected>,
+) -> Result<(), AllocError>
+    ensures { OnOk result (map step_of steps.new.items ≡ map step_of steps.old.items ++ spec.returning_names returning.now) }
+{
+    match returning {
+        None => Ok(()),
+        Some(selected) => put_selection_names(steps, selected),
+    }
+}
 
 /// The condition with its columns by their places, if there is one.
-pub fn known_where(
+pub fn place_where(
     alloc: Global,
     condition: &Option<Expr>,
     scope: &Scope,
-) -> Result<Option<Expr>, Refusal>
-    ensures { Gives result (spec.known_where (tables_in scope.now) condition.now) }
+) -> Result<Option<Expr>, AllocError>
+    ensures { IfOk result (λ placed. placed ≡ spec.where_placed (names_in scope.now) condition.now) }
 {
     match condition {
         None => Ok(None),
-        Some(condition) => match known_term(alloc, condition, scope) {
-            Ok(found) => Ok(Some(found)),
-            Err(refusal) => Err(refusal),
+        Some(condition) => match place_columns(alloc, condition, scope) {
+            Ok(placed) => Ok(Some(placed)),
+            Err(refused) => Err(refused),
         },
     }
 }
 
 /// What is selected, with columns by their places.
-pub fn known_selection(
+pub fn place_selection(
     alloc: Global,
     selected: &Selected,
     scope: &Scope,
-) -> Result<Selected, Refusal>
-    ensures { Gives result (spec.known_selection (tables_in scope.now) selected.now) }
+) -> Result<Selected, AllocError>
+    ensures { IfOk result (λ placed. placed ≡ spec.selection_placed (names_in scope.now) selected.now) }
 {
     match selected {
         Selected::All => Ok(Selected::All),
-        Selected::Items(items) => match known_terms(alloc, items.as_slice(), scope) {
-            Ok(found) => Ok(Selected::Items(found)),
-            Err(refusal) => Err(refusal),
+        Selected::Items(items) => match place_terms(alloc, items.as_slice(), scope) {
+            Ok(placed) => Ok(Selected::Items(placed)),
+            Err(refused) => Err(refused),
         },
         Selected::Count => Ok(Selected::Count),
     }
 }
 
-/// The expressions with columns by their places; the first unknown one is undefined.
-pub fn known_terms(alloc: Global, exprs: &[Expr], scope: &Scope) -> Result<Items<Expr>, Refusal>
-    ensures { Gives result (each_of (spec.known_term (tables_in scope.now)) exprs.now) }
+/// The expressions with columns by their places.
+pub fn place_terms(alloc: Global, exprs: &[Expr], scope: &Scope) -> Result<Items<Expr>, AllocError>
+    ensures { IfOk result (λ placed. placed ≡ map (spec.place_in (names_in scope.now)) exprs.now) }
 {
-    let mut known = Items::new(alloc);
+    let mut placed = Items::new(alloc);
     for expr in exprs {
-        let found = known_term(alloc, expr, scope)?;
-        known.push(found)?;
+        let expr = place_columns(alloc, expr, scope)?;
+        placed.push(expr)?;
     }
-    Ok(known)
+    Ok(placed)
 }
 
 /// What RETURNING selects, with columns by their places, if it is there.
-pub fn known_returning(
+pub fn place_returning(
     alloc: Global,
     returning: &Option<Selected>,
     scope: &Scope,
-) -> Result<Option<Selected>, Refusal>
-    ensures { Gives result (spec.known_returning (tables_in scope.now) returning.now) }
+) -> Result<Option<Selected>, AllocError>
+    ensures { IfOk result (λ placed. placed ≡ spec.returning_placed (names_in scope.now) returning.now) }
 {
     match returning {
         None => Ok(None),
-        Some(selected) => match known_selection(alloc, selected, scope) {
-            Ok(found) => Ok(Some(found)),
-            Err(refusal) => Err(refusal),
+        Some(selected) => match place_selection(alloc, selected, scope) {
+            Ok(placed) => Ok(Some(placed)),
+            Err(refused) => Err(refused),
         },
     }
 }
@@ -92,66 +119,48 @@ pub fn known_place(table: &TableDef, name: &Name) -> Result<usize, Refusal>
 }
 
 /// Whether the condition is a boolean, if there is one.
-pub fn where_fits(condition: &Option<Expr>, scope: &Scope) -> bool
-    ensures { result ≡ spec.where_fits (tables_in scope.now) condition.now }
+pub fn where_fits(condition: &Option<Expr>) -> bool
+    ensures { result ≡ spec.where_fits condition.now }
 {
     match condition {
         None => true,
-        Some(condition) => is_boolean(typing_of(condition, scope)),
-    }
-}
-
-fn is_boolean(typing: Typing) -> bool
-    ensures { result ≡ takes_boolean typing }
-{
-    match typing {
-        Typing::Null | Typing::Of(Category::Boolean) => true,
-        Typing::Fault | Typing::Of(Category::Number) | Typing::Of(Category::Text) => false,
+        Some(condition) => is_boolean(typing_of(condition)),
     }
 }
 
 /// Whether what is selected has types.
-pub fn selection_fits(selected: &Selected, scope: &Scope) -> bool
-    ensures { result ≡ spec.selection_fits (tables_in scope.now) selected.now }
+pub fn selection_fits(selected: &Selected) -> bool
+    ensures { result ≡ spec.selection_fits selected.now }
 {
     match selected {
         Selected::All | Selected::Count => true,
-        Selected::Items(items) => items_fit(items.as_slice(), scope),
+        Selected::Items(items) => items_fit(items.as_slice()),
     }
 }
 
-fn items_fit(items: &[Expr], scope: &Scope) -> bool
-    ensures { result ≡ list_all (spec.item_fits (tables_in scope.now)) items.now }
+fn items_fit(items: &[Expr]) -> bool
+    ensures { result ≡ list_all spec.item_fits items.now }
 {
-    items.iter().all(|item| is_typed(typing_of(item, scope)))
-}
-
-fn is_typed(typing: Typing) -> bool
-    ensures { result ≡ spec.is_typed typing }
-{
-    match typing {
-        Typing::Fault => false,
-        Typing::Null | Typing::Of(_) => true,
-    }
+    items.iter().all(|item| is_typed(typing_of(item)))
 }
 
 /// Whether what RETURNING selects has types.
-pub fn returning_fits(returning: &Option<Selected>, scope: &Scope) -> bool
-    ensures { result ≡ spec.returning_fits (tables_in scope.now) returning.now }
+pub fn returning_fits(returning: &Option<Selected>) -> bool
+    ensures { result ≡ spec.returning_fits returning.now }
 {
     match returning {
         None => true,
-        Some(selected) => selection_fits(selected, scope),
+        Some(selected) => selection_fits(selected),
     }
 }
 
 /// Whether the column at that place takes the value, its range aside.
-pub fn value_fits(value: &Expr, scope: &Scope, columns: &[Column], place: usize) -> bool
-    ensures { result ≡ spec.value_fits (tables_in scope.now) columns.now place value.now }
+pub fn value_fits(value: &Expr, columns: &[Column], place: usize) -> bool
+    ensures { result ≡ spec.value_fits columns.now place value.now }
 {
     match columns.get(place) {
         None => false,
-        Some(column) => goes_into(typing_of(value, scope), column.kind),
+        Some(column) => goes_into(typing_of(value), column.kind),
     }
 }
 
@@ -166,48 +175,48 @@ pub fn require_fitting(fits: bool) -> Result<(), Refusal>
     }
 }
 
-/// Whether a sum stands in the condition.
-pub fn where_sums(condition: &Option<Expr>) -> bool
-    ensures { result ≡ spec.where_sums condition.now }
+/// Whether something in the condition isn't supported, if there is one.
+pub fn where_unsupported(condition: &Option<Expr>) -> bool
+    ensures { result ≡ spec.where_unsupported condition.now }
 {
     match condition {
         None => false,
-        Some(condition) => has_sum(condition),
+        Some(condition) => is_unsupported(condition),
     }
 }
 
-/// Whether a sum stands in what is selected.
-pub fn selection_sums(selected: &Selected) -> bool
-    ensures { result ≡ spec.selection_sums selected.now }
+/// The same of what is selected.
+pub fn selection_unsupported(selected: &Selected) -> bool
+    ensures { result ≡ spec.selection_unsupported selected.now }
 {
     match selected {
         Selected::All | Selected::Count => false,
-        Selected::Items(items) => have_sums(items.as_slice()),
+        Selected::Items(items) => some_unsupported(items.as_slice()),
     }
 }
 
-/// Whether a sum stands in one of them.
-pub fn have_sums(exprs: &[Expr]) -> bool
-    ensures { result ≡ list_any has_sum exprs.now }
+/// The same of one of them.
+pub fn some_unsupported(exprs: &[Expr]) -> bool
+    ensures { result ≡ list_any spec_is_unsupported exprs.now }
 {
-    exprs.iter().any(|expr| has_sum(expr))
+    exprs.iter().any(|expr| is_unsupported(expr))
 }
 
-/// Whether a sum stands in RETURNING.
-pub fn returning_sums(returning: &Option<Selected>) -> bool
-    ensures { result ≡ spec.returning_sums returning.now }
+/// The same of RETURNING.
+pub fn returning_unsupported(returning: &Option<Selected>) -> bool
+    ensures { result ≡ spec.returning_unsupported returning.now }
 {
     match returning {
         None => false,
-        Some(selected) => selection_sums(selected),
+        Some(selected) => selection_unsupported(selected),
     }
 }
 
-/// A sum where none may stand is not supported.
-pub fn require_plain(sums: bool) -> Result<(), Refusal>
-    ensures { Gives result (spec.plain_or_unsupported sums) }
+/// What isn't supported is refused.
+pub fn require_supported(unsupported: bool) -> Result<(), Refusal>
+    ensures { Gives result (spec.supported_or_refused unsupported) }
 {
-    if sums {
+    if unsupported {
         Err(Refusal::Unsupported)
     } else {
         Ok(())
@@ -220,7 +229,7 @@ pub fn where_reads(condition: &Option<Expr>) -> bool
 {
     match condition {
         None => false,
-        Some(condition) => reads_column_of(condition, 0),
+        Some(condition) => reads_target(condition),
     }
 }
 
@@ -239,5 +248,5 @@ pub fn returning_reads(returning: &Option<Selected>) -> bool
 fn mention_columns(exprs: &[Expr]) -> bool
     ensures { result ≡ list_any (mentions 0) exprs.now }
 {
-    exprs.iter().any(|expr| reads_column_of(expr, 0))
+    exprs.iter().any(|expr| reads_target(expr))
 }

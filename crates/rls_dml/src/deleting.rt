@@ -3,19 +3,24 @@
 ghost use Rattle.std.specs.Prelude.{◌≡◌, [], ◌∷◌, None, map, IfOk};
 ghost use Rattle.rls_value.specs.Giving.{Gives};
 ghost use Rattle.rls_source.specs.Answering.{Answers, Tells};
-ghost use Rattle.rls_expr.specs.Scopes.{in_scope};
+ghost use Rattle.rls_expr.specs.Naming.{step_of};
+ghost use Rattle.rls_expr.specs.Placing.{names_in};
+ghost use Rattle.rls_guard.specs.Naming.{named};
 ghost use Rattle.rls_guard.specs.Guards.{watches_for};
 ghost use Rattle.rls_dml.specs.Deleting as spec;
 
 use crate::checking::{
-    known_returning, known_where, require_fitting, require_plain, returning_fits, returning_reads,
-    returning_sums, where_fits, where_reads, where_sums,
+    place_returning, place_where, put_returning_names, require_fitting, require_supported,
+    returning_fits, returning_reads, returning_unsupported, where_fits, where_reads,
+    where_unsupported,
 };
 use crate::replying::{reply_of, standing_rows};
 use crate::writing::require_privileges;
 use rls_catalog::{Change, Delta, Keyed, Lent, RowChange, Side};
-use rls_expr::{Expr, FromTable, Scope};
-use rls_guard::{Ctx, Decision, Effect, Reply, Standing, Watch, standing_of, watches_of};
+use rls_expr::{Expr, FromTable, NameStep, NamedTable, Scope, TableDef, put_names_if};
+use rls_guard::{
+    Ctx, Decision, Effect, Found, Reply, Standing, Watch, named_over, standing_of, watches_of,
+};
 use rls_judging::{candidates, hits_of};
 use rls_source::{Reads, RowSource, table_named};
 use rls_statement::{Delete, Selected};
@@ -44,25 +49,103 @@ pub fn run_delete<'c, S: RowSource<'c>>(
         name: &delete.table,
         table,
     };
-    let removal = check_removal(alloc, delete, from)?;
+    let removal = known_removal(alloc, source, notes, delete, table)?;
     let deleted = delete_from(alloc, source, notes, &ctx.role, from, &removal);
     drop(removal);
     deleted
 }
 
-fn check_removal(alloc: Global, delete: &Delete, from: FromTable) -> Result<Removal, Refusal>
-    ensures { Gives result (spec.removal_in delete.now (in_scope from.entry)) }
+/// The parts of the statement.
+fn known_removal<'c, S: RowSource<'c>>(
+    alloc: Global,
+    source: &mut S,
+    notes: &mut Reads,
+    delete: &Delete,
+    table: &'c TableDef,
+) -> Result<Removal, Refusal>
+    ensures { Answers S.state S.after (spec.removal_for delete.now table.now) source.old source.new notes.old notes.new result }
 {
-    let tables = [from];
-    let scope = Scope { tables: &tables };
-    let condition = known_where(alloc, &delete.condition, &scope)?;
-    let returning = known_returning(alloc, &delete.returning, &scope)?;
-    require_fitting(where_fits(&condition, &scope) && returning_fits(&returning, &scope))?;
-    require_plain(where_sums(&condition) || returning_sums(&returning))?;
-    Ok(Removal {
-        condition,
-        returning,
-    })
+    let found = found_for(alloc, source, notes, delete, table)?;
+    let removal = check_removal(alloc, delete, table, found.as_slice());
+    drop(found);
+    removal
+}
+
+/// Looks for the names of the condition and of RETURNING.
+fn found_for<'c, S: RowSource<'c>>(
+    alloc: Global,
+    source: &mut S,
+    notes: &mut Reads,
+    delete: &Delete,
+    table: &'c TableDef,
+) -> Result<Found<'c>, Refusal>
+    ensures { Answers S.state S.after (named (spec.removal_names delete.now) ((delete.now.table, table.now) ∷ []) []) source.old source.new notes.old notes.new result }
+{
+    let steps = names_of(alloc, delete)?;
+    let found = named_over(alloc, source, notes, &steps, &delete.table, table);
+    drop(steps);
+    found
+}
+
+fn names_of<'x>(alloc: Global, delete: &'x Delete) -> Result<Vec<NameStep<'x>>, AllocError>
+    ensures { IfOk result (λ steps. map step_of steps.items ≡ spec.removal_names delete.now) }
+{
+    let mut steps = Vec::new(alloc);
+    put_names_if(&mut steps, &delete.condition)?;
+    put_returning_names(&mut steps, &delete.returning)?;
+    Ok(steps)
+}
+
+/// Places the parts, and checks their types and that nothing isn't supported.
+fn check_removal<'x>(
+    alloc: Global,
+    delete: &Delete,
+    table: &'x TableDef,
+    known: &'x [NamedTable<'x>],
+) -> Result<Removal, Refusal>
+    ensures { Gives result (spec.removal_in delete.now (delete.now.table, table.now) known.now) }
+{
+    let tables = [NamedTable::new(&delete.table, table)?];
+    let removal = place_removal(
+        alloc,
+        delete,
+        &Scope {
+            tables: &tables,
+            known,
+        },
+    )?;
+    match require_removal(&removal) {
+        Ok(()) => Ok(removal),
+        Err(refusal) => {
+            drop(removal);
+            Err(refusal)
+        }
+    }
+}
+
+fn place_removal(alloc: Global, delete: &Delete, scope: &Scope) -> Result<Removal, AllocError>
+    ensures { IfOk result (λ removal. removal ≡ spec.removal_placed delete.now (names_in scope.now)) }
+{
+    let condition = place_where(alloc, &delete.condition, scope)?;
+    match place_returning(alloc, &delete.returning, scope) {
+        Ok(returning) => Ok(Removal {
+            condition,
+            returning,
+        }),
+        Err(refused) => {
+            drop(condition);
+            Err(refused)
+        }
+    }
+}
+
+fn require_removal(removal: &Removal) -> Result<(), Refusal>
+    ensures { Gives result (spec.removal_or_refused removal.now) }
+{
+    require_fitting(where_fits(&removal.condition) && returning_fits(&removal.returning))?;
+    require_supported(
+        where_unsupported(&removal.condition) || returning_unsupported(&removal.returning),
+    )
 }
 
 /// Whether it mentions a column of the table.

@@ -11,7 +11,7 @@ ghost use Rattle.rls_dml.specs.Checking.{returning_reads as spec_returning_reads
 ghost use Rattle.rls_dml.specs.Writing.{assigned, rows_or_refused, order_of as spec_order_of};
 ghost use Rattle.rls_dml.specs.Inserting as spec;
 
-use crate::addition::{Addition, check_addition};
+use crate::addition::{Addition, known_addition};
 use crate::checking::returning_reads;
 use crate::keys::key_at;
 use crate::replaced::Replaced;
@@ -41,7 +41,7 @@ pub fn run_insert<'c, S: RowSource<'c>>(
         name: &insert.table,
         table,
     };
-    let addition = check_addition(alloc, ctx, insert, from)?;
+    let addition = known_addition(alloc, source, notes, ctx, insert, table)?;
     let inserted = insert_into(alloc, source, notes, ctx, from, &addition);
     drop(addition);
     inserted

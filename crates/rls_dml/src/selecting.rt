@@ -1,19 +1,21 @@
 //! SELECT.
 
-ghost use Rattle.std.specs.Prelude.{◌≡◌, [], ◌∷◌, false, IfOk};
+ghost use Rattle.std.specs.Prelude.{◌≡◌, [], ◌∷◌, false, map, IfOk};
 ghost use Rattle.rls_value.specs.Giving.{Gives};
-ghost use Rattle.rls_expr.specs.Scopes.{in_scope};
+ghost use Rattle.rls_expr.specs.Naming.{step_of};
+ghost use Rattle.rls_expr.specs.Placing.{names_in};
+ghost use Rattle.rls_guard.specs.Naming.{named};
 ghost use Rattle.rls_source.specs.Answering.{Answers};
 ghost use Rattle.rls_dml.specs.Selecting as spec;
 
 use crate::checking::{
-    known_selection, known_where, require_fitting, require_plain, selection_fits, selection_sums,
-    where_fits, where_sums,
+    place_selection, place_where, put_selection_names, require_fitting, require_supported,
+    selection_fits, selection_unsupported, where_fits, where_unsupported,
 };
 use crate::replying::{answered, standing_rows};
 use rls_catalog::{Delta, Lent, Side};
-use rls_expr::{Expr, FromTable, Scope, TableDef};
-use rls_guard::{Ctx, Effect, Reply, Standing, Watch, standing_of, watches_of};
+use rls_expr::{Expr, FromTable, NameStep, NamedTable, Scope, TableDef, put_names_if};
+use rls_guard::{Ctx, Effect, Found, Reply, Standing, Watch, named_over, standing_of, watches_of};
 use rls_judging::{candidates, hits_of};
 use rls_source::{Reads, RowSource, table_named};
 use rls_statement::{Select, Selected};
@@ -42,17 +44,51 @@ pub fn run_select<'c, S: RowSource<'c>>(
         name: &select.table,
         table,
     };
-    let query = known_query(alloc, select, table)?;
+    let query = known_query(alloc, source, notes, select, table)?;
     let listed = select_from(alloc, source, notes, &ctx.role, from, &query);
     drop(query);
     listed
 }
 
-fn known_query(alloc: Global, select: &Select, table: &TableDef) -> Result<Query, Refusal>
-    ensures { Gives result (spec.query_of select.now table.now) }
+/// The parts of the statement, over the table under its qualifier.
+fn known_query<'c, S: RowSource<'c>>(
+    alloc: Global,
+    source: &mut S,
+    notes: &mut Reads,
+    select: &Select,
+    table: &'c TableDef,
+) -> Result<Query, Refusal>
+    ensures { Answers S.state S.after (spec.query_for select.now (spec.qualifier_of select.now, table.now)) source.old source.new notes.old notes.new result }
 {
-    let name = qualifier(select);
-    check_query(alloc, select, FromTable { name, table })
+    let found = found_for(alloc, source, notes, select, table)?;
+    let query = check_query(alloc, select, table, found.as_slice());
+    drop(found);
+    query
+}
+
+/// Looks for the names of the items and of the condition.
+fn found_for<'c, S: RowSource<'c>>(
+    alloc: Global,
+    source: &mut S,
+    notes: &mut Reads,
+    select: &Select,
+    table: &'c TableDef,
+) -> Result<Found<'c>, Refusal>
+    ensures { Answers S.state S.after (named (spec.query_names select.now) ((spec.qualifier_of select.now, table.now) ∷ []) []) source.old source.new notes.old notes.new result }
+{
+    let steps = names_of(alloc, select)?;
+    let found = named_over(alloc, source, notes, &steps, qualifier(select), table);
+    drop(steps);
+    found
+}
+
+fn names_of<'x>(alloc: Global, select: &'x Select) -> Result<Vec<NameStep<'x>>, AllocError>
+    ensures { IfOk result (λ steps. map step_of steps.items ≡ spec.query_names select.now) }
+{
+    let mut steps = Vec::new(alloc);
+    put_selection_names(&mut steps, &select.items)?;
+    put_names_if(&mut steps, &select.condition)?;
+    Ok(steps)
 }
 
 /// What qualifies the table's columns: its alias or, without one, its name.
@@ -65,16 +101,51 @@ fn qualifier(select: &Select) -> &Name
     }
 }
 
-fn check_query(alloc: Global, select: &Select, from: FromTable) -> Result<Query, Refusal>
-    ensures { Gives result (spec.query_in select.now (in_scope from.entry)) }
+/// Places the parts, and checks their types and that nothing isn't supported.
+fn check_query<'x>(
+    alloc: Global,
+    select: &Select,
+    table: &'x TableDef,
+    known: &'x [NamedTable<'x>],
+) -> Result<Query, Refusal>
+    ensures { Gives result (spec.query_in select.now (spec.qualifier_of select.now, table.now) known.now) }
 {
-    let tables = [from];
-    let scope = Scope { tables: &tables };
-    let items = known_selection(alloc, &select.items, &scope)?;
-    let condition = known_where(alloc, &select.condition, &scope)?;
-    require_fitting(selection_fits(&items, &scope) && where_fits(&condition, &scope))?;
-    require_plain(selection_sums(&items) || where_sums(&condition))?;
-    Ok(Query { items, condition })
+    let tables = [NamedTable::new(qualifier(select), table)?];
+    let query = place_query(
+        alloc,
+        select,
+        &Scope {
+            tables: &tables,
+            known,
+        },
+    )?;
+    match require_query(&query) {
+        Ok(()) => Ok(query),
+        Err(refusal) => {
+            drop(query);
+            Err(refusal)
+        }
+    }
+}
+
+fn place_query(alloc: Global, select: &Select, scope: &Scope) -> Result<Query, AllocError>
+    ensures { IfOk result (λ query. query ≡ spec.query_placed select.now (names_in scope.now)) }
+{
+    let items = place_selection(alloc, &select.items, scope)?;
+    match place_where(alloc, &select.condition, scope) {
+        Ok(condition) => Ok(Query { items, condition }),
+        Err(refused) => {
+            drop(items);
+            Err(refused)
+        }
+    }
+}
+
+fn require_query(query: &Query) -> Result<(), Refusal>
+    ensures { Gives result (spec.query_or_refused query.now) }
+{
+    require_fitting(selection_fits(&query.items) && where_fits(&query.condition))?;
+    require_supported(selection_unsupported(&query.items) || where_unsupported(&query.condition))
 }
 
 /// The standing of the role, what guards the rows from it, and the rows.

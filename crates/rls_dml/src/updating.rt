@@ -13,11 +13,11 @@ ghost use Rattle.rls_dml.specs.Updating as spec;
 use crate::keys::key_like;
 use crate::replaced::Replaced;
 use crate::replying::reply_of_new;
-use crate::revision::{Revision, check_revision, places_set, reads};
+use crate::revision::{Revision, known_revision, places_set, reads};
 use crate::writing::{given_over, order_of, put_value, require_privileges, require_rows};
 use rls_catalog::{Change, Delta, Keyed, Lent, RowChange, Side, Stored};
 use rls_expr::{Column, Expr, FromTable, TableDef};
-use rls_guard::{Ctx, Decision, Effect, Standing, Watch, known_term, standing_of, watches_of};
+use rls_guard::{Ctx, Decision, Effect, Standing, Watch, standing_of, watches_of};
 use rls_judging::{candidates, hits_of, judged};
 use rls_source::{Reads, RowSource, table_named};
 use rls_statement::Update;
@@ -40,7 +40,7 @@ pub fn run_update<'c, S: RowSource<'c>>(
         name: &update.table,
         table,
     };
-    let revision = check_revision(alloc, update, from)?;
+    let revision = known_revision(alloc, source, notes, update, table)?;
     let updated = update_in(alloc, source, notes, &ctx.role, from, &revision);
     drop(revision);
     updated

@@ -1,2 +1,2 @@
-pub mod ResolvingLemmas
 pub mod PlacingLemmas
+pub mod TypingLemmas

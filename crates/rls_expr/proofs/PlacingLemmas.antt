@@ -1,27 +1,38 @@
 -- What a turn of the loop over parts leaves to place.
-use Rattle.std.proofs.Common.{◌≡◌, ℕ, ◌+◌, ◌<◌, List, [], ◌∷◌, ◌++◌, ap, sym, ◌∙◌, drop, length, get_or}
-use Rattle.std.proofs.Math.Seq.{drop-length}
-use Rattle.rls_expr.specs.Scopes.{InScope}
-use Rattle.rls_expr.specs.Terms.{Term, Terms, More, terms_of}
-use Rattle.rls_expr.specs.Resolving.{in_front}
-use Rattle.rls_expr.specs.Placing.{placed, placed_all}
-use Rattle.rls_expr.proofs.ResolvingLemmas.{in_front-push, in_front-end, drop_next}
+use Rattle.std.proofs.Common.{◌≡◌, ℕ, suc, ◌+◌, ◌<◌, List, [], ◌∷◌, ◌++◌, ap, sym, ◌∙◌, refl, drop, length, get_or, arith}
+use Rattle.std.proofs.Math.Seq.{drop-cons, drop-length}
+use Rattle.rls_expr.specs.Terms.{Term, Terms, End, More, terms_of}
+use Rattle.rls_expr.specs.Placing.{Names, in_front, placed, placed_all}
+
+pub in_front-push : (all : List Term) (x : Term) (us : Terms) → in_front all (More x us) ≡ in_front (all ++ x ∷ []) us
+in_front-push [] x us = refl
+in_front-push (t ∷ all) x us = ap (λ ts. More t ts) (in_front-push all x us)
+
+pub in_front-end : (all : List Term) → in_front all End ≡ terms_of all
+in_front-end [] = refl
+in_front-end (t ∷ all) = ap (λ ts. More t ts) (in_front-end all)
+
+pub drop_next : (parts : List Term) (i : ℕ) (p : Term) → i < length parts → p ≡ get_or parts i p → drop i parts ≡ p ∷ drop (i + 1) parts
+drop_next parts i p h is = drop-cons parts i p h ∙ (λ j. sym is j ∷ drop (next j) parts)
+  where
+    next : suc i ≡ i + 1
+    next = omega arith
 
 -- what is placed, in front of what is left to place
-abbrev pub left : List Term → List Term → ℕ → List InScope → Terms
-left all parts i tables = in_front all (placed_all (terms_of (drop i parts)) tables)
+abbrev pub left : List Term → List Term → ℕ → Names → Terms
+left all parts i names = in_front all (placed_all (terms_of (drop i parts)) names)
 
 -- one turn of the loop
-pub placed_turn : (all next parts : List Term) (i : ℕ) (p x : Term) (tables : List InScope) → i < length parts → p ≡ get_or parts i p → x ≡ placed p tables
-    → next ≡ all ++ x ∷ [] → left next parts (i + 1) tables ≡ left all parts i tables
-placed_turn all next parts i p x tables h is found pushed =
-    ap (λ those. left those parts (i + 1) tables) pushed
-    ∙ sym (in_front-push all x (placed_all (terms_of (drop (i + 1) parts)) tables))
-    ∙ ap (λ t. in_front all (More t (placed_all (terms_of (drop (i + 1) parts)) tables))) found
-    ∙ ap (λ ts. in_front all (placed_all (terms_of ts) tables)) (sym (drop_next parts i p h is))
+pub placed_turn : (all next parts : List Term) (i : ℕ) (p x : Term) (names : Names) → i < length parts → p ≡ get_or parts i p → x ≡ placed p names
+    → next ≡ all ++ x ∷ [] → left next parts (i + 1) names ≡ left all parts i names
+placed_turn all next parts i p x names h is found pushed =
+    ap (λ those. left those parts (i + 1) names) pushed
+    ∙ sym (in_front-push all x (placed_all (terms_of (drop (i + 1) parts)) names))
+    ∙ ap (λ t. in_front all (More t (placed_all (terms_of (drop (i + 1) parts)) names))) found
+    ∙ ap (λ ts. in_front all (placed_all (terms_of ts) names)) (sym (drop_next parts i p h is))
 
 -- its end
-pub placed_end : (all parts : List Term) (i : ℕ) (tables : List InScope) → i ≡ length parts → terms_of all ≡ left all parts i tables
-placed_end all parts i tables e =
+pub placed_end : (all parts : List Term) (i : ℕ) (names : Names) → i ≡ length parts → terms_of all ≡ left all parts i names
+placed_end all parts i names e =
     sym (in_front-end all)
-    ∙ ap (λ ts. in_front all (placed_all (terms_of ts) tables)) (sym (ap (λ n. drop n parts) e ∙ drop-length parts))
+    ∙ ap (λ ts. in_front all (placed_all (terms_of ts) names)) (sym (ap (λ n. drop n parts) e ∙ drop-length parts))

@@ -4,7 +4,7 @@ pub mod ExprTerms
 pub mod ExprFalls
 pub mod Tables
 pub mod Scopes
-pub mod Resolving
+pub mod Naming
 pub mod Typing
 pub mod TermSizes
 pub mod Placing

@@ -1,13 +1,14 @@
--- What stands in an expression: a sum, or a column of one of the tables in scope.
-use Rattle.std.specs.Prelude.{ℕ, nat_eq, Bool, true, false, ◌||◌}
-use Rattle.rls_expr.specs.Terms.{Term, Terms, Literal, Column, Place, CurrentUser, Compare, And, Or, Not, IsNull, IsNotNull, Among, NotAmong, Sum, End, More}
+-- What stands in an expression: a sum, a subquery, or a column of one of the tables in scope.
+use Rattle.std.specs.Prelude.{ℕ, zero, suc, nat_eq, Bool, true, false, ◌||◌}
+use Rattle.rls_expr.specs.declared.parts.Level.{Level, Innermost, Inside'}
+use Rattle.rls_expr.specs.Terms.{Term, Terms, Query, Literal, Column, Place, CurrentUser, Compare, And, Or, Not, IsNull, IsNotNull, Among, NotAmong, Exists, Within, NotWithin, Scalar, Sum, End, More, Select}
 
 abbrev mutual
-  -- a sum stands in it
+  -- a sum stands in it, outside its subqueries
   pub has_sum : Term → Bool
   has_sum (Literal v) = false
   has_sum (Column name) = false
-  has_sum (Place out column) = false
+  has_sum (Place at) = false
   has_sum CurrentUser = false
   has_sum (Compare how a b) = has_sum a || has_sum b
   has_sum (And ts) = have_sum ts
@@ -17,6 +18,10 @@ abbrev mutual
   has_sum (IsNotNull t) = has_sum t
   has_sum (Among t ts) = has_sum t || have_sum ts
   has_sum (NotAmong t ts) = has_sum t || have_sum ts
+  has_sum (Exists q) = false
+  has_sum (Within t q) = has_sum t
+  has_sum (NotWithin t q) = has_sum t
+  has_sum (Scalar q) = false
   has_sum (Sum signs ts) = true
 
   -- in one of them
@@ -25,11 +30,42 @@ abbrev mutual
   have_sum (More t ts) = has_sum t || have_sum ts
 
 abbrev mutual
-  -- a column of the table that lies so many tables out stands in it
+  -- a subquery stands in it
+  pub has_query : Term → Bool
+  has_query (Literal v) = false
+  has_query (Column name) = false
+  has_query (Place at) = false
+  has_query CurrentUser = false
+  has_query (Compare how a b) = has_query a || has_query b
+  has_query (And ts) = have_query ts
+  has_query (Or ts) = have_query ts
+  has_query (Not t) = has_query t
+  has_query (IsNull t) = has_query t
+  has_query (IsNotNull t) = has_query t
+  has_query (Among t ts) = has_query t || have_query ts
+  has_query (NotAmong t ts) = has_query t || have_query ts
+  has_query (Exists q) = true
+  has_query (Within t q) = true
+  has_query (NotWithin t q) = true
+  has_query (Scalar q) = true
+  has_query (Sum signs ts) = have_query ts
+
+  -- in one of them
+  pub have_query : Terms → Bool
+  have_query End = false
+  have_query (More t ts) = has_query t || have_query ts
+
+-- how many tables out
+abbrev pub level_of : Level → ℕ
+level_of Innermost = zero
+level_of (Inside' p outer) = suc (level_of outer)
+
+abbrev mutual
+  -- a column of the table that lies so many tables out stands in it; inside a subquery it lies one further out
   pub mentions : ℕ → Term → Bool
   mentions table (Literal v) = false
   mentions table (Column name) = false
-  mentions table (Place out column) = nat_eq out table
+  mentions table (Place at) = nat_eq at.out table
   mentions table CurrentUser = false
   mentions table (Compare how a b) = mentions table a || mentions table b
   mentions table (And ts) = some_mentions table ts
@@ -39,7 +75,15 @@ abbrev mutual
   mentions table (IsNotNull t) = mentions table t
   mentions table (Among t ts) = mentions table t || some_mentions table ts
   mentions table (NotAmong t ts) = mentions table t || some_mentions table ts
+  mentions table (Exists q) = query_mentions table q
+  mentions table (Within t q) = mentions table t || query_mentions table q
+  mentions table (NotWithin t q) = mentions table t || query_mentions table q
+  mentions table (Scalar q) = query_mentions table q
   mentions table (Sum signs ts) = some_mentions table ts
+
+  -- in the items, or in WHERE
+  pub query_mentions : ℕ → Query → Bool
+  query_mentions table (Select from key selects items condition) = some_mentions (suc table) items || some_mentions (suc table) condition
 
   -- in one of them
   pub some_mentions : ℕ → Terms → Bool

@@ -12,7 +12,7 @@ is_known _ = false
 
 -- it is the column at that place of the target
 abbrev pub is_column : ℕ → Term → Bool
-is_column column (Place out place) = nat_eq out 0 && nat_eq place column
+is_column column (Place at) = nat_eq at.out 0 && nat_eq at.column column
 is_column column _ = false
 
 -- the one side is the column, the other is known

@@ -1,12 +1,15 @@
 -- The code of terms, by which proofs tell them apart.
 use Rattle.std.specs.Prelude.{◌≡◌}
 use Rattle.std.proofs.Common.{ap, arith}
-use base.Stored.{Coded, Gv, gnil, gnum, gcons, num, coded_list}
+use base.Stored.{Coded, Gv, gnil, gnum, gcons, num, coded_list, coded_ℕ}
 use Rattle.rls_value.specs.contracts.value.Value as value
 use Rattle.rls_expr.specs.contracts.column_name.ColumnName as column
 use Rattle.rls_expr.specs.contracts.expr.Comparison as comparison
 use Rattle.rls_expr.specs.contracts.expr.Sign as sign
-use Rattle.rls_expr.specs.Terms.{Term, Terms, Literal, Column, Place, CurrentUser, Compare, And, Or, Not, IsNull, IsNotNull, Among, NotAmong, Sum, End, More}
+use Rattle.rls_expr.specs.contracts.expr.FromItem as from_item
+use Rattle.rls_expr.specs.contracts.expr.Place as place
+use Rattle.rls_expr.specs.contracts.expr.Selects as selects
+use Rattle.rls_expr.specs.Terms.{Term, Terms, Literal, Column, Place, CurrentUser, Compare, And, Or, Not, IsNull, IsNotNull, Among, NotAmong, Exists, Within, NotWithin, Scalar, Sum, End, More, Query, Select}
 
 -- the first part of a pair
 abbrev pub first : Gv → Gv
@@ -24,7 +27,7 @@ abbrev mutual
   pub code_t : Term → Gv
   code_t (Literal v) = gcons (gnum 0) (value.the_row.coded.code v)
   code_t (Column name) = gcons (gnum 1) (column.the_row.coded.code name)
-  code_t (Place out column) = gcons (gnum 2) (gcons (gnum out) (gnum column))
+  code_t (Place at) = gcons (gnum 2) (place.the_row.coded.code at)
   code_t CurrentUser = gcons (gnum 3) gnil
   code_t (Compare how a b) = gcons (gnum 4) (gcons (comparison.the_row.coded.code how) (gcons (code_t a) (code_t b)))
   code_t (And ts) = gcons (gnum 5) (code_ts ts)
@@ -35,6 +38,14 @@ abbrev mutual
   code_t (Among t ts) = gcons (gnum 10) (gcons (code_t t) (code_ts ts))
   code_t (NotAmong t ts) = gcons (gnum 11) (gcons (code_t t) (code_ts ts))
   code_t (Sum signs ts) = gcons (gnum 12) (gcons ((coded_list sign.the_row.coded).code signs) (code_ts ts))
+  code_t (Exists q) = gcons (gnum 13) (code_q q)
+  code_t (Within t q) = gcons (gnum 14) (gcons (code_t t) (code_q q))
+  code_t (NotWithin t q) = gcons (gnum 15) (gcons (code_t t) (code_q q))
+  code_t (Scalar q) = gcons (gnum 16) (code_q q)
+
+  pub code_q : Query → Gv
+  code_q (Select from key what items condition) =
+      gcons (from_item.the_row.coded.code from) (gcons ((coded_list coded_ℕ).code key) (gcons (selects.the_row.coded.code what) (gcons (code_ts items) (code_ts condition))))
 
   pub code_ts : Terms → Gv
   code_ts End = gcons (gnum 0) gnil
@@ -44,7 +55,7 @@ mutual
   pub inj_t : (x y : Term) → code_t x ≡ code_t y → x ≡ y
   inj_t (Literal v) (Literal w) p = λ i. Literal (value.the_row.coded.inj v w (ap rest p) i)
   inj_t (Column a) (Column b) p = λ i. Column (column.the_row.coded.inj a b (ap rest p) i)
-  inj_t (Place a b) (Place c d) p = λ z. Place (num (first (rest (p z)))) (num (rest (rest (p z))))
+  inj_t (Place a) (Place b) p = λ i. Place (place.the_row.coded.inj a b (ap rest p) i)
   inj_t CurrentUser CurrentUser p = λ i. CurrentUser
   inj_t (Compare h a b) (Compare k c d) p = λ i. Compare (comparison.the_row.coded.inj h k (ap (λ g. first (rest g)) p) i) (inj_t a c (ap (λ g. first (rest (rest g))) p) i) (inj_t b d (ap (λ g. rest (rest (rest g))) p) i)
   inj_t (And ts) (And us) p = λ i. And (inj_ts ts us (ap rest p) i)
@@ -55,7 +66,19 @@ mutual
   inj_t (Among t ts) (Among u us) p = λ i. Among (inj_t t u (ap (λ g. first (rest g)) p) i) (inj_ts ts us (ap (λ g. rest (rest g)) p) i)
   inj_t (NotAmong t ts) (NotAmong u us) p = λ i. NotAmong (inj_t t u (ap (λ g. first (rest g)) p) i) (inj_ts ts us (ap (λ g. rest (rest g)) p) i)
   inj_t (Sum signs ts) (Sum others us) p = λ i. Sum ((coded_list sign.the_row.coded).inj signs others (ap (λ g. first (rest g)) p) i) (inj_ts ts us (ap (λ g. rest (rest g)) p) i)
+  inj_t (Exists q) (Exists r) p = λ i. Exists (inj_q q r (ap rest p) i)
+  inj_t (Within t q) (Within u r) p = λ i. Within (inj_t t u (ap (λ g. first (rest g)) p) i) (inj_q q r (ap (λ g. rest (rest g)) p) i)
+  inj_t (NotWithin t q) (NotWithin u r) p = λ i. NotWithin (inj_t t u (ap (λ g. first (rest g)) p) i) (inj_q q r (ap (λ g. rest (rest g)) p) i)
+  inj_t (Scalar q) (Scalar r) p = λ i. Scalar (inj_q q r (ap rest p) i)
   inj_t x y p = absurd (omega (arith, ap (λ g. num (first g)) p))
+
+  pub inj_q : (x y : Query) → code_q x ≡ code_q y → x ≡ y
+  inj_q (Select a k b c d) (Select e l f g h) p = λ i. Select
+      (from_item.the_row.coded.inj a e (ap first p) i)
+      ((coded_list coded_ℕ).inj k l (ap (λ x. first (rest x)) p) i)
+      (selects.the_row.coded.inj b f (ap (λ x. first (rest (rest x))) p) i)
+      (inj_ts c g (ap (λ x. first (rest (rest (rest x)))) p) i)
+      (inj_ts d h (ap (λ x. rest (rest (rest (rest x)))) p) i)
 
   pub inj_ts : (x y : Terms) → code_ts x ≡ code_ts y → x ≡ y
   inj_ts End End p = λ i. End

@@ -1,10 +1,11 @@
 //! Expressions, seen as plain terms.
 
 ghost use Rattle.std.specs.Prelude.{◌≡◌, IfOk};
-ghost use Rattle.rls_expr.specs.ExprTerms.{term_of};
+ghost use Rattle.rls_expr.specs.ExprTerms.{term_of, query_of};
+ghost use Rattle.rls_expr.specs.Terms.{qualifier_of};
 
 use crate::column_name::ColumnName;
-use rls_value::Value;
+use rls_value::{Name, Value};
 use std::alloc::{AllocError, Global};
 use std::marker::Model;
 
@@ -22,8 +23,8 @@ pub enum Node {
     Literal(Value),
     /// A column as it is written.
     Column(ColumnName),
-    /// A column that is resolved: of the table that lies so many tables out, at that place.
-    Place(usize, usize),
+    /// A column that is placed.
+    Place(Place),
     CurrentUser,
     Compare(Comparison, Box<Expr>, Box<Expr>),
     And(Vec<Expr>),
@@ -35,8 +36,87 @@ pub enum Node {
     Among(Box<Expr>, Vec<Expr>),
     /// `NOT IN` with a list.
     NotAmong(Box<Expr>, Vec<Expr>),
+    /// `EXISTS`: whether the subquery gives a row.
+    Exists(Box<Subquery>),
+    /// `IN` with a subquery.
+    Within(Box<Expr>, Box<Subquery>),
+    /// `NOT IN` with a subquery.
+    NotWithin(Box<Expr>, Box<Subquery>),
+    /// A scalar subquery: what it selects of its one row.
+    Scalar(Box<Subquery>),
     /// A sum: the signs between the parts, and the parts.
     Sum(Vec<Sign>, Vec<Expr>),
+}
+
+/// A column of the table that lies so many tables out: its place there, and its type.
+#[derive(Clone, Copy, PartialEq, Eq)]
+pub struct Place {
+    pub out: usize,
+    pub column: usize,
+    pub kind: Category,
+}
+
+/// The type of an expression. Whole numbers of 32 and of 64 bits are one type.
+#[derive(Clone, Copy, Debug, PartialEq, Eq)]
+pub enum Category {
+    Number,
+    Text,
+    Boolean,
+}
+
+/// A SELECT inside an expression.
+#[cycle(expr)]
+#[derive(Drop)]
+pub struct Subquery {
+    pub from: FromItem,
+    /// The places of the table's primary key, once it is placed.
+    pub key: Vec<usize>,
+    pub selects: Selects,
+    /// The items as they are written; once it is placed, each column where it selects all.
+    pub items: Vec<Expr>,
+    pub condition: Option<Expr>,
+}
+
+/// What a subquery selects.
+#[derive(Clone, Copy, PartialEq, Eq)]
+pub enum Selects {
+    /// `*`
+    All,
+    /// `count(*)`
+    Count,
+    Items,
+}
+
+/// The table of a FROM clause, and its alias if it has one.
+#[derive(Drop)]
+pub struct FromItem {
+    pub table: Name,
+    pub alias: Option<Name>,
+}
+
+impl FromItem {
+    /// What qualifies the table's columns: its alias or, without one, its name.
+    pub fn qualifier(&self) -> &Name
+        ensures { result.now ≡ qualifier_of self.now }
+    {
+        match &self.alias {
+            Some(alias) => alias,
+            None => &self.table,
+        }
+    }
+
+    pub fn copy(&self) -> Result<FromItem, AllocError>
+        ensures { IfOk result (λ from. from ≡ self.now) }
+    {
+        let alias = copy_name(&self.alias)?;
+        match self.table.copy() {
+            Ok(table) => Ok(FromItem { table, alias }),
+            Err(refused) => {
+                drop(alias);
+                Err(refused)
+            }
+        }
+    }
 }
 
 /// Whether a part of a sum is added or taken off.
@@ -98,7 +178,7 @@ impl Expr {
         let node = match &self.node {
             Node::Literal(value) => Node::Literal(value.copy()?),
             Node::Column(name) => Node::Column(name.copy()?),
-            Node::Place(out, column) => Node::Place(*out, *column),
+            Node::Place(place) => Node::Place(*place),
             Node::CurrentUser => Node::CurrentUser,
             Node::Compare(how, left, right) => {
                 let left = copy_boxed(alloc, left)?;
@@ -120,6 +200,18 @@ impl Expr {
                 let list = copy_parts(alloc, list)?;
                 Node::NotAmong(left, list)
             }
+            Node::Exists(query) => Node::Exists(copy_query(alloc, query)?),
+            Node::Within(left, query) => {
+                let left = copy_boxed(alloc, left)?;
+                let query = copy_query(alloc, query)?;
+                Node::Within(left, query)
+            }
+            Node::NotWithin(left, query) => {
+                let left = copy_boxed(alloc, left)?;
+                let query = copy_query(alloc, query)?;
+                Node::NotWithin(left, query)
+            }
+            Node::Scalar(query) => Node::Scalar(copy_query(alloc, query)?),
             Node::Sum(signs, parts) => {
                 let signs = signs.as_slice().to_vec(alloc)?;
                 let parts = copy_parts(alloc, parts)?;
@@ -127,6 +219,48 @@ impl Expr {
             }
         };
         Ok(Expr { node })
+    }
+}
+
+impl Subquery {
+    /// A copy on the heap.
+    pub fn copy_boxed(&self, alloc: Global) -> Result<Box<Subquery>, AllocError>
+        ensures { IfOk result (λ copy. query_of copy.value ≡ query_of self.now) }
+    {
+        copy_query(alloc, self)
+    }
+}
+
+#[cycle(copying)]
+fn copy_query(alloc: Global, query: &Subquery) -> Result<Box<Subquery>, AllocError>
+    ensures { IfOk result (λ copy. query_of copy.value ≡ query_of query.now) }
+{
+    let from = query.from.copy()?;
+    let key = query.key.as_slice().to_vec(alloc)?;
+    let items = copy_parts(alloc, &query.items)?;
+    let condition = copy_condition(alloc, &query.condition)?;
+    boxed_query(
+        alloc,
+        Subquery {
+            from,
+            key,
+            selects: query.selects,
+            items,
+            condition,
+        },
+    )
+}
+
+#[cycle(copying)]
+fn copy_condition(alloc: Global, condition: &Option<Expr>) -> Result<Option<Expr>, AllocError>
+    ensures { IfOk result (λ copy. copy ≡ condition.now) }
+{
+    match condition {
+        None => Ok(None),
+        Some(condition) => match condition.copy(alloc) {
+            Ok(condition) => Ok(Some(condition)),
+            Err(refused) => Err(refused),
+        },
     }
 }
 
@@ -148,8 +282,33 @@ fn copy_parts(alloc: Global, parts: &[Expr]) -> Result<Vec<Expr>, AllocError>
     Ok(copies)
 }
 
+fn copy_name(name: &Option<Name>) -> Result<Option<Name>, AllocError>
+    ensures { IfOk result (λ copied. copied ≡ name.now) }
+{
+    match name {
+        Some(name) => match name.copy() {
+            Ok(name) => Ok(Some(name)),
+            Err(refused) => Err(refused),
+        },
+        None => Ok(None),
+    }
+}
+
+/// The subquery on the heap.
+pub fn boxed_query(alloc: Global, query: Subquery) -> Result<Box<Subquery>, AllocError>
+    ensures { IfOk result (λ boxed. query_of boxed.value ≡ query_of query) }
+{
+    match Box::new(alloc, query) {
+        Ok(boxed) => Ok(boxed),
+        Err(refused) => {
+            drop(refused);
+            Err(AllocError)
+        }
+    }
+}
+
 /// The expression on the heap.
-pub(crate) fn boxed(alloc: Global, expr: Expr) -> Result<Box<Expr>, AllocError>
+pub fn boxed(alloc: Global, expr: Expr) -> Result<Box<Expr>, AllocError>
     ensures { IfOk result (λ boxed. boxed.value ≡ expr) }
 {
     match Box::new(alloc, expr) {

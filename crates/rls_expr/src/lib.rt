@@ -3,24 +3,24 @@
 
 mod column_name;
 mod expr;
+mod names;
 mod parts;
 mod pinning;
 mod placing;
 mod policy;
-mod resolving;
 mod scope;
 mod table;
 mod typing;
 
 pub use column_name::ColumnName;
-pub use expr::{Comparison, Expr, Node, Sign};
-pub use parts::{has_sum, reads_column_of};
-pub use pinning::pin_of;
-pub use placing::place_columns;
-pub use policy::{Grantee, Policy};
-pub use resolving::resolve;
-pub use scope::{FromTable, Scope};
-pub use table::{Column, TableDef};
-pub use typing::{
-    Category, Typed, Typing, category_of, check, check_condition, goes_into, typing_of,
+pub use expr::{
+    Category, Comparison, Expr, FromItem, Node, Place, Selects, Sign, Subquery, boxed, boxed_query,
 };
+pub use names::{NameStep, put_all_names, put_names, put_names_if, put_step};
+pub use parts::{has_query, has_sum, reads_target};
+pub use pinning::pin_of;
+pub use placing::{Scope, place_columns};
+pub use policy::{Grantee, Policy};
+pub use scope::{FromTable, NamedTable, inside, known_table, place_of, unqualified};
+pub use table::{Column, TableDef, category_of};
+pub use typing::{Typing, goes_into, is_boolean, is_typed, typing_of};

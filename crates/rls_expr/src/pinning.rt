@@ -55,7 +55,7 @@ fn is_column(expr: &Expr, column: usize) -> bool
     ensures { result ≡ spec.is_column column expr.now }
 {
     match expr.node() {
-        Node::Place(out, place) => *out == 0 && *place == column,
+        Node::Place(place) => place.out == 0 && place.column == column,
         _ => false,
     }
 }

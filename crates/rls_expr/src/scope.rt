@@ -1,11 +1,15 @@
 //! What names in an expression may mean.
 
-ghost use Rattle.std.specs.Prelude.{◌≡◌, map};
-ghost use Rattle.rls_expr.specs.Scopes.{tables_in, place_in, unqualified_from, qualified_from, place_lent};
+ghost use Rattle.std.specs.Prelude.{◌≡◌, ◌∷◌, IfOk};
+ghost use Rattle.std.specs.Option.{option_copied};
+ghost use Rattle.rls_expr.specs.Scopes.{known_table, place_in, unqualified_from, qualified_from, place_lent};
 
 use crate::column_name::ColumnName;
+use crate::expr::Place;
 use crate::table::TableDef;
 use rls_value::{Name, NameKind};
+use std::alloc::{AllocError, Global};
+use std::marker::Model;
 
 /// A table of a FROM clause: the name that qualifies its columns, its alias where it has one, and its definition.
 #[derive(Clone, Copy)]
@@ -14,50 +18,111 @@ pub struct FromTable<'a> {
     pub table: &'a TableDef,
 }
 
-/// The tables of the FROM clauses round an expression, the innermost first.
+/// A table under a name: what qualifies its columns, or what a subquery calls it; seen as the name and the definition.
 #[derive(Drop)]
-pub struct Scope<'a> {
-    pub tables: &'a [FromTable<'a>],
+pub struct NamedTable<'c> {
+    name: Name,
+    table: &'c TableDef,
 }
 
-impl Scope<'_> {
-    /// How many tables out, and where there, the column lies that the name means; else the name that is unknown, the
-    /// qualifier's or the column's.
-    pub fn place<'n>(&self, column: &'n ColumnName) -> Result<(usize, usize), (NameKind, &'n Name)>
-        ensures { place_lent result ≡ place_in (tables_in self.now) column.now }
+impl<'c> Model for NamedTable<'c> {
+    ghost use Rattle.std.specs.Coded.{coded×, coded_list, coded_ℕ};
+    ghost use Rattle.rls_expr.specs.Scopes.{InScope};
+    ghost use Rattle.rls_expr.specs.contracts.table.TableDef as def;
+
+    ghost Value = { InScope };
+
+    ghost coded = { coded× (coded_list coded_ℕ) def.the_row.coded };
+
+    ghost view = { λ named. (named.name, named.table.now) };
+}
+
+impl<'c> NamedTable<'c> {
+    /// The table under a copy of the name, which takes no memory.
+    pub fn new(name: &Name, table: &'c TableDef) -> Result<NamedTable<'c>, AllocError>
+        ensures { IfOk result (λ named. named ≡ (name.now, table.now)) }
     {
-        match &column.qualifier {
-            None => self.unqualified(&column.name),
-            Some(qualifier) => self.qualified(qualifier, &column.name),
+        match name.copy() {
+            Ok(name) => Ok(NamedTable { name, table }),
+            Err(refused) => Err(refused),
         }
     }
 
-    fn unqualified<'n>(&self, name: &'n Name) -> Result<(usize, usize), (NameKind, &'n Name)>
-        ensures { place_lent result ≡ unqualified_from 0 (tables_in self.now) name.now }
+    pub fn copy(&self) -> Result<NamedTable<'c>, AllocError>
+        ensures { IfOk result (λ named. named ≡ self.now) }
     {
-        for (out, from) in self.tables.iter().enumerate() {
-            if let Some(column) = from.table.column(name) {
-                return Ok((out, column));
-            }
-        }
-        Err((NameKind::Column, name))
+        NamedTable::new(&self.name, self.table)
     }
+}
 
-    fn qualified<'n>(
-        &self,
-        qualifier: &'n Name,
-        name: &'n Name,
-    ) -> Result<(usize, usize), (NameKind, &'n Name)>
-        ensures { place_lent result ≡ qualified_from 0 (tables_in self.now) qualifier.now name.now }
-    {
-        for (out, from) in self.tables.iter().enumerate() {
-            if from.name.is(qualifier) {
-                return match from.table.column(name) {
-                    Some(column) => Ok((out, column)),
-                    None => Err((NameKind::Column, name)),
-                };
-            }
+/// The definition of the first table of that name.
+pub fn known_table<'c>(known: &[NamedTable<'c>], name: &Name) -> Option<&'c TableDef>
+    ensures { option_copied result ≡ known_table known.now name.now }
+{
+    for table in known {
+        if table.name.is(name) {
+            return Some(table.table);
         }
-        Err((NameKind::Relation, qualifier))
     }
+    None
+}
+
+/// The table in front of those that lie further out.
+pub fn inside<'c>(
+    alloc: Global,
+    from: NamedTable<'c>,
+    tables: &[NamedTable<'c>],
+) -> Result<Vec<NamedTable<'c>>, AllocError>
+    ensures { IfOk result (λ all. all.items ≡ from.entry ∷ tables.now) }
+{
+    let mut all = Vec::with_capacity(alloc, tables.len())?;
+    all.push(from)?;
+    for table in tables {
+        all.push(table.copy()?)?;
+    }
+    Ok(all)
+}
+
+/// How many tables out, where there, and of which type the column is that the name means; else the name that is unknown,
+/// the qualifier's or the column's.
+pub fn place_of<'n>(
+    tables: &[NamedTable],
+    column: &'n ColumnName,
+) -> Result<Place, (NameKind, &'n Name)>
+    ensures { place_lent result ≡ place_in tables.now column.now }
+{
+    match &column.qualifier {
+        None => unqualified(tables, &column.name),
+        Some(qualifier) => qualified(tables, qualifier, &column.name),
+    }
+}
+
+/// The same of a name alone.
+pub fn unqualified<'n>(tables: &[NamedTable], name: &'n Name) -> Result<Place, (NameKind, &'n Name)>
+    ensures { place_lent result ≡ unqualified_from 0 tables.now name.now }
+{
+    for (out, from) in tables.iter().enumerate() {
+        if let Some((column, kind)) = from.table.typed_column(name) {
+            return Ok(Place { out, column, kind });
+        }
+    }
+    Err((NameKind::Column, name))
+}
+
+fn qualified<'n>(
+    tables: &[NamedTable],
+    qualifier: &'n Name,
+    name: &'n Name,
+) -> Result<Place, (NameKind, &'n Name)>
+    ensures { place_lent result ≡ qualified_from 0 tables.now qualifier.now name.now }
+{
+    for (out, from) in tables.iter().enumerate() {
+        if from.name.is(qualifier) {
+            return match from.table.typed_column(name) {
+                Some((column, kind)) => Ok(Place { out, column, kind }),
+                None => Err((NameKind::Column, name)),
+            };
+        }
+    }
+    Err((NameKind::Relation, qualifier))
 }

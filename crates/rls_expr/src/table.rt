@@ -1,8 +1,9 @@
 //! Definitions of tables.
 
 ghost use Rattle.std.specs.Prelude.{◌≡◌, ◌<◌, length, IfOk, IfSome};
-ghost use Rattle.rls_expr.specs.Tables.{column_named};
+ghost use Rattle.rls_expr.specs.Tables.{category_of, column_named, typed_column};
 
+use crate::expr::Category;
 use rls_value::{ColType, Items, Name};
 use std::alloc::{AllocError, Global};
 
@@ -58,6 +59,13 @@ impl TableDef {
         place_of(self.columns.as_slice(), name)
     }
 
+    /// The place and the type of the first column of that name.
+    pub fn typed_column(&self, name: &Name) -> Option<(usize, Category)>
+        ensures { result ≡ typed_column 0 self.now.columns name.now }
+    {
+        typed_place(self.columns.as_slice(), name)
+    }
+
     pub fn copy(&self, alloc: Global) -> Result<TableDef, AllocError>
         ensures { IfOk result (λ table. table ≡ self.now) }
     {
@@ -75,6 +83,28 @@ fn place_of(columns: &[Column], name: &Name) -> Option<usize>
     ensures { result ≡ column_named columns.now name.now }
 {
     columns.iter().position(|column| column.name.is(name))
+}
+
+fn typed_place(columns: &[Column], name: &Name) -> Option<(usize, Category)>
+    ensures { result ≡ typed_column 0 columns.now name.now }
+{
+    for (place, column) in columns.iter().enumerate() {
+        if column.name.is(name) {
+            return Some((place, category_of(column.kind)));
+        }
+    }
+    None
+}
+
+/// The type of a column's values.
+pub fn category_of(column: ColType) -> Category
+    ensures { result ≡ category_of column }
+{
+    match column {
+        ColType::Integer | ColType::BigInt => Category::Number,
+        ColType::Text => Category::Text,
+        ColType::Boolean => Category::Boolean,
+    }
 }
 
 fn copy_places(alloc: Global, places: &[usize]) -> Result<Vec<usize>, AllocError>

@@ -1,25 +1,14 @@
-//! The types of expressions, and the check that names resolve and types fit.
+//! The types of expressions.
 
-ghost use Rattle.std.specs.Prelude.{◌≡◌, take, IfOk};
-ghost use Rattle.rls_value.specs.Giving.{Gives};
+ghost use Rattle.std.specs.Prelude.{◌≡◌};
+ghost use Rattle.rls_expr.specs.ExprTerms.{query_of};
 ghost use Rattle.rls_expr.specs.Typing as spec;
-ghost use Rattle.rls_expr.specs.Typing.{type_of, all_booleans, all_numbers, among_type, takes_number, goes_with, goes_into, takes_boolean, category_of, checked, condition_checked};
-ghost use Rattle.rls_expr.specs.Scopes.{tables_in};
-ghost use Rattle.rls_expr.specs.Terms.{terms_of};
+ghost use Rattle.rls_expr.specs.Typing.{type_of, all_typed, all_booleans, all_numbers, among_type, item_type, only_type, query_fits, takes_number, goes_with, goes_into, takes_boolean};
+ghost use Rattle.rls_expr.specs.Terms.{maybe_term, terms_of};
 
-use crate::expr::{Expr, Node};
-use crate::resolving::resolve;
-use crate::scope::Scope;
-use rls_value::{ColType, Refusal, Value};
-use std::alloc::{AllocError, Global};
-
-/// The type of an expression. Whole numbers of 32 and of 64 bits are one type.
-#[derive(Clone, Copy, Debug, PartialEq, Eq)]
-pub enum Category {
-    Number,
-    Text,
-    Boolean,
-}
+use crate::expr::{Category, Expr, Node, Selects, Subquery};
+use crate::table::category_of;
+use rls_value::{ColType, Value};
 
 /// What typing finds: types that don't fit, a null, which goes with each type, or a type.
 #[derive(Clone, Copy, Debug, PartialEq, Eq)]
@@ -27,35 +16,6 @@ pub enum Typing {
     Fault,
     Null,
     Of(Category),
-}
-
-/// An expression with its columns resolved, and its type; none for null.
-#[derive(Drop)]
-pub struct Typed {
-    pub expr: Expr,
-    pub kind: Option<Category>,
-}
-
-impl Typed {
-    pub fn copy(&self, alloc: Global) -> Result<Typed, AllocError>
-        ensures { IfOk result (λ typed. typed ≡ self.now) }
-    {
-        Ok(Typed {
-            expr: self.expr.copy(alloc)?,
-            kind: self.kind,
-        })
-    }
-}
-
-/// The type of a column's values.
-pub fn category_of(column: ColType) -> Category
-    ensures { result ≡ category_of column }
-{
-    match column {
-        ColType::Integer | ColType::BigInt => Category::Number,
-        ColType::Text => Category::Text,
-        ColType::Boolean => Category::Boolean,
-    }
 }
 
 /// Whether values of what was typed may be given to a column, their range aside.
@@ -69,61 +29,77 @@ pub fn goes_into(typing: Typing, column: ColType) -> bool
     }
 }
 
-/// The expression with its columns resolved, and its type. The first unknown name in text order is refused,
-/// and only where all are known types that don't fit.
-pub fn check(alloc: Global, expr: &Expr, scope: &Scope) -> Result<Typed, Refusal>
-    ensures { Gives result (checked expr.now (tables_in scope.now)) }
-{
-    let expr = resolve(alloc, expr, scope)?;
-    match typing_of(&expr, scope) {
-        Typing::Fault => Err(Refusal::TypeFault),
-        Typing::Null => Ok(Typed { expr, kind: None }),
-        Typing::Of(kind) => Ok(Typed {
-            expr,
-            kind: Some(kind),
-        }),
-    }
-}
-
-/// The same for a condition, as of WHERE or of a policy, which has to be a boolean or null.
-pub fn check_condition(alloc: Global, expr: &Expr, scope: &Scope) -> Result<Expr, Refusal>
-    ensures { Gives result (condition_checked expr.now (tables_in scope.now)) }
-{
-    let expr = resolve(alloc, expr, scope)?;
-    if is_boolean(typing_of(&expr, scope)) {
-        Ok(expr)
-    } else {
-        Err(Refusal::TypeFault)
-    }
-}
-
-/// The type of an expression whose columns are resolved.
+/// The type of an expression whose columns are placed.
 #[cycle(typing)]
-pub fn typing_of(expr: &Expr, scope: &Scope) -> Typing
-    ensures { result ≡ type_of expr.now (tables_in scope.now) }
+pub fn typing_of(expr: &Expr) -> Typing
+    ensures { result ≡ type_of expr.now }
 {
     match expr.node() {
         Node::Literal(value) => literal_typing(value),
         Node::Column(_) => Typing::Fault,
-        Node::Place(out, column) => place_typing(scope, *out, *column),
+        Node::Place(place) => Typing::Of(place.kind),
         Node::CurrentUser => Typing::Of(Category::Text),
-        Node::Compare(_, left, right) => compared(typing_of(left, scope), typing_of(right, scope)),
-        Node::And(parts) | Node::Or(parts) => boolean_if(are_booleans(parts, scope)),
-        Node::Not(operand) => boolean_if(is_boolean(typing_of(operand, scope))),
-        Node::IsNull(operand) | Node::IsNotNull(operand) => tested(typing_of(operand, scope)),
-        Node::Among(left, list) | Node::NotAmong(left, list) => {
-            among_typing(typing_of(left, scope), list, scope)
+        Node::Compare(_, left, right) => compared(typing_of(left), typing_of(right)),
+        Node::And(parts) | Node::Or(parts) => boolean_if(are_booleans(parts)),
+        Node::Not(operand) => boolean_if(is_boolean(typing_of(operand))),
+        Node::IsNull(operand) | Node::IsNotNull(operand) => tested(typing_of(operand)),
+        Node::Among(left, list) | Node::NotAmong(left, list) => among_typing(typing_of(left), list),
+        Node::Exists(query) => boolean_if(query_fits(query)),
+        Node::Within(left, query) | Node::NotWithin(left, query) => {
+            compared(typing_of(left), item_typing(query))
         }
-        Node::Sum(_, parts) => number_if(are_numbers(parts, scope)),
+        Node::Scalar(query) => item_typing(query),
+        Node::Sum(_, parts) => number_if(are_numbers(parts)),
+    }
+}
+
+/// Whether each item has a type, and the condition is a boolean.
+#[cycle(typing)]
+fn query_fits(query: &Subquery) -> bool
+    ensures { result ≡ spec.query_fits (query_of query.now) }
+{
+    are_typed(&query.items) && is_condition(&query.condition)
+}
+
+/// The type of the one item that the subquery selects.
+#[cycle(typing)]
+fn item_typing(query: &Subquery) -> Typing
+    ensures { result ≡ item_type (query_of query.now) }
+{
+    selected_typing(
+        query.selects,
+        only_typing(&query.items),
+        is_condition(&query.condition),
+    )
+}
+
+#[cycle(typing)]
+fn only_typing(items: &[Expr]) -> Typing
+    ensures { result ≡ only_type (terms_of items.now) }
+{
+    match items {
+        [] => Typing::Fault,
+        [item] => typing_of(item),
+        [_, _, ..] => Typing::Fault,
     }
 }
 
 #[cycle(typing)]
-fn are_booleans(parts: &[Expr], scope: &Scope) -> bool
-    ensures { result ≡ all_booleans (terms_of parts.now) (tables_in scope.now) }
+fn is_condition(condition: &Option<Expr>) -> bool
+    ensures { result ≡ all_booleans (maybe_term condition.now) }
+{
+    match condition {
+        None => true,
+        Some(condition) => is_boolean(typing_of(condition)),
+    }
+}
+
+#[cycle(typing)]
+fn are_typed(parts: &[Expr]) -> bool
+    ensures { result ≡ all_typed (terms_of parts.now) }
 {
     for part in parts {
-        if !is_boolean(typing_of(part, scope)) {
+        if !is_typed(typing_of(part)) {
             return false;
         }
     }
@@ -131,11 +107,23 @@ fn are_booleans(parts: &[Expr], scope: &Scope) -> bool
 }
 
 #[cycle(typing)]
-fn are_numbers(parts: &[Expr], scope: &Scope) -> bool
-    ensures { result ≡ all_numbers (terms_of parts.now) (tables_in scope.now) }
+fn are_booleans(parts: &[Expr]) -> bool
+    ensures { result ≡ all_booleans (terms_of parts.now) }
 {
     for part in parts {
-        if !is_number(typing_of(part, scope)) {
+        if !is_boolean(typing_of(part)) {
+            return false;
+        }
+    }
+    true
+}
+
+#[cycle(typing)]
+fn are_numbers(parts: &[Expr]) -> bool
+    ensures { result ≡ all_numbers (terms_of parts.now) }
+{
+    for part in parts {
+        if !is_number(typing_of(part)) {
             return false;
         }
     }
@@ -144,11 +132,11 @@ fn are_numbers(parts: &[Expr], scope: &Scope) -> bool
 
 /// The type of IN, where what stands to its left is of that type.
 #[cycle(typing)]
-fn among_typing(left: Typing, list: &[Expr], scope: &Scope) -> Typing
-    ensures { result ≡ among_type left (terms_of list.now) (tables_in scope.now) }
+fn among_typing(left: Typing, list: &[Expr]) -> Typing
+    ensures { result ≡ among_type left (terms_of list.now) }
 {
     for part in list {
-        if compared(left, typing_of(part, scope)) == Typing::Fault {
+        if compared(left, typing_of(part)) == Typing::Fault {
             return Typing::Fault;
         }
     }
@@ -166,15 +154,13 @@ fn literal_typing(value: &Value) -> Typing
     }
 }
 
-fn place_typing(scope: &Scope, out: usize, column: usize) -> Typing
-    ensures { result ≡ spec.place_type (tables_in scope.now) out column }
+fn selected_typing(selects: Selects, only: Typing, fits: bool) -> Typing
+    ensures { result ≡ spec.selected_type selects only fits }
 {
-    match scope.tables.get(out) {
-        Some(from) => match from.table.columns.get(column) {
-            Some(column) => Typing::Of(category_of(column.kind)),
-            None => Typing::Fault,
-        },
-        None => Typing::Fault,
+    match (fits, selects) {
+        (false, _) => Typing::Fault,
+        (true, Selects::Count) => Typing::Of(Category::Number),
+        (true, Selects::All | Selects::Items) => only,
     }
 }
 
@@ -197,7 +183,18 @@ fn tested(operand: Typing) -> Typing
     }
 }
 
-fn is_boolean(operand: Typing) -> bool
+/// Whether it has a type, or is null.
+pub fn is_typed(typing: Typing) -> bool
+    ensures { result ≡ spec.is_typed typing }
+{
+    match typing {
+        Typing::Fault => false,
+        Typing::Null | Typing::Of(_) => true,
+    }
+}
+
+/// Whether it may stand where a boolean is wanted.
+pub fn is_boolean(operand: Typing) -> bool
     ensures { result ≡ takes_boolean operand }
 {
     match operand {

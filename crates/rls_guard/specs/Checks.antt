@@ -1,9 +1,9 @@
--- What a statement asks before it looks at rows: who may, and which names are known.
-use Rattle.std.specs.Prelude.{ℕ, List, Result, Ok, Err, if◌then◌else◌}
+-- What a statement is checked for: who may, and what is supported.
+use Rattle.std.specs.Prelude.{ℕ, List, Bool, ◌||◌, Result, Ok, Err, if◌then◌else◌}
 use Rattle.rls_value.specs.declared.refusal.Refusal.{Refusal}
-use Rattle.rls_value.specs.declared.refusal.Refusal.TheVariants.{Undefined, Denied}
+use Rattle.rls_value.specs.declared.refusal.Refusal.TheVariants.{Denied}
 use Rattle.rls_value.specs.declared.refusal.Why.TheVariants.{Admin}
-use Rattle.rls_expr.specs.Scopes.{Unknown}
+use Rattle.rls_expr.specs.Parts.{has_query, has_sum}
 use Rattle.rls_expr.specs.Terms.{Term}
 use Rattle.rls_catalog.specs.Membership.{attributes_in}
 use Rattle.rls_source.specs.Askings.{Asking, known, followed_by}
@@ -14,7 +14,6 @@ abbrev pub superuser_or_denied : List ℕ → List ℕ → Asking (Unit {0})
 superuser_or_denied role managed = followed_by (asked_role role) (λ found.
     known (if (attributes_in found).superuser then Ok tt else Err (Denied (Admin managed))))
 
--- a term whose names are all known
-abbrev pub known_or_undefined : Result Term Unknown → Result Term Refusal
-known_or_undefined (Ok term) = Ok term
-known_or_undefined (Err (kind, name)) = Err (Undefined kind name)
+-- a sum, which may stand in what a column is set to alone, or a subquery: none is answered yet
+abbrev pub is_unsupported : Term → Bool
+is_unsupported term = has_sum term || has_query term

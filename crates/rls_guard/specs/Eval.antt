@@ -14,7 +14,7 @@ use Rattle.rls_expr.specs.declared.expr.Comparison.TheVariants as c
 use Rattle.rls_expr.specs.declared.expr.Sign.{Sign}
 use Rattle.rls_expr.specs.declared.expr.Sign.TheVariants.{Plus, Minus}
 use Rattle.rls_expr.specs.declared.table.Column.{Column as ColumnOf}
-use Rattle.rls_expr.specs.Terms.{Term, Terms, Literal, Column, Place, CurrentUser, Compare, And, Or, Not, IsNull, IsNotNull, Among, NotAmong, Sum, End, More}
+use Rattle.rls_expr.specs.Terms.{Term, Terms, Literal, Column, Place, CurrentUser, Compare, And, Or, Not, IsNull, IsNotNull, Among, NotAmong, Exists, Within, NotWithin, Scalar, Sum, End, More}
 
 -- what a term is evaluated in: the current role, and the rows in scope, the innermost first
 pub record Environment : Type 0 where
@@ -58,11 +58,11 @@ number_or_null (Int a) = Int a
 number_or_null a = Null
 
 abbrev mutual
-  -- no checked term has a column by its name
+  -- no checked term has a column by its name, or a subquery: those are not supported yet
   pub value_of : Term → Environment → Value
   value_of (Literal v) env = v
   value_of (Column name) env = Null
-  value_of (Place out column) env = value_at (row_at env.rows out) column
+  value_of (Place at) env = value_at (row_at env.rows at.out) at.column
   value_of CurrentUser env = Text env.user
   value_of (Compare how a b) env = value_of_truth (compared how (value_of a env) (value_of b env))
   value_of (And ts) env = value_of_truth (all_of ts env)
@@ -72,6 +72,10 @@ abbrev mutual
   value_of (IsNotNull t) env = Flag (not (is_null (value_of t env)))
   value_of (Among t ts) env = value_of_truth (among_of (value_of t env) ts env)
   value_of (NotAmong t ts) env = value_of_truth (negation_of (among_of (value_of t env) ts env))
+  value_of (Exists q) env = Null
+  value_of (Within t q) env = Null
+  value_of (NotWithin t q) env = Null
+  value_of (Scalar q) env = Null
   value_of (Sum signs ts) env = sum_of signs ts env
 
   -- AND of all parts

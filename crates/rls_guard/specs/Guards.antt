@@ -20,12 +20,14 @@ use Rattle.rls_guard.specs.declared.guard.Watch.{Watch}
 use Rattle.rls_guard.specs.declared.guard.Guard.TheVariants.{Exempt, Policies}
 use Rattle.rls_source.specs.Askings.{Asking, known, asked_if, followed_by}
 use Rattle.rls_source.specs.Asked.{asked_policies}
+use Rattle.rls_guard.specs.Naming.{names_over}
 use Rattle.rls_guard.specs.Standings.{has_owner}
 use Rattle.rls_guard.specs.Eval.{value_of, over}
 
--- the policy with its condition in front of the others, where it has one
+-- the policy with its condition in front of the others, where it has one; its names mean columns of the table, and no
+-- policy has a subquery yet
 abbrev pub with_condition : InScope → Policy → Option Term → List (Policy × Term) → List (Policy × Term)
-with_condition from policy (Some term) conditions = (policy, placed term (from ∷ [])) ∷ conditions
+with_condition from policy (Some term) conditions = (policy, placed term (names_over from [])) ∷ conditions
 with_condition from policy None conditions = conditions
 
 -- each policy with the expression that it is asked for, whose columns are by their places

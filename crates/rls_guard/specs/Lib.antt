@@ -1,6 +1,7 @@
 pub mod Eval
 pub mod Envs
 pub mod Checks
+pub mod Naming
 pub mod Standings
 pub mod Guards
 pub mod Effects

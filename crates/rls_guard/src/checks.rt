@@ -1,12 +1,11 @@
-//! What a statement asks before it looks at rows: who may, and which names are known.
+//! What a statement is checked for: who may, and what is supported.
 
-ghost use Rattle.rls_value.specs.Giving.{Gives};
-ghost use Rattle.rls_expr.specs.Resolving.{resolved};
-ghost use Rattle.rls_expr.specs.Scopes.{tables_in};
+ghost use Rattle.std.specs.Prelude.{◌≡◌};
 ghost use Rattle.rls_source.specs.Answering.{Answers};
-ghost use Rattle.rls_guard.specs.Checks.{superuser_or_denied, known_or_undefined};
+ghost use Rattle.rls_guard.specs.Checks as spec;
+ghost use Rattle.rls_guard.specs.Checks.{superuser_or_denied};
 
-use rls_expr::{Expr, Scope, resolve};
+use rls_expr::{Expr, has_query, has_sum};
 use rls_source::{Reads, RowSource, noted_role};
 use rls_value::{Name, Refusal, Why};
 use std::alloc::Global;
@@ -27,9 +26,9 @@ pub fn require_superuser<'c, S: RowSource<'c>>(
     }
 }
 
-/// The expression with its columns by their places, whose names have to be known.
-pub fn known_term(alloc: Global, expr: &Expr, scope: &Scope) -> Result<Expr, Refusal>
-    ensures { Gives result (known_or_undefined (resolved expr.now (tables_in scope.now))) }
+/// Whether a sum stands in it, which may stand in what a column is set to alone, or a subquery: none is answered yet.
+pub fn is_unsupported(expr: &Expr) -> bool
+    ensures { result ≡ spec.is_unsupported expr.now }
 {
-    resolve(alloc, expr, scope)
+    has_sum(expr) || has_query(expr)
 }

@@ -133,8 +133,12 @@ fn eval<'a>(expr: &'a Expr, env: &Env<'a>) -> Result<Held<'a>, AllocError>
 {
     match expr.node() {
         Node::Literal(value) => Ok(held_of(value)),
-        Node::Column(_) => Ok(Held::Null),
-        Node::Place(out, column) => Ok(column_value(&env.rows, *out, *column)),
+        Node::Column(_)
+        | Node::Exists(_)
+        | Node::Within(_, _)
+        | Node::NotWithin(_, _)
+        | Node::Scalar(_) => Ok(Held::Null),
+        Node::Place(place) => Ok(column_value(&env.rows, place.out, place.column)),
         Node::CurrentUser => Ok(Held::Text(env.user.as_str())),
         Node::Compare(how, left, right) => comparison(*how, left, right, env),
         Node::And(parts) => all(parts, env),

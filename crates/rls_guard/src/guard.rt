@@ -3,6 +3,7 @@
 ghost use Rattle.std.specs.Prelude.{◌≡◌, [], ◌∷◌, map, IfOk, OnOk};
 ghost use Rattle.std.specs.Option.{option_copied};
 ghost use Rattle.rls_expr.specs.Placing.{placed};
+ghost use Rattle.rls_guard.specs.Naming.{names_over};
 ghost use Rattle.rls_expr.specs.Scopes.{in_scope};
 ghost use Rattle.rls_source.specs.Answering.{Tells};
 ghost use Rattle.rls_guard.specs.Guards as spec;
@@ -10,7 +11,7 @@ ghost use Rattle.rls_guard.specs.Guards as spec;
 use crate::evaluation::truth_over;
 use crate::standing::Standing;
 use rls_catalog::{Side, Verdict};
-use rls_expr::{Expr, FromTable, Policy, Scope, place_columns};
+use rls_expr::{Expr, FromTable, NamedTable, Policy, Scope, place_columns};
 use rls_policy::{Judgement, chosen, combine, expression_of};
 use rls_source::{Reads, RowSource, noted_policies};
 use rls_value::{Items, Kind, Loan, Name, Row};
@@ -133,10 +134,17 @@ fn conditions_of<'c>(
 
 /// A policy's expression with its columns by their places. A name that means none is null.
 fn condition_of(alloc: Global, expr: &Expr, from: FromTable) -> Result<Expr, AllocError>
-    ensures { IfOk result (λ condition. condition ≡ placed expr.now (in_scope from.entry ∷ [])) }
+    ensures { IfOk result (λ condition. condition ≡ placed expr.now (names_over (in_scope from.entry) [])) }
 {
-    let tables = [from];
-    place_columns(alloc, expr, &Scope { tables: &tables })
+    let tables = [NamedTable::new(from.name, from.table)?];
+    place_columns(
+        alloc,
+        expr,
+        &Scope {
+            tables: &tables,
+            known: &[],
+        },
+    )
 }
 
 /// What the guard says of the row. What its policies say is put into the buffer, whose memory serves the next row.

@@ -7,6 +7,7 @@ use Rattle.rls_value.specs.declared.refusal.Refusal.TheVariants as r
 use Rattle.rls_statement.specs.declared.statement.Statement.{Statement}
 use Rattle.rls_text.specs.Answers.{Answers, columns_of, first_limit, limit_from, limit_at, open_behind, or_next}
 use Rattle.rls_text.specs.Heights.{height_of}
+use Rattle.rls_text.specs.Nested.{subqueries_of}
 use Rattle.rls_session.specs.Connects.{limit_on_words}
 use Rattle.rls_text.specs.declared.token.Token.{Token}
 use Rattle.rls_text.specs.declared.token.Token.TheVariants as t
@@ -16,6 +17,7 @@ use Rattle.rls_text.specs.declared.token.Symbol.TheVariants as s
 abbrev IsOnWords : Option Limit → Type 0
 IsOnWords (Some l.Columns) = ⊥
 IsOnWords (Some l.Nesting) = ⊥
+IsOnWords (Some l.Subqueries) = ⊥
 IsOnWords _ = Unit {0}
 
 -- the first of two such
@@ -44,7 +46,7 @@ told_as_it_is : (limit : Limit) → IsOnWords (Some limit) → limit_on_words li
 told_as_it_is l.Columns on = absurd on
 told_as_it_is l.Nesting on = absurd on
 told_as_it_is l.Line on = refl
-told_as_it_is l.Subqueries on = refl
+told_as_it_is l.Subqueries on = absurd on
 told_as_it_is l.Parentheses on = refl
 told_as_it_is l.Policies on = refl
 told_as_it_is l.Inserts on = refl
@@ -54,31 +56,32 @@ told_as_it_is l.Numbers on = refl
 told_as_it_is l.Name on = refl
 
 -- no statement within or over its own limits is refused for one on words
-not_limited : (over_columns over_height : Bool) (x : Statement) (limit : Limit) → (limit ≡ l.Columns → ⊥) → (limit ≡ l.Nesting → ⊥)
-    → ◌≡◌ {A = Result Statement Refusal} (Err (r.Limit limit)) (if over_columns then Err (r.Limit l.Columns) else (if over_height then Err (r.Limit l.Nesting) else Ok x)) → ⊥
-not_limited true over_height x limit columns nesting is = columns cc
-not_limited false true x limit columns nesting is = nesting cc
-not_limited false false x limit columns nesting is = cc
+not_limited : (over_columns over_height over_subqueries : Bool) (x : Statement) (limit : Limit) → (limit ≡ l.Columns → ⊥) → (limit ≡ l.Nesting → ⊥) → (limit ≡ l.Subqueries → ⊥)
+    → ◌≡◌ {A = Result Statement Refusal} (Err (r.Limit limit)) (if over_columns then Err (r.Limit l.Columns) else (if over_height then Err (r.Limit l.Nesting) else (if over_subqueries then Err (r.Limit l.Subqueries) else Ok x))) → ⊥
+not_limited true over_height over_subqueries x limit columns nesting subqueries is = columns cc
+not_limited false true over_subqueries x limit columns nesting subqueries is = nesting cc
+not_limited false false true x limit columns nesting subqueries is = subqueries cc
+not_limited false false false x limit columns nesting subqueries is = cc
 
 -- where the words pass no limit, none on words is answered
-none_on_words : (tokens : List Token) (limit : Limit) → first_limit tokens ≡ None → (limit ≡ l.Columns → ⊥) → (limit ≡ l.Nesting → ⊥) → Answers tokens (Err (r.Limit limit)) → ⊥
-none_on_words tokens limit none columns nesting answer =
+none_on_words : (tokens : List Token) (limit : Limit) → first_limit tokens ≡ None → (limit ≡ l.Columns → ⊥) → (limit ≡ l.Nesting → ⊥) → (limit ≡ l.Subqueries → ⊥) → Answers tokens (Err (r.Limit limit)) → ⊥
+none_on_words tokens limit none columns nesting subqueries answer =
     let refused : ◌≡◌ {A = Result Statement Refusal} (Err (r.Limit limit)) (Err r.Syntax) =
-    answer.unspelled none (λ x spelled. not_limited (nat_lt 64 (columns_of x)) (nat_lt 64 (height_of x)) x limit columns nesting (answer.spelled x none spelled)) in
+    answer.unspelled none (λ x spelled. not_limited (nat_lt 64 (columns_of x)) (nat_lt 64 (height_of x)) (nat_lt 8 (subqueries_of x)) x limit columns nesting subqueries (answer.spelled x none spelled)) in
     cc
 
 off_words : (tokens : List Token) (limit : Limit) → first_limit tokens ≡ None → Answers tokens (Err (r.Limit limit)) → limit_on_words limit ≡ None
 off_words tokens l.Columns none answer = refl
 off_words tokens l.Nesting none answer = refl
-off_words tokens l.Line none answer = absurd (none_on_words tokens l.Line none (λ e. cc) (λ e. cc) answer)
-off_words tokens l.Subqueries none answer = absurd (none_on_words tokens l.Subqueries none (λ e. cc) (λ e. cc) answer)
-off_words tokens l.Parentheses none answer = absurd (none_on_words tokens l.Parentheses none (λ e. cc) (λ e. cc) answer)
-off_words tokens l.Policies none answer = absurd (none_on_words tokens l.Policies none (λ e. cc) (λ e. cc) answer)
-off_words tokens l.Inserts none answer = absurd (none_on_words tokens l.Inserts none (λ e. cc) (λ e. cc) answer)
-off_words tokens l.Transactions none answer = absurd (none_on_words tokens l.Transactions none (λ e. cc) (λ e. cc) answer)
-off_words tokens l.Sessions none answer = absurd (none_on_words tokens l.Sessions none (λ e. cc) (λ e. cc) answer)
-off_words tokens l.Numbers none answer = absurd (none_on_words tokens l.Numbers none (λ e. cc) (λ e. cc) answer)
-off_words tokens l.Name none answer = absurd (none_on_words tokens l.Name none (λ e. cc) (λ e. cc) answer)
+off_words tokens l.Line none answer = absurd (none_on_words tokens l.Line none (λ e. cc) (λ e. cc) (λ e. cc) answer)
+off_words tokens l.Subqueries none answer = refl
+off_words tokens l.Parentheses none answer = absurd (none_on_words tokens l.Parentheses none (λ e. cc) (λ e. cc) (λ e. cc) answer)
+off_words tokens l.Policies none answer = absurd (none_on_words tokens l.Policies none (λ e. cc) (λ e. cc) (λ e. cc) answer)
+off_words tokens l.Inserts none answer = absurd (none_on_words tokens l.Inserts none (λ e. cc) (λ e. cc) (λ e. cc) answer)
+off_words tokens l.Transactions none answer = absurd (none_on_words tokens l.Transactions none (λ e. cc) (λ e. cc) (λ e. cc) answer)
+off_words tokens l.Sessions none answer = absurd (none_on_words tokens l.Sessions none (λ e. cc) (λ e. cc) (λ e. cc) answer)
+off_words tokens l.Numbers none answer = absurd (none_on_words tokens l.Numbers none (λ e. cc) (λ e. cc) (λ e. cc) answer)
+off_words tokens l.Name none answer = absurd (none_on_words tokens l.Name none (λ e. cc) (λ e. cc) (λ e. cc) answer)
 
 by_passed : (passed : Option Limit) (limit : Limit) (tokens : List Token) → first_limit tokens ≡ passed → Answers tokens (Err (r.Limit limit)) → limit_on_words limit ≡ passed
 by_passed None limit tokens is answer = off_words tokens limit is answer

@@ -74,8 +74,9 @@ pub record ConnectsToLongName (command : List ℕ) : Type 0 where
   pub connect : IsConnect command behind
   pub long : is_long_name behind ≡ true
 
--- the limit, where it is one on words: those on columns and on nesting are on statements
+-- the limit, where it is one on words: those on columns, nesting and subqueries are on statements
 abbrev pub limit_on_words : Limit → Option Limit
 limit_on_words l.Columns = None
 limit_on_words l.Nesting = None
+limit_on_words l.Subqueries = None
 limit_on_words limit = Some limit

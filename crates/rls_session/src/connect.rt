@@ -79,7 +79,7 @@ fn on_words(limit: Limit) -> Option<Limit>
     ensures { result ≡ limit_on_words limit }
 {
     match limit {
-        Limit::Columns | Limit::Nesting => None,
+        Limit::Columns | Limit::Nesting | Limit::Subqueries => None,
         limit => Some(limit),
     }
 }

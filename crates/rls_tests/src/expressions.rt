@@ -1,27 +1,28 @@
-//! Expressions that are checked.
+//! Expressions that are placed.
 
-use rls_expr::{Category, Expr, Node, Scope, check};
-use rls_value::Refusal;
-use std::alloc::Global;
+use rls_expr::{Category, Expr, Node, Scope, Typing, place_columns, typing_of};
+use std::alloc::{AllocError, Global};
 
-/// The kind that a copy of the checked expression has.
-fn kind_of_copy(alloc: Global, expr: &Expr) -> Result<Option<Category>, Refusal> {
-    let typed = check(alloc, expr, &Scope { tables: &[] })?;
-    let copied = typed.copy(alloc);
-    drop(typed);
+/// The type that a copy of the placed expression has.
+fn type_of_copy(alloc: Global, expr: &Expr) -> Result<Typing, AllocError> {
+    let scope = Scope {
+        tables: &[],
+        known: &[],
+    };
+    let placed = place_columns(alloc, expr, &scope)?;
+    let copied = placed.copy(alloc);
+    drop(placed);
     let copy = copied?;
-    let kind = copy.kind;
+    let typing = typing_of(&copy);
     drop(copy);
-    Ok(kind)
+    Ok(typing)
 }
 
-/// Memory suffices to check an expression and to copy what was checked.
+/// Memory suffices to place an expression and to copy what was placed.
 #[test]
-fn checked_expression_is_copied(rt: HostRuntime) {
+fn placed_expression_is_copied(rt: HostRuntime) {
     let expr = Expr::new(Node::CurrentUser);
-    let kind = kind_of_copy(rt.alloc(), &expr);
+    let typing = type_of_copy(rt.alloc(), &expr);
     drop(expr);
-    let is_text = matches!(kind, Ok(Some(Category::Text)));
-    drop(kind);
-    assert!(rt; is_text);
+    assert!(rt; matches!(typing, Ok(Typing::Of(Category::Text))));
 }

@@ -7,6 +7,7 @@ use Rattle.std.proofs.lemmas.Bool.{ltb-true, ltb-false, lt-ltb, le-ltb}
 use Rattle.rls_text.specs.Parses.{found, and_then}
 use Rattle.rls_text.specs.Trees.{Draft}
 use Rattle.rls_text.specs.Heights.{height_of}
+use Rattle.rls_text.specs.Nested.{subqueries_of}
 use Rattle.rls_text.specs.Writes.{some_is}
 use Rattle.rls_text.specs.Cut.{Cut}
 use Rattle.rls_text.specs.Cut as cut
@@ -95,22 +96,42 @@ module _ (k : ℕ) (i i' : Cut tree_of expr_heads expr_more false) (I : Within k
   unfolding g.tuple
   tuple_within = after_within k _ _ _ (before_within k _ _ _ parts_within)
 
+  condition_within : Within k (g.condition i).rule.spells (g.condition i').rule.spells
+  unfolding g.condition
+  condition_within = perhaps_within k _ _ (after_within k _ _ _ I)
+
+  select_parts_within : Within k (g.select_parts i).rule.spells (g.select_parts i').rule.spells
+  unfolding g.select_parts
+  select_parts_within = after_within k _ _ _ (both_within k _ _ _ _ (same_lang k _) (both_within k _ _ _ _ (same_lang k _) condition_within))
+
+  enclosed_within : Within k (g.enclosed i).rule.spells (g.enclosed i').rule.spells
+  unfolding g.enclosed g.scalar
+  enclosed_within = either_within k _ _ _ _ (mapped_within k _ _ _ select_parts_within) I
+
+  choices_within : Within k (g.choices i).rule.spells (g.choices i').rule.spells
+  unfolding g.choices
+  choices_within = either_within k _ _ _ _ (mapped_within k _ _ _ select_parts_within) (mapped_within k _ _ _ parts_within)
+
 module _ (k : ℕ) (i i' : Cut tree_of expr_heads expr_more false) (I : (j : ℕ) → j < k → Within j i.rule.spells i'.rule.spells) where
+  exists_within : Within k (g.exists i).rule.spells (g.exists i').rule.spells
+  unfolding g.exists
+  exists_within = mapped_within k _ _ _ (shorter_within _ k _ _ (λ j h. after_within j _ _ _ (before_within j _ _ _ (select_parts_within j i i' (I j h)))))
+
   pub prim_within : Within k (g.prim i).rule.spells (g.prim i').rule.spells
-  unfolding g.prim g.parenthesized
-  prim_within = either_within k _ _ _ _ (same_lang k _) (shorter_within _ k _ _ (λ j h. mapped_within j _ _ _ (both_within j _ _ _ _ (I j h) (same_lang j _))))
+  unfolding g.prim
+  prim_within = either_within k _ _ _ _ (same_lang k _) (either_within k _ _ _ _ exists_within (shorter_within _ k _ _ (λ j h. before_within j _ _ _ (enclosed_within j i i' (I j h)))))
 
   sum_within : Within k (g.sum i).rule.spells (g.sum i').rule.spells
   unfolding g.sum g.sum_next
   sum_within = mapped_within k _ _ _ (both_within k _ _ _ _ prim_within (many_within k _ _ (both_within k _ _ _ _ (same_lang k _) prim_within)))
 
-  list_within : Within k (g.tuple i).rule.spells (g.tuple i').rule.spells
-  unfolding g.tuple
-  list_within = shorter_within _ k _ _ (λ j h. before_within j _ _ _ (parts_within j i i' (I j h)))
+  enclosed_choices_within : Within k (g.enclosed_choices i).rule.spells (g.enclosed_choices i').rule.spells
+  unfolding g.enclosed_choices
+  enclosed_choices_within = shorter_within _ k _ _ (λ j h. before_within j _ _ _ (choices_within j i i' (I j h)))
 
   memb_within : Within k (g.memb i).rule.spells (g.memb i').rule.spells
-  unfolding g.memb g.in_list
-  memb_within = mapped_within k _ _ _ (both_within k _ _ _ _ sum_within (perhaps_within k _ _ (both_within k _ _ _ _ (same_lang k _) list_within)))
+  unfolding g.memb g.in_choices
+  memb_within = mapped_within k _ _ _ (both_within k _ _ _ _ sum_within (perhaps_within k _ _ (both_within k _ _ _ _ (same_lang k _) enclosed_choices_within)))
 
   cmp_within : Within k (g.cmp i).rule.spells (g.cmp i').rule.spells
   unfolding g.cmp
@@ -148,8 +169,8 @@ module _ (k : ℕ) (i i' : Cut tree_of expr_heads expr_more false) (I : Within k
   parenthesized_within = after_within k _ _ _ (before_within k _ _ _ I)
 
   select_within : Within k (g.select i).rule.spells (g.select i').rule.spells
-  unfolding g.select g.condition
-  select_within = mapped_within k _ _ _ (after_within k _ _ _ (both_within k _ _ _ _ (same_lang k _) (both_within k _ _ _ _ (same_lang k _) (perhaps_within k _ _ (after_within k _ _ _ I)))))
+  unfolding g.select
+  select_within = mapped_within k _ _ _ (select_parts_within k i i' I)
 
   tuples_within : Within k (g.even_tuples i).rule.spells (g.even_tuples i').rule.spells
   unfolding g.even_tuples g.tuples cut.with_comma
@@ -172,8 +193,8 @@ module _ (k : ℕ) (i i' : Cut tree_of expr_heads expr_more false) (I : Within k
   set_columns_within = checked_within k _ _ _ (mapped_within k _ _ _ (both_within k _ _ _ _ set_column_within (many_within k _ _ (after_within k _ _ _ set_column_within))))
 
   ending_within : Within k (g.ending i).rule.spells (g.ending i').rule.spells
-  unfolding g.ending g.condition
-  ending_within = both_within k _ _ _ _ (perhaps_within k _ _ (after_within k _ _ _ I)) (same_lang k _)
+  unfolding g.ending
+  ending_within = both_within k _ _ _ _ (condition_within k i i' I) (same_lang k _)
 
   update_within : Within k (g.update i).rule.spells (g.update i').rule.spells
   unfolding g.update
@@ -300,8 +321,8 @@ pub limits_kept : (x : Statement) → within_limits (draft_of x) ≡ limited x
 limits_kept x = rw (columns_kept x) (go (nat_lt 64 (columns_of x)) (nat_lt 64 (draft_of x).1) refl)
   where
     go : (a b : Bool) → nat_lt 64 (draft_of x).1 ≡ b
-        → if◌then◌else◌ {A = Result Statement Refusal} a (Err (refusal.Limit l.Columns)) (if◌then◌else◌ {A = Result Statement Refusal} b (Err (refusal.Limit l.Nesting)) (Ok (draft_of x).0))
-        ≡ if◌then◌else◌ {A = Result Statement Refusal} a (Err (refusal.Limit l.Columns)) (if◌then◌else◌ {A = Result Statement Refusal} (nat_lt 64 (height_of x)) (Err (refusal.Limit l.Nesting)) (Ok x))
+        → if◌then◌else◌ {A = Result Statement Refusal} a (Err (refusal.Limit l.Columns)) (if◌then◌else◌ {A = Result Statement Refusal} b (Err (refusal.Limit l.Nesting)) (if◌then◌else◌ {A = Result Statement Refusal} (nat_lt 8 (subqueries_of (draft_of x).0)) (Err (refusal.Limit l.Subqueries)) (Ok (draft_of x).0)))
+        ≡ if◌then◌else◌ {A = Result Statement Refusal} a (Err (refusal.Limit l.Columns)) (if◌then◌else◌ {A = Result Statement Refusal} (nat_lt 64 (height_of x)) (Err (refusal.Limit l.Nesting)) (if◌then◌else◌ {A = Result Statement Refusal} (nat_lt 8 (subqueries_of x)) (Err (refusal.Limit l.Subqueries)) (Ok x)))
     go true b e = refl
     go false true e =
         let over : nat_lt 64 (height_of x) ≡ true = lt-ltb 64 (height_of x) (draft_high x (ltb-true 64 (draft_of x).1 e)) in
@@ -326,12 +347,13 @@ is_answer ts = record {
 
 -- what is limited is the statement itself
 kept : (x y : Statement) → limited x ≡ Ok y → x ≡ y
-kept x y h = go (nat_lt 64 (columns_of x)) (nat_lt 64 (height_of x)) h
+kept x y h = go (nat_lt 64 (columns_of x)) (nat_lt 64 (height_of x)) (nat_lt 8 (subqueries_of x)) h
   where
-    go : (a b : Bool) → (if◌then◌else◌ {A = Result Statement Refusal} a (Err (refusal.Limit l.Columns)) (if◌then◌else◌ {A = Result Statement Refusal} b (Err (refusal.Limit l.Nesting)) (Ok x))) ≡ Ok y → x ≡ y
-    go true b h = cc
-    go false true h = cc
-    go false false h = cc
+    go : (a b c : Bool) → (if◌then◌else◌ {A = Result Statement Refusal} a (Err (refusal.Limit l.Columns)) (if◌then◌else◌ {A = Result Statement Refusal} b (Err (refusal.Limit l.Nesting)) (if◌then◌else◌ {A = Result Statement Refusal} c (Err (refusal.Limit l.Subqueries)) (Ok x)))) ≡ Ok y → x ≡ y
+    go true b c h = cc
+    go false true c h = cc
+    go false false true h = cc
+    go false false false h = cc
 
 -- A statement that is the answer is spelled.
 pub answer_spelled : (ts : List Token) (x : Statement) → answer_of ts ≡ Ok x → IsSpelled ts x
@@ -352,14 +374,29 @@ ok_spelled (Err e) ts h = tt
 
 -- A statement that is within the limits is no higher than 64.
 pub spelled_low : (ts : List Token) (x : Statement) → IsSpelled ts x → height_of x ≤ 64
-spelled_low ts x h = go (nat_lt 64 (columns_of x)) (nat_lt 64 (height_of x)) refl h.within
+spelled_low ts x h = go (nat_lt 64 (columns_of x)) (nat_lt 64 (height_of x)) (nat_lt 8 (subqueries_of x)) refl h.within
   where
-    go : (a b : Bool) → nat_lt 64 (height_of x) ≡ b
-        → if◌then◌else◌ {A = Result Statement Refusal} a (Err (refusal.Limit l.Columns)) (if◌then◌else◌ {A = Result Statement Refusal} b (Err (refusal.Limit l.Nesting)) (Ok x)) ≡ Ok x → height_of x ≤ 64
-    go true b p e = absurd (cc)
-    go false true p e = absurd (cc)
-    go false false p e = ltb-false 64 (height_of x) p
+    go : (a b c : Bool) → nat_lt 64 (height_of x) ≡ b
+        → if◌then◌else◌ {A = Result Statement Refusal} a (Err (refusal.Limit l.Columns)) (if◌then◌else◌ {A = Result Statement Refusal} b (Err (refusal.Limit l.Nesting)) (if◌then◌else◌ {A = Result Statement Refusal} c (Err (refusal.Limit l.Subqueries)) (Ok x))) ≡ Ok x → height_of x ≤ 64
+    go true b c p e = absurd (cc)
+    go false true c p e = absurd (cc)
+    go false false c p e = ltb-false 64 (height_of x) p
 
 pub ok_low : (r : Result Statement Refusal) (ts : List Token) → IfOk r (λ x. IsSpelled ts x) → IfOk r (λ x. height_of x ≤ 64)
 ok_low (Ok x) ts h = spelled_low ts x h
 ok_low (Err e) ts h = tt
+
+-- No more than 8 subqueries lie one inside another in it.
+pub spelled_few : (ts : List Token) (x : Statement) → IsSpelled ts x → subqueries_of x ≤ 8
+spelled_few ts x h = go (nat_lt 64 (columns_of x)) (nat_lt 64 (height_of x)) (nat_lt 8 (subqueries_of x)) refl h.within
+  where
+    go : (a b c : Bool) → nat_lt 8 (subqueries_of x) ≡ c
+        → if◌then◌else◌ {A = Result Statement Refusal} a (Err (refusal.Limit l.Columns)) (if◌then◌else◌ {A = Result Statement Refusal} b (Err (refusal.Limit l.Nesting)) (if◌then◌else◌ {A = Result Statement Refusal} c (Err (refusal.Limit l.Subqueries)) (Ok x))) ≡ Ok x → subqueries_of x ≤ 8
+    go true b c p e = absurd (cc)
+    go false true c p e = absurd (cc)
+    go false false true p e = absurd (cc)
+    go false false false p e = ltb-false 8 (subqueries_of x) p
+
+pub ok_few : (r : Result Statement Refusal) (ts : List Token) → IfOk r (λ x. IsSpelled ts x) → IfOk r (λ x. subqueries_of x ≤ 8)
+ok_few (Ok x) ts h = spelled_few ts x h
+ok_few (Err e) ts h = tt

@@ -1,4 +1,5 @@
 pub mod Loops
+pub mod Rooms
 pub mod Wording
 pub mod Laws
 pub mod Distinct

@@ -5,9 +5,10 @@ use Rattle.rls_value.specs.declared.value.Value.TheVariants as v
 use Rattle.rls_value.specs.declared.value.ColType.TheVariants as k
 use Rattle.rls_value.specs.declared.verb.Kind.TheVariants as command
 use Rattle.rls_value.specs.declared.verb.PolicyKind.TheVariants as kind
-use Rattle.rls_expr.specs.Terms.{Term}
+use Rattle.rls_expr.specs.Terms.{Term, Query}
 use Rattle.rls_expr.specs.Terms as e
 use Rattle.rls_expr.specs.declared.expr.Comparison.TheVariants as c
+use Rattle.rls_expr.specs.declared.expr.Selects.TheVariants as selects
 use Rattle.rls_expr.specs.declared.expr.Sign.TheVariants as part
 use Rattle.rls_expr.specs.declared.policy.Grantee.TheVariants as to
 use Rattle.rls_statement.specs.declared.statement.MembershipOption.TheVariants as m
@@ -58,7 +59,7 @@ example = e.And (e.More (e.IsNull (e.Compare c.Equal (column (codes "a")) (e.Lit
 written : (g.expr 6).rule.prints.writes example ≡ Some
     (t.Symbol s.LParen ∷ t.Symbol s.LParen ∷ Word (codes "a") ∷ t.Symbol s.Equal ∷ t.Symbol s.Minus ∷ Number 5 ∷ t.Symbol s.RParen ∷ Word (codes "is") ∷ Word (codes "null") ∷ t.Symbol s.RParen
     ∷ Word (codes "and") ∷ t.Symbol s.LParen ∷ Word (codes "not") ∷ t.Symbol s.LParen ∷ Word (codes "not") ∷ Word (codes "b") ∷ t.Symbol s.RParen ∷ t.Symbol s.RParen ∷ [])
-unfolding reserved g.expr g.or g.or_next g.and g.and_next g.not_ g.nots g.is g.null_test g.cmp g.memb g.sum g.comparison g.prim g.parenthesized g.item g.column g.behind_dot g.name g.literal g.constant g.text g.number g.digits
+unfolding reserved g.expr g.or g.or_next g.and g.and_next g.not_ g.nots g.is g.null_test g.cmp g.memb g.sum g.comparison g.prim g.exists g.enclosed g.scalar g.item g.column g.behind_dot g.name g.literal g.constant g.text g.number g.digits
 written = refl
 
 -- (a - -5 + b) NOT IN (1, NOT b) = (c IN (d))
@@ -71,40 +72,83 @@ list_written : (g.expr 6).rule.prints.writes list_example ≡ Some
     (t.Symbol s.LParen ∷ t.Symbol s.LParen ∷ Word (codes "a") ∷ t.Symbol s.Minus ∷ t.Symbol s.Minus ∷ Number 5 ∷ t.Symbol s.Plus ∷ Word (codes "b") ∷ t.Symbol s.RParen ∷ Word (codes "not") ∷ Word (codes "in")
     ∷ t.Symbol s.LParen ∷ Number 1 ∷ t.Symbol s.Comma ∷ Word (codes "not") ∷ Word (codes "b") ∷ t.Symbol s.RParen ∷ t.Symbol s.RParen ∷ t.Symbol s.Equal
     ∷ t.Symbol s.LParen ∷ Word (codes "c") ∷ Word (codes "in") ∷ t.Symbol s.LParen ∷ Word (codes "d") ∷ t.Symbol s.RParen ∷ t.Symbol s.RParen ∷ [])
-unfolding reserved g.sum_next g.part_sign g.in_list g.in_word g.tuple g.parts cut.with_comma g.expr g.or g.or_next g.and g.and_next g.not_ g.nots g.is g.null_test g.cmp g.memb g.sum g.comparison g.prim g.parenthesized g.item g.column g.behind_dot g.name g.literal g.constant g.text g.number g.digits
+unfolding reserved g.sum_next g.part_sign g.in_choices g.enclosed_choices g.choices g.in_word g.parts cut.with_comma g.expr g.or g.or_next g.and g.and_next g.not_ g.nots g.is g.null_test g.cmp g.memb g.sum g.comparison g.prim g.exists g.enclosed g.scalar g.item g.column g.behind_dot g.name g.literal g.constant g.text g.number g.digits
 list_written = refl
 
 -- Behind an operand a minus is the sum's: a - 5.
 sign_read : (g.expr 1).rule.parses.read (Word (codes "a") ∷ t.Symbol s.Minus ∷ Number 5 ∷ []) ≡ Some (e.Sum (part.Minus ∷ []) (e.More (column (codes "a")) (e.More (e.Literal (v.Int (pos 5))) e.End)), [])
-unfolding reserved read_many g.sum_next g.part_sign g.expr g.or g.or_next g.and g.and_next g.not_ g.nots g.is g.null_test g.cmp g.memb g.sum g.comparison g.prim g.parenthesized g.item g.column g.behind_dot g.name g.literal g.constant g.text g.number g.digits
+unfolding reserved read_many g.sum_next g.part_sign g.expr g.or g.or_next g.and g.and_next g.not_ g.nots g.is g.null_test g.cmp g.memb g.sum g.comparison g.prim g.exists g.enclosed g.scalar g.item g.column g.behind_dot g.name g.literal g.constant g.text g.number g.digits
 sign_read = refl
 
 -- So the number has none in a - 9223372036854775808, and is out of range.
 number_over : (g.expr 1).rule.parses.read (Word (codes "a") ∷ t.Symbol s.Minus ∷ Number 9223372036854775808 ∷ []) ≡ None
-unfolding reserved read_many g.sum_next g.part_sign g.expr g.or g.or_next g.and g.and_next g.not_ g.nots g.is g.null_test g.cmp g.memb g.sum g.comparison g.prim g.parenthesized g.item g.column g.behind_dot g.name g.literal g.constant g.text g.number g.digits
+unfolding reserved read_many g.sum_next g.part_sign g.expr g.or g.or_next g.and g.and_next g.not_ g.nots g.is g.null_test g.cmp g.memb g.sum g.comparison g.prim g.exists g.enclosed g.scalar g.item g.column g.behind_dot g.name g.literal g.constant g.text g.number g.digits
 number_over = refl
 
 -- The list behind IN isn't empty.
 list_empty : (g.expr 1).rule.parses.read (Word (codes "a") ∷ Word (codes "in") ∷ t.Symbol s.LParen ∷ t.Symbol s.RParen ∷ []) ≡ None
-unfolding reserved read_many g.in_list g.in_word g.tuple g.parts cut.with_comma g.expr g.or g.or_next g.and g.and_next g.not_ g.nots g.is g.null_test g.cmp g.memb g.sum g.comparison g.prim g.parenthesized g.item g.column g.behind_dot g.name g.literal g.constant g.text g.number g.digits
+unfolding reserved read_many g.in_choices g.enclosed_choices g.choices g.in_word g.parts cut.with_comma g.expr g.or g.or_next g.and g.and_next g.not_ g.nots g.is g.null_test g.cmp g.memb g.sum g.comparison g.prim g.exists g.enclosed g.scalar g.item g.column g.behind_dot g.name g.literal g.constant g.text g.number g.digits
 list_empty = refl
+
+-- SELECT * FROM u, of which the key isn't placed
+abbrev pub all_of : List ℕ → Query
+all_of table = e.Select record { table = table; alias = None } [] selects.All e.End e.End
+
+-- EXISTS (SELECT * FROM u AS w WHERE w.a = (SELECT COUNT(*) FROM v)), where neither gets further parentheses
+abbrev pub query_example : Term
+query_example = e.Exists (e.Select record { table = codes "u"; alias = Some (codes "w") } [] selects.All e.End
+    (e.More (e.Compare c.Equal (qualified (codes "w") (codes "a")) (e.Scalar (e.Select record { table = codes "v"; alias = None } [] selects.Count e.End e.End))) e.End))
+
+query_written : (g.expr 3).rule.prints.writes query_example ≡ Some
+    (Word (codes "exists") ∷ t.Symbol s.LParen ∷ Word (codes "select") ∷ t.Symbol s.Star ∷ Word (codes "from") ∷ Word (codes "u") ∷ Word (codes "as") ∷ Word (codes "w")
+    ∷ Word (codes "where") ∷ Word (codes "w") ∷ t.Symbol s.Dot ∷ Word (codes "a") ∷ t.Symbol s.Equal
+    ∷ t.Symbol s.LParen ∷ Word (codes "select") ∷ Word (codes "count") ∷ t.Symbol s.LParen ∷ t.Symbol s.Star ∷ t.Symbol s.RParen ∷ Word (codes "from") ∷ Word (codes "v") ∷ t.Symbol s.RParen ∷ t.Symbol s.RParen ∷ [])
+unfolding reserved g.select_parts g.items g.count g.selected_items g.item_list g.from_table g.alias_if_any g.alias g.condition with_comma g.expr g.or g.or_next g.and g.and_next g.not_ g.nots g.is g.null_test g.cmp g.memb g.sum g.comparison g.prim g.exists g.enclosed g.scalar g.item g.column g.behind_dot g.name g.literal g.constant g.text g.number g.digits
+query_written = refl
+
+-- NOT EXISTS (SELECT * FROM u) AND a NOT IN (SELECT b, 1 FROM v)
+abbrev pub within_example : Term
+within_example = e.And (e.More (e.Not (e.Exists (all_of (codes "u"))))
+    (e.More (e.NotWithin (column (codes "a")) (e.Select record { table = codes "v"; alias = None } [] selects.Items (e.More (column (codes "b")) (e.More (e.Literal (v.Int (pos 1))) e.End)) e.End)) e.End))
+
+within_written : (g.expr 3).rule.prints.writes within_example ≡ Some
+    (t.Symbol s.LParen ∷ Word (codes "not") ∷ Word (codes "exists") ∷ t.Symbol s.LParen ∷ Word (codes "select") ∷ t.Symbol s.Star ∷ Word (codes "from") ∷ Word (codes "u") ∷ t.Symbol s.RParen ∷ t.Symbol s.RParen ∷ Word (codes "and")
+    ∷ t.Symbol s.LParen ∷ Word (codes "a") ∷ Word (codes "not") ∷ Word (codes "in") ∷ t.Symbol s.LParen ∷ Word (codes "select") ∷ Word (codes "b") ∷ t.Symbol s.Comma ∷ Number 1 ∷ Word (codes "from") ∷ Word (codes "v") ∷ t.Symbol s.RParen ∷ t.Symbol s.RParen ∷ [])
+unfolding reserved g.in_choices g.enclosed_choices g.choices g.in_word g.parts g.select_parts g.items g.count g.selected_items g.item_list g.from_table g.alias_if_any g.alias g.condition with_comma g.expr g.or g.or_next g.and g.and_next g.not_ g.nots g.is g.null_test g.cmp g.memb g.sum g.comparison g.prim g.exists g.enclosed g.scalar g.item g.column g.behind_dot g.name g.literal g.constant g.text g.number g.digits
+within_written = refl
+
+-- A subquery of which the key is placed isn't written.
+placed_not_written : (g.expr 2).rule.prints.writes (e.Exists (e.Select record { table = codes "u"; alias = None } (0 ∷ []) selects.All e.End e.End)) ≡ None
+unfolding reserved g.select_parts g.items g.count g.selected_items g.item_list g.from_table g.alias_if_any g.alias g.condition with_comma g.expr g.or g.or_next g.and g.and_next g.not_ g.nots g.is g.null_test g.cmp g.memb g.sum g.comparison g.prim g.exists g.enclosed g.scalar g.item g.column g.behind_dot g.name g.literal g.constant g.text g.number g.digits
+placed_not_written = refl
+
+-- In the list behind IN a subquery stands in parentheses: a IN ((SELECT * FROM u)).
+listed_read : (g.expr 2).rule.parses.read (Word (codes "a") ∷ Word (codes "in") ∷ t.Symbol s.LParen ∷ t.Symbol s.LParen ∷ Word (codes "select") ∷ t.Symbol s.Star ∷ Word (codes "from") ∷ Word (codes "u") ∷ t.Symbol s.RParen ∷ t.Symbol s.RParen ∷ []) ≡ Some
+    (e.Among (column (codes "a")) (e.More (e.Scalar (all_of (codes "u"))) e.End), [])
+unfolding reserved read_many g.in_choices g.enclosed_choices g.choices g.in_word g.parts cut.with_comma g.sum_next g.part_sign g.select_parts g.items g.count g.selected_items g.item_list g.from_table g.alias_if_any g.alias g.condition with_comma g.expr g.or g.or_next g.and g.and_next g.not_ g.nots g.is g.null_test g.cmp g.memb g.sum g.comparison g.prim g.exists g.enclosed g.scalar g.item g.column g.behind_dot g.name g.literal g.constant g.text g.number g.digits
+listed_read = refl
+
+-- EXISTS has one pair of parentheses.
+exists_twice : (g.expr 2).rule.parses.read (Word (codes "exists") ∷ t.Symbol s.LParen ∷ t.Symbol s.LParen ∷ Word (codes "select") ∷ t.Symbol s.Star ∷ Word (codes "from") ∷ Word (codes "u") ∷ t.Symbol s.RParen ∷ t.Symbol s.RParen ∷ []) ≡ None
+unfolding reserved read_many g.select_parts g.items g.count g.selected_items g.item_list g.from_table g.alias_if_any g.alias g.condition with_comma g.expr g.or g.or_next g.and g.and_next g.not_ g.nots g.is g.null_test g.cmp g.memb g.sum g.comparison g.prim g.exists g.enclosed g.scalar g.item g.column g.behind_dot g.name g.literal g.constant g.text g.number g.digits
+exists_twice = refl
 
 -- SELECT a, b FROM t WHERE a
 select_written : (g.statement 2).rule.prints.writes (st.Select record { items = selected.Items (column (codes "a") ∷ column (codes "b") ∷ []); table = codes "t"; alias = None; condition = Some (column (codes "a")) }) ≡ Some
     (Word (codes "select") ∷ Word (codes "a") ∷ t.Symbol s.Comma ∷ Word (codes "b") ∷ Word (codes "from") ∷ Word (codes "t") ∷ Word (codes "where") ∷ Word (codes "a") ∷ [])
-unfolding reserved g.statement g.body g.select g.items g.count g.selected_items g.item_list g.from_table g.alias_if_any g.alias g.condition with_comma g.expr g.or g.or_next g.and g.and_next g.not_ g.nots g.is g.null_test g.cmp g.memb g.sum g.comparison g.prim g.parenthesized g.item g.column g.behind_dot g.name g.literal g.constant g.text g.number g.digits
+unfolding reserved g.statement g.body g.select g.select_parts g.items g.count g.selected_items g.item_list g.from_table g.alias_if_any g.alias g.condition with_comma g.expr g.or g.or_next g.and g.and_next g.not_ g.nots g.is g.null_test g.cmp g.memb g.sum g.comparison g.prim g.exists g.enclosed g.scalar g.item g.column g.behind_dot g.name g.literal g.constant g.text g.number g.digits
 select_written = refl
 
 -- SELECT COUNT(*) FROM t WHERE a
 count_written : (g.statement 2).rule.prints.writes (st.Select record { items = selected.Count; table = codes "t"; alias = None; condition = Some (column (codes "a")) }) ≡ Some
     (Word (codes "select") ∷ Word (codes "count") ∷ t.Symbol s.LParen ∷ t.Symbol s.Star ∷ t.Symbol s.RParen ∷ Word (codes "from") ∷ Word (codes "t") ∷ Word (codes "where") ∷ Word (codes "a") ∷ [])
-unfolding reserved g.statement g.body g.select g.items g.count g.from_table g.alias_if_any g.alias g.condition g.expr g.or g.or_next g.and g.and_next g.not_ g.nots g.is g.null_test g.cmp g.memb g.sum g.comparison g.prim g.parenthesized g.item g.column g.behind_dot g.name g.literal g.constant g.text g.number g.digits
+unfolding reserved g.statement g.body g.select g.select_parts g.items g.count g.from_table g.alias_if_any g.alias g.condition g.expr g.or g.or_next g.and g.and_next g.not_ g.nots g.is g.null_test g.cmp g.memb g.sum g.comparison g.prim g.exists g.enclosed g.scalar g.item g.column g.behind_dot g.name g.literal g.constant g.text g.number g.digits
 count_written = refl
 
 -- SELECT -5, 'x', NULL, CURRENT_USER, a FROM t
 items_written : (g.statement 1).rule.prints.writes (st.Select record { items = selected.Items (e.Literal (v.Int (negsuc 4)) ∷ e.Literal (v.Text (codes "x")) ∷ e.Literal v.Null ∷ e.CurrentUser ∷ column (codes "a") ∷ []); table = codes "t"; alias = None; condition = None }) ≡ Some
     (Word (codes "select") ∷ t.Symbol s.Minus ∷ Number 5 ∷ t.Symbol s.Comma ∷ Text (codes "x") ∷ t.Symbol s.Comma ∷ Word (codes "null") ∷ t.Symbol s.Comma ∷ Word (codes "current_user") ∷ t.Symbol s.Comma ∷ Word (codes "a") ∷ Word (codes "from") ∷ Word (codes "t") ∷ [])
-unfolding reserved g.statement g.body g.select g.items g.count g.selected_items g.item_list g.item g.column g.behind_dot g.from_table g.alias_if_any g.alias g.condition with_comma g.name g.literal g.constant g.text g.number g.digits
+unfolding reserved g.statement g.body g.select g.select_parts g.items g.count g.selected_items g.item_list g.item g.column g.behind_dot g.from_table g.alias_if_any g.alias g.condition with_comma g.name g.literal g.constant g.text g.number g.digits
 items_written = refl
 
 -- SELECT t.a, b FROM t WHERE t.a = t.b + b
@@ -116,25 +160,25 @@ qualified_written : (g.statement 3).rule.prints.writes (st.Select record {
 }) ≡ Some
     (Word (codes "select") ∷ Word (codes "t") ∷ t.Symbol s.Dot ∷ Word (codes "a") ∷ t.Symbol s.Comma ∷ Word (codes "b") ∷ Word (codes "from") ∷ Word (codes "t")
     ∷ Word (codes "where") ∷ Word (codes "t") ∷ t.Symbol s.Dot ∷ Word (codes "a") ∷ t.Symbol s.Equal ∷ t.Symbol s.LParen ∷ Word (codes "t") ∷ t.Symbol s.Dot ∷ Word (codes "b") ∷ t.Symbol s.Plus ∷ Word (codes "b") ∷ t.Symbol s.RParen ∷ [])
-unfolding reserved g.statement g.body g.select g.items g.count g.selected_items g.item_list g.from_table g.alias_if_any g.alias g.condition with_comma g.sum_next g.part_sign g.expr g.or g.or_next g.and g.and_next g.not_ g.nots g.is g.null_test g.cmp g.memb g.sum g.comparison g.prim g.parenthesized g.item g.column g.behind_dot g.name g.literal g.constant g.text g.number g.digits
+unfolding reserved g.statement g.body g.select g.select_parts g.items g.count g.selected_items g.item_list g.from_table g.alias_if_any g.alias g.condition with_comma g.sum_next g.part_sign g.expr g.or g.or_next g.and g.and_next g.not_ g.nots g.is g.null_test g.cmp g.memb g.sum g.comparison g.prim g.exists g.enclosed g.scalar g.item g.column g.behind_dot g.name g.literal g.constant g.text g.number g.digits
 qualified_written = refl
 
 -- SELECT u.a FROM t AS u
 alias_written : (g.statement 1).rule.prints.writes (st.Select record { items = selected.Items (qualified (codes "u") (codes "a") ∷ []); table = codes "t"; alias = Some (codes "u"); condition = None }) ≡ Some
     (Word (codes "select") ∷ Word (codes "u") ∷ t.Symbol s.Dot ∷ Word (codes "a") ∷ Word (codes "from") ∷ Word (codes "t") ∷ Word (codes "as") ∷ Word (codes "u") ∷ [])
-unfolding reserved g.statement g.body g.select g.items g.count g.selected_items g.item_list g.item g.column g.behind_dot g.from_table g.alias_if_any g.alias g.condition with_comma g.name g.literal g.constant g.text g.number g.digits
+unfolding reserved g.statement g.body g.select g.select_parts g.items g.count g.selected_items g.item_list g.item g.column g.behind_dot g.from_table g.alias_if_any g.alias g.condition with_comma g.name g.literal g.constant g.text g.number g.digits
 alias_written = refl
 
 -- INSERT INTO t VALUES (-1, NOT b)
 insert_written : (g.statement 2).rule.prints.writes (st.Insert record { table = codes "t"; columns = None; tuples = (e.Literal (v.Int (negsuc 0)) ∷ e.Not (column (codes "b")) ∷ []) ∷ []; returning = None }) ≡ Some
     (Word (codes "insert") ∷ Word (codes "into") ∷ Word (codes "t") ∷ Word (codes "values") ∷ t.Symbol s.LParen ∷ t.Symbol s.Minus ∷ Number 1 ∷ t.Symbol s.Comma ∷ Word (codes "not") ∷ Word (codes "b") ∷ t.Symbol s.RParen ∷ [])
-unfolding reserved g.statement g.body g.select g.insert g.proper_rows g.rows g.columns_if_any g.distinct_names g.names g.even_tuples g.tuples g.tuple g.parts g.returning g.returned g.item_list with_comma cut.with_comma g.expr g.or g.or_next g.and g.and_next g.not_ g.nots g.is g.null_test g.cmp g.memb g.sum g.comparison g.prim g.parenthesized g.item g.column g.behind_dot g.name g.literal g.constant g.text g.number g.digits
+unfolding reserved g.statement g.body g.select g.insert g.proper_rows g.rows g.columns_if_any g.distinct_names g.names g.even_tuples g.tuples g.tuple g.parts g.returning g.returned g.item_list with_comma cut.with_comma g.expr g.or g.or_next g.and g.and_next g.not_ g.nots g.is g.null_test g.cmp g.memb g.sum g.comparison g.prim g.exists g.enclosed g.scalar g.item g.column g.behind_dot g.name g.literal g.constant g.text g.number g.digits
 insert_written = refl
 
 -- INSERT INTO t (a, b) VALUES (1, 2) RETURNING a
 insert_columns_written : (g.statement 2).rule.prints.writes (st.Insert record { table = codes "t"; columns = Some (codes "a" ∷ codes "b" ∷ []); tuples = (e.Literal (v.Int (pos 1)) ∷ e.Literal (v.Int (pos 2)) ∷ []) ∷ []; returning = Some (selected.Items (column (codes "a") ∷ [])) }) ≡ Some
     (Word (codes "insert") ∷ Word (codes "into") ∷ Word (codes "t") ∷ t.Symbol s.LParen ∷ Word (codes "a") ∷ t.Symbol s.Comma ∷ Word (codes "b") ∷ t.Symbol s.RParen ∷ Word (codes "values") ∷ t.Symbol s.LParen ∷ Number 1 ∷ t.Symbol s.Comma ∷ Number 2 ∷ t.Symbol s.RParen ∷ Word (codes "returning") ∷ Word (codes "a") ∷ [])
-unfolding reserved g.statement g.body g.select g.insert g.proper_rows g.rows g.columns_if_any g.distinct_names g.names g.even_tuples g.tuples g.tuple g.parts g.returning g.returned g.item_list with_comma cut.with_comma g.expr g.or g.or_next g.and g.and_next g.not_ g.nots g.is g.null_test g.cmp g.memb g.sum g.comparison g.prim g.parenthesized g.item g.column g.behind_dot g.name g.literal g.constant g.text g.number g.digits
+unfolding reserved g.statement g.body g.select g.insert g.proper_rows g.rows g.columns_if_any g.distinct_names g.names g.even_tuples g.tuples g.tuple g.parts g.returning g.returned g.item_list with_comma cut.with_comma g.expr g.or g.or_next g.and g.and_next g.not_ g.nots g.is g.null_test g.cmp g.memb g.sum g.comparison g.prim g.exists g.enclosed g.scalar g.item g.column g.behind_dot g.name g.literal g.constant g.text g.number g.digits
 insert_columns_written = refl
 
 -- UPDATE t SET a = 1, b = NOT c WHERE a = 2 RETURNING *
@@ -145,7 +189,7 @@ update_written : (g.statement 2).rule.prints.writes (st.Update record {
   returning = Some selected.All;
 }) ≡ Some
     (Word (codes "update") ∷ Word (codes "t") ∷ Word (codes "set") ∷ Word (codes "a") ∷ t.Symbol s.Equal ∷ Number 1 ∷ t.Symbol s.Comma ∷ Word (codes "b") ∷ t.Symbol s.Equal ∷ Word (codes "not") ∷ Word (codes "c") ∷ Word (codes "where") ∷ Word (codes "a") ∷ t.Symbol s.Equal ∷ Number 2 ∷ Word (codes "returning") ∷ t.Symbol s.Star ∷ [])
-unfolding reserved g.statement g.body g.select g.insert g.update g.set_columns g.all_set_columns g.set_column g.ending g.condition g.returning g.returned g.item_list with_comma cut.with_comma g.expr g.or g.or_next g.and g.and_next g.not_ g.nots g.is g.null_test g.cmp g.memb g.sum g.comparison g.prim g.parenthesized g.item g.column g.behind_dot g.name g.literal g.constant g.text g.number g.digits
+unfolding reserved g.statement g.body g.select g.insert g.update g.set_columns g.all_set_columns g.set_column g.ending g.condition g.returning g.returned g.item_list with_comma cut.with_comma g.expr g.or g.or_next g.and g.and_next g.not_ g.nots g.is g.null_test g.cmp g.memb g.sum g.comparison g.prim g.exists g.enclosed g.scalar g.item g.column g.behind_dot g.name g.literal g.constant g.text g.number g.digits
 update_written = refl
 
 -- UPDATE t SET a = a + 1, b = (c - 1) NOT IN (a + 2, d) WHERE c IN (1, 2) RETURNING *
@@ -162,13 +206,13 @@ update_list_written : (g.statement 3).rule.prints.writes (st.Update record {
     (Word (codes "update") ∷ Word (codes "t") ∷ Word (codes "set") ∷ Word (codes "a") ∷ t.Symbol s.Equal ∷ Word (codes "a") ∷ t.Symbol s.Plus ∷ Number 1 ∷ t.Symbol s.Comma ∷ Word (codes "b") ∷ t.Symbol s.Equal
     ∷ t.Symbol s.LParen ∷ Word (codes "c") ∷ t.Symbol s.Minus ∷ Number 1 ∷ t.Symbol s.RParen ∷ Word (codes "not") ∷ Word (codes "in") ∷ t.Symbol s.LParen ∷ Word (codes "a") ∷ t.Symbol s.Plus ∷ Number 2 ∷ t.Symbol s.Comma ∷ Word (codes "d") ∷ t.Symbol s.RParen
     ∷ Word (codes "where") ∷ Word (codes "c") ∷ Word (codes "in") ∷ t.Symbol s.LParen ∷ Number 1 ∷ t.Symbol s.Comma ∷ Number 2 ∷ t.Symbol s.RParen ∷ Word (codes "returning") ∷ t.Symbol s.Star ∷ [])
-unfolding reserved g.statement g.body g.select g.insert g.update g.set_columns g.all_set_columns g.set_column g.ending g.condition g.returning g.returned g.item_list with_comma cut.with_comma g.sum_next g.part_sign g.in_list g.in_word g.tuple g.parts g.expr g.or g.or_next g.and g.and_next g.not_ g.nots g.is g.null_test g.cmp g.memb g.sum g.comparison g.prim g.parenthesized g.item g.column g.behind_dot g.name g.literal g.constant g.text g.number g.digits
+unfolding reserved g.statement g.body g.select g.insert g.update g.set_columns g.all_set_columns g.set_column g.ending g.condition g.returning g.returned g.item_list with_comma cut.with_comma g.sum_next g.part_sign g.in_choices g.enclosed_choices g.choices g.in_word g.parts g.expr g.or g.or_next g.and g.and_next g.not_ g.nots g.is g.null_test g.cmp g.memb g.sum g.comparison g.prim g.exists g.enclosed g.scalar g.item g.column g.behind_dot g.name g.literal g.constant g.text g.number g.digits
 update_list_written = refl
 
 -- DELETE FROM t WHERE NOT a RETURNING b, c
 delete_written : (g.statement 2).rule.prints.writes (st.Delete record { table = codes "t"; condition = Some (e.Not (column (codes "a"))); returning = Some (selected.Items (column (codes "b") ∷ column (codes "c") ∷ [])) }) ≡ Some
     (Word (codes "delete") ∷ Word (codes "from") ∷ Word (codes "t") ∷ Word (codes "where") ∷ Word (codes "not") ∷ Word (codes "a") ∷ Word (codes "returning") ∷ Word (codes "b") ∷ t.Symbol s.Comma ∷ Word (codes "c") ∷ [])
-unfolding reserved g.statement g.body g.select g.insert g.update g.delete g.ending g.condition g.returning g.returned g.item_list with_comma g.expr g.or g.or_next g.and g.and_next g.not_ g.nots g.is g.null_test g.cmp g.memb g.sum g.comparison g.prim g.parenthesized g.item g.column g.behind_dot g.name g.literal g.constant g.text g.number g.digits
+unfolding reserved g.statement g.body g.select g.insert g.update g.delete g.ending g.condition g.returning g.returned g.item_list with_comma g.expr g.or g.or_next g.and g.and_next g.not_ g.nots g.is g.null_test g.cmp g.memb g.sum g.comparison g.prim g.exists g.enclosed g.scalar g.item g.column g.behind_dot g.name g.literal g.constant g.text g.number g.digits
 delete_written = refl
 
 -- COUNT(*) isn't written behind RETURNING.
@@ -215,21 +259,21 @@ no_force_written = refl
 policy_written : (g.statement 2).rule.prints.writes (st.CreatePolicy record { table = codes "t"; policy = record { name = codes "p"; permissive = true; kind = kind.All; to = to.Public ∷ []; using = None; check = Some (column (codes "a")) } }) ≡ Some
     (Word (codes "create") ∷ Word (codes "policy") ∷ Word (codes "p") ∷ Word (codes "on") ∷ Word (codes "t") ∷ Word (codes "as") ∷ Word (codes "permissive") ∷ Word (codes "for") ∷ Word (codes "all") ∷ Word (codes "to") ∷ Word (codes "public")
     ∷ Word (codes "with") ∷ Word (codes "check") ∷ t.Symbol s.LParen ∷ Word (codes "a") ∷ t.Symbol s.RParen ∷ [])
-unfolding reserved g.statement g.body g.select g.insert g.update g.delete g.create g.role g.table g.policy g.proper_description g.description g.policy_on g.policy_options g.permissive g.for_commands g.policy_kind g.command_type g.for_grantees g.to_grantees g.grantees g.grantee g.conditions g.using g.check g.parenthesized with_comma g.expr g.or g.or_next g.and g.and_next g.not_ g.nots g.is g.null_test g.cmp g.memb g.sum g.comparison g.prim g.item g.column g.behind_dot g.name g.literal g.constant g.text g.number g.digits
+unfolding reserved g.statement g.body g.select g.insert g.update g.delete g.create g.role g.table g.policy g.proper_description g.description g.policy_on g.policy_options g.permissive g.for_commands g.policy_kind g.command_type g.for_grantees g.to_grantees g.grantees g.grantee g.conditions g.using g.check g.parenthesized with_comma g.expr g.or g.or_next g.and g.and_next g.not_ g.nots g.is g.null_test g.cmp g.memb g.sum g.comparison g.prim g.exists g.enclosed g.scalar g.item g.column g.behind_dot g.name g.literal g.constant g.text g.number g.digits
 policy_written = refl
 
 -- CREATE POLICY p ON t AS RESTRICTIVE FOR DELETE TO r USING (a)
 restrictive_written : (g.statement 2).rule.prints.writes (st.CreatePolicy record { table = codes "t"; policy = record { name = codes "p"; permissive = false; kind = kind.Only command.Delete; to = to.Role (codes "r") ∷ []; using = Some (column (codes "a")); check = None } }) ≡ Some
     (Word (codes "create") ∷ Word (codes "policy") ∷ Word (codes "p") ∷ Word (codes "on") ∷ Word (codes "t") ∷ Word (codes "as") ∷ Word (codes "restrictive") ∷ Word (codes "for") ∷ Word (codes "delete") ∷ Word (codes "to") ∷ Word (codes "r")
     ∷ Word (codes "using") ∷ t.Symbol s.LParen ∷ Word (codes "a") ∷ t.Symbol s.RParen ∷ [])
-unfolding reserved g.statement g.body g.select g.insert g.update g.delete g.create g.role g.table g.policy g.proper_description g.description g.policy_on g.policy_options g.permissive g.for_commands g.policy_kind g.command_type g.for_grantees g.to_grantees g.grantees g.grantee g.conditions g.using g.check g.parenthesized with_comma g.expr g.or g.or_next g.and g.and_next g.not_ g.nots g.is g.null_test g.cmp g.memb g.sum g.comparison g.prim g.item g.column g.behind_dot g.name g.literal g.constant g.text g.number g.digits
+unfolding reserved g.statement g.body g.select g.insert g.update g.delete g.create g.role g.table g.policy g.proper_description g.description g.policy_on g.policy_options g.permissive g.for_commands g.policy_kind g.command_type g.for_grantees g.to_grantees g.grantees g.grantee g.conditions g.using g.check g.parenthesized with_comma g.expr g.or g.or_next g.and g.and_next g.not_ g.nots g.is g.null_test g.cmp g.memb g.sum g.comparison g.prim g.exists g.enclosed g.scalar g.item g.column g.behind_dot g.name g.literal g.constant g.text g.number g.digits
 restrictive_written = refl
 
 -- ALTER POLICY p ON t TO r, PUBLIC WITH CHECK (a)
 altered_policy_written : (g.statement 2).rule.prints.writes (st.AlterPolicy record { name = codes "p"; table = codes "t"; to = Some (to.Role (codes "r") ∷ to.Public ∷ []); using = None; check = Some (column (codes "a")) }) ≡ Some
     (Word (codes "alter") ∷ Word (codes "policy") ∷ Word (codes "p") ∷ Word (codes "on") ∷ Word (codes "t") ∷ Word (codes "to") ∷ Word (codes "r") ∷ t.Symbol s.Comma ∷ Word (codes "public")
     ∷ Word (codes "with") ∷ Word (codes "check") ∷ t.Symbol s.LParen ∷ Word (codes "a") ∷ t.Symbol s.RParen ∷ [])
-unfolding reserved g.statement g.body g.select g.insert g.update g.delete g.create g.role g.table g.policy g.alter g.altered_role g.altered_table g.altered_policy g.policy_on g.proper_change g.policy_change g.grantees_if_any g.to_grantees g.grantees g.grantee g.conditions g.using g.check g.parenthesized with_comma g.expr g.or g.or_next g.and g.and_next g.not_ g.nots g.is g.null_test g.cmp g.memb g.sum g.comparison g.prim g.item g.column g.behind_dot g.name g.literal g.constant g.text g.number g.digits
+unfolding reserved g.statement g.body g.select g.insert g.update g.delete g.create g.role g.table g.policy g.alter g.altered_role g.altered_table g.altered_policy g.policy_on g.proper_change g.policy_change g.grantees_if_any g.to_grantees g.grantees g.grantee g.conditions g.using g.check g.parenthesized with_comma g.expr g.or g.or_next g.and g.and_next g.not_ g.nots g.is g.null_test g.cmp g.memb g.sum g.comparison g.prim g.exists g.enclosed g.scalar g.item g.column g.behind_dot g.name g.literal g.constant g.text g.number g.digits
 altered_policy_written = refl
 
 -- DROP POLICY p ON t
@@ -344,23 +388,23 @@ negation_is_no_item = refl
 
 -- A column twice behind INSERT INTO is nothing,
 inserted_twice : (g.insert (g.expr 1)).rule.parses.read (Word (codes "insert") ∷ Word (codes "into") ∷ Word (codes "t") ∷ t.Symbol s.LParen ∷ Word (codes "a") ∷ t.Symbol s.Comma ∷ Word (codes "a") ∷ t.Symbol s.RParen ∷ Word (codes "values") ∷ t.Symbol s.LParen ∷ Number 1 ∷ t.Symbol s.Comma ∷ Number 2 ∷ t.Symbol s.RParen ∷ []) ≡ None
-unfolding reserved read_many g.insert g.proper_rows g.rows g.columns_if_any g.distinct_names g.names g.even_tuples g.tuples g.tuple g.parts g.returning g.returned g.item_list with_comma cut.with_comma g.expr g.or g.or_next g.and g.and_next g.not_ g.nots g.is g.null_test g.cmp g.memb g.sum g.comparison g.prim g.parenthesized g.item g.column g.behind_dot g.name g.literal g.constant g.text g.number g.digits
+unfolding reserved read_many g.insert g.proper_rows g.rows g.columns_if_any g.distinct_names g.names g.even_tuples g.tuples g.tuple g.parts g.returning g.returned g.item_list with_comma cut.with_comma g.expr g.or g.or_next g.and g.and_next g.not_ g.nots g.is g.null_test g.cmp g.memb g.sum g.comparison g.prim g.exists g.enclosed g.scalar g.item g.column g.behind_dot g.name g.literal g.constant g.text g.number g.digits
 inserted_twice = refl
 
 -- nor is a tuple that isn't as long as the list of columns,
 tuple_too_short : (g.insert (g.expr 1)).rule.parses.read (Word (codes "insert") ∷ Word (codes "into") ∷ Word (codes "t") ∷ t.Symbol s.LParen ∷ Word (codes "a") ∷ t.Symbol s.Comma ∷ Word (codes "b") ∷ t.Symbol s.RParen ∷ Word (codes "values") ∷ t.Symbol s.LParen ∷ Number 1 ∷ t.Symbol s.RParen ∷ []) ≡ None
-unfolding reserved read_many g.insert g.proper_rows g.rows g.columns_if_any g.distinct_names g.names g.even_tuples g.tuples g.tuple g.parts g.returning g.returned g.item_list with_comma cut.with_comma g.expr g.or g.or_next g.and g.and_next g.not_ g.nots g.is g.null_test g.cmp g.memb g.sum g.comparison g.prim g.parenthesized g.item g.column g.behind_dot g.name g.literal g.constant g.text g.number g.digits
+unfolding reserved read_many g.insert g.proper_rows g.rows g.columns_if_any g.distinct_names g.names g.even_tuples g.tuples g.tuple g.parts g.returning g.returned g.item_list with_comma cut.with_comma g.expr g.or g.or_next g.and g.and_next g.not_ g.nots g.is g.null_test g.cmp g.memb g.sum g.comparison g.prim g.exists g.enclosed g.scalar g.item g.column g.behind_dot g.name g.literal g.constant g.text g.number g.digits
 tuple_too_short = refl
 
 -- nor a column that is set twice.
 set_twice : (g.update (g.expr 1)).rule.parses.read (Word (codes "update") ∷ Word (codes "t") ∷ Word (codes "set") ∷ Word (codes "a") ∷ t.Symbol s.Equal ∷ Number 1 ∷ t.Symbol s.Comma ∷ Word (codes "a") ∷ t.Symbol s.Equal ∷ Number 2 ∷ []) ≡ None
-unfolding reserved read_many g.update g.set_columns g.all_set_columns g.set_column g.ending g.condition g.returning g.returned g.item_list with_comma cut.with_comma g.expr g.or g.or_next g.and g.and_next g.not_ g.nots g.is g.null_test g.cmp g.memb g.sum g.comparison g.prim g.parenthesized g.item g.column g.behind_dot g.name g.literal g.constant g.text g.number g.digits
+unfolding reserved read_many g.update g.set_columns g.all_set_columns g.set_column g.ending g.condition g.returning g.returned g.item_list with_comma cut.with_comma g.expr g.or g.or_next g.and g.and_next g.not_ g.nots g.is g.null_test g.cmp g.memb g.sum g.comparison g.prim g.exists g.enclosed g.scalar g.item g.column g.behind_dot g.name g.literal g.constant g.text g.number g.digits
 set_twice = refl
 
 -- Words of UPDATE that aren't reserved are names, and RETURNING ends an expression.
 set_is_a_table : (g.update (g.expr 1)).rule.parses.read (Word (codes "update") ∷ Word (codes "set") ∷ Word (codes "set") ∷ Word (codes "set") ∷ t.Symbol s.Equal ∷ Word (codes "update") ∷ Word (codes "returning") ∷ Word (codes "delete") ∷ []) ≡ Some
     (st.Update record { table = codes "set"; settings = record { column = codes "set"; value = column (codes "update") } ∷ []; condition = None; returning = Some (selected.Items (column (codes "delete") ∷ [])) }, [])
-unfolding reserved read_many g.update g.set_columns g.all_set_columns g.set_column g.ending g.condition g.returning g.returned g.item_list with_comma cut.with_comma g.expr g.or g.or_next g.and g.and_next g.not_ g.nots g.is g.null_test g.cmp g.memb g.sum g.comparison g.prim g.parenthesized g.item g.column g.behind_dot g.name g.literal g.constant g.text g.number g.digits
+unfolding reserved read_many g.update g.set_columns g.all_set_columns g.set_column g.ending g.condition g.returning g.returned g.item_list with_comma cut.with_comma g.expr g.or g.or_next g.and g.and_next g.not_ g.nots g.is g.null_test g.cmp g.memb g.sum g.comparison g.prim g.exists g.enclosed g.scalar g.item g.column g.behind_dot g.name g.literal g.constant g.text g.number g.digits
 set_is_a_table = refl
 
 -- Words of keys and policies that aren't reserved are names: CREATE TABLE force (key TEXT PRIMARY KEY NOT NULL).
@@ -413,31 +457,31 @@ column_twice = refl
 -- Without AS, FOR and TO a policy is permissive, for all commands, for PUBLIC.
 defaults : (g.policy (g.expr 1)).rule.parses.read (Word (codes "p") ∷ Word (codes "on") ∷ Word (codes "t") ∷ Word (codes "using") ∷ t.Symbol s.LParen ∷ Word (codes "a") ∷ t.Symbol s.RParen ∷ []) ≡ Some
     (st.CreatePolicy record { table = codes "t"; policy = record { name = codes "p"; permissive = true; kind = kind.All; to = to.Public ∷ []; using = Some (column (codes "a")); check = None } }, [])
-unfolding reserved read_many g.policy g.proper_description g.description g.policy_on g.policy_options g.permissive g.for_commands g.policy_kind g.command_type g.for_grantees g.to_grantees g.grantees g.grantee g.conditions g.using g.check g.parenthesized with_comma g.expr g.or g.or_next g.and g.and_next g.not_ g.nots g.is g.null_test g.cmp g.memb g.sum g.comparison g.prim g.item g.column g.behind_dot g.name g.literal g.constant g.text g.number g.digits
+unfolding reserved read_many g.policy g.proper_description g.description g.policy_on g.policy_options g.permissive g.for_commands g.policy_kind g.command_type g.for_grantees g.to_grantees g.grantees g.grantee g.conditions g.using g.check g.parenthesized with_comma g.expr g.or g.or_next g.and g.and_next g.not_ g.nots g.is g.null_test g.cmp g.memb g.sum g.comparison g.prim g.exists g.enclosed g.scalar g.item g.column g.behind_dot g.name g.literal g.constant g.text g.number g.digits
 defaults = refl
 
 -- A role may be called restrictive, a policy permissive.
 restrictive_is_a_role : (g.policy (g.expr 1)).rule.parses.read (Word (codes "permissive") ∷ Word (codes "on") ∷ Word (codes "no") ∷ Word (codes "as") ∷ Word (codes "restrictive") ∷ Word (codes "for") ∷ Word (codes "insert") ∷ Word (codes "to") ∷ Word (codes "restrictive") ∷ Word (codes "with") ∷ Word (codes "check") ∷ t.Symbol s.LParen ∷ Word (codes "a") ∷ t.Symbol s.RParen ∷ []) ≡ Some
     (st.CreatePolicy record { table = codes "no"; policy = record { name = codes "permissive"; permissive = false; kind = kind.Only command.Insert; to = to.Role (codes "restrictive") ∷ []; using = None; check = Some (column (codes "a")) } }, [])
-unfolding reserved read_many g.policy g.proper_description g.description g.policy_on g.policy_options g.permissive g.for_commands g.policy_kind g.command_type g.for_grantees g.to_grantees g.grantees g.grantee g.conditions g.using g.check g.parenthesized with_comma g.expr g.or g.or_next g.and g.and_next g.not_ g.nots g.is g.null_test g.cmp g.memb g.sum g.comparison g.prim g.item g.column g.behind_dot g.name g.literal g.constant g.text g.number g.digits
+unfolding reserved read_many g.policy g.proper_description g.description g.policy_on g.policy_options g.permissive g.for_commands g.policy_kind g.command_type g.for_grantees g.to_grantees g.grantees g.grantee g.conditions g.using g.check g.parenthesized with_comma g.expr g.or g.or_next g.and g.and_next g.not_ g.nots g.is g.null_test g.cmp g.memb g.sum g.comparison g.prim g.exists g.enclosed g.scalar g.item g.column g.behind_dot g.name g.literal g.constant g.text g.number g.digits
 restrictive_is_a_role = refl
 
 -- A policy for SELECT has no WITH CHECK,
 checked_select : (g.policy (g.expr 1)).rule.parses.read (Word (codes "p") ∷ Word (codes "on") ∷ Word (codes "t") ∷ Word (codes "for") ∷ Word (codes "select") ∷ Word (codes "with") ∷ Word (codes "check") ∷ t.Symbol s.LParen ∷ Word (codes "a") ∷ t.Symbol s.RParen ∷ []) ≡ None
-unfolding reserved read_many g.policy g.proper_description g.description g.policy_on g.policy_options g.permissive g.for_commands g.policy_kind g.command_type g.for_grantees g.to_grantees g.grantees g.grantee g.conditions g.using g.check g.parenthesized with_comma g.expr g.or g.or_next g.and g.and_next g.not_ g.nots g.is g.null_test g.cmp g.memb g.sum g.comparison g.prim g.item g.column g.behind_dot g.name g.literal g.constant g.text g.number g.digits
+unfolding reserved read_many g.policy g.proper_description g.description g.policy_on g.policy_options g.permissive g.for_commands g.policy_kind g.command_type g.for_grantees g.to_grantees g.grantees g.grantee g.conditions g.using g.check g.parenthesized with_comma g.expr g.or g.or_next g.and g.and_next g.not_ g.nots g.is g.null_test g.cmp g.memb g.sum g.comparison g.prim g.exists g.enclosed g.scalar g.item g.column g.behind_dot g.name g.literal g.constant g.text g.number g.digits
 checked_select = refl
 
 -- nor has one for DELETE,
 checked_delete : (g.policy (g.expr 1)).rule.parses.read (Word (codes "p") ∷ Word (codes "on") ∷ Word (codes "t") ∷ Word (codes "for") ∷ Word (codes "delete") ∷ Word (codes "using") ∷ t.Symbol s.LParen ∷ Word (codes "a") ∷ t.Symbol s.RParen ∷ Word (codes "with") ∷ Word (codes "check") ∷ t.Symbol s.LParen ∷ Word (codes "a") ∷ t.Symbol s.RParen ∷ []) ≡ None
-unfolding reserved read_many g.policy g.proper_description g.description g.policy_on g.policy_options g.permissive g.for_commands g.policy_kind g.command_type g.for_grantees g.to_grantees g.grantees g.grantee g.conditions g.using g.check g.parenthesized with_comma g.expr g.or g.or_next g.and g.and_next g.not_ g.nots g.is g.null_test g.cmp g.memb g.sum g.comparison g.prim g.item g.column g.behind_dot g.name g.literal g.constant g.text g.number g.digits
+unfolding reserved read_many g.policy g.proper_description g.description g.policy_on g.policy_options g.permissive g.for_commands g.policy_kind g.command_type g.for_grantees g.to_grantees g.grantees g.grantee g.conditions g.using g.check g.parenthesized with_comma g.expr g.or g.or_next g.and g.and_next g.not_ g.nots g.is g.null_test g.cmp g.memb g.sum g.comparison g.prim g.exists g.enclosed g.scalar g.item g.column g.behind_dot g.name g.literal g.constant g.text g.number g.digits
 checked_delete = refl
 
 -- and one for INSERT no USING.
 used_insert : (g.policy (g.expr 1)).rule.parses.read (Word (codes "p") ∷ Word (codes "on") ∷ Word (codes "t") ∷ Word (codes "for") ∷ Word (codes "insert") ∷ Word (codes "using") ∷ t.Symbol s.LParen ∷ Word (codes "a") ∷ t.Symbol s.RParen ∷ []) ≡ None
-unfolding reserved read_many g.policy g.proper_description g.description g.policy_on g.policy_options g.permissive g.for_commands g.policy_kind g.command_type g.for_grantees g.to_grantees g.grantees g.grantee g.conditions g.using g.check g.parenthesized with_comma g.expr g.or g.or_next g.and g.and_next g.not_ g.nots g.is g.null_test g.cmp g.memb g.sum g.comparison g.prim g.item g.column g.behind_dot g.name g.literal g.constant g.text g.number g.digits
+unfolding reserved read_many g.policy g.proper_description g.description g.policy_on g.policy_options g.permissive g.for_commands g.policy_kind g.command_type g.for_grantees g.to_grantees g.grantees g.grantee g.conditions g.using g.check g.parenthesized with_comma g.expr g.or g.or_next g.and g.and_next g.not_ g.nots g.is g.null_test g.cmp g.memb g.sum g.comparison g.prim g.exists g.enclosed g.scalar g.item g.column g.behind_dot g.name g.literal g.constant g.text g.number g.digits
 used_insert = refl
 
 -- ALTER POLICY changes something.
 nothing_altered : (g.altered_policy (g.expr 1)).rule.parses.read (Word (codes "p") ∷ Word (codes "on") ∷ Word (codes "t") ∷ []) ≡ None
-unfolding reserved read_many g.altered_policy g.policy_on g.proper_change g.policy_change g.grantees_if_any g.to_grantees g.grantees g.grantee g.conditions g.using g.check g.parenthesized with_comma g.expr g.or g.or_next g.and g.and_next g.not_ g.nots g.is g.null_test g.cmp g.memb g.sum g.comparison g.prim g.item g.column g.behind_dot g.name g.literal g.constant g.text g.number g.digits
+unfolding reserved read_many g.altered_policy g.policy_on g.proper_change g.policy_change g.grantees_if_any g.to_grantees g.grantees g.grantee g.conditions g.using g.check g.parenthesized with_comma g.expr g.or g.or_next g.and g.and_next g.not_ g.nots g.is g.null_test g.cmp g.memb g.sum g.comparison g.prim g.exists g.enclosed g.scalar g.item g.column g.behind_dot g.name g.literal g.constant g.text g.number g.digits
 nothing_altered = refl

@@ -10,6 +10,7 @@ use Rattle.rls_text.specs.declared.token.Token.TheVariants as t
 use Rattle.rls_statement.specs.declared.statement.Statement.{Statement}
 use Rattle.rls_statement.specs.declared.statement.Statement.TheVariants as st
 use Rattle.rls_text.specs.Heights.{height_of}
+use Rattle.rls_text.specs.Nested.{subqueries_of}
 use Rattle.rls_text.specs.Grammar.{Spells}
 
 -- how many parentheses are open behind the token
@@ -43,9 +44,9 @@ abbrev pub columns_of : Statement → ℕ
 columns_of (st.CreateTable table) = length table.columns
 columns_of _ = 0
 
--- over 64 columns or a height of over 64 are refused, columns first
+-- over 64 columns, a height of over 64, or more than 8 subqueries one inside another are refused, in this order
 abbrev pub limited : Statement → Result Statement Refusal
-limited x = if nat_lt 64 (columns_of x) then Err (refusal.Limit l.Columns) else (if nat_lt 64 (height_of x) then Err (refusal.Limit l.Nesting) else Ok x)
+limited x = if nat_lt 64 (columns_of x) then Err (refusal.Limit l.Columns) else (if nat_lt 64 (height_of x) then Err (refusal.Limit l.Nesting) else (if nat_lt 8 (subqueries_of x) then Err (refusal.Limit l.Subqueries) else Ok x))
 
 -- The tokens are answered with this: the limits on words come first, then what isn't in the grammar, then the limits
 -- on the statement.

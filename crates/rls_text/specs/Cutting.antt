@@ -1,21 +1,24 @@
 -- What is kept of an expression: the expression with its height, or what stands for one that is too high; and that the
 -- builders of trees keep it so.
 use Rattle.std.specs.Prelude.{◌≡◌, ℕ, zero, suc, ◌+◌, ◌≤◌, ◌<◌, max, nat_lt, nat_eq, Bool, true, false, ◌&&◌, if◌then◌else◌, List, [], ◌∷◌, ◌++◌, length, map, Option, Some, None, is_some, refl}
-use Rattle.std.proofs.Common.{arith, sym, ap, ◌∙◌, append_assoc}
+use Rattle.std.proofs.Common.{arith, inl, inr, sym, ap, ◌∙◌, append_assoc}
 use Rattle.std.proofs.lemmas.Bool.{ltb-true, ltb-false, lt-ltb, le-ltb}
 use Rattle.rls_expr.specs.declared.expr.Comparison.{Comparison}
 use Rattle.rls_expr.specs.declared.expr.Sign.{Sign}
-use Rattle.rls_expr.specs.Terms.{Term, Terms, terms_of}
+use Rattle.rls_expr.specs.Terms.{Term, Terms, Query, terms_of, maybe_term}
 use Rattle.rls_expr.specs.Terms as e
 use Rattle.rls_statement.specs.declared.changing.Setting.{Setting}
+use Rattle.rls_statement.specs.declared.statement.Selected.{Selected}
 use Rattle.rls_statement.specs.declared.statement.Statement.{Statement}
 use Rattle.rls_statement.specs.declared.statement.Statement.TheVariants as st
 use Rattle.rls_text.specs.declared.tree.Operands.{Operands}
 use Rattle.rls_text.specs.declared.tree.Operands.TheVariants.{One, Several}
+use Rattle.rls_text.specs.declared.tree.Choices.{Choices}
+use Rattle.rls_text.specs.declared.tree.Choices.TheVariants.{Listed, Queried}
 use Rattle.rls_text.specs.Cut.{of_some}
-use Rattle.rls_text.specs.Heights.{height, heights, height_if, highest, set_values, height_of}
+use Rattle.rls_text.specs.Heights.{height, heights, query_height, height_if, highest, set_values, height_of}
 use Rattle.rls_text.specs.Lang.{put_in}
-use Rattle.rls_text.specs.Trees.{Tree, Tuple, Tuples, Draft, cut, above, null_test_of, with_operand, operands, with_summand, summed, among_of, with_part, tuple_of, with_tuple, tuples_of, SetColumn, SetColumns, with_set_column, set_columns_of, parted, deeper}
+use Rattle.rls_text.specs.Trees.{Tree, SelectParts, parted_select, query_of, one_deeper, select_depth, Tuple, Tuples, Draft, cut, above, null_test_of, with_operand, operands, with_summand, summed, among_of, with_part, tuple_of, with_tuple, tuples_of, SetColumn, SetColumns, with_set_column, set_columns_of, parted, deeper}
 use Rattle.rls_text.specs.Trees as t
 use Rattle.rls_text.specs.Values as values
 use Rattle.rls_text.specs.Writes.{append_end}
@@ -42,9 +45,22 @@ tuple_kept xs = (terms_kept xs, deepest xs)
 abbrev pub signed_kept : Sign × Term → Sign × Tree
 signed_kept part = (part.0, tree_of part.1)
 
--- NOT, if it is there, and the list behind IN
-abbrev pub list_kept : Option (Unit {0}) × List Term → Option (Unit {0}) × Tuple
-list_kept r = (r.0, tuple_kept r.1)
+-- what is selected, with the height of the items
+abbrev pub selected_kept : Selected → Selected × ℕ
+selected_kept x = (x, heights (terms_of (values.items_of x)))
+
+-- of what a SELECT is made
+abbrev pub select_kept : values.SelectParts → SelectParts
+select_kept r = (selected_kept r.0, (r.1.0, of_some tree_of r.1.1))
+
+-- a list, or a SELECT
+abbrev pub choices_kept : values.Choices → Choices
+choices_kept (inl xs) = Listed (tuple_kept xs)
+choices_kept (inr r) = Queried (select_kept r)
+
+-- NOT, if it is there, and what stands behind IN
+abbrev pub in_kept : Option (Unit {0}) × values.Choices → Option (Unit {0}) × Choices
+in_kept r = (r.0, choices_kept r.1)
 
 -- the depth of the deepest tuple
 abbrev pub deepest_tuple : List (List Term) → ℕ
@@ -89,7 +105,7 @@ change_kept r = (r.0, conditions_kept r.1)
 
 -- a statement, with the depth of its deepest expression
 abbrev pub draft_of : Statement → Draft
-draft_of (st.Select x) = t.select_of (x.items, ((x.table, x.alias), of_some tree_of x.condition))
+draft_of (st.Select x) = t.select_of (selected_kept x.items, ((x.table, x.alias), of_some tree_of x.condition))
 draft_of (st.Insert x) = t.insert_of (x.table, (rows_kept (x.columns, x.tuples), x.returning))
 draft_of (st.Update x) = t.update_of (x.table, (set_columns_kept x.settings, ending_kept (x.condition, x.returning)))
 draft_of (st.Delete x) = t.delete_of (x.table, ending_kept (x.condition, x.returning))
@@ -159,6 +175,71 @@ settings_low (x ∷ xs) h =
     let first = tree_low x.value (omega (arith, h)) in
     let more = settings_low xs (omega (arith, h)) in
     rw (first.0, more) refl
+
+pub if_low : (o : Option Term) → (parted (of_some tree_of o)).1 ≤ 64 → ((parted (of_some tree_of o)).0 ≡ o) × ((parted (of_some tree_of o)).1 ≡ height_if o)
+if_low None h = (refl, refl)
+if_low (Some x) h = let k = tree_low x h in (ap Some k.0, k.1)
+
+pub if_high : (o : Option Term) → 64 < (parted (of_some tree_of o)).1 → 64 < height_if o
+if_high None h = absurd (omega (arith, h))
+if_high (Some x) h = tree_high x h
+
+-- a condition as a query holds it
+condition_height : (o : Option Term) → height_if o ≡ heights (maybe_term o)
+condition_height None = refl
+condition_height (Some x) = omega arith
+
+-- what stands below a query's node
+abbrev pub below : values.SelectParts → ℕ
+below r = max (heights (terms_of (values.items_of r.0))) (heights (maybe_term r.1.1))
+
+query_low : (r : values.SelectParts) → (parted_select (select_kept r)).1 ≤ 64 → (query_of (select_kept r) ≡ values.query_of r) × ((parted_select (select_kept r)).1 ≡ below r)
+query_low r h =
+    let k = if_low r.1.1 (omega (arith, h)) in
+    let e : (parted (of_some tree_of r.1.1)).1 ≡ heights (maybe_term r.1.1) = k.1 ∙ condition_height r.1.1 in
+    (ap (λ z. values.query_of (r.0, (r.1.0, z))) k.0, ap (λ z. max (heights (terms_of (values.items_of r.0))) z) e)
+
+query_high : (r : values.SelectParts) → 64 < (parted_select (select_kept r)).1 → 64 < below r
+query_high r h = go (nat_lt 64 (parted (of_some tree_of r.1.1)).1) refl
+  where
+    go : (b : Bool) → nat_lt 64 (parted (of_some tree_of r.1.1)).1 ≡ b → 64 < below r
+    go true p =
+        let k = if_high r.1.1 (ltb-true 64 (parted (of_some tree_of r.1.1)).1 p) in
+        let e = condition_height r.1.1 in omega (arith, k, e)
+    go false p =
+        let low : (parted (of_some tree_of r.1.1)).1 ≤ 64 = ltb-false 64 (parted (of_some tree_of r.1.1)).1 p in omega (arith, h, low)
+
+-- one more of a depth that is the height below, or above the limit as it is
+pub one_low : (d : ℕ) → one_deeper d ≤ 64 → (d ≤ 64) × (one_deeper d ≡ d + 1)
+one_low d h = go (nat_lt d 64) refl h
+  where
+    go : (b : Bool) → nat_lt d 64 ≡ b → if◌then◌else◌ {A = ℕ} b (d + 1) 65 ≤ 64 → (d ≤ 64) × (if◌then◌else◌ {A = ℕ} b (d + 1) 65 ≡ d + 1)
+    go true p h = let k : d < 64 = ltb-true d 64 p in (omega (arith, k), refl)
+    go false p h = absurd (omega (arith, h))
+
+pub one_high : (d : ℕ) → 64 < one_deeper d → 64 ≤ d
+one_high d h = go (nat_lt d 64) refl h
+  where
+    go : (b : Bool) → nat_lt d 64 ≡ b → 64 < if◌then◌else◌ {A = ℕ} b (d + 1) 65 → 64 ≤ d
+    go true p h = let k : d < 64 = ltb-true d 64 p in absurd (omega (arith, k, h))
+    go false p h = ltb-false d 64 p
+
+-- the depth of a query, as it is kept
+query_is_low : (r : values.SelectParts) → select_depth (select_kept r) ≤ 64 → (query_of (select_kept r) ≡ values.query_of r) × (select_depth (select_kept r) ≡ query_height (values.query_of r))
+query_is_low r h =
+    let one = one_low (parted_select (select_kept r)).1 h in
+    let k = query_low r one.0 in
+    (k.0, one.1 ∙ ap (λ z. z + 1) k.1)
+
+query_is_high : (r : values.SelectParts) → 64 < select_depth (select_kept r) → 64 < query_height (values.query_of r)
+query_is_high r h = go (nat_lt 64 (parted_select (select_kept r)).1) refl
+  where
+    go : (b : Bool) → nat_lt 64 (parted_select (select_kept r)).1 ≡ b → 64 < below r + 1
+    go true p = let k = query_high r (ltb-true 64 (parted_select (select_kept r)).1 p) in omega (arith, k)
+    go false p =
+        let low : (parted_select (select_kept r)).1 ≤ 64 = ltb-false 64 (parted_select (select_kept r)).1 p in
+        let j : 64 ≤ (parted_select (select_kept r)).1 = one_high (parted_select (select_kept r)).1 h in
+        let k = (query_low r low).1 in omega (arith, j, k)
 
 -- ---- the builders
 
@@ -265,25 +346,51 @@ sum_kept (x, y ∷ ys) =
     ∙ ap (λ z. t.sum_of (z, signs)) (sym (operands_kept x y.1 (values.parts_of ys)))
     ∙ ap t.sum_of (sym (summands_kept (One (tree_of x).0 (tree_of x).1) [] (y ∷ ys)))
 
+pub exists_kept : (r : values.SelectParts) → tree_of (e.Exists (values.query_of r)) ≡ t.exists_of (select_kept r)
+unfolding t.exists_of
+exists_kept r =
+    node_kept (e.Exists (values.query_of r)) (e.Exists (query_of (select_kept r))) (query_height (values.query_of r)) (select_depth (select_kept r)) refl
+    (λ h. let k = query_is_low r h in (ap e.Exists k.0, k.1)) (query_is_high r)
+
+pub scalar_kept : (r : values.SelectParts) → tree_of (e.Scalar (values.query_of r)) ≡ t.scalar_of (select_kept r)
+unfolding t.scalar_of
+scalar_kept r =
+    node_kept (e.Scalar (values.query_of r)) (e.Scalar (query_of (select_kept r))) (below r) (parted_select (select_kept r)).1 refl
+    (λ h. let k = query_low r h in (ap e.Scalar k.0, k.1)) (query_high r)
+
+-- a node above two parts, each as it is kept
+module _ {A : Type 0} (node : Term → A → Term) (x : Term) (a a' : A) (h d : ℕ) (low : d ≤ 64 → (a' ≡ a) × (d ≡ h)) (high : 64 < d → 64 < h) where
+  two_kept : height (node x a) ≡ max (height x) h + 1 → tree_of (node x a) ≡ above (max (tree_of x).1 d) (node (tree_of x).0 a')
+  two_kept up =
+      node_kept (node x a) (node (tree_of x).0 a') (max (height x) h) (max (tree_of x).1 d) up
+      (λ u. let k = tree_low x (omega (arith, u)) in let j = low (omega (arith, u)) in (rw (k.0, j.0) refl, rw (k.1, j.1) refl))
+      (λ u. go u (nat_lt 64 (tree_of x).1) refl)
+    where
+      go : 64 < max (tree_of x).1 d → (b : Bool) → nat_lt 64 (tree_of x).1 ≡ b → 64 < max (height x) h
+      go u true p = let k = tree_high x (ltb-true 64 (tree_of x).1 p) in omega (arith, k)
+      go u false p =
+          let under : (tree_of x).1 ≤ 64 = ltb-false 64 (tree_of x).1 p in
+          let k = high (omega (arith, u, under)) in omega (arith, k)
+
 -- IN or NOT IN, above its left side and the list
 list_is_kept : (node : Term → Terms → Term) (x : Term) (xs : List Term) → height (node x (terms_of xs)) ≡ max (height x) (heights (terms_of xs)) + 1
     → tree_of (node x (terms_of xs)) ≡ above (max (tree_of x).1 (deepest xs)) (node (tree_of x).0 (terms_of (terms_kept xs)))
 list_is_kept node x xs up =
-    node_kept (node x (terms_of xs)) (node (tree_of x).0 (terms_of (terms_kept xs))) (max (height x) (heights (terms_of xs))) (max (tree_of x).1 (deepest xs)) up
-    (λ h. let k = tree_low x (omega (arith, h)) in let j = terms_low xs (omega (arith, h)) in (rw (k.0, j.0) refl, rw (k.1, j.1) refl))
-    (λ h. go h (nat_lt 64 (tree_of x).1) refl)
-  where
-    go : 64 < max (tree_of x).1 (deepest xs) → (b : Bool) → nat_lt 64 (tree_of x).1 ≡ b → 64 < max (height x) (heights (terms_of xs))
-    go h true p = let k = tree_high x (ltb-true 64 (tree_of x).1 p) in omega (arith, k)
-    go h false p =
-        let low : (tree_of x).1 ≤ 64 = ltb-false 64 (tree_of x).1 p in
-        let k = terms_high xs (omega (arith, h, low)) in omega (arith, k)
+    two_kept node x (terms_of xs) (terms_of (terms_kept xs)) (heights (terms_of xs)) (deepest xs) (λ h. let k = terms_low xs h in (ap terms_of k.0, k.1)) (terms_high xs) up
 
-pub among_kept : (r : Term × Option (Option (Unit {0}) × List Term)) → tree_of (values.among r.0 r.1) ≡ t.among (tree_of r.0) (of_some list_kept r.1)
+-- the same, above a subquery
+query_is_kept : (node : Term → Query → Term) (x : Term) (r : values.SelectParts) → height (node x (values.query_of r)) ≡ max (height x) (query_height (values.query_of r)) + 1
+    → tree_of (node x (values.query_of r)) ≡ above (max (tree_of x).1 (select_depth (select_kept r))) (node (tree_of x).0 (query_of (select_kept r)))
+query_is_kept node x r up =
+    two_kept node x (values.query_of r) (query_of (select_kept r)) (query_height (values.query_of r)) (select_depth (select_kept r)) (query_is_low r) (query_is_high r) up
+
+pub among_kept : (r : Term × Option (Option (Unit {0}) × values.Choices)) → tree_of (values.among r.0 r.1) ≡ t.among (tree_of r.0) (of_some in_kept r.1)
 unfolding among_of
 among_kept (x, None) = refl
-among_kept (x, Some (None, xs)) = list_is_kept e.Among x xs refl
-among_kept (x, Some (Some _, xs)) = list_is_kept e.NotAmong x xs refl
+among_kept (x, Some (None, inl xs)) = list_is_kept e.Among x xs refl
+among_kept (x, Some (Some _, inl xs)) = list_is_kept e.NotAmong x xs refl
+among_kept (x, Some (None, inr r)) = query_is_kept e.Within x r refl
+among_kept (x, Some (Some _, inr r)) = query_is_kept e.NotWithin x r refl
 
 parts_kept : (ys : List Term) (d : ℕ) (xs : List Term) → put_in with_part (ys, d) (map tree_of xs) ≡ (ys ++ terms_kept xs, max d (deepest xs))
 unfolding with_part
@@ -353,14 +460,6 @@ pub is_change_kept : (r : values.PolicyChange Term) → values.is_change (change
 is_change_kept r = rw (there_kept r.1.0, there_kept r.1.1) refl
 
 -- ---- a statement that isn't too high is kept as it is
-
-pub if_low : (o : Option Term) → (parted (of_some tree_of o)).1 ≤ 64 → ((parted (of_some tree_of o)).0 ≡ o) × ((parted (of_some tree_of o)).1 ≡ height_if o)
-if_low None h = (refl, refl)
-if_low (Some x) h = let k = tree_low x h in (ap Some k.0, k.1)
-
-pub if_high : (o : Option Term) → 64 < (parted (of_some tree_of o)).1 → 64 < height_if o
-if_high None h = absurd (omega (arith, h))
-if_high (Some x) h = tree_high x h
 
 pub draft_low : (x : Statement) → (draft_of x).1 ≤ 64 → ((draft_of x).0 ≡ x) × ((draft_of x).1 ≡ height_of x)
 draft_low (st.Select x) h = let k = if_low x.condition h in (ap (λ z. st.Select record { items = x.items; table = x.table; alias = x.alias; condition = z }) k.0, k.1)

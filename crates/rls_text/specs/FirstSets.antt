@@ -27,7 +27,7 @@ items_more = Sign s.Comma ∷ item_more
 
 -- an operand
 abbrev pub prim_heads : List Head
-prim_heads = item_heads ++ Sign s.LParen ∷ []
+prim_heads = item_heads ++ Keyword (codes "exists") ∷ Sign s.LParen ∷ []
 
 -- a sign between the parts of a sum
 abbrev pub sign_heads : List Head
@@ -73,7 +73,7 @@ alias_heads = Keyword (codes "as") ∷ Names ∷ []
 abbrev pub condition_more : List Head
 condition_more = Keyword (codes "where") ∷ expr_more
 
--- behind SELECT
+-- behind SELECT, as a statement or inside an expression
 abbrev pub select_more : List Head
 select_more = alias_heads ++ condition_more
 
@@ -156,6 +156,14 @@ literal_apart = refl
 pub name_apart : apart (Names ∷ []) (Keyword (codes "current_user") ∷ []) ≡ true
 unfolding reserved
 name_apart = refl
+
+pub exists_apart : apart item_heads (Keyword (codes "exists") ∷ Sign s.LParen ∷ []) ≡ true
+unfolding reserved
+exists_apart = refl
+
+pub select_apart : apart (Keyword (codes "select") ∷ []) expr_heads ≡ true
+unfolding reserved
+select_apart = refl
 
 pub not_apart : apart (Keyword (codes "not") ∷ []) prim_heads ≡ true
 unfolding reserved

@@ -12,6 +12,7 @@ use Rattle.rls_text.specs.Answers.{first_limit, columns_of}
 use Rattle.rls_value.specs.declared.refusal.Limit.TheVariants as l
 use Rattle.rls_text.specs.Lang.{put_in}
 use Rattle.rls_text.specs.Parses.{Outcome, and_then}
+use Rattle.rls_text.specs.Nested.{subqueries_of}
 use Rattle.rls_text.specs.Trees.{Draft}
 use Rattle.rls_text.specs.Values.{or_empty}
 use Rattle.rls_text.specs.Grammar as g
@@ -80,7 +81,7 @@ GivesName (Err Syntax) given = given ≡ None
 
 -- a draft over the limits is refused
 abbrev pub within_limits : Draft → Result Statement Refusal
-within_limits draft = if nat_lt 64 (columns_of draft.0) then Err (refusal.Limit l.Columns) else (if nat_lt 64 draft.1 then Err (refusal.Limit l.Nesting) else Ok draft.0)
+within_limits draft = if nat_lt 64 (columns_of draft.0) then Err (refusal.Limit l.Columns) else (if nat_lt 64 draft.1 then Err (refusal.Limit l.Nesting) else (if nat_lt 8 (subqueries_of draft.0) then Err (refusal.Limit l.Subqueries) else Ok draft.0))
 
 -- what the whole is answered with
 abbrev pub answered : Option Draft → Result Statement Refusal

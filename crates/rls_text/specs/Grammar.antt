@@ -2,7 +2,7 @@
 -- of which this is a part). Behind a rule's type stand the tokens by which its phrases begin, those that may not follow
 -- them, and whether one may be empty. What the parts stand for together is in `Values`, how it is taken apart to be
 -- written in `WaysBack`.
-use Rattle.std.specs.Prelude.{◌≡◌, ℕ, zero, suc, length, Bool, true, false, List, [], ◌∷◌, ◌++◌, Option, Some, None, codes, refl}
+use Rattle.std.specs.Prelude.{◌≡◌, ℕ, zero, suc, ◌≤◌, length, Bool, true, false, List, [], ◌∷◌, ◌++◌, Option, Some, None, codes, refl}
 use Rattle.rls_value.specs.declared.value.Value.{Value}
 use Rattle.rls_value.specs.declared.value.Value.TheVariants as v
 use Rattle.rls_value.specs.declared.value.ColType.{ColType}
@@ -13,7 +13,7 @@ use Rattle.rls_value.specs.declared.verb.PolicyKind.{PolicyKind}
 use Rattle.rls_value.specs.declared.verb.PolicyKind.TheVariants as kind
 use Rattle.rls_value.specs.declared.verb.Privilege.{Privilege}
 use Rattle.rls_value.specs.declared.verb.Privilege.TheVariants as p
-use Rattle.rls_expr.specs.Terms.{Term}
+use Rattle.rls_expr.specs.Terms.{Term, terms_of}
 use Rattle.rls_expr.specs.Terms as e
 use Rattle.rls_expr.specs.declared.column_name.ColumnName.{ColumnName}
 use Rattle.rls_expr.specs.declared.expr.Comparison.{Comparison}
@@ -47,12 +47,14 @@ use Rattle.rls_text.specs.declared.columns.ColumnMark.TheVariants as marks
 use Rattle.rls_text.specs.declared.tables.TableElement.{TableElement}
 use Rattle.rls_text.specs.declared.tables.TableElement.TheVariants as element
 use Rattle.rls_text.specs.declared.tables.TableElements.{TableElements}
-use Rattle.std.proofs.Common.{inl, inr}
+use Rattle.rls_text.specs.declared.tree.Choices.TheVariants.{Listed, Queried}
+use Rattle.std.proofs.Common.{arith, ap, inl, inr}
 use Rattle.rls_text.specs.Heads.{Names, Numbers, Texts, Keyword, Sign, begins, sees}
-use Rattle.rls_text.specs.FirstSets.{constant_heads, literal_heads, item_heads, item_more, items_more, prim_heads, sign_heads, sum_more, in_heads, memb_more, comparison_heads, cmp_more, is_more, expr_heads, expr_more, alias_heads, condition_more, select_more, inserted_more, changed_more, attribute_heads, role_more, mark_heads, change_more, policy_more, create_more, alter_more, privilege_heads, privileges_heads, option_heads, granted_more, revoked_more, flat_heads, flat_more, body_heads, body_more, literal_apart, name_apart, not_apart, as_apart, alias_apart, public_apart, primary_apart, table_apart, none_apart, on_apart, to_apart}
+use Rattle.rls_text.specs.FirstSets.{constant_heads, literal_heads, item_heads, item_more, items_more, prim_heads, sign_heads, sum_more, in_heads, memb_more, comparison_heads, cmp_more, is_more, expr_heads, expr_more, alias_heads, condition_more, select_more, inserted_more, changed_more, attribute_heads, role_more, mark_heads, change_more, policy_more, create_more, alter_more, privilege_heads, privileges_heads, option_heads, granted_more, revoked_more, flat_heads, flat_more, body_heads, body_more, literal_apart, name_apart, exists_apart, select_apart, not_apart, as_apart, alias_apart, public_apart, primary_apart, table_apart, none_apart, on_apart, to_apart}
 use Rattle.rls_text.specs.Ahead.{on_comes_first, second_is, Skips, both_skips, mapped_skips, either_skips, perhaps_skips, many_skips, token_skips, one_skips, decided_at, decided_before, decided_behind, Begins, only_begins, one_begins, mapped_begins, checked_begins, either_begins, both_begins, perhaps_begins, no_second, Alone, only_alone, mapped_alone, either_alone}
 use Rattle.rls_text.specs.Elements.{elements_of}
 use Rattle.rls_text.specs.Elements as elements
+use Rattle.rls_text.specs.Heights.{height, heights}
 use Rattle.rls_text.specs.Lang.{only, Both, Mapped, Perhaps, Many, put_in}
 use Rattle.rls_text.specs.Parses.{unseen_parts}
 use Rattle.rls_text.specs.Trees as t
@@ -60,7 +62,7 @@ use Rattle.rls_text.specs.Writes.{through, without_second, without_first}
 use Rattle.rls_text.specs.Rule.{Rule, word, sign, one, both, mapped, after_as, before_as, after, before, in_parentheses, either, either_by, perhaps, many, checked, widened, with_comma, as_list, list_law, listed, spelled_as, standing_for, word_for, sign_for}
 use Rattle.rls_text.specs.Cut.{Cut, of_some}
 use Rattle.rls_text.specs.Cut as cut
-use Rattle.rls_text.specs.Cutting.{tree_of, tuple_kept, tuples_kept, rows_kept, set_column_kept, set_columns_kept, ending_kept, draft_of, signed_kept, sum_kept, list_kept, among_kept, compared_kept, tested_kept, negated_kept, and_kept, or_kept, tuple_is_kept, tuples_are_kept, set_columns_are_kept, even_kept, long_kept, distinct_kept, conditions_kept, description_kept, change_kept, is_policy_kept, is_change_kept}
+use Rattle.rls_text.specs.Cutting.{tree_of, selected_kept, select_kept, choices_kept, in_kept, exists_kept, scalar_kept, tuple_kept, tuples_kept, rows_kept, set_column_kept, set_columns_kept, ending_kept, draft_of, signed_kept, sum_kept, among_kept, compared_kept, tested_kept, negated_kept, and_kept, or_kept, tuple_is_kept, tuples_are_kept, set_columns_are_kept, even_kept, long_kept, distinct_kept, conditions_kept, description_kept, change_kept, is_policy_kept, is_change_kept}
 use Rattle.rls_text.specs.Values as g
 use Rattle.rls_text.specs.WaysBack as back
 use Rattle.rls_text.specs.TablesBack as tables
@@ -99,7 +101,7 @@ number = mapped g.signed back.as_signed back.signed_law (checked g.in_range (bot
 unfoldable pub literal : Rule Value literal_heads [] false
 literal = either constant (either text number refl) refl
 
--- ---- expressions
+-- ---- items
 
 -- ["." name]
 unfoldable pub behind_dot : Rule (Option (List ℕ)) (Sign s.Dot ∷ []) item_more true
@@ -113,10 +115,94 @@ column = mapped g.column_name_of back.as_column_name back.column_name_law (both 
 unfoldable pub item : Rule Term item_heads item_more false
 item = either (mapped e.Literal back.as_literal back.literal_law literal) (either (mapped e.Column back.as_column back.column_law column) (mapped (λ _. e.CurrentUser) back.as_user back.user_law (word (codes "current_user"))) name_apart) literal_apart
 
--- an item is kept as it is, as a leaf
-pub item_kept : (ts : List Token) (x : Term) → item.spells ts x → tree_of x ≡ t.leaf x
+-- an item has the height of a leaf,
+item_height : (ts : List Token) (x : Term) → item.spells ts x → height x ≡ 1
 unfolding item
-item_kept ts x h = elim h [ inl y ↦ rw (y.value) refl | inr y ↦ elim y [ inl z ↦ rw (z.value) refl | inr z ↦ rw (z.value) refl ] ]
+item_height ts x h = elim h [ inl y ↦ rw (y.value) refl | inr y ↦ elim y [ inl z ↦ rw (z.value) refl | inr z ↦ rw (z.value) refl ] ]
+
+-- and is kept as it is
+pub item_kept : (ts : List Token) (x : Term) → item.spells ts x → tree_of x ≡ t.leaf x
+item_kept ts x h = rw (item_height ts x h) refl
+
+-- ---- what a SELECT selects, and its table
+
+-- item {"," item}
+unfoldable pub item_list : Rule (List Term) item_heads items_more false
+item_list = widened (mapped (λ r. r.0 ∷ r.1) as_list list_law (both item (many (with_comma item) refl) refl)) refl refl
+
+-- items, as what is selected, where no parenthesis follows
+unfoldable pub selected_items : Rule Selected item_heads (Sign s.LParen ∷ items_more) false
+selected_items = widened (mapped selected.Items back.as_items back.items_law item_list) refl refl
+
+-- COUNT "(" "*" ")"
+unfoldable pub count : Rule Selected (Keyword (codes "count") ∷ []) [] false
+count = mapped (λ _. selected.Count) back.as_count back.count_law (after (word (codes "count")) (in_parentheses (sign s.Star) refl) refl)
+
+-- where rows are counted the second token is a parenthesis
+pub paren_second : (front rest : List Token) (a : Selected) → count.spells front a → sees [] rest ≡ false → second_is (Sign s.LParen ∷ []) (front ++ rest) ≡ true
+unfolding count
+paren_second front rest a h stop =
+    let x = h.spelled.spelled in
+    let y = x.other.spelled in
+    rw (x.split, x.one, y.split, y.one) refl
+
+-- no parenthesis stands behind the first token of a literal,
+literal_begins : Begins (Sign s.LParen ∷ []) literal.spells
+unfolding literal constant text number digits
+literal_begins = either_begins _ _ _ (either_begins _ _ _ (mapped_begins _ _ (only_begins _ _) _) (either_begins _ _ _ (mapped_begins _ _ (only_begins _ _) _) (mapped_begins _ _ (only_begins _ _) _)))
+    (either_begins _ _ _ (mapped_begins _ _ (one_begins _ _) _) (mapped_begins _ _ (checked_begins _ _ (perhaps_begins _ _ _ _ _ _ (only_begins _ _) digits.parses refl (one_begins _ _)) _) _))
+
+-- of an item
+item_begins : Begins (Sign s.LParen ∷ []) item.spells
+unfolding item column name
+item_begins = either_begins _ _ _ (mapped_begins _ _ literal_begins _) (either_begins _ _ _ (mapped_begins _ _ (mapped_begins _ _ (both_begins _ _ _ _ _ _ (one_begins _ _) behind_dot.parses refl) _) _) (mapped_begins _ _ (only_begins _ _) _))
+
+-- or of items
+items_begin : Begins (Sign s.LParen ∷ []) selected_items.spells
+unfolding selected_items item_list
+items_begin = mapped_begins _ _ (mapped_begins _ _ (both_begins _ _ _ _ _ _ item_begins (many (with_comma item) refl).parses refl) _) _
+
+-- so where items are selected the second token is none
+pub no_paren_second : (front rest : List Token) (a : Selected) → selected_items.spells front a → sees (Sign s.LParen ∷ items_more) rest ≡ false → second_is (Sign s.LParen ∷ []) (front ++ rest) ≡ false
+no_paren_second front rest a h stop = no_second _ _ items_begin front rest a h (unseen_parts (Sign s.LParen ∷ []) items_more rest stop).0
+
+-- "*" | count | items: where the second token is a parenthesis, rows are counted
+unfoldable pub items : Rule Selected (Sign s.Star ∷ Keyword (codes "count") ∷ item_heads) (Sign s.LParen ∷ items_more) false
+items = either (mapped (λ _. selected.All) back.as_all back.all_law (sign s.Star)) (either_by (second_is (Sign s.LParen ∷ [])) count selected_items paren_second no_paren_second) refl
+
+-- items have it too
+more_height : (ts : List Token) (xs : List Term) → Many (with_comma item).spells ts xs → heights (terms_of xs) ≤ 1
+unfolding with_comma
+more_height ts [] h = omega arith
+more_height ts (x ∷ xs) h =
+    let one : height x ≡ 1 = rw (h.3.value) (item_height h.3.spelled.rest h.3.source.1 h.3.spelled.other) in
+    let more = more_height h.1 xs h.4 in omega (arith, one, more)
+
+list_height : (ts : List Token) (xs : List Term) → item_list.spells ts xs → heights (terms_of xs) ≡ 1
+unfolding item_list
+list_height ts xs h =
+    let one = item_height h.spelled.front h.source.0 h.spelled.one in
+    let more = more_height h.spelled.rest h.source.1 h.spelled.other in
+    rw (h.value) (omega (arith, one, more))
+
+-- and are kept with it
+pub items_kept : (ts : List Token) (x : Selected) → items.spells ts x → selected_kept x ≡ t.with_depth x
+unfolding items count selected_items
+items_kept ts x h = elim h [ inl y ↦ rw (y.value) refl | inr y ↦ elim y [ inl z ↦ rw (z.value) refl | inr z ↦ rw (z.value) (ap (λ n. (selected.Items z.source, n)) (list_height ts z.source z.spelled)) ] ]
+
+-- [AS] name; AS is written
+unfoldable pub alias : Rule (List ℕ) alias_heads [] false
+alias = after_as (Some tt) (perhaps (word (codes "as"))) name as_apart
+
+-- [[AS] name]
+unfoldable pub alias_if_any : Rule (Option (List ℕ)) alias_heads alias_heads true
+alias_if_any = perhaps alias
+
+-- FROM name [[AS] name]
+unfoldable pub from_table : Rule g.TableAndAlias (Keyword (codes "from") ∷ []) alias_heads false
+from_table = after (word (codes "from")) (both name alias_if_any refl) refl
+
+-- ---- expressions
 
 -- "=" | "<>" | "<" | "<=" | ">" | ">="
 unfoldable pub comparison : Rule Comparison comparison_heads [] false
@@ -145,9 +231,29 @@ module _ (inner : Cut tree_of expr_heads expr_more false) where
   unfoldable pub parenthesized : Cut tree_of (Sign s.LParen ∷ []) [] false
   parenthesized = cut.in_parentheses inner refl
 
-  -- item | "(" expr ")"
+  -- [WHERE expr]
+  unfoldable pub condition : Cut (of_some tree_of) (Keyword (codes "where") ∷ []) condition_more true
+  condition = cut.widened (cut.perhaps (cut.after (word (codes "where")) inner refl)) refl refl
+
+  -- SELECT items FROM name [[AS] name] [WHERE expr]
+  unfoldable pub select_parts : Cut select_kept (Keyword (codes "select") ∷ []) select_more false
+  select_parts = cut.widened (cut.after (word (codes "select")) (cut.both (cut.kept_as selected_kept t.with_depth items items_kept) (cut.both (cut.plain from_table) condition alias_apart) refl) refl) refl refl
+
+  -- EXISTS "(" select ")"
+  unfoldable pub exists : Cut tree_of (Keyword (codes "exists") ∷ []) [] false
+  exists = cut.mapped tree_of (λ r. e.Exists (g.query_of r)) t.exists_of exists_kept back.as_exists back.exists_law (cut.after (word (codes "exists")) (cut.in_parentheses select_parts refl) refl)
+
+  -- a select that stands for a value
+  unfoldable pub scalar : Cut tree_of (Keyword (codes "select") ∷ []) select_more false
+  scalar = cut.mapped tree_of (λ r. e.Scalar (g.query_of r)) t.scalar_of scalar_kept back.as_scalar back.scalar_law select_parts
+
+  -- select | expr
+  unfoldable pub enclosed : Cut tree_of (Keyword (codes "select") ∷ expr_heads) select_more false
+  enclosed = cut.widened (cut.either scalar inner select_apart) refl refl
+
+  -- item | EXISTS "(" select ")" | "(" (select | expr) ")"
   unfoldable pub prim : Cut tree_of prim_heads item_more false
-  prim = cut.either (cut.kept_as tree_of t.leaf item item_kept) parenthesized refl
+  prim = cut.either (cut.kept_as tree_of t.leaf item item_kept) (cut.either exists (cut.in_parentheses enclosed refl) refl) exists_apart
 
   -- ("+" | "-") prim
   unfoldable pub sum_next : Cut signed_kept sign_heads item_more false
@@ -169,17 +275,25 @@ module _ (inner : Cut tree_of expr_heads expr_more false) where
   unfoldable pub tuple : Cut tuple_kept (Sign s.LParen ∷ []) [] false
   tuple = cut.in_parentheses parts refl
 
-  -- [NOT] IN tuple
-  unfoldable pub in_list : Cut list_kept in_heads [] false
-  in_list = cut.both (cut.plain in_word) tuple refl
+  -- select | expr {"," expr}
+  unfoldable pub choices : Cut choices_kept (Keyword (codes "select") ∷ expr_heads) (Sign s.Comma ∷ select_more) false
+  choices = cut.widened (cut.either (cut.mapped choices_kept (λ r. inr r) Queried (λ r. refl) back.as_queried back.queried_law select_parts) (cut.mapped choices_kept (λ xs. inl xs) Listed (λ xs. refl) back.as_listed back.listed_law parts) select_apart) refl refl
 
-  -- sum [[NOT] IN tuple]
+  -- "(" (select | expr {"," expr}) ")"
+  unfoldable pub enclosed_choices : Cut choices_kept (Sign s.LParen ∷ []) [] false
+  enclosed_choices = cut.in_parentheses choices refl
+
+  -- [NOT] IN "(" (select | expr {"," expr}) ")"
+  unfoldable pub in_choices : Cut in_kept in_heads [] false
+  in_choices = cut.both (cut.plain in_word) enclosed_choices refl
+
+  -- sum [[NOT] IN "(" (select | expr {"," expr}) ")"]
   unfoldable pub memb : Cut tree_of prim_heads memb_more false
-  memb = cut.chain (λ r. g.among r.0 r.1) (λ r. t.among r.0 r.1) among_kept back.as_among back.among_law sum (through prim.rule.prints prim_sum) (cut.perhaps in_list) None refl (λ x. refl) refl
+  memb = cut.chain (λ r. g.among r.0 r.1) (λ r. t.among r.0 r.1) among_kept back.as_among back.among_law sum (through prim.rule.prints prim_sum) (cut.perhaps in_choices) None refl (λ x. refl) refl
 
   pub prim_memb : (ts : List Token) (x : Term) → prim.rule.spells ts x → memb.rule.spells ts x
   unfolding memb
-  prim_memb ts x h = without_second (λ r. g.among r.0 r.1) sum.rule.spells (Perhaps in_list.rule.spells) (λ x. x) None refl (λ x. refl) ts x (prim_sum ts x h)
+  prim_memb ts x h = without_second (λ r. g.among r.0 r.1) sum.rule.spells (Perhaps in_choices.rule.spells) (λ x. x) None refl (λ x. refl) ts x (prim_sum ts x h)
 
   -- a side of a comparison, written as an operand
   abbrev pub side : Cut tree_of prim_heads memb_more false
@@ -243,50 +357,6 @@ expr (suc depth) = or (expr depth)
 
 -- ---- SELECT, INSERT, UPDATE and DELETE
 
--- item {"," item}
-unfoldable pub item_list : Rule (List Term) item_heads items_more false
-item_list = widened (mapped (λ r. r.0 ∷ r.1) as_list list_law (both item (many (with_comma item) refl) refl)) refl refl
-
--- items, as what is selected, where no parenthesis follows
-unfoldable pub selected_items : Rule Selected item_heads (Sign s.LParen ∷ items_more) false
-selected_items = widened (mapped selected.Items back.as_items back.items_law item_list) refl refl
-
--- COUNT "(" "*" ")"
-unfoldable pub count : Rule Selected (Keyword (codes "count") ∷ []) [] false
-count = mapped (λ _. selected.Count) back.as_count back.count_law (after (word (codes "count")) (in_parentheses (sign s.Star) refl) refl)
-
--- where rows are counted the second token is a parenthesis
-pub paren_second : (front rest : List Token) (a : Selected) → count.spells front a → sees [] rest ≡ false → second_is (Sign s.LParen ∷ []) (front ++ rest) ≡ true
-unfolding count
-paren_second front rest a h stop =
-    let x = h.spelled.spelled in
-    let y = x.other.spelled in
-    rw (x.split, x.one, y.split, y.one) refl
-
--- no parenthesis stands behind the first token of a literal,
-literal_begins : Begins (Sign s.LParen ∷ []) literal.spells
-unfolding literal constant text number digits
-literal_begins = either_begins _ _ _ (either_begins _ _ _ (mapped_begins _ _ (only_begins _ _) _) (either_begins _ _ _ (mapped_begins _ _ (only_begins _ _) _) (mapped_begins _ _ (only_begins _ _) _)))
-    (either_begins _ _ _ (mapped_begins _ _ (one_begins _ _) _) (mapped_begins _ _ (checked_begins _ _ (perhaps_begins _ _ _ _ _ _ (only_begins _ _) digits.parses refl (one_begins _ _)) _) _))
-
--- of an item
-item_begins : Begins (Sign s.LParen ∷ []) item.spells
-unfolding item column name
-item_begins = either_begins _ _ _ (mapped_begins _ _ literal_begins _) (either_begins _ _ _ (mapped_begins _ _ (mapped_begins _ _ (both_begins _ _ _ _ _ _ (one_begins _ _) behind_dot.parses refl) _) _) (mapped_begins _ _ (only_begins _ _) _))
-
--- or of items
-items_begin : Begins (Sign s.LParen ∷ []) selected_items.spells
-unfolding selected_items item_list
-items_begin = mapped_begins _ _ (mapped_begins _ _ (both_begins _ _ _ _ _ _ item_begins (many (with_comma item) refl).parses refl) _) _
-
--- so where items are selected the second token is none
-pub no_paren_second : (front rest : List Token) (a : Selected) → selected_items.spells front a → sees (Sign s.LParen ∷ items_more) rest ≡ false → second_is (Sign s.LParen ∷ []) (front ++ rest) ≡ false
-no_paren_second front rest a h stop = no_second _ _ items_begin front rest a h (unseen_parts (Sign s.LParen ∷ []) items_more rest stop).0
-
--- "*" | count | items: where the second token is a parenthesis, rows are counted
-unfoldable pub items : Rule Selected (Sign s.Star ∷ Keyword (codes "count") ∷ item_heads) (Sign s.LParen ∷ items_more) false
-items = either (mapped (λ _. selected.All) back.as_all back.all_law (sign s.Star)) (either_by (second_is (Sign s.LParen ∷ [])) count selected_items paren_second no_paren_second) refl
-
 -- "*" | items
 unfoldable pub returned : Rule Selected (Sign s.Star ∷ item_heads) items_more false
 returned = either (mapped (λ _. selected.All) back.as_all back.all_law (sign s.Star)) (mapped selected.Items back.as_items back.items_law item_list) refl
@@ -295,31 +365,14 @@ returned = either (mapped (λ _. selected.All) back.as_all back.all_law (sign s.
 unfoldable pub returning : Rule (Option Selected) (Keyword (codes "returning") ∷ []) inserted_more true
 returning = perhaps (after (word (codes "returning")) returned refl)
 
--- [AS] name; AS is written
-unfoldable pub alias : Rule (List ℕ) alias_heads [] false
-alias = after_as (Some tt) (perhaps (word (codes "as"))) name as_apart
-
--- [[AS] name]
-unfoldable pub alias_if_any : Rule (Option (List ℕ)) alias_heads alias_heads true
-alias_if_any = perhaps alias
-
--- FROM name [[AS] name]
-unfoldable pub from_table : Rule g.TableAndAlias (Keyword (codes "from") ∷ []) alias_heads false
-from_table = after (word (codes "from")) (both name alias_if_any refl) refl
-
 -- ["(" names ")"], no name twice
 unfoldable pub columns_if_any : Rule (Option (List (List ℕ))) (Sign s.LParen ∷ []) (Sign s.LParen ∷ []) true
 columns_if_any = perhaps (in_parentheses distinct_names refl)
 
 module _ (inner : Cut tree_of expr_heads expr_more false) where
-  -- [WHERE expr]
-  unfoldable pub condition : Cut (of_some tree_of) (Keyword (codes "where") ∷ []) condition_more true
-  condition = cut.widened (cut.perhaps (cut.after (word (codes "where")) inner refl)) refl refl
-
   -- SELECT items FROM name [[AS] name] [WHERE expr]
   unfoldable pub select : Cut draft_of (Keyword (codes "select") ∷ []) select_more false
-  select = cut.widened (cut.mapped draft_of g.select_of t.select_of (λ r. refl) back.as_select back.select_law
-      (cut.after (word (codes "select")) (cut.both (cut.plain items) (cut.both (cut.plain from_table) condition alias_apart) refl) refl)) refl refl
+  select = cut.mapped draft_of g.select_of t.select_of (λ r. refl) back.as_select back.select_law (select_parts inner)
 
   -- tuple {"," tuple}
   unfoldable pub tuples : Cut tuples_kept (Sign s.LParen ∷ []) (Sign s.Comma ∷ []) false
@@ -356,7 +409,7 @@ module _ (inner : Cut tree_of expr_heads expr_more false) where
 
   -- [WHERE expr] [RETURNING ..]
   unfoldable pub ending : Cut ending_kept (Keyword (codes "where") ∷ Keyword (codes "returning") ∷ []) changed_more true
-  ending = cut.widened (cut.both condition (cut.plain returning) refl) refl refl
+  ending = cut.widened (cut.both (condition inner) (cut.plain returning) refl) refl refl
 
   -- UPDATE name SET set_columns [WHERE expr] [RETURNING ..]
   unfoldable pub update : Cut draft_of (Keyword (codes "update") ∷ []) changed_more false

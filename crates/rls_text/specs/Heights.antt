@@ -1,17 +1,17 @@
 -- How deep an expression is: a leaf counts one.
 use Rattle.std.specs.Prelude.{ℕ, ◌+◌, max, List, [], ◌∷◌, map, Option, Some, None}
-use Rattle.rls_expr.specs.Terms.{Term, Terms, Literal, Column, Place, CurrentUser, Compare, And, Or, Not, IsNull, IsNotNull, Among, NotAmong, Sum, End, More}
+use Rattle.rls_expr.specs.Terms.{Term, Terms, Query, Literal, Column, Place, CurrentUser, Compare, And, Or, Not, IsNull, IsNotNull, Among, NotAmong, Exists, Within, NotWithin, Scalar, Sum, End, More, Select}
 use Rattle.rls_expr.specs.Terms.{terms_of}
 use Rattle.rls_statement.specs.declared.changing.Setting.{Setting}
 use Rattle.rls_statement.specs.declared.statement.Statement.{Statement}
 use Rattle.rls_statement.specs.declared.statement.Statement.TheVariants as st
 
 abbrev mutual
-  -- the nodes on its longest path
+  -- the nodes on its longest path, through subqueries too; a scalar subquery is no node but its SELECT
   pub height : Term → ℕ
   height (Literal v) = 1
   height (Column name) = 1
-  height (Place out column) = 1
+  height (Place at) = 1
   height CurrentUser = 1
   height (Compare how a b) = max (height a) (height b) + 1
   height (And ts) = heights ts + 1
@@ -21,12 +21,20 @@ abbrev mutual
   height (IsNotNull t) = height t + 1
   height (Among t ts) = max (height t) (heights ts) + 1
   height (NotAmong t ts) = max (height t) (heights ts) + 1
+  height (Exists q) = query_height q + 1
+  height (Within t q) = max (height t) (query_height q) + 1
+  height (NotWithin t q) = max (height t) (query_height q) + 1
+  height (Scalar q) = query_height q
   height (Sum signs ts) = heights ts + 1
 
   -- the highest of them
   pub heights : Terms → ℕ
   heights End = 0
   heights (More t ts) = max (height t) (heights ts)
+
+  -- a SELECT is a node above its items and its WHERE
+  pub query_height : Query → ℕ
+  query_height (Select from key selects items condition) = max (heights items) (heights condition) + 1
 
 -- how high a condition is; 0 where there is none
 abbrev pub height_if : Option Term → ℕ

@@ -1,6 +1,7 @@
 pub mod Words
 pub mod Lang
 pub mod Heights
+pub mod Nested
 pub mod Values
 pub mod Grammar
 pub mod Answers

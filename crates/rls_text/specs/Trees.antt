@@ -4,16 +4,20 @@ use Rattle.std.specs.Prelude.{ℕ, zero, suc, ◌+◌, max, nat_lt, if◌then◌
 use Rattle.rls_value.specs.declared.value.Value.TheVariants.{Null}
 use Rattle.rls_expr.specs.declared.expr.Comparison.{Comparison}
 use Rattle.rls_expr.specs.declared.expr.Sign.{Sign}
-use Rattle.rls_expr.specs.Terms.{Term, terms_of}
+use Rattle.rls_expr.specs.Terms.{Term, Query, terms_of}
 use Rattle.rls_expr.specs.Terms as t
 use Rattle.rls_statement.specs.declared.changing.Setting.{Setting}
 use Rattle.rls_statement.specs.declared.statement.Selected.{Selected}
+use Rattle.rls_statement.specs.declared.statement.Selected.TheVariants as selected
 use Rattle.rls_statement.specs.declared.statement.Statement.{Statement}
 use Rattle.rls_statement.specs.declared.statement.Statement.TheVariants as st
 use Rattle.rls_text.specs.declared.tree.Operands.{Operands}
 use Rattle.rls_text.specs.declared.tree.Operands.TheVariants.{One, Several}
+use Rattle.rls_text.specs.declared.tree.Choices.{Choices}
+use Rattle.rls_text.specs.declared.tree.Choices.TheVariants.{Listed, Queried}
 use Rattle.rls_text.specs.Lang.{put_in}
 use Rattle.rls_text.specs.Values.{Description, PolicyChange, Ending, TableAndAlias}
+use Rattle.rls_text.specs.Values as values
 
 -- an expression, or what stands for it, with its depth
 abbrev pub Tree : Type 0
@@ -102,13 +106,53 @@ with_part tuple tree = (tuple.0 ++ tree.0 ∷ [], max tuple.1 tree.1)
 abbrev pub tuple_of : Tree → List Tree → Tuple
 tuple_of first more = put_in with_part (first.0 ∷ [], first.1) more
 
--- IN with a list, or NOT IN
-unfoldable pub among_of : Tree → Option (Unit {0}) → Tuple → Tree
-among_of left None list = above (max left.1 list.1) (t.Among left.0 (terms_of list.0))
-among_of left (Some _) list = above (max left.1 list.1) (t.NotAmong left.0 (terms_of list.0))
+-- a condition that may be left out, and its depth
+abbrev pub parted : Option Tree → Option Term × ℕ
+parted None = (None, 0)
+parted (Some tree) = (Some tree.0, tree.1)
+
+-- what is selected, with the depth of its items, which are leaves; 0 where there are none
+abbrev pub with_depth : Selected → Selected × ℕ
+with_depth (selected.Items items) = (selected.Items items, 1)
+with_depth x = (x, 0)
+
+-- of what a SELECT is made
+abbrev pub SelectParts : Type 0
+SelectParts = (Selected × ℕ) × (TableAndAlias × Option Tree)
+
+-- its parts without their depths, and the depth of the deepest
+abbrev pub parted_select : SelectParts → values.SelectParts × ℕ
+parted_select r = ((r.0.0, (r.1.0, (parted r.1.1).0)), max r.0.1 (parted r.1.1).1)
+
+-- a SELECT inside an expression
+abbrev pub query_of : SelectParts → Query
+query_of r = values.query_of (parted_select r).0
+
+-- the depth of a node above one of this depth; 65 for all that are too deep
+abbrev pub one_deeper : ℕ → ℕ
+one_deeper depth = if◌then◌else◌ {A = ℕ} (nat_lt depth 64) (depth + 1) 65
+
+-- the depth of a SELECT inside an expression
+abbrev pub select_depth : SelectParts → ℕ
+select_depth r = one_deeper (parted_select r).1
+
+-- EXISTS
+unfoldable pub exists_of : SelectParts → Tree
+exists_of r = above (select_depth r) (t.Exists (query_of r))
+
+-- a SELECT that stands for a value, which is its one node
+unfoldable pub scalar_of : SelectParts → Tree
+scalar_of r = above (parted_select r).1 (t.Scalar (query_of r))
+
+-- IN, or NOT IN, with a list or with a SELECT
+unfoldable pub among_of : Tree → Option (Unit {0}) → Choices → Tree
+among_of left None (Listed list) = above (max left.1 list.1) (t.Among left.0 (terms_of list.0))
+among_of left (Some _) (Listed list) = above (max left.1 list.1) (t.NotAmong left.0 (terms_of list.0))
+among_of left None (Queried r) = above (max left.1 (select_depth r)) (t.Within left.0 (query_of r))
+among_of left (Some _) (Queried r) = above (max left.1 (select_depth r)) (t.NotWithin left.0 (query_of r))
 
 -- the same, or its left side alone
-abbrev pub among : Tree → Option (Option (Unit {0}) × Tuple) → Tree
+abbrev pub among : Tree → Option (Option (Unit {0}) × Choices) → Tree
 among left None = left
 among left (Some r) = among_of left r.0 r.1
 
@@ -144,11 +188,6 @@ with_set_column all next = (all.0 ++ next.0 ∷ [], max all.1 next.1)
 abbrev pub set_columns_of : SetColumn → List SetColumn → SetColumns
 set_columns_of first more = put_in with_set_column (first.0 ∷ [], first.1) more
 
--- a condition that may be left out, and its depth
-abbrev pub parted : Option Tree → Option Term × ℕ
-parted None = (None, 0)
-parted (Some tree) = (Some tree.0, tree.1)
-
 -- a statement, with the depth of its deepest expression; 0 where it has none
 abbrev pub Draft : Type 0
 Draft = Statement × ℕ
@@ -158,8 +197,8 @@ abbrev pub flat : Statement → Draft
 flat statement = (statement, 0)
 
 -- SELECT, of its parts
-abbrev pub select_of : Selected × (TableAndAlias × Option Tree) → Draft
-select_of r = (st.Select record { items = r.0; table = r.1.0.0; alias = r.1.0.1; condition = (parted r.1.1).0 }, (parted r.1.1).1)
+abbrev pub select_of : SelectParts → Draft
+select_of r = (st.Select record { items = r.0.0; table = r.1.0.0; alias = r.1.0.1; condition = (parted r.1.1).0 }, (parted r.1.1).1)
 
 -- the rows of INSERT: columns, if they are written, and tuples
 abbrev pub Rows : Type 0

@@ -1,7 +1,8 @@
 -- What the phrases of the grammar stand for, each by what its parts stand for.
-use Rattle.std.specs.Prelude.{ℕ, zero, suc, nat_le, nat_eq, pos, ◌-ℤ◌, ◌-◌, ◌^◌, Bool, true, false, not, ◌&&◌, ◌||◌, if◌then◌else◌, List, [], ◌∷◌, length, map, Option, Some, None, is_some}
+use Rattle.std.specs.Prelude.{ℕ, zero, suc, nat_le, nat_eq, pos, ◌-ℤ◌, ◌-◌, ◌^◌, Bool, true, false, not, ◌&&◌, ◌||◌, if◌then◌else◌, List, [], ◌∷◌, length, map, ◌⊎◌, Option, Some, None, is_some}
 use Rattle.std.specs.List.{list_any}
 use Rattle.std.specs.Str.{bytes_eq}
+use Rattle.std.proofs.Common.{inl, inr}
 use denote.Enum.Bare.{sameb}
 use Rattle.rls_value.specs.Names.{reserved, spells_name, folded}
 use Rattle.rls_value.specs.declared.value.Value.{Value}
@@ -12,10 +13,12 @@ use Rattle.rls_value.specs.declared.verb.Privilege.TheVariants as p
 use Rattle.rls_value.specs.declared.verb.Kind.TheVariants as command
 use Rattle.rls_value.specs.declared.verb.PolicyKind.{PolicyKind}
 use Rattle.rls_value.specs.declared.verb.PolicyKind.TheVariants as kind
-use Rattle.rls_expr.specs.Terms.{Term, terms_of}
+use Rattle.rls_expr.specs.Terms.{Term, Query, terms_of, maybe_term}
 use Rattle.rls_expr.specs.Terms as e
 use Rattle.rls_expr.specs.declared.column_name.ColumnName.{ColumnName}
 use Rattle.rls_expr.specs.declared.expr.Comparison.{Comparison}
+use Rattle.rls_expr.specs.declared.expr.Selects.{Selects}
+use Rattle.rls_expr.specs.declared.expr.Selects.TheVariants as selects
 use Rattle.rls_expr.specs.declared.expr.Sign.{Sign}
 use Rattle.rls_expr.specs.declared.policy.Grantee.{Grantee}
 use Rattle.rls_expr.specs.declared.policy.Grantee.TheVariants as to
@@ -37,6 +40,7 @@ use Rattle.rls_statement.specs.declared.statement.MembershipOptions.{MembershipO
 use Rattle.rls_statement.specs.declared.statement.Privileges.{Privileges}
 use Rattle.rls_statement.specs.declared.statement.RowSecurity.{RowSecurity}
 use Rattle.rls_statement.specs.declared.statement.Selected.{Selected}
+use Rattle.rls_statement.specs.declared.statement.Selected.TheVariants as selected
 use Rattle.rls_statement.specs.declared.statement.Statement.{Statement}
 use Rattle.rls_statement.specs.declared.statement.Statement.TheVariants as st
 use Rattle.rls_text.specs.Lang.{put_in}
@@ -96,13 +100,42 @@ abbrev pub sum_of : Term → List (Sign × Term) → Term
 sum_of first [] = first
 sum_of first (second ∷ more) = e.Sum (signs_of (second ∷ more)) (terms_of (first ∷ parts_of (second ∷ more)))
 
--- IN with a list, or NOT IN
-abbrev pub among_of : Term → Option (Unit {0}) → List Term → Term
-among_of left None list = e.Among left (terms_of list)
-among_of left (Some _) list = e.NotAmong left (terms_of list)
+-- what stands behind FROM: a table, and its alias, if there is one
+abbrev pub TableAndAlias : Type 0
+TableAndAlias = List ℕ × Option (List ℕ)
+
+-- of what a SELECT is made: what it selects, its table, and its condition, if there is one
+abbrev pub SelectParts : Type 0
+SelectParts = Selected × (TableAndAlias × Option Term)
+
+-- what a subquery selects
+abbrev pub selects_of : Selected → Selects
+selects_of selected.All = selects.All
+selects_of selected.Count = selects.Count
+selects_of (selected.Items items) = selects.Items
+
+-- its items; none where it selects all, or counts
+abbrev pub items_of : Selected → List Term
+items_of (selected.Items items) = items
+items_of _ = []
+
+-- a SELECT inside an expression, of its parts; the key isn't placed yet
+abbrev pub query_of : SelectParts → Query
+query_of r = e.Select record { table = r.1.0.0; alias = r.1.0.1 } [] (selects_of r.0) (terms_of (items_of r.0)) (maybe_term r.1.1)
+
+-- among which IN looks: a list, or what a SELECT gives
+abbrev pub Choices : Type 0
+Choices = List Term ⊎ SelectParts
+
+-- IN, or NOT IN
+abbrev pub among_of : Term → Option (Unit {0}) → Choices → Term
+among_of left None (inl list) = e.Among left (terms_of list)
+among_of left (Some _) (inl list) = e.NotAmong left (terms_of list)
+among_of left None (inr select) = e.Within left (query_of select)
+among_of left (Some _) (inr select) = e.NotWithin left (query_of select)
 
 -- the same, or its left side alone
-abbrev pub among : Term → Option (Option (Unit {0}) × List Term) → Term
+abbrev pub among : Term → Option (Option (Unit {0}) × Choices) → Term
 among left None = left
 among left (Some r) = among_of left r.0 r.1
 
@@ -133,12 +166,8 @@ or_of first (second ∷ more) = e.Or (terms_of (first ∷ second ∷ more))
 
 -- ---- statements
 
--- what stands behind FROM: a table, and its alias, if there is one
-abbrev pub TableAndAlias : Type 0
-TableAndAlias = List ℕ × Option (List ℕ)
-
 -- SELECT, of its parts
-abbrev pub select_of : Selected × (TableAndAlias × Option Term) → Statement
+abbrev pub select_of : SelectParts → Statement
 select_of r = st.Select record { items = r.0; table = r.1.0.0; alias = r.1.0.1; condition = r.1.1 }
 
 -- each is of that length

@@ -1,7 +1,7 @@
 -- The ways back: of which parts a value is written, each with the law that these parts stand for it.
 use Rattle.std.specs.Prelude.{◌≡◌, ℕ, zero, suc, nat_lt, pos, negsuc, ◌-ℤ◌, Bool, true, false, not, ◌&&◌, ◌||◌, if◌then◌else◌, List, [], ◌∷◌, ◌++◌, length, Option, Some, None, refl}
 use Rattle.std.specs.Str.{bytes_eq}
-use Rattle.std.proofs.Common.{arith, sym, ap, subst, ◌∙◌}
+use Rattle.std.proofs.Common.{arith, inl, inr, sym, ap, subst, ◌∙◌}
 use Rattle.std.proofs.lemmas.Slice.Eq.{bytes_eq-Decides}
 use Rattle.std.proofs.lemmas.Bool.{lt-ltb}
 use native.Mathlib.Numerals.{unary_clauses}
@@ -12,11 +12,13 @@ use Rattle.rls_value.specs.declared.value.Value.TheVariants as v
 use Rattle.rls_value.specs.declared.verb.Privilege.{Privilege}
 use Rattle.rls_value.specs.contracts.verb.Privilege as privilege
 use Rattle.rls_value.specs.declared.verb.Privilege.TheVariants as p
-use Rattle.rls_expr.specs.Terms.{Term, Terms, terms_of}
+use Rattle.rls_expr.specs.Terms.{Term, Terms, Query, terms_of, maybe_term}
 use Rattle.rls_expr.specs.Terms as e
 use Rattle.rls_expr.specs.declared.column_name.ColumnName.{ColumnName}
 use Rattle.rls_expr.specs.declared.expr.Comparison.{Comparison}
 use Rattle.rls_expr.specs.contracts.expr.Comparison as comparison
+use Rattle.rls_expr.specs.declared.expr.FromItem.{FromItem}
+use Rattle.rls_expr.specs.declared.expr.Selects.TheVariants as selects
 use Rattle.rls_expr.specs.declared.expr.Sign.{Sign}
 use Rattle.rls_expr.specs.contracts.expr.Sign as sign
 use Rattle.rls_expr.specs.declared.policy.Grantee.{Grantee}
@@ -266,15 +268,105 @@ pub or_law : (b : Term) (a : Term × List Term) → as_or b ≡ Some a → b ≡
 or_law (e.Or (e.More x (e.More y ts))) a h = ap (λ z. e.Or (e.More x (e.More y z))) (sym (terms_back ts)) ∙ ap (λ r. g.or_of r.0 r.1) (some_is (x, y ∷ list_of ts) a h)
 or_law _ a h = cc
 
--- the left side of IN or NOT IN, and the list
-abbrev pub as_among : Term → Option (Term × Option (Option (Unit {0}) × List Term))
-as_among (e.Among x ts) = Some (x, Some (None, list_of ts))
-as_among (e.NotAmong x ts) = Some (x, Some (Some tt, list_of ts))
+-- no term, or one
+abbrev pub as_condition : Terms → Option (Option Term)
+as_condition e.End = Some None
+as_condition (e.More t e.End) = Some (Some t)
+as_condition _ = None
+
+condition_law : (b : Terms) (a : Option Term) → as_condition b ≡ Some a → b ≡ maybe_term a
+condition_law e.End a h = ap maybe_term (some_is None a h)
+condition_law (e.More t e.End) a h = ap maybe_term (some_is (Some t) a h)
+condition_law (e.More t (e.More u ts)) a h = cc
+
+-- what is selected of a table, where the condition is one
+abbrev pub selected_from : Selected → FromItem → Option (Option Term) → Option g.SelectParts
+selected_from x from None = None
+selected_from x from (Some condition) = Some (x, ((from.table, from.alias), condition))
+
+-- the parts of a subquery of which the key isn't placed
+abbrev pub as_query : Query → Option g.SelectParts
+as_query (e.Select from [] selects.All e.End condition) = selected_from selected.All from (as_condition condition)
+as_query (e.Select from [] selects.Count e.End condition) = selected_from selected.Count from (as_condition condition)
+as_query (e.Select from [] selects.Items items condition) = selected_from (selected.Items (list_of items)) from (as_condition condition)
+as_query _ = None
+
+selected_law : (x : Selected) (from : FromItem) (condition : Terms) (a : g.SelectParts) → selected_from x from (as_condition condition) ≡ Some a
+    → e.Select from [] (g.selects_of x) (terms_of (g.items_of x)) condition ≡ g.query_of a
+selected_law x from condition a h = go (as_condition condition) refl h
+  where
+    go : (o : Option (Option Term)) → as_condition condition ≡ o → selected_from x from o ≡ Some a → e.Select from [] (g.selects_of x) (terms_of (g.items_of x)) condition ≡ g.query_of a
+    go None same k = cc
+    go (Some y) same k = ap (λ z. e.Select from [] (g.selects_of x) (terms_of (g.items_of x)) z) (condition_law condition y same) ∙ ap g.query_of (some_is (x, ((from.table, from.alias), y)) a k)
+
+pub query_law : (b : Query) (a : g.SelectParts) → as_query b ≡ Some a → b ≡ g.query_of a
+query_law (e.Select from [] selects.All e.End condition) a h = selected_law selected.All from condition a h
+query_law (e.Select from [] selects.Count e.End condition) a h = selected_law selected.Count from condition a h
+query_law (e.Select from [] selects.Items items condition) a h = ap (λ z. e.Select from [] selects.Items z condition) (sym (terms_back items)) ∙ selected_law (selected.Items (list_of items)) from condition a h
+query_law _ a h = cc
+
+-- the subquery of EXISTS
+abbrev pub as_exists : Term → Option g.SelectParts
+as_exists (e.Exists q) = as_query q
+as_exists _ = None
+
+pub exists_law : (b : Term) (a : g.SelectParts) → as_exists b ≡ Some a → b ≡ e.Exists (g.query_of a)
+exists_law (e.Exists q) a h = ap e.Exists (query_law q a h)
+exists_law _ a h = cc
+
+-- a subquery that stands for a value
+abbrev pub as_scalar : Term → Option g.SelectParts
+as_scalar (e.Scalar q) = as_query q
+as_scalar _ = None
+
+pub scalar_law : (b : Term) (a : g.SelectParts) → as_scalar b ≡ Some a → b ≡ e.Scalar (g.query_of a)
+scalar_law (e.Scalar q) a h = ap e.Scalar (query_law q a h)
+scalar_law _ a h = cc
+
+-- a list behind IN
+abbrev pub as_listed : g.Choices → Option (List Term)
+as_listed (inl list) = Some list
+as_listed (inr _) = None
+
+pub listed_law : (b : g.Choices) (a : List Term) → as_listed b ≡ Some a → b ≡ inl a
+listed_law (inl list) a h = ap (λ z. inl z) (some_is list a h)
+listed_law (inr _) a h = cc
+
+-- a SELECT behind IN
+abbrev pub as_queried : g.Choices → Option g.SelectParts
+as_queried (inr r) = Some r
+as_queried (inl _) = None
+
+pub queried_law : (b : g.Choices) (a : g.SelectParts) → as_queried b ≡ Some a → b ≡ inr a
+queried_law (inr r) a h = ap (λ z. inr z) (some_is r a h)
+queried_law (inl _) a h = cc
+
+-- behind a left side and IN
+abbrev pub behind_in : Term → Option (Unit {0}) → Option g.SelectParts → Option (Term × Option (Option (Unit {0}) × g.Choices))
+behind_in x negated None = None
+behind_in x negated (Some r) = Some (x, Some (negated, inr r))
+
+-- the left side of IN or NOT IN, and the list or the SELECT
+abbrev pub as_among : Term → Option (Term × Option (Option (Unit {0}) × g.Choices))
+as_among (e.Among x ts) = Some (x, Some (None, inl (list_of ts)))
+as_among (e.NotAmong x ts) = Some (x, Some (Some tt, inl (list_of ts)))
+as_among (e.Within x q) = behind_in x None (as_query q)
+as_among (e.NotWithin x q) = behind_in x (Some tt) (as_query q)
 as_among _ = None
 
-pub among_law : (b : Term) (a : Term × Option (Option (Unit {0}) × List Term)) → as_among b ≡ Some a → b ≡ g.among a.0 a.1
-among_law (e.Among x ts) a h = ap (λ z. e.Among x z) (sym (terms_back ts)) ∙ ap (λ r. g.among r.0 r.1) (some_is (x, Some (None, list_of ts)) a h)
-among_law (e.NotAmong x ts) a h = ap (λ z. e.NotAmong x z) (sym (terms_back ts)) ∙ ap (λ r. g.among r.0 r.1) (some_is (x, Some (Some tt, list_of ts)) a h)
+within_law : (node : Query → Term) (x : Term) (negated : Option (Unit {0})) (q : Query) (a : Term × Option (Option (Unit {0}) × g.Choices))
+    → ((r : g.SelectParts) → node (g.query_of r) ≡ g.among_of x negated (inr r)) → behind_in x negated (as_query q) ≡ Some a → node q ≡ g.among a.0 a.1
+within_law node x negated q a same h = go (as_query q) refl h
+  where
+    go : (o : Option g.SelectParts) → as_query q ≡ o → behind_in x negated o ≡ Some a → node q ≡ g.among a.0 a.1
+    go None e k = cc
+    go (Some r) e k = ap node (query_law q r e) ∙ same r ∙ ap (λ z. g.among z.0 z.1) (some_is (x, Some (negated, inr r)) a k)
+
+pub among_law : (b : Term) (a : Term × Option (Option (Unit {0}) × g.Choices)) → as_among b ≡ Some a → b ≡ g.among a.0 a.1
+among_law (e.Among x ts) a h = ap (λ z. e.Among x z) (sym (terms_back ts)) ∙ ap (λ r. g.among r.0 r.1) (some_is (x, Some (None, inl (list_of ts))) a h)
+among_law (e.NotAmong x ts) a h = ap (λ z. e.NotAmong x z) (sym (terms_back ts)) ∙ ap (λ r. g.among r.0 r.1) (some_is (x, Some (Some tt, inl (list_of ts))) a h)
+among_law (e.Within x q) a h = within_law (e.Within x) x None q a (λ r. refl) h
+among_law (e.NotWithin x q) a h = within_law (e.NotWithin x) x (Some tt) q a (λ r. refl) h
 among_law _ a h = cc
 
 -- signs, told apart

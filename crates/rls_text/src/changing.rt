@@ -9,11 +9,10 @@ ghost use Rattle.rls_text.specs.Grammar as g;
 ghost use Rattle.rls_text.specs.Values as values;
 ghost use Rattle.rls_text.specs.Trees as spec;
 
-use crate::expression::expr;
+use crate::expression::{condition, expr};
 use crate::fault::Fault;
 use crate::items::item_list;
 use crate::reading::{name, only, sees_symbol, symbol, word};
-use crate::selecting::condition;
 use crate::token::{Symbol, Token};
 use crate::tree::{Draft, SetColumn, SetColumns, Tree, parted, with_set_column};
 use rls_statement::{Delete, Selected, Setting, Statement, Update};

@@ -1,6 +1,6 @@
 //! Expressions from tokens.
 
-ghost use Rattle.std.specs.Prelude.{◌≡◌, [], ◌∷◌, codes, length, IfOk};
+ghost use Rattle.std.specs.Prelude.{◌≡◌, [], ◌∷◌, codes, length, refl, IfOk};
 ghost use Rattle.rls_text.specs.FirstSets.{sign_heads, in_heads, comparison_heads};
 ghost use Rattle.rls_text.specs.Gives.{Gives, folded};
 ghost use Rattle.rls_text.specs.Cut as cut;
@@ -13,10 +13,12 @@ ghost use Rattle.rls_text.specs.Trees as spec;
 use crate::fault::Fault;
 use crate::items::{item, starts_item};
 use crate::reading::{closed, only, sees_symbol, sees_word, symbol, word};
+use crate::selected::{from_table, items_and_depth};
 use crate::token::{Symbol, Token};
 use crate::tree::{
-    Operands, Summed, Tree, Tuple, among_of, and_of, compare_of, not_of, null_test_of, or_of,
-    sum_of, with_operand, with_part, with_summand,
+    Choices, Operands, SelectParts, Summed, TableAndAlias, Tree, Tuple, among_of, and_of,
+    compare_of, exists_of, not_of, null_test_of, or_of, scalar_of, sum_of, with_operand, with_part,
+    with_summand,
 };
 use rls_expr::{Comparison, Sign};
 use rls_value::Items;
@@ -231,8 +233,8 @@ fn memb(alloc: Global, depth: usize, tokens: &[Token]) -> Result<(Tree, &[Token]
     match sum(alloc, depth, tokens) {
         Ok((left, rest)) => {
             if starts_in(rest) {
-                match in_list(alloc, depth, rest) {
-                    Ok(((negated, list), rest)) => match among_of(alloc, left, negated, list) {
+                match in_choices(alloc, depth, rest) {
+                    Ok(((negated, all), rest)) => match among_of(alloc, left, negated, all) {
                         Ok(tree) => Ok((tree, rest)),
                         Err(_) => Err(Fault::NoMemory),
                     },
@@ -250,22 +252,58 @@ fn memb(alloc: Global, depth: usize, tokens: &[Token]) -> Result<(Tree, &[Token]
 }
 
 #[cycle(expression)]
-#[tactic(auto, unfolding(crate::specs::Grammar::in_list))]
-fn in_list(
+#[tactic(auto, unfolding(crate::specs::Grammar::in_choices))]
+fn in_choices(
     alloc: Global,
     depth: usize,
     tokens: &[Token],
-) -> Result<((Option<()>, Tuple), &[Token]), Fault>
-    ensures { Gives result ((g.in_list (g.expr depth)).read tokens.now) }
+) -> Result<((Option<()>, Choices), &[Token]), Fault>
+    ensures { Gives result ((g.in_choices (g.expr depth)).read tokens.now) }
 {
     let (negated, rest) = in_word(tokens)?;
-    match tuple(alloc, depth, rest) {
-        Ok((list, rest)) => Ok(((negated, list), rest)),
+    match enclosed_choices(alloc, depth, rest) {
+        Ok((choices, rest)) => Ok(((negated, choices), rest)),
         Err(fault) => Err(fault),
     }
 }
 
 #[cycle(expression)]
+#[tactic(auto, unfolding(crate::specs::Grammar::enclosed_choices))]
+fn enclosed_choices(
+    alloc: Global,
+    depth: usize,
+    tokens: &[Token],
+) -> Result<(Choices, &[Token]), Fault>
+    ensures { Gives result ((g.enclosed_choices (g.expr depth)).read tokens.now) }
+{
+    let Some(rest) = symbol(tokens, Symbol::LParen) else {
+        return Err(Fault::Syntax);
+    };
+    match choices(alloc, depth, rest) {
+        Ok((choices, rest)) => closed(choices, rest),
+        Err(fault) => Err(fault),
+    }
+}
+
+/// A SELECT, or the expressions of a list.
+#[cycle(expression)]
+#[tactic(auto, unfolding(crate::specs::Grammar::choices))]
+fn choices(alloc: Global, depth: usize, tokens: &[Token]) -> Result<(Choices, &[Token]), Fault>
+    ensures { Gives result ((g.choices (g.expr depth)).read tokens.now) }
+{
+    if sees_word(tokens, b"select") {
+        match select_parts(alloc, depth, tokens) {
+            Ok((select, rest)) => Ok((Choices::Queried(select), rest)),
+            Err(fault) => Err(fault),
+        }
+    } else {
+        match parts(alloc, depth, tokens) {
+            Ok((list, rest)) => Ok((Choices::Listed(list), rest)),
+            Err(fault) => Err(fault),
+        }
+    }
+}
+
 #[tactic(auto, unfolding(crate::specs::Grammar::tuple))]
 pub fn tuple(alloc: Global, depth: usize, tokens: &[Token]) -> Result<(Tuple, &[Token]), Fault>
     ensures { Gives result ((g.tuple (g.expr depth)).read tokens.now) }
@@ -410,12 +448,152 @@ fn prim(alloc: Global, depth: usize, tokens: &[Token]) -> Result<(Tree, &[Token]
 {
     if starts_item(tokens) {
         item_leaf(alloc, tokens)
+    } else if sees_word(tokens, b"exists") {
+        exists(alloc, depth, tokens)
     } else {
-        parenthesized(alloc, depth, tokens)
+        in_parentheses(alloc, depth, tokens)
+    }
+}
+
+/// EXISTS, and a SELECT in parentheses.
+#[cycle(expression)]
+#[tactic(auto, unfolding(crate::specs::Grammar::exists))]
+fn exists(alloc: Global, depth: usize, tokens: &[Token]) -> Result<(Tree, &[Token]), Fault>
+    ensures { Gives result ((g.exists (g.expr depth)).read tokens.now) }
+{
+    let Some(rest) = word(tokens, b"exists") else {
+        return Err(Fault::Syntax);
+    };
+    match enclosed_select(alloc, depth, rest) {
+        Ok((select, rest)) => match exists_of(alloc, select) {
+            Ok(tree) => Ok((tree, rest)),
+            Err(_) => Err(Fault::NoMemory),
+        },
+        Err(fault) => Err(fault),
     }
 }
 
 #[cycle(expression)]
+fn enclosed_select(
+    alloc: Global,
+    depth: usize,
+    tokens: &[Token],
+) -> Result<(SelectParts, &[Token]), Fault>
+    ensures { Gives result ((cut.in_parentheses (g.select_parts (g.expr depth)) refl).read tokens.now) }
+{
+    let Some(rest) = symbol(tokens, Symbol::LParen) else {
+        return Err(Fault::Syntax);
+    };
+    match select_parts(alloc, depth, rest) {
+        Ok((select, rest)) => closed(select, rest),
+        Err(fault) => Err(fault),
+    }
+}
+
+/// A SELECT that stands for a value, or an expression.
+#[cycle(expression)]
+fn in_parentheses(alloc: Global, depth: usize, tokens: &[Token]) -> Result<(Tree, &[Token]), Fault>
+    ensures { Gives result ((cut.in_parentheses (g.enclosed (g.expr depth)) refl).read tokens.now) }
+{
+    let Some(rest) = symbol(tokens, Symbol::LParen) else {
+        return Err(Fault::Syntax);
+    };
+    match enclosed(alloc, depth, rest) {
+        Ok((inner, rest)) => closed(inner, rest),
+        Err(fault) => Err(fault),
+    }
+}
+
+#[cycle(expression)]
+#[tactic(auto, unfolding(crate::specs::Grammar::enclosed))]
+fn enclosed(alloc: Global, depth: usize, tokens: &[Token]) -> Result<(Tree, &[Token]), Fault>
+    ensures { Gives result ((g.enclosed (g.expr depth)).read tokens.now) }
+{
+    if sees_word(tokens, b"select") {
+        scalar(alloc, depth, tokens)
+    } else {
+        expr(alloc, depth, tokens)
+    }
+}
+
+#[cycle(expression)]
+#[tactic(auto, unfolding(crate::specs::Grammar::scalar))]
+fn scalar(alloc: Global, depth: usize, tokens: &[Token]) -> Result<(Tree, &[Token]), Fault>
+    ensures { Gives result ((g.scalar (g.expr depth)).read tokens.now) }
+{
+    match select_parts(alloc, depth, tokens) {
+        Ok((select, rest)) => match scalar_of(alloc, select) {
+            Ok(tree) => Ok((tree, rest)),
+            Err(_) => Err(Fault::NoMemory),
+        },
+        Err(fault) => Err(fault),
+    }
+}
+
+/// A SELECT, as a statement or inside an expression.
+#[cycle(expression)]
+#[tactic(auto, unfolding(crate::specs::Grammar::select_parts))]
+pub fn select_parts(
+    alloc: Global,
+    depth: usize,
+    tokens: &[Token],
+) -> Result<(SelectParts, &[Token]), Fault>
+    ensures { Gives result ((g.select_parts (g.expr depth)).read tokens.now) }
+{
+    let Some(rest) = word(tokens, b"select") else {
+        return Err(Fault::Syntax);
+    };
+    match items_and_depth(alloc, rest) {
+        Ok((items, rest)) => match selected_from(alloc, depth, rest) {
+            Ok((from, rest)) => Ok(((items, from), rest)),
+            Err(fault) => {
+                drop(items);
+                Err(fault)
+            }
+        },
+        Err(fault) => Err(fault),
+    }
+}
+
+/// FROM, and WHERE, if it is written.
+#[cycle(expression)]
+fn selected_from(
+    alloc: Global,
+    depth: usize,
+    tokens: &[Token],
+) -> Result<((TableAndAlias, Option<Tree>), &[Token]), Fault>
+    ensures { Gives result (read_both g.from_table.parses.read (g.condition (g.expr depth)).read tokens.now) }
+{
+    match from_table(alloc, tokens) {
+        Ok((table, rest)) => match condition(alloc, depth, rest) {
+            Ok((condition, rest)) => Ok(((table, condition), rest)),
+            Err(fault) => {
+                drop(table);
+                Err(fault)
+            }
+        },
+        Err(fault) => Err(fault),
+    }
+}
+
+#[cycle(expression)]
+#[tactic(auto, unfolding(crate::specs::Grammar::condition))]
+pub fn condition(
+    alloc: Global,
+    depth: usize,
+    tokens: &[Token],
+) -> Result<(Option<Tree>, &[Token]), Fault>
+    ensures { Gives result ((g.condition (g.expr depth)).read tokens.now) }
+{
+    match word(tokens, b"where") {
+        Some(rest) => match expr(alloc, depth, rest) {
+            Ok((condition, rest)) => Ok((Some(condition), rest)),
+            Err(fault) => Err(fault),
+        },
+        None => Ok((None, tokens)),
+    }
+}
+
 #[tactic(auto, unfolding(crate::specs::Grammar::parenthesized))]
 pub fn parenthesized(
     alloc: Global,

@@ -5,6 +5,7 @@ ghost use Rattle.rls_text.specs.Gives.{Gives, GivesWhole, whole_of, answer_of, w
 ghost use Rattle.rls_text.specs.Grammar as g;
 ghost use Rattle.rls_text.specs.Words.{words_of};
 ghost use Rattle.rls_text.specs.Heights.{height_of};
+ghost use Rattle.rls_text.specs.Nested.{subqueries_of};
 ghost use Rattle.rls_text.specs.Answers as spec;
 ghost use Rattle.rls_text.specs.Answers.{Answers, IsSpelled};
 
@@ -18,6 +19,7 @@ use crate::policies::dropped_policy;
 use crate::reading::{sees_word, symbol};
 use crate::revoking::revoke;
 use crate::selecting::{insert, select};
+use crate::subqueries::{MAX_SUBQUERIES, has_too_many};
 use crate::token::{Symbol, Token};
 use crate::tree::{Draft, MAX_DEPTH};
 use crate::words::words;
@@ -29,10 +31,12 @@ use std::alloc::Global;
 pub const MAX_COLUMNS: usize = 64;
 
 /// The statement that the text spells. Where several refusals fit: first the limits on words from the left (a name
-/// of over 63 bytes, a 257th open parenthesis), then `Syntax`, then `Limit` of columns, then of nesting.
+/// of over 63 bytes, a 257th open parenthesis), then `Syntax`, then `Limit` of columns, then of nesting,
+/// then of subqueries one inside another.
 pub fn parse(alloc: Global, text: &str) -> Result<Statement, Refusal>
     ensures ok { IfOk result (λ statement. IsSpelled (words_of text.now) statement) }
     ensures within { IfOk result (λ statement. height_of statement ≤ MAX_DEPTH) }
+    ensures few { IfOk result (λ statement. subqueries_of statement ≤ MAX_SUBQUERIES) }
 
     // It is what the grammar and the limits say, unless memory runs out.
     ensures answer { ¬ (result ≡ Err Refusal.NoMemory) → Answers (words_of text.now) result }
@@ -65,6 +69,9 @@ fn limited(draft: Draft) -> Result<Statement, Refusal>
     } else if depth > MAX_DEPTH {
         drop(statement);
         Err(Refusal::Limit(Limit::Nesting))
+    } else if has_too_many(&statement) {
+        drop(statement);
+        Err(Refusal::Limit(Limit::Subqueries))
     } else {
         Ok(statement)
     }

@@ -1,31 +1,25 @@
 //! SELECT and INSERT from tokens.
 
 ghost use Rattle.std.specs.Prelude.{◌≡◌, [], ◌∷◌, length, codes};
-ghost use Rattle.rls_text.specs.FirstSets.{alias_heads};
 ghost use Rattle.rls_text.specs.Gives.{Gives, folded};
 ghost use Rattle.rls_text.specs.Parses.{and_then, read_both, read_many, read_token};
-ghost use Rattle.rls_text.specs.Heads.{Sign, sees};
-ghost use Rattle.rls_text.specs.Ahead as ahead;
+ghost use Rattle.rls_text.specs.Heads.{Sign};
 ghost use Rattle.rls_text.specs.Cut as cut;
 ghost use Rattle.rls_text.specs.Grammar as g;
 ghost use Rattle.rls_text.specs.Values as values;
 ghost use Rattle.rls_text.specs.Trees as spec;
 
 use crate::changing::returning;
-use crate::expression::{expr, tuple};
+use crate::expression::{select_parts, tuple};
 use crate::fault::Fault;
-use crate::items::item_list;
-use crate::reading::{closed, name, only, sees_symbol, sees_word, starts_name, symbol, word};
+use crate::reading::{name, only, sees_symbol, symbol, word};
 use crate::tables::listed_names;
 use crate::token::{Symbol, Token};
-use crate::tree::{Draft, Tree, Tuple, Tuples, parted, with_tuple};
+use crate::tree::{Draft, SelectParts, Tuple, Tuples, parted, with_tuple};
 use rls_expr::Expr;
 use rls_statement::{Insert, Select, Selected, Statement};
 use rls_value::{Items, Name};
 use std::alloc::Global;
-
-/// A table, and its alias, if it is written.
-type TableAndAlias = (Name, Option<Name>);
 
 /// The columns of INSERT, if they are written, and its tuples.
 type Rows = (Option<Items<Name>>, Tuples);
@@ -34,100 +28,16 @@ type Rows = (Option<Items<Name>>, Tuples);
 pub fn select(alloc: Global, depth: usize, tokens: &[Token]) -> Result<(Draft, &[Token]), Fault>
     ensures { Gives result ((g.select (g.expr depth)).read tokens.now) }
 {
-    let Some(rest) = word(tokens, b"select") else {
-        return Err(Fault::Syntax);
-    };
-    match items(alloc, rest) {
-        Ok((items, rest)) => match selected_from(alloc, depth, rest) {
-            Ok((from, rest)) => Ok((selected(items, from), rest)),
-            Err(fault) => {
-                drop(items);
-                Err(fault)
-            }
-        },
+    match select_parts(alloc, depth, tokens) {
+        Ok((select, rest)) => Ok((selected(select), rest)),
         Err(fault) => Err(fault),
     }
 }
 
-/// FROM, and WHERE, if it is written.
-fn selected_from(
-    alloc: Global,
-    depth: usize,
-    tokens: &[Token],
-) -> Result<((TableAndAlias, Option<Tree>), &[Token]), Fault>
-    ensures { Gives result (read_both g.from_table.parses.read (g.condition (g.expr depth)).read tokens.now) }
+fn selected(select: SelectParts) -> Draft
+    ensures { result ≡ spec.select_of select }
 {
-    match from_table(alloc, tokens) {
-        Ok((table, rest)) => match condition(alloc, depth, rest) {
-            Ok((condition, rest)) => Ok(((table, condition), rest)),
-            Err(fault) => {
-                drop(table);
-                Err(fault)
-            }
-        },
-        Err(fault) => Err(fault),
-    }
-}
-
-#[tactic(auto, unfolding(crate::specs::Grammar::from_table))]
-fn from_table(alloc: Global, tokens: &[Token]) -> Result<(TableAndAlias, &[Token]), Fault>
-    ensures { Gives result (g.from_table.parses.read tokens.now) }
-{
-    let Some(rest) = word(tokens, b"from") else {
-        return Err(Fault::Syntax);
-    };
-    match name(alloc, rest) {
-        Ok((table, rest)) => match alias_if_any(alloc, rest) {
-            Ok((alias, rest)) => Ok(((table, alias), rest)),
-            Err(fault) => {
-                drop(table);
-                Err(fault)
-            }
-        },
-        Err(fault) => Err(fault),
-    }
-}
-
-#[tactic(auto, unfolding(crate::specs::Grammar::alias_if_any))]
-fn alias_if_any(alloc: Global, tokens: &[Token]) -> Result<(Option<Name>, &[Token]), Fault>
-    ensures { Gives result (g.alias_if_any.parses.read tokens.now) }
-{
-    if starts_alias(tokens) {
-        match alias(alloc, tokens) {
-            Ok((alias, rest)) => Ok((Some(alias), rest)),
-            Err(fault) => Err(fault),
-        }
-    } else {
-        Ok((None, tokens))
-    }
-}
-
-#[tactic(auto, using(crate::proofs::Loops::sees_more, crate::proofs::Loops::sees_first))]
-fn starts_alias(tokens: &[Token]) -> bool
-    ensures { result ≡ sees alias_heads tokens.now }
-{
-    if sees_word(tokens, b"as") {
-        true
-    } else {
-        starts_name(tokens)
-    }
-}
-
-/// A name, before which AS may stand.
-#[tactic(auto, unfolding(crate::specs::Grammar::alias))]
-fn alias(alloc: Global, tokens: &[Token]) -> Result<(Name, &[Token]), Fault>
-    ensures { Gives result (g.alias.parses.read tokens.now) }
-{
-    match word(tokens, b"as") {
-        Some(rest) => name(alloc, rest),
-        None => name(alloc, tokens),
-    }
-}
-
-fn selected(items: Selected, from: (TableAndAlias, Option<Tree>)) -> Draft
-    ensures { result ≡ spec.select_of (items, from) }
-{
-    let ((table, alias), condition) = from;
+    let ((items, _), ((table, alias), condition)) = select;
     let (condition, depth) = parted(condition);
     let select = Select {
         items,
@@ -136,73 +46,6 @@ fn selected(items: Selected, from: (TableAndAlias, Option<Tree>)) -> Draft
         condition,
     };
     (Statement::Select(select), depth)
-}
-
-#[tactic(auto, unfolding(crate::specs::Grammar::condition))]
-pub fn condition(
-    alloc: Global,
-    depth: usize,
-    tokens: &[Token],
-) -> Result<(Option<Tree>, &[Token]), Fault>
-    ensures { Gives result ((g.condition (g.expr depth)).read tokens.now) }
-{
-    match word(tokens, b"where") {
-        Some(rest) => match expr(alloc, depth, rest) {
-            Ok((condition, rest)) => Ok((Some(condition), rest)),
-            Err(fault) => Err(fault),
-        },
-        None => Ok((None, tokens)),
-    }
-}
-
-#[tactic(auto, unfolding(crate::specs::Grammar::items))]
-fn items(alloc: Global, tokens: &[Token]) -> Result<(Selected, &[Token]), Fault>
-    ensures { Gives result (g.items.parses.read tokens.now) }
-{
-    if let Some(rest) = symbol(tokens, Symbol::Star) {
-        Ok((Selected::All, rest))
-    } else if paren_second(tokens) {
-        count(tokens)
-    } else {
-        selected_items(alloc, tokens)
-    }
-}
-
-/// Whether the second token is a parenthesis: no list of items has it there.
-fn paren_second(tokens: &[Token]) -> bool
-    ensures { result ≡ ahead.second_is (Sign Symbol.LParen ∷ []) tokens.now }
-{
-    match tokens {
-        [_, rest @ ..] => sees_symbol(rest, Symbol::LParen),
-        [] => false,
-    }
-}
-
-/// `COUNT(*)`.
-#[tactic(auto, unfolding(crate::specs::Grammar::count))]
-fn count(tokens: &[Token]) -> Result<(Selected, &[Token]), Fault>
-    ensures { Gives result (g.count.parses.read tokens.now) }
-{
-    let Some(rest) = word(tokens, b"count") else {
-        return Err(Fault::Syntax);
-    };
-    let Some(rest) = symbol(rest, Symbol::LParen) else {
-        return Err(Fault::Syntax);
-    };
-    let Some(rest) = symbol(rest, Symbol::Star) else {
-        return Err(Fault::Syntax);
-    };
-    closed(Selected::Count, rest)
-}
-
-#[tactic(auto, unfolding(crate::specs::Grammar::selected_items))]
-fn selected_items(alloc: Global, tokens: &[Token]) -> Result<(Selected, &[Token]), Fault>
-    ensures { Gives result (g.selected_items.parses.read tokens.now) }
-{
-    match item_list(alloc, tokens) {
-        Ok((all, rest)) => Ok((Selected::Items(all), rest)),
-        Err(fault) => Err(fault),
-    }
 }
 
 #[tactic(auto, unfolding(crate::specs::Grammar::insert))]

@@ -2,11 +2,14 @@
 
 ghost use Rattle.std.specs.Prelude.{◌≡◌, [], ◌∷◌, ◌++◌, IfOk};
 ghost use Rattle.rls_expr.specs.Terms as term;
+ghost use Rattle.rls_expr.specs.ExprTerms.{query_of};
+ghost use Rattle.rls_text.specs.declared.tree.Choices.TheVariants.{Listed, Queried};
 ghost use Rattle.rls_text.specs.Trees as spec;
+ghost use Rattle.rls_text.specs.Values as values;
 
-use rls_expr::{Comparison, Expr, Node, Sign};
-use rls_statement::{Setting, Statement};
-use rls_value::{Items, Value};
+use rls_expr::{Comparison, Expr, FromItem, Node, Selects, Sign, Subquery, boxed, boxed_query};
+use rls_statement::{Selected, Setting, Statement};
+use rls_value::{Items, Name, Value};
 use std::alloc::{AllocError, Global};
 
 /// The greatest depth of an expression; a leaf counts one.
@@ -40,19 +43,6 @@ pub fn not_of(alloc: Global, operand: Tree) -> Result<Tree, AllocError>
     } else {
         drop(operand);
         Ok(cut())
-    }
-}
-
-/// The expression on the heap.
-fn boxed(alloc: Global, expr: Expr) -> Result<Box<Expr>, AllocError>
-    ensures { IfOk result (λ boxed. boxed.value ≡ expr) }
-{
-    match Box::new(alloc, expr) {
-        Ok(boxed) => Ok(boxed),
-        Err(refused) => {
-            drop(refused);
-            Err(AllocError)
-        }
     }
 }
 
@@ -302,15 +292,130 @@ pub fn with_set_column(columns: SetColumns, column: SetColumn) -> Result<SetColu
     Ok((all, depth.max(other)))
 }
 
-/// `IN` with a list, or `NOT IN` where it is negated.
+/// A table, and its alias, if it is written.
+pub type TableAndAlias = (Name, Option<Name>);
+
+/// Of what a SELECT is made: what it selects, with the depth of its items, its table and its condition.
+pub type SelectParts = ((Selected, u32), (TableAndAlias, Option<Tree>));
+
+/// The same without its depths.
+type PlainSelect = (Selected, (TableAndAlias, Option<Expr>));
+
+/// Among which `IN` looks.
+#[derive(Drop)]
+pub enum Choices {
+    Listed(Tuple),
+    Queried(SelectParts),
+}
+
+/// The parts of a SELECT, and the depth of the deepest.
+fn parted_select(select: SelectParts) -> (PlainSelect, u32)
+    ensures { result ≡ spec.parted_select select }
+{
+    let ((selected, depth), (from, condition)) = select;
+    let (condition, other) = parted(condition);
+    ((selected, (from, condition)), depth.max(other))
+}
+
+/// The depth of a node above one of this depth.
+fn one_deeper(depth: u32) -> u32
+    ensures { result ≡ spec.one_deeper depth }
+{
+    if depth < MAX_DEPTH {
+        depth + 1
+    } else {
+        MAX_DEPTH + 1
+    }
+}
+
+/// A subquery on the heap.
+fn subquery(alloc: Global, select: PlainSelect) -> Result<Box<Subquery>, AllocError>
+    ensures { IfOk result (λ query. query_of query.value ≡ values.query_of select) }
+{
+    let (selected, ((table, alias), condition)) = select;
+    let (selects, items) = selects_of(alloc, selected);
+    boxed_query(
+        alloc,
+        Subquery {
+            from: FromItem { table, alias },
+            key: Vec::new(alloc),
+            selects,
+            items,
+            condition,
+        },
+    )
+}
+
+/// What a subquery selects, and its items.
+fn selects_of(alloc: Global, selected: Selected) -> (Selects, Vec<Expr>)
+    ensures selects { result.0 ≡ values.selects_of selected }
+    ensures items { result.1.items ≡ values.items_of selected }
+{
+    match selected {
+        Selected::All => (Selects::All, Vec::new(alloc)),
+        Selected::Count => (Selects::Count, Vec::new(alloc)),
+        Selected::Items(items) => (Selects::Items, items.into_vec()),
+    }
+}
+
+#[tactic(auto, unfolding(crate::specs::Trees::exists_of))]
+pub fn exists_of(alloc: Global, select: SelectParts) -> Result<Tree, AllocError>
+    ensures { IfOk result (λ tree. tree ≡ spec.exists_of select) }
+{
+    let (select, depth) = parted_select(select);
+    let depth = one_deeper(depth);
+    if depth < MAX_DEPTH {
+        match subquery(alloc, select) {
+            Ok(query) => Ok((Expr::new(Node::Exists(query)), depth + 1)),
+            Err(refused) => Err(refused),
+        }
+    } else {
+        drop(select);
+        Ok(cut())
+    }
+}
+
+/// A SELECT that stands for a value.
+#[tactic(auto, unfolding(crate::specs::Trees::scalar_of))]
+pub fn scalar_of(alloc: Global, select: SelectParts) -> Result<Tree, AllocError>
+    ensures { IfOk result (λ tree. tree ≡ spec.scalar_of select) }
+{
+    let (select, depth) = parted_select(select);
+    if depth < MAX_DEPTH {
+        match subquery(alloc, select) {
+            Ok(query) => Ok((Expr::new(Node::Scalar(query)), depth + 1)),
+            Err(refused) => Err(refused),
+        }
+    } else {
+        drop(select);
+        Ok(cut())
+    }
+}
+
+/// `IN`, or `NOT IN` where it is negated.
 #[tactic(auto, unfolding(crate::specs::Trees::among_of))]
 pub fn among_of(
     alloc: Global,
     left: Tree,
     negated: Option<()>,
+    choices: Choices,
+) -> Result<Tree, AllocError>
+    ensures { IfOk result (λ tree. tree ≡ spec.among_of left negated choices) }
+{
+    match choices {
+        Choices::Listed(list) => listed_of(alloc, left, negated, list),
+        Choices::Queried(select) => queried_of(alloc, left, negated, select),
+    }
+}
+
+#[tactic(auto, unfolding(crate::specs::Trees::among_of))]
+fn listed_of(
+    alloc: Global,
+    left: Tree,
+    negated: Option<()>,
     list: Tuple,
 ) -> Result<Tree, AllocError>
-    ensures { IfOk result (λ tree. tree ≡ spec.among_of left negated list) }
+    ensures { IfOk result (λ tree. tree ≡ spec.among_of left negated (Listed list)) }
 {
     let (left, depth) = left;
     let (list, other) = list;
@@ -333,6 +438,57 @@ pub fn among_of(
         drop(left);
         drop(list);
         Ok(cut())
+    }
+}
+
+#[tactic(auto, unfolding(crate::specs::Trees::among_of))]
+fn queried_of(
+    alloc: Global,
+    left: Tree,
+    negated: Option<()>,
+    select: SelectParts,
+) -> Result<Tree, AllocError>
+    ensures { IfOk result (λ tree. tree ≡ spec.among_of left negated (Queried select)) }
+{
+    let (left, depth) = left;
+    let (select, other) = parted_select(select);
+    let depth = depth.max(one_deeper(other));
+    if depth < MAX_DEPTH {
+        match sides(alloc, left, select) {
+            Ok((left, query)) => match negated {
+                None => Ok((Expr::new(Node::Within(left, query)), depth + 1)),
+                Some(()) => Ok((Expr::new(Node::NotWithin(left, query)), depth + 1)),
+            },
+            Err(refused) => Err(refused),
+        }
+    } else {
+        drop(left);
+        drop(select);
+        Ok(cut())
+    }
+}
+
+/// The sides of `IN` on the heap.
+fn sides(
+    alloc: Global,
+    left: Expr,
+    select: PlainSelect,
+) -> Result<(Box<Expr>, Box<Subquery>), AllocError>
+    ensures left { IfOk result (λ sides. sides.0.value ≡ left) }
+    ensures query { IfOk result (λ sides. query_of sides.1.value ≡ values.query_of select) }
+{
+    match subquery(alloc, select) {
+        Ok(query) => match boxed(alloc, left) {
+            Ok(left) => Ok((left, query)),
+            Err(refused) => {
+                drop(query);
+                Err(refused)
+            }
+        },
+        Err(refused) => {
+            drop(left);
+            Err(refused)
+        }
     }
 }
 

@@ -1,5 +1,6 @@
 use Rattle.std.proofs.Common.{◌≡◌, ◌↔◌, ◌+◌, ◌*◌, ◌≤◌, length}
-use Rattle.rls_expr.specs.Terms.{terms_of, term_size, terms_size}
+use Rattle.rls_expr.specs.ExprTerms.{query_of}
+use Rattle.rls_expr.specs.Terms.{maybe_term, terms_of, term_size, terms_size, query_size}
 use Rattle.rls_agreement.proofs.term.+comparing.Given as goal
 
 -- what is left decides, and is no larger than all
@@ -16,3 +17,9 @@ decreases-is_same_term l = 2 * term_size l.left.now
 
 abbrev pub decreases-are_same_terms : goal.decreases-are_same_terms
 decreases-are_same_terms l = 2 * terms_size (terms_of l.left.now) + 1
+
+abbrev pub decreases-is_same_query : goal.decreases-is_same_query
+decreases-is_same_query l = 2 * query_size (query_of l.left.now)
+
+abbrev pub decreases-are_same_conditions : goal.decreases-are_same_conditions
+decreases-are_same_conditions l = 2 * terms_size (maybe_term l.left.now) + 1

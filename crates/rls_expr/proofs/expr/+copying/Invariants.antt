@@ -1,5 +1,6 @@
 use Rattle.std.proofs.Common.{◌≡◌, ◌+◌, ◌*◌, take}
-use Rattle.rls_expr.specs.Terms.{terms_of, term_size, terms_size}
+use Rattle.rls_expr.specs.ExprTerms.{query_of}
+use Rattle.rls_expr.specs.Terms.{maybe_term, terms_of, term_size, terms_size, query_size}
 use Rattle.rls_expr.proofs.expr.+copying.Given as goal
 
 -- the first parts are copied
@@ -15,3 +16,9 @@ decreases-copy_boxed l = 2 * term_size l.expr.now + 1
 
 abbrev pub decreases-copy_parts : goal.decreases-copy_parts
 decreases-copy_parts l = 2 * terms_size (terms_of l.parts.now) + 1
+
+abbrev pub decreases-copy_query : goal.decreases-copy_query
+decreases-copy_query l = 2 * query_size (query_of l.query.now)
+
+abbrev pub decreases-copy_condition : goal.decreases-copy_condition
+decreases-copy_condition l = 2 * terms_size (maybe_term l.condition.now) + 1

@@ -1,6 +1,6 @@
 use Rattle.std.proofs.Common.{sym, ◌∙◌, subst, IfOk}
 use Rattle.rls_text.specs.Answers.{Answers, IsSpelled}
-use Rattle.rls_text.proofs.Laws.{is_answer, ok_spelled, ok_low}
+use Rattle.rls_text.proofs.Laws.{is_answer, ok_spelled, ok_low, ok_few}
 use Rattle.rls_text.proofs.parsing.parse.Goals as goal
 
 pub returns-clause-ok : goal.returns-clause-ok
@@ -13,3 +13,6 @@ returns-clause-answer c = λ h. subst (λ ts. Answers ts c.answer.result) (c.as_
 
 pub returns-clause-within : goal.returns-clause-within
 returns-clause-within c = ok_low c.answer.result c.as_slice.result.now (ok_spelled c.answer.result c.as_slice.result.now c.answer.ensures)
+
+pub returns-clause-few : goal.returns-clause-few
+returns-clause-few c = ok_few c.answer.result c.as_slice.result.now (ok_spelled c.answer.result c.as_slice.result.now c.answer.ensures)

@@ -1,0 +1,6 @@
+use Rattle.std.proofs.Common.{rules, arith}
+use Rattle.rls_expr.specs.TermSizes.{size_at}
+use Rattle.rls_expr.proofs.names.+names.Goals as goal
+
+pub put_all_names-put_names-requires : goal.put_all_names-put_names-requires
+put_all_names-put_names-requires t c = (omega (arith, size_at _ _ _ c.loop-part-test.true c.part-item.is), search rules)

@@ -1,0 +1,50 @@
+-- The names in an expression, in text order.
+use Rattle.std.specs.Prelude.{List, [], ◌∷◌, ◌++◌, None}
+use Rattle.rls_expr.specs.declared.column_name.ColumnName.{ColumnName}
+use Rattle.rls_expr.specs.declared.expr.FromItem.{FromItem}
+use Rattle.rls_expr.specs.declared.names.NameStep.{NameStep}
+use Rattle.rls_expr.specs.declared.names.NameStep.TheVariants as code
+use Rattle.rls_expr.specs.Terms.{Term, Terms, Query, Literal, Column, Place, CurrentUser, Compare, And, Or, Not, IsNull, IsNotNull, Among, NotAmong, Exists, Within, NotWithin, Scalar, Sum, End, More, Select}
+
+-- a column is named; a subquery begins, which names its table; it ends
+pub data Step : Type 0 where
+  Look : ColumnName → Step
+  Enter : FromItem → Step
+  Leave : Step
+
+abbrev mutual
+  -- the names in a term
+  pub names_of : Term → List Step
+  names_of (Literal v) = []
+  names_of (Column name) = Look name ∷ []
+  names_of (Place at) = []
+  names_of CurrentUser = []
+  names_of (Compare how a b) = names_of a ++ names_of b
+  names_of (And ts) = names_all ts
+  names_of (Or ts) = names_all ts
+  names_of (Not t) = names_of t
+  names_of (IsNull t) = names_of t
+  names_of (IsNotNull t) = names_of t
+  names_of (Among t ts) = names_of t ++ names_all ts
+  names_of (NotAmong t ts) = names_of t ++ names_all ts
+  names_of (Exists q) = query_names q
+  names_of (Within t q) = names_of t ++ query_names q
+  names_of (NotWithin t q) = names_of t ++ query_names q
+  names_of (Scalar q) = query_names q
+  names_of (Sum signs ts) = names_all ts
+
+  -- a subquery's table is named before its items, although it is written behind them
+  pub query_names : Query → List Step
+  query_names (Select from key selects items condition) = Enter from ∷ (names_all items ++ (names_all condition ++ Leave ∷ []))
+
+  -- of each of them
+  pub names_all : Terms → List Step
+  names_all End = []
+  names_all (More t ts) = names_of t ++ names_all ts
+
+-- a step as the code has it; a column of the target has no qualifier
+abbrev pub step_of : NameStep → Step
+step_of (code.Column name) = Look name.now
+step_of (code.Target name) = Look (record { qualifier = None; name = name.now })
+step_of (code.Begin from) = Enter from.now
+step_of code.End = Leave

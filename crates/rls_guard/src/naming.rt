@@ -1,0 +1,122 @@
+//! The names in a statement, which have to be there.
+
+ghost use Rattle.std.specs.Prelude.{◌≡◌, [], ◌∷◌, ◌++◌, drop, map, None, IfOk, OnOk};
+ghost use Rattle.rls_value.specs.Giving.{Gives};
+ghost use Rattle.rls_expr.specs.Naming.{step_of};
+ghost use Rattle.rls_expr.specs.Scopes.{place_in, place_lent};
+ghost use Rattle.rls_source.specs.Answering.{Answers};
+ghost use Rattle.rls_guard.specs.Naming as spec;
+
+use rls_expr::{ColumnName, NameStep, NamedTable, Place, TableDef, place_of, unqualified};
+use rls_source::{Reads, RowSource, table_named};
+use rls_value::{Items, Name, NameKind, Refusal};
+use std::alloc::{AllocError, Global};
+
+/// The tables that subqueries name, with their definitions.
+pub type Found<'c> = Items<NamedTable<'c>>;
+
+/// Looks for each name, in text order: the columns among the tables in scope, the innermost first, the tables of
+/// subqueries in the source. The first that isn't there is undefined. The tables found are put behind those found before.
+pub fn named<'c, S: RowSource<'c>>(
+    alloc: Global,
+    source: &mut S,
+    notes: &mut Reads,
+    steps: &[NameStep],
+    tables: Vec<NamedTable<'c>>,
+    found: Found<'c>,
+) -> Result<Found<'c>, Refusal>
+    ensures { Answers S.state S.after (spec.named (map step_of steps.now) tables.entry.items found.entry) source.old source.new notes.old notes.new result }
+{
+    let mut found = found;
+    let mut tables = tables;
+    for step in steps {
+        match step {
+            NameStep::Column(name) => require_column(&tables, name)?,
+            NameStep::Target(name) => require_target(&tables, name)?,
+            NameStep::Begin(from) => {
+                let table = table_named(alloc, source, notes, &from.table)?;
+                put_known(&mut found, &from.table, table)?;
+                put_in_front(&mut tables, from.qualifier(), table)?;
+            }
+            NameStep::End => leave(&mut tables),
+        }
+    }
+    drop(tables);
+    Ok(found)
+}
+
+fn require_column(tables: &[NamedTable], name: &ColumnName) -> Result<(), Refusal>
+    ensures { Gives result (spec.there_or_undefined (place_in tables.now name.now)) }
+{
+    require_place(place_of(tables, name))
+}
+
+fn require_target(tables: &[NamedTable], name: &Name) -> Result<(), Refusal>
+    ensures { Gives result (spec.there_or_undefined (place_in tables.now (record { qualifier = None; name = name.now }))) }
+{
+    require_place(unqualified(tables, name))
+}
+
+fn require_place(place: Result<Place, (NameKind, &Name)>) -> Result<(), Refusal>
+    ensures { Gives result (spec.there_or_undefined (place_lent place.entry)) }
+{
+    match place {
+        Ok(_) => Ok(()),
+        Err((kind, name)) => Err(Refusal::Undefined(kind, name.copy()?)),
+    }
+}
+
+/// The table behind the others.
+fn put_known<'c>(found: &mut Found<'c>, name: &Name, table: &'c TableDef) -> Result<(), AllocError>
+    ensures { OnOk result (found.new ≡ found.old ++ (name.now, table.now) ∷ []) }
+{
+    found.push(NamedTable::new(name, table)?)
+}
+
+/// The table in front of the others.
+fn put_in_front<'c>(
+    tables: &mut Vec<NamedTable<'c>>,
+    name: &Name,
+    table: &'c TableDef,
+) -> Result<(), AllocError>
+    ensures { OnOk result (tables.new.items ≡ (name.now, table.now) ∷ tables.old.items) }
+{
+    tables.insert(0, NamedTable::new(name, table)?)?;
+    Ok(())
+}
+
+/// The innermost table is left.
+fn leave(tables: &mut Vec<NamedTable>)
+    ensures { tables.new.items ≡ drop 1 tables.old.items }
+{
+    if !tables.is_empty() {
+        tables.remove(0);
+    }
+}
+
+/// The same over one table.
+pub fn named_over<'c, S: RowSource<'c>>(
+    alloc: Global,
+    source: &mut S,
+    notes: &mut Reads,
+    steps: &[NameStep],
+    name: &Name,
+    table: &'c TableDef,
+) -> Result<Found<'c>, Refusal>
+    ensures { Answers S.state S.after (spec.named (map step_of steps.now) ((name.now, table.now) ∷ []) []) source.old source.new notes.old notes.new result }
+{
+    let tables = one_table(alloc, name, table)?;
+    named(alloc, source, notes, steps, tables, Items::new(alloc))
+}
+
+fn one_table<'c>(
+    alloc: Global,
+    name: &Name,
+    table: &'c TableDef,
+) -> Result<Vec<NamedTable<'c>>, AllocError>
+    ensures { IfOk result (λ tables. tables.items ≡ (name.now, table.now) ∷ []) }
+{
+    let mut tables = Vec::with_capacity(alloc, 1)?;
+    tables.push(NamedTable::new(name, table)?)?;
+    Ok(tables)
+}
