@@ -1,0 +1,253 @@
+use Rattle.std.proofs.Common.{rules, arith, ap, sym, subst, ◌∙◌, refl, ◌≡◌, ◌∷◌, ◌++◌, [], ◌||◌, ◌≤◌, drop, false, length, slice_index_or, Ok, List}
+use Rattle.std.specs.Prelude.{Option, Some, None, IfOk}
+use Rattle.std.proofs.Math.Bool.{or_assoc}
+use Rattle.rls_value.specs.declared.value.Value.{Value}
+use Rattle.rls_value.specs.declared.value.Value.TheVariants.{Null, Bool as Flag}
+use Rattle.rls_value.specs.declared.truth.Truth.{Truth}
+use Rattle.rls_value.specs.declared.truth.Truth.TheVariants.{True, False}
+use Rattle.rls_value.specs.Truths.{conjunction_of, disjunction_of, negation_of}
+use Rattle.rls_value.specs.Values.{equal_values, truth_in, value_of_truth}
+use Rattle.rls_expr.specs.declared.expr.Sign.TheVariants.{Plus}
+use Rattle.rls_expr.specs.Terms as terms
+use Rattle.rls_expr.specs.Terms.{maybe_term, terms_of}
+use Rattle.rls_expr.specs.ExprTerms.{query_of}
+use Rattle.rls_expr.specs.TermSizes.{size_at}
+use Rattle.rls_source.specs.Readings.{unread}
+use Rattle.rls_source.specs.Askings.{Asking, known, followed_by}
+use Rattle.rls_evaluation.specs.Environments.{inside, compared, over, number_or_null, joined}
+use Rattle.rls_evaluation.specs.Gathering.{gathered, kept, with_row}
+use Rattle.rls_evaluation.specs.Eval.{value_of, together, and_value, or_value, or_equal, as_value, negated, among_items, item_equals, item_if, item_of, item_or, meets, or_item, ranged_over, has_row, sum_from}
+use Rattle.rls_evaluation.specs.Showing.{shows, judgements_on, is_allowed, with_judgement}
+use Rattle.rls_evaluation.specs.Scoping.{env_of, held_value, held_now, maybe_held, number_value}
+use Rattle.rls_evaluation.specs.Holding.{Holds, Tells, shown_at, object_for}
+use Rattle.rls_evaluation.proofs.Telling.{leads_whole, tells_then, tells_as, tells_same, tells_unread, tells_on, tells_over, tells_item, tells_result}
+use Rattle.rls_evaluation.proofs.LoopLemmas.{and_again, or_again, and_none, or_none, terms_turn, rows_turn, item_again, row_added, judgement_added, sum_told, sum_on}
+use Rattle.rls_evaluation.proofs.Absorbing.{holds_shown}
+use Rattle.rls_evaluation.proofs.Fencing.{shows_found, shows_none, size_found, condition_at}
+use Rattle.rls_evaluation.proofs.evaluation.+eval.Goals as goal
+
+pub all_of-loop-part-init : goal.all_of-loop-part-init
+all_of-loop-part-init g t c =
+    record { stands = refl; leads = leads_whole (together and_value True (terms_of c.args.parts.now) (shows (drop c.args.view.from c.args.view.fences.now) c.args.env.now.user.now) (env_of c.args.env.now)) (conjunction_of True) _ _ and_none; holds = c.requires }
+
+pub all_of-eval-requires : goal.all_of-eval-requires
+all_of-eval-requires g t c κs within = (omega (arith, size_at _ _ _ c.loop-part-test.true c.part-item.is), search rules)
+
+pub all_of-loop-part-preserved : goal.all_of-loop-part-preserved
+all_of-loop-part-preserved g t c =
+    record {
+      stands = c.in_ok-held.ensures.tells.stands ∙ c.loop-part.invariant.stands;
+      leads = terms_turn conjunction_of and_again truth_in True (shows (drop c.args.view.from c.args.view.fences.now) c.args.env.now.user.now) (env_of c.args.env.now)
+          c.args.parts.now c.loop-part.part-index c.part-item.result (held_value c.in_ok-held.held) c.loop-part.so_far c.and-so_far.result _ _ _ _ _ _
+          c.loop-part-test.true c.part-item.is (c.and-so_far.ensures ∙ ap (conjunction_of c.loop-part.so_far) c.truth.ensures) c.loop-part.invariant.stands c.loop-part.invariant.leads c.in_ok-held.ensures.tells;
+      holds = c.in_ok-held.ensures.holds;
+    }
+
+pub any_of-loop-part-init : goal.any_of-loop-part-init
+any_of-loop-part-init g t c =
+    record { stands = refl; leads = leads_whole (together or_value False (terms_of c.args.parts.now) (shows (drop c.args.view.from c.args.view.fences.now) c.args.env.now.user.now) (env_of c.args.env.now)) (disjunction_of False) _ _ or_none; holds = c.requires }
+
+pub any_of-eval-requires : goal.any_of-eval-requires
+any_of-eval-requires g t c κs within = (omega (arith, size_at _ _ _ c.loop-part-test.true c.part-item.is), search rules)
+
+pub any_of-loop-part-preserved : goal.any_of-loop-part-preserved
+any_of-loop-part-preserved g t c =
+    record {
+      stands = c.in_ok-held.ensures.tells.stands ∙ c.loop-part.invariant.stands;
+      leads = terms_turn disjunction_of or_again truth_in False (shows (drop c.args.view.from c.args.view.fences.now) c.args.env.now.user.now) (env_of c.args.env.now)
+          c.args.parts.now c.loop-part.part-index c.part-item.result (held_value c.in_ok-held.held) c.loop-part.so_far c.or-so_far.result _ _ _ _ _ _
+          c.loop-part-test.true c.part-item.is (c.or-so_far.ensures ∙ ap (disjunction_of c.loop-part.so_far) c.truth.ensures) c.loop-part.invariant.stands c.loop-part.invariant.leads c.in_ok-held.ensures.tells;
+      holds = c.in_ok-held.ensures.holds;
+    }
+
+pub is_one_of-loop-part-init : goal.is_one_of-loop-part-init
+is_one_of-loop-part-init g t c =
+    record { stands = refl; leads = leads_whole (together (or_equal (held_value c.args.value.now)) False (terms_of c.args.list.now) (shows (drop c.args.view.from c.args.view.fences.now) c.args.env.now.user.now) (env_of c.args.env.now)) (disjunction_of False) _ _ or_none; holds = c.requires }
+
+pub is_one_of-eval-requires : goal.is_one_of-eval-requires
+is_one_of-eval-requires g t c κs within = (omega (arith, size_at _ _ _ c.loop-part-test.true c.part-item.is), search rules)
+
+pub is_one_of-loop-part-preserved : goal.is_one_of-loop-part-preserved
+is_one_of-loop-part-preserved g t c =
+    record {
+      stands = c.in_ok-held.ensures.tells.stands ∙ c.loop-part.invariant.stands;
+      leads = terms_turn disjunction_of or_again (equal_values (held_value c.args.value.now)) False (shows (drop c.args.view.from c.args.view.fences.now) c.args.env.now.user.now) (env_of c.args.env.now)
+          c.args.list.now c.loop-part.part-index c.part-item.result (held_value c.in_ok-held.held) c.loop-part.so_far c.or-so_far.result _ _ _ _ _ _
+          c.loop-part-test.true c.part-item.is (c.or-so_far.ensures ∙ ap (disjunction_of c.loop-part.so_far) c.equals.ensures) c.loop-part.invariant.stands c.loop-part.invariant.leads c.in_ok-held.ensures.tells;
+      holds = c.in_ok-held.ensures.holds;
+    }
+
+pub among-returns-clause-tells : goal.among-returns-clause-tells
+among-returns-clause-tells g t c =
+    tells_then (value_of c.args.operand.now (shows (drop c.args.view.from c.args.view.fences.now) c.args.env.now.user.now) (env_of c.args.env.now)) (λ x. as_value (together (or_equal x) False (terms_of c.args.list.now) (shows (drop c.args.view.from c.args.view.fences.now) c.args.env.now.user.now) (env_of c.args.env.now)))
+    _ _ _ _ _ _ (held_value c.in_ok-held.held) (held_value c.held_truth.result) c.in_ok-held.ensures.tells
+    (tells_as (together (or_equal (held_value c.in_ok-held.held)) False (terms_of c.args.list.now) (shows (drop c.args.view.from c.args.view.fences.now) c.args.env.now.user.now) (env_of c.args.env.now)) value_of_truth _ _ _ _ c.in_ok-truth.truth (held_value c.held_truth.result) c.in_ok-truth.ensures.tells (search rules))
+
+pub not_among-returns-clause-tells : goal.not_among-returns-clause-tells
+not_among-returns-clause-tells g t c =
+    tells_then (value_of c.args.operand.now (shows (drop c.args.view.from c.args.view.fences.now) c.args.env.now.user.now) (env_of c.args.env.now)) (λ x. negated (together (or_equal x) False (terms_of c.args.list.now) (shows (drop c.args.view.from c.args.view.fences.now) c.args.env.now.user.now) (env_of c.args.env.now)))
+    _ _ _ _ _ _ (held_value c.in_ok-held.held) (held_value c.held_truth.result) c.in_ok-held.ensures.tells
+    (tells_as (together (or_equal (held_value c.in_ok-held.held)) False (terms_of c.args.list.now) (shows (drop c.args.view.from c.args.view.fences.now) c.args.env.now.user.now) (env_of c.args.env.now)) (λ truth. value_of_truth (negation_of truth)) _ _ _ _ c.in_ok-truth.truth (held_value c.held_truth.result) c.in_ok-truth.ensures.tells (search rules))
+
+pub within-returns-clause-tells : goal.within-returns-clause-tells
+within-returns-clause-tells g t c =
+    tells_then (value_of c.args.operand.now (shows (drop c.args.view.from c.args.view.fences.now) c.args.env.now.user.now) (env_of c.args.env.now)) (λ x. as_value (among_items x (query_of c.args.query.now) (shows (drop c.args.view.from c.args.view.fences.now) c.args.env.now.user.now) (env_of c.args.env.now)))
+    _ _ _ _ _ _ (held_value c.in_ok-held.held) (held_value c.held_truth.result) c.in_ok-held.ensures.tells
+    (tells_as (among_items (held_value c.in_ok-held.held) (query_of c.args.query.now) (shows (drop c.args.view.from c.args.view.fences.now) c.args.env.now.user.now) (env_of c.args.env.now)) value_of_truth _ _ _ _ c.in_ok-truth.truth (held_value c.held_truth.result) c.in_ok-truth.ensures.tells (search rules))
+
+pub not_within-returns-clause-tells : goal.not_within-returns-clause-tells
+not_within-returns-clause-tells g t c =
+    tells_then (value_of c.args.operand.now (shows (drop c.args.view.from c.args.view.fences.now) c.args.env.now.user.now) (env_of c.args.env.now)) (λ x. negated (among_items x (query_of c.args.query.now) (shows (drop c.args.view.from c.args.view.fences.now) c.args.env.now.user.now) (env_of c.args.env.now)))
+    _ _ _ _ _ _ (held_value c.in_ok-held.held) (held_value c.held_truth.result) c.in_ok-held.ensures.tells
+    (tells_as (among_items (held_value c.in_ok-held.held) (query_of c.args.query.now) (shows (drop c.args.view.from c.args.view.fences.now) c.args.env.now.user.now) (env_of c.args.env.now)) (λ truth. value_of_truth (negation_of truth)) _ _ _ _ c.in_ok-truth.truth (held_value c.held_truth.result) c.in_ok-truth.ensures.tells (search rules))
+
+pub comparison-returns-clause-tells : goal.comparison-returns-clause-tells
+comparison-returns-clause-tells g t c =
+    tells_then (value_of c.args.left.now (shows (drop c.args.view.from c.args.view.fences.now) c.args.env.now.user.now) (env_of c.args.env.now)) (λ x. followed_by (value_of c.args.right.now (shows (drop c.args.view.from c.args.view.fences.now) c.args.env.now.user.now) (env_of c.args.env.now)) (λ y. known (Ok (value_of_truth (compared c.args.how x y)))))
+    _ _ _ _ _ _ (held_value c.in_ok-left.left) (held_value c.held_truth.result) c.in_ok-left.ensures.tells
+    (tells_as (value_of c.args.right.now (shows (drop c.args.view.from c.args.view.fences.now) c.args.env.now.user.now) (env_of c.args.env.now)) (λ y. value_of_truth (compared c.args.how (held_value c.in_ok-left.left) y)) _ _ _ _ (held_value c.in_ok-right.right) (held_value c.held_truth.result) c.in_ok-right.ensures.tells (search rules))
+
+pub eval-returns-in-Compare-clause-tells : goal.eval-returns-in-Compare-clause-tells
+eval-returns-in-Compare-clause-tells g t c =
+    let same : terms.Compare c.in-Compare.how c.deref.result.now c.deref-in-Compare.result.now ≡ c.args.expr.now = search rules in
+    subst (λ k. Tells (value_of k (shows (drop c.args.view.from c.args.view.fences.now) c.args.env.now.user.now) (env_of c.args.env.now)) (g.S.Tables.standing c.args.source.now) (g.S.Tables.standing c.comparison.new.source) c.args.work.now.notes c.comparison.new.work.notes (held_now c.comparison.result)) same c.comparison.ensures.tells
+
+pub eval-returns-in-Among-clause-tells : goal.eval-returns-in-Among-clause-tells
+eval-returns-in-Among-clause-tells g t c =
+    let same : terms.Among c.deref-in-Among.result.now (terms_of c.deref-in-Among-2.result.now) ≡ c.args.expr.now = search rules in
+    subst (λ k. Tells (value_of k (shows (drop c.args.view.from c.args.view.fences.now) c.args.env.now.user.now) (env_of c.args.env.now)) (g.S.Tables.standing c.args.source.now) (g.S.Tables.standing c.among.new.source) c.args.work.now.notes c.among.new.work.notes (held_now c.among.result)) same c.among.ensures.tells
+
+pub eval-returns-in-NotAmong-clause-tells : goal.eval-returns-in-NotAmong-clause-tells
+eval-returns-in-NotAmong-clause-tells g t c =
+    let same : terms.NotAmong c.deref-in-NotAmong.result.now (terms_of c.deref-in-NotAmong-2.result.now) ≡ c.args.expr.now = search rules in
+    subst (λ k. Tells (value_of k (shows (drop c.args.view.from c.args.view.fences.now) c.args.env.now.user.now) (env_of c.args.env.now)) (g.S.Tables.standing c.args.source.now) (g.S.Tables.standing c.not_among.new.source) c.args.work.now.notes c.not_among.new.work.notes (held_now c.not_among.result)) same c.not_among.ensures.tells
+
+pub eval-returns-in-Exists-clause-tells : goal.eval-returns-in-Exists-clause-tells
+eval-returns-in-Exists-clause-tells g t c =
+    let same : terms.Exists (query_of c.deref-in-Exists.result.now) ≡ c.args.expr.now = search rules in
+    subst (λ k. Tells (value_of k (shows (drop c.args.view.from c.args.view.fences.now) c.args.env.now.user.now) (env_of c.args.env.now)) (g.S.Tables.standing c.args.source.now) (g.S.Tables.standing c.exists.new.source) c.args.work.now.notes c.exists.new.work.notes (held_now c.exists.result)) same c.exists.ensures.tells
+
+pub eval-returns-in-Within-clause-tells : goal.eval-returns-in-Within-clause-tells
+eval-returns-in-Within-clause-tells g t c =
+    let same : terms.Within c.deref-in-Within.result.now (query_of c.deref-in-Within-2.result.now) ≡ c.args.expr.now = search rules in
+    subst (λ k. Tells (value_of k (shows (drop c.args.view.from c.args.view.fences.now) c.args.env.now.user.now) (env_of c.args.env.now)) (g.S.Tables.standing c.args.source.now) (g.S.Tables.standing c.within.new.source) c.args.work.now.notes c.within.new.work.notes (held_now c.within.result)) same c.within.ensures.tells
+
+pub eval-returns-in-NotWithin-clause-tells : goal.eval-returns-in-NotWithin-clause-tells
+eval-returns-in-NotWithin-clause-tells g t c =
+    let same : terms.NotWithin c.deref-in-NotWithin.result.now (query_of c.deref-in-NotWithin-2.result.now) ≡ c.args.expr.now = search rules in
+    subst (λ k. Tells (value_of k (shows (drop c.args.view.from c.args.view.fences.now) c.args.env.now.user.now) (env_of c.args.env.now)) (g.S.Tables.standing c.args.source.now) (g.S.Tables.standing c.not_within.new.source) c.args.work.now.notes c.not_within.new.work.notes (held_now c.not_within.result)) same c.not_within.ensures.tells
+
+pub eval-returns-in-Scalar-clause-tells : goal.eval-returns-in-Scalar-clause-tells
+eval-returns-in-Scalar-clause-tells g t c =
+    let same : terms.Scalar (query_of c.deref-in-Scalar.result.now) ≡ c.args.expr.now = search rules in
+    subst (λ k. Tells (value_of k (shows (drop c.args.view.from c.args.view.fences.now) c.args.env.now.user.now) (env_of c.args.env.now)) (g.S.Tables.standing c.args.source.now) (g.S.Tables.standing c.scalar.new.source) c.args.work.now.notes c.scalar.new.work.notes (held_now c.scalar.result)) same c.scalar.ensures.tells
+
+pub exists-returns-clause-tells : goal.exists-returns-clause-tells
+exists-returns-clause-tells g t c =
+    tells_as (has_row (query_of c.args.query.now) (shows (drop c.args.view.from c.args.view.fences.now) c.args.env.now.user.now) (env_of c.args.env.now)) Flag _ _ _ _ c.in_ok-is.is' (Flag c.in_ok-is.is')
+    (tells_over (ranged_over (query_of c.args.query.now) (shows (drop c.args.view.from c.args.view.fences.now) c.args.env.now.user.now) (env_of c.args.env.now)) (λ rows. gathered (λ row is rest. is || rest) false (λ row. meets (maybe_term c.args.query.now.condition) (shows (drop c.args.view.from c.args.view.fences.now) c.args.env.now.user.now) (inside row (env_of c.args.env.now))) rows) _ _ _ _ _ _ c.in_ok-rows.rows c.as_slice.result.now c.in_ok-is.is' c.as_slice.ensures c.in_ok-rows.ensures.tells c.in_ok-is.ensures.tells) refl
+
+pub is_within-returns-clause-tells : goal.is_within-returns-clause-tells
+is_within-returns-clause-tells g t c =
+    tells_over (ranged_over (query_of c.args.query.now) (shows (drop c.args.view.from c.args.view.fences.now) c.args.env.now.user.now) (env_of c.args.env.now)) (λ rows. gathered (λ row item rest. or_item (held_value c.args.value.now) item rest) False (λ row. item_if (meets (maybe_term c.args.query.now.condition) (shows (drop c.args.view.from c.args.view.fences.now) c.args.env.now.user.now) (inside row (env_of c.args.env.now))) (item_of (terms_of c.args.query.now.items.items) (shows (drop c.args.view.from c.args.view.fences.now) c.args.env.now.user.now) (inside row (env_of c.args.env.now)))) rows) _ _ _ _ _ _ c.in_ok-rows.rows c.as_slice.result.now c.in_ok-truth.truth c.as_slice.ensures c.in_ok-rows.ensures.tells c.in_ok-truth.ensures.tells
+
+pub scalar-returns-clause-tells : goal.scalar-returns-clause-tells
+scalar-returns-clause-tells g t c =
+    tells_over (ranged_over (query_of c.args.query.now) (shows (drop c.args.view.from c.args.view.fences.now) c.args.env.now.user.now) (env_of c.args.env.now)) (λ rows. gathered (λ row item rest. item_or item rest) Null (λ row. item_if (meets (maybe_term c.args.query.now.condition) (shows (drop c.args.view.from c.args.view.fences.now) c.args.env.now.user.now) (inside row (env_of c.args.env.now))) (item_of (terms_of c.args.query.now.items.items) (shows (drop c.args.view.from c.args.view.fences.now) c.args.env.now.user.now) (inside row (env_of c.args.env.now)))) rows) _ _ _ _ _ _ c.in_ok-rows.rows c.as_slice.result.now (held_value c.in_ok-item.item) c.as_slice.ensures c.in_ok-rows.ensures.tells c.in_ok-item.ensures.tells
+
+pub first_item-loop-row-preserved : goal.first_item-loop-row-preserved
+first_item-loop-row-preserved g t c =
+    record {
+      stands = c.in_ok-item.ensures.tells.stands ∙ c.loop-row.invariant.stands;
+      leads = rows_turn (gathered (λ row item rest. item_or item rest) Null (λ row. item_if (meets (maybe_term c.args.query.now.condition) (shows (drop c.args.view.from c.args.view.fences.now) c.args.env.now.user.now) (inside row (env_of c.args.env.now))) (item_of (terms_of c.args.query.now.items.items) (shows (drop c.args.view.from c.args.view.fences.now) c.args.env.now.user.now) (inside row (env_of c.args.env.now)))) c.args.rows.now) (item_or (maybe_held c.loop-row.first)) (item_or (maybe_held c.in_ok-first.first)) (λ row item rest. item_or item rest) Null (λ row. item_if (meets (maybe_term c.args.query.now.condition) (shows (drop c.args.view.from c.args.view.fences.now) c.args.env.now.user.now) (inside row (env_of c.args.env.now))) (item_of (terms_of c.args.query.now.items.items) (shows (drop c.args.view.from c.args.view.fences.now) c.args.env.now.user.now) (inside row (env_of c.args.env.now))))
+          c.args.rows.now c.loop-row.row-index c.row-item.result (maybe_held c.in_ok-item.item) _ _ _ _ _ _ c.loop-row-test.true c.row-item.is
+          (λ rest. item_again (maybe_held c.loop-row.first) (maybe_held c.in_ok-item.item) (maybe_held c.in_ok-first.first) rest c.in_ok-first.ensures)
+          c.loop-row.invariant.stands c.loop-row.invariant.leads c.in_ok-item.ensures.tells;
+      holds = c.in_ok-item.ensures.holds;
+    }
+
+pub is_item-loop-row-preserved : goal.is_item-loop-row-preserved
+is_item-loop-row-preserved g t c =
+    record {
+      stands = c.in_ok-item.ensures.tells.stands ∙ c.loop-row.invariant.stands;
+      leads = rows_turn (gathered (λ row item rest. or_item (held_value c.args.value.now) item rest) False (λ row. item_if (meets (maybe_term c.args.query.now.condition) (shows (drop c.args.view.from c.args.view.fences.now) c.args.env.now.user.now) (inside row (env_of c.args.env.now))) (item_of (terms_of c.args.query.now.items.items) (shows (drop c.args.view.from c.args.view.fences.now) c.args.env.now.user.now) (inside row (env_of c.args.env.now)))) c.args.rows.now) (disjunction_of c.loop-row.so_far) (disjunction_of c.or_equal-so_far.result) (λ row item rest. or_item (held_value c.args.value.now) item rest) False (λ row. item_if (meets (maybe_term c.args.query.now.condition) (shows (drop c.args.view.from c.args.view.fences.now) c.args.env.now.user.now) (inside row (env_of c.args.env.now))) (item_of (terms_of c.args.query.now.items.items) (shows (drop c.args.view.from c.args.view.fences.now) c.args.env.now.user.now) (inside row (env_of c.args.env.now))))
+          c.args.rows.now c.loop-row.row-index c.row-item.result (maybe_held c.in_ok-item.item) _ _ _ _ _ _ c.loop-row-test.true c.row-item.is
+          (λ rest. ap (λ t. disjunction_of t rest) c.or_equal-so_far.ensures ∙ or_again c.loop-row.so_far (item_equals (held_value c.args.value.now) (maybe_held c.in_ok-item.item)) rest)
+          c.loop-row.invariant.stands c.loop-row.invariant.leads c.in_ok-item.ensures.tells;
+      holds = c.in_ok-item.ensures.holds;
+    }
+
+pub is_met-loop-row-preserved : goal.is_met-loop-row-preserved
+is_met-loop-row-preserved g t c =
+    record {
+      stands = c.in_ok-is.ensures.tells.stands ∙ c.loop-row.invariant.stands;
+      leads = rows_turn (gathered (λ row is rest. is || rest) false (λ row. meets (maybe_term c.args.condition.now) (shows (drop c.args.view.from c.args.view.fences.now) c.args.env.now.user.now) (inside row (env_of c.args.env.now))) c.args.rows.now) (λ rest. c.loop-row.so_far || rest) (λ rest. c.either-so_far.result || rest) (λ row is rest. is || rest) false (λ row. meets (maybe_term c.args.condition.now) (shows (drop c.args.view.from c.args.view.fences.now) c.args.env.now.user.now) (inside row (env_of c.args.env.now)))
+          c.args.rows.now c.loop-row.row-index c.row-item.result c.in_ok-is.is' _ _ _ _ _ _ c.loop-row-test.true c.row-item.is
+          (λ rest. ap (λ b. b || rest) c.either-so_far.ensures ∙ or_assoc c.loop-row.so_far c.in_ok-is.is' rest)
+          c.loop-row.invariant.stands c.loop-row.invariant.leads c.in_ok-is.ensures.tells;
+      holds = c.in_ok-is.ensures.holds;
+    }
+
+pub item_if-returns-clause-tells : goal.item_if-returns-clause-tells
+item_if-returns-clause-tells g t c =
+    tells_item (meets (maybe_term c.args.query.now.condition) (shows (drop c.args.view.from c.args.view.fences.now) c.args.env.now.user.now) (env_of c.args.env.now)) (item_of (terms_of c.args.query.now.items.items) (shows (drop c.args.view.from c.args.view.fences.now) c.args.env.now.user.now) (env_of c.args.env.now)) _ _ _ _ _ _ c.in_ok-is.is' (held_value c.in_ok-held.held) (search rules) c.in_ok-is.ensures.tells
+    (subst (λ items. Tells (item_of (terms_of items) (shows (drop c.args.view.from c.args.view.fences.now) c.args.env.now.user.now) (env_of c.args.env.now)) (g.S.Tables.standing c.meets_condition.new.source) (g.S.Tables.standing c.item.new.source) c.meets_condition.new.work.notes c.item.new.work.notes (Ok (held_value c.in_ok-held.held))) c.deref.ensures.value c.in_ok-held.ensures.tells)
+
+pub kept_rows-loop-row-preserved : goal.kept_rows-loop-row-preserved
+kept_rows-loop-row-preserved g t c =
+    record {
+      stands = c.in_ok-is.ensures.tells.stands ∙ c.loop-row.invariant.stands;
+      leads = rows_turn (kept (is_allowed c.args.guard.now (shows (drop c.args.view.from c.args.view.fences.now) c.args.user.now) c.args.user.now) c.args.rows.now) (λ rest. c.loop-row.kept ++ rest) (λ rest. c.push_if.new.rows ++ rest) with_row [] (is_allowed c.args.guard.now (shows (drop c.args.view.from c.args.view.fences.now) c.args.user.now) c.args.user.now)
+          c.args.rows.now c.loop-row.row-index c.row-item.result c.in_ok-is.is' _ _ _ _ _ _ c.loop-row-test.true c.row-item.is
+          (λ rest. row_added c.push_if.new.rows c.loop-row.kept rest c.in_ok-is.is' c.row-item.result c.in_ok-push_if.ensures)
+          c.loop-row.invariant.stands c.loop-row.invariant.leads c.in_ok-is.ensures.tells;
+      holds = c.in_ok-is.ensures.holds;
+    }
+
+pub put_judgements-eval-requires : goal.put_judgements-eval-requires
+put_judgements-eval-requires g t c κs within = (omega (arith, condition_at _ _ _ c.loop-policy-test.true c.loop-policy-item.is), search rules)
+
+pub put_judgements-loop-policy-preserved : goal.put_judgements-loop-policy-preserved
+put_judgements-loop-policy-preserved g t c =
+    let added : c.push.new.self.items ≡ c.loop-policy.judgements.items ++ (c.loop-policy-item.result.0, truth_in (held_value c.in_ok-held.held)) ∷ [] = search rules in
+    record {
+      stands = c.in_ok-held.ensures.tells.stands ∙ c.loop-policy.invariant.stands;
+      leads = rows_turn (judgements_on c.args.conditions.now (shows (drop c.args.view.from c.args.view.fences.now) c.args.user.now) c.args.user.now c.args.row.now) (λ rest. c.loop-policy.judgements.items ++ rest) (λ rest. c.push.new.self.items ++ rest) with_judgement [] (λ condition. value_of condition.1 (shows (drop c.args.view.from c.args.view.fences.now) c.args.user.now) (over c.args.user.now c.args.row.now))
+          c.args.conditions.now c.loop-policy.policy-index c.loop-policy-item.result (held_value c.in_ok-held.held) _ _ _ _ _ _ c.loop-policy-test.true c.loop-policy-item.is
+          (λ rest. judgement_added c.push.new.self.items c.loop-policy.judgements.items rest c.loop-policy-item.result.0 (truth_in (held_value c.in_ok-held.held)) added)
+          c.loop-policy.invariant.stands c.loop-policy.invariant.leads c.in_ok-held.ensures.tells;
+      holds = c.in_ok-held.ensures.holds;
+    }
+
+pub seen-shown_once-requires : goal.seen-shown_once-requires
+seen-shown_once-requires g t c κs within = (omega (arith, c.decreases, size_found c.args.view.fences.now (drop c.args.view.from c.args.view.fences.now) c.args.view.from c.in-Some.place c.args.table.now refl (sym c.in-Some.ensures)), search rules)
+
+pub seen-returns-in-None-clause-tells : goal.seen-returns-in-None-clause-tells
+seen-returns-in-None-clause-tells g t c =
+    tells_unread ((shows (drop c.args.view.from c.args.view.fences.now) c.args.user.now) c.args.table.now c.args.key) (g.S.Tables.standing c.args.source.now) _ c.args.work.now.notes [] c.new-in-None.result
+    (shows_none (drop c.args.view.from c.args.view.fences.now) c.args.view.from c.args.user.now c.args.table.now c.args.key (g.S.Tables.standing c.args.source.now).state (sym c.in-None.ensures)) refl
+    (subst (λ xs. IfOk c.new-in-None.result (λ found. found ≡ xs)) c.new.ensures.items c.new-in-None.ensures)
+
+pub seen-returns-in_ok-object-in-Some-clause-tells : goal.seen-returns-in_ok-object-in-Some-clause-tells
+seen-returns-in_ok-object-in-Some-clause-tells g t c =
+    tells_same ((shows (drop c.args.view.from c.args.view.fences.now) c.args.user.now) c.args.table.now c.args.key) (shown_at c.args.view.fences.now c.args.user.now c.in-Some.place c.in_ok-object-in-Some.object) _ _ _ _ _
+    (shows_found c.args.view.fences.now c.args.view.from c.in-Some.place c.args.user.now c.args.table.now c.args.key (g.S.Tables.standing c.args.source.now).state (sym c.in-Some.ensures)
+    ∙ ap (λ object. (shown_at c.args.view.fences.now c.args.user.now c.in-Some.place object).in_state (g.S.Tables.standing c.args.source.now).state) (sym c.in_ok-object-in-Some.ensures)) c.shown_once.ensures.tells
+
+pub shown_once-returns-in_ok-remember-in-None-clause-holds : goal.shown_once-returns-in_ok-remember-in-None-clause-holds
+shown_once-returns-in_ok-remember-in-None-clause-holds g t c =
+    holds_shown c.args.view.fences.now c.args.user.now (g.S.Tables.standing c.args.source.now) (g.S.Tables.standing c.shown.new.source) c.args.work.now.notes c.shown.new.work (record { notes = c.shown.new.work.notes; seen = c.remember.new.seen }) c.args.view.from c.args.object c.in_ok-copy-in-None.copy
+    (tells_result _ _ _ _ _ c.in_ok-rows-in-None.rows c.in_ok-copy-in-None.copy c.in_ok-rows-in-None.ensures.tells c.in_ok-copy-in-None.ensures) c.in_ok-rows-in-None.ensures.holds refl c.in_ok-remember-in-None.ensures
+
+pub sum-returns-in_ok-held-in-len1-up-clause-tells : goal.sum-returns-in_ok-held-in-len1-up-clause-tells
+sum-returns-in_ok-held-in-len1-up-clause-tells g t c =
+    sum_told (shows (drop c.args.view.from c.args.view.fences.now) c.args.env.now.user.now) (env_of c.args.env.now) c.args.signs.now c.args.parts.now c.first-item.result _ _ _ _ _ _ (held_value c.in_ok-held-in-len1-up.held) (number_value c.number-number.result) (held_now c.sum_from.result) c.in-len1-up.len_at_least c.first-item.is
+    c.in_ok-held-in-len1-up.ensures.tells c.number-number.ensures c.sum_from.ensures.tells
+
+pub sum_from-returns-in-Ok-clause-tells : goal.sum_from-returns-in-Ok-clause-tells
+sum_from-returns-in-Ok-clause-tells g t c =
+    let some : 1 ≤ length c.args.signs.now = search rules in
+    let many : 1 ≤ length c.args.parts.now = search rules in
+    let same : number_value c.in-Ok.so_far ≡ joined (slice_index_or c.args.signs.now 0 Plus) (number_value c.args.first) (held_value c.in_ok-held-in-len1-up-len1-up.held) = search rules in
+    sum_on (shows (drop c.args.view.from c.args.view.fences.now) c.args.env.now.user.now) (env_of c.args.env.now) (number_value c.args.first) c.args.signs.now c.args.parts.now c.part-item.result _ _ _ _ _ _ (held_value c.in_ok-held-in-len1-up-len1-up.held) (number_value c.in-Ok.so_far) (held_now c.sum_from.result) some many c.part-item.is
+    c.in_ok-held-in-len1-up-len1-up.ensures.tells same c.sum_from.ensures.tells

@@ -1,0 +1,940 @@
+//! The value of a placed expression, with its subqueries.
+
+ghost use Rattle.std.specs.Prelude.{◌≡◌, [], ◌++◌, ◌||◌, false, drop, IfOk, OnOk};
+ghost use Rattle.rls_value.specs.declared.truth.Truth.TheVariants.{True, False};
+ghost use Rattle.rls_value.specs.declared.value.Value.TheVariants.{Null};
+ghost use Rattle.rls_value.specs.Truths.{disjunction_of};
+ghost use Rattle.rls_expr.specs.Terms as t;
+ghost use Rattle.rls_expr.specs.Terms.{maybe_term, terms_of};
+ghost use Rattle.rls_expr.specs.ExprTerms.{query_of};
+ghost use Rattle.rls_evaluation.specs.Environments.{inside};
+ghost use Rattle.rls_evaluation.specs.Gathering.{gathered, kept, with_row};
+ghost use Rattle.rls_evaluation.specs.Keys.{or_else};
+ghost use Rattle.rls_evaluation.specs.Eval as means;
+ghost use Rattle.rls_evaluation.specs.Eval.{value_of, together, and_value, or_value, or_equal, among_items, item_equals, item_of, item_or, meets, or_item, ranged_over};
+ghost use Rattle.rls_evaluation.specs.Showing as spec;
+ghost use Rattle.rls_evaluation.specs.Showing.{shows, judgements_on, is_allowed};
+ghost use Rattle.rls_evaluation.specs.Scoping.{env_of, held_value, held_now, maybe_held, maybe_now, number_value};
+ghost use Rattle.rls_evaluation.specs.Holding.{Holds, Tells, shown_at, object_for, asked_of, put_in};
+
+use crate::fence::{Guard, View, allows, place_of};
+use crate::held::{Held, compare, equals, held_number, held_of, held_truth, joined};
+use crate::keys::{has_null, key_of};
+use crate::memo::{Rows, Work, found, remember};
+use crate::scope::{Env, Scoped, column_value};
+use crate::tables::Tables;
+use rls_catalog::Verdict;
+use rls_expr::{Comparison, Expr, Node, Policy, Sign, Subquery};
+use rls_policy::{Judgement, combine};
+use rls_value::{Items, Loan, Name, Object, Row, Truth};
+use std::alloc::{AllocError, Global};
+
+/// The value of the expression. Nothing is cut short: every part is evaluated.
+#[cycle(eval)]
+fn eval<'a, 'c, S: Tables>(
+    alloc: Global,
+    source: &mut S,
+    work: &mut Work,
+    view: View<'a, 'c>,
+    expr: &'a Expr,
+    env: &Env<'a>,
+) -> Result<Held<'a>, AllocError>
+    requires { Holds view.fences.now env.now.user.now (S.standing source.old).state work.old }
+    ensures tells { Tells (value_of expr.now (shows (drop view.entry.from view.entry.fences.now) env.now.user.now) (env_of env.now)) (S.standing source.old) (S.standing source.new) work.old.notes work.new.notes (held_now result) }
+    ensures holds { OnOk result (Holds view.entry.fences.now env.now.user.now (S.standing source.new).state work.new) }
+{
+    match expr.node() {
+        Node::Literal(value) => Ok(held_of(value)),
+        Node::Column(_) => Ok(Held::Null),
+        Node::Place(place) => Ok(column_value(&env.rows, place.out, place.column)),
+        Node::CurrentUser => Ok(Held::Text(env.user.as_str())),
+        Node::Compare(how, left, right) => {
+            comparison(alloc, source, work, view, *how, left, right, env)
+        }
+        Node::And(parts) => conjunction(alloc, source, work, view, parts, env),
+        Node::Or(parts) => disjunction(alloc, source, work, view, parts, env),
+        Node::Not(operand) => negation(alloc, source, work, view, operand, env),
+        Node::IsNull(operand) => null_test(alloc, source, work, view, operand, env),
+        Node::IsNotNull(operand) => not_null_test(alloc, source, work, view, operand, env),
+        Node::Among(operand, list) => among(alloc, source, work, view, operand, list, env),
+        Node::NotAmong(operand, list) => not_among(alloc, source, work, view, operand, list, env),
+        Node::Exists(query) => exists(alloc, source, work, view, query, env),
+        Node::Within(operand, query) => within(alloc, source, work, view, operand, query, env),
+        Node::NotWithin(operand, query) => {
+            not_within(alloc, source, work, view, operand, query, env)
+        }
+        Node::Scalar(query) => scalar(alloc, source, work, view, query, env),
+        Node::Sum(signs, parts) => sum(alloc, source, work, view, signs, parts, env),
+    }
+}
+
+/// Both sides compared.
+#[cycle(eval)]
+fn comparison<'a, 'c, S: Tables>(
+    alloc: Global,
+    source: &mut S,
+    work: &mut Work,
+    view: View<'a, 'c>,
+    how: Comparison,
+    left: &'a Expr,
+    right: &'a Expr,
+    env: &Env<'a>,
+) -> Result<Held<'a>, AllocError>
+    requires { Holds view.fences.now env.now.user.now (S.standing source.old).state work.old }
+    ensures tells { Tells (value_of (t.Compare how left.now right.now) (shows (drop view.entry.from view.entry.fences.now) env.now.user.now) (env_of env.now)) (S.standing source.old) (S.standing source.new) work.old.notes work.new.notes (held_now result) }
+    ensures holds { OnOk result (Holds view.entry.fences.now env.now.user.now (S.standing source.new).state work.new) }
+{
+    let left = eval(alloc, source, work, view, left, env)?;
+    let right = eval(alloc, source, work, view, right, env)?;
+    Ok(held_truth(compare(how, &left, &right)))
+}
+
+/// AND of the parts.
+#[cycle(eval)]
+fn conjunction<'a, 'c, S: Tables>(
+    alloc: Global,
+    source: &mut S,
+    work: &mut Work,
+    view: View<'a, 'c>,
+    parts: &'a [Expr],
+    env: &Env<'a>,
+) -> Result<Held<'a>, AllocError>
+    requires { Holds view.fences.now env.now.user.now (S.standing source.old).state work.old }
+    ensures tells { Tells (value_of (t.And (terms_of parts.now)) (shows (drop view.entry.from view.entry.fences.now) env.now.user.now) (env_of env.now)) (S.standing source.old) (S.standing source.new) work.old.notes work.new.notes (held_now result) }
+    ensures holds { OnOk result (Holds view.entry.fences.now env.now.user.now (S.standing source.new).state work.new) }
+{
+    let truth = all_of(alloc, source, work, view, parts, env)?;
+    Ok(held_truth(truth))
+}
+
+/// AND of the parts.
+#[cycle(eval)]
+fn all_of<'a, 'c, S: Tables>(
+    alloc: Global,
+    source: &mut S,
+    work: &mut Work,
+    view: View<'a, 'c>,
+    parts: &'a [Expr],
+    env: &Env<'a>,
+) -> Result<Truth, AllocError>
+    requires { Holds view.fences.now env.now.user.now (S.standing source.old).state work.old }
+    ensures tells { Tells (together and_value True (terms_of parts.now) (shows (drop view.entry.from view.entry.fences.now) env.now.user.now) (env_of env.now)) (S.standing source.old) (S.standing source.new) work.old.notes work.new.notes result }
+    ensures holds { OnOk result (Holds view.entry.fences.now env.now.user.now (S.standing source.new).state work.new) }
+{
+    let mut so_far = Truth::True;
+    for part in parts {
+        let held = eval(alloc, source, work, view, part, env)?;
+        so_far = so_far.and(held.truth());
+    }
+    Ok(so_far)
+}
+
+/// OR of the parts.
+#[cycle(eval)]
+fn disjunction<'a, 'c, S: Tables>(
+    alloc: Global,
+    source: &mut S,
+    work: &mut Work,
+    view: View<'a, 'c>,
+    parts: &'a [Expr],
+    env: &Env<'a>,
+) -> Result<Held<'a>, AllocError>
+    requires { Holds view.fences.now env.now.user.now (S.standing source.old).state work.old }
+    ensures tells { Tells (value_of (t.Or (terms_of parts.now)) (shows (drop view.entry.from view.entry.fences.now) env.now.user.now) (env_of env.now)) (S.standing source.old) (S.standing source.new) work.old.notes work.new.notes (held_now result) }
+    ensures holds { OnOk result (Holds view.entry.fences.now env.now.user.now (S.standing source.new).state work.new) }
+{
+    let truth = any_of(alloc, source, work, view, parts, env)?;
+    Ok(held_truth(truth))
+}
+
+/// OR of the parts.
+#[cycle(eval)]
+fn any_of<'a, 'c, S: Tables>(
+    alloc: Global,
+    source: &mut S,
+    work: &mut Work,
+    view: View<'a, 'c>,
+    parts: &'a [Expr],
+    env: &Env<'a>,
+) -> Result<Truth, AllocError>
+    requires { Holds view.fences.now env.now.user.now (S.standing source.old).state work.old }
+    ensures tells { Tells (together or_value False (terms_of parts.now) (shows (drop view.entry.from view.entry.fences.now) env.now.user.now) (env_of env.now)) (S.standing source.old) (S.standing source.new) work.old.notes work.new.notes result }
+    ensures holds { OnOk result (Holds view.entry.fences.now env.now.user.now (S.standing source.new).state work.new) }
+{
+    let mut so_far = Truth::False;
+    for part in parts {
+        let held = eval(alloc, source, work, view, part, env)?;
+        so_far = so_far.or(held.truth());
+    }
+    Ok(so_far)
+}
+
+/// NOT.
+#[cycle(eval)]
+fn negation<'a, 'c, S: Tables>(
+    alloc: Global,
+    source: &mut S,
+    work: &mut Work,
+    view: View<'a, 'c>,
+    operand: &'a Expr,
+    env: &Env<'a>,
+) -> Result<Held<'a>, AllocError>
+    requires { Holds view.fences.now env.now.user.now (S.standing source.old).state work.old }
+    ensures tells { Tells (value_of (t.Not operand.now) (shows (drop view.entry.from view.entry.fences.now) env.now.user.now) (env_of env.now)) (S.standing source.old) (S.standing source.new) work.old.notes work.new.notes (held_now result) }
+    ensures holds { OnOk result (Holds view.entry.fences.now env.now.user.now (S.standing source.new).state work.new) }
+{
+    let held = eval(alloc, source, work, view, operand, env)?;
+    Ok(held_truth(held.truth().not()))
+}
+
+/// `IS NULL`.
+#[cycle(eval)]
+fn null_test<'a, 'c, S: Tables>(
+    alloc: Global,
+    source: &mut S,
+    work: &mut Work,
+    view: View<'a, 'c>,
+    operand: &'a Expr,
+    env: &Env<'a>,
+) -> Result<Held<'a>, AllocError>
+    requires { Holds view.fences.now env.now.user.now (S.standing source.old).state work.old }
+    ensures tells { Tells (value_of (t.IsNull operand.now) (shows (drop view.entry.from view.entry.fences.now) env.now.user.now) (env_of env.now)) (S.standing source.old) (S.standing source.new) work.old.notes work.new.notes (held_now result) }
+    ensures holds { OnOk result (Holds view.entry.fences.now env.now.user.now (S.standing source.new).state work.new) }
+{
+    let held = eval(alloc, source, work, view, operand, env)?;
+    Ok(Held::Bool(held.is_null()))
+}
+
+/// `IS NOT NULL`.
+#[cycle(eval)]
+fn not_null_test<'a, 'c, S: Tables>(
+    alloc: Global,
+    source: &mut S,
+    work: &mut Work,
+    view: View<'a, 'c>,
+    operand: &'a Expr,
+    env: &Env<'a>,
+) -> Result<Held<'a>, AllocError>
+    requires { Holds view.fences.now env.now.user.now (S.standing source.old).state work.old }
+    ensures tells { Tells (value_of (t.IsNotNull operand.now) (shows (drop view.entry.from view.entry.fences.now) env.now.user.now) (env_of env.now)) (S.standing source.old) (S.standing source.new) work.old.notes work.new.notes (held_now result) }
+    ensures holds { OnOk result (Holds view.entry.fences.now env.now.user.now (S.standing source.new).state work.new) }
+{
+    let held = eval(alloc, source, work, view, operand, env)?;
+    Ok(Held::Bool(!held.is_null()))
+}
+
+/// `IN` with a list.
+#[cycle(eval)]
+fn among<'a, 'c, S: Tables>(
+    alloc: Global,
+    source: &mut S,
+    work: &mut Work,
+    view: View<'a, 'c>,
+    operand: &'a Expr,
+    list: &'a [Expr],
+    env: &Env<'a>,
+) -> Result<Held<'a>, AllocError>
+    requires { Holds view.fences.now env.now.user.now (S.standing source.old).state work.old }
+    ensures tells { Tells (value_of (t.Among operand.now (terms_of list.now)) (shows (drop view.entry.from view.entry.fences.now) env.now.user.now) (env_of env.now)) (S.standing source.old) (S.standing source.new) work.old.notes work.new.notes (held_now result) }
+    ensures holds { OnOk result (Holds view.entry.fences.now env.now.user.now (S.standing source.new).state work.new) }
+{
+    let held = eval(alloc, source, work, view, operand, env)?;
+    let truth = is_one_of(alloc, source, work, view, &held, list, env)?;
+    Ok(held_truth(truth))
+}
+
+/// `NOT IN` with a list.
+#[cycle(eval)]
+fn not_among<'a, 'c, S: Tables>(
+    alloc: Global,
+    source: &mut S,
+    work: &mut Work,
+    view: View<'a, 'c>,
+    operand: &'a Expr,
+    list: &'a [Expr],
+    env: &Env<'a>,
+) -> Result<Held<'a>, AllocError>
+    requires { Holds view.fences.now env.now.user.now (S.standing source.old).state work.old }
+    ensures tells { Tells (value_of (t.NotAmong operand.now (terms_of list.now)) (shows (drop view.entry.from view.entry.fences.now) env.now.user.now) (env_of env.now)) (S.standing source.old) (S.standing source.new) work.old.notes work.new.notes (held_now result) }
+    ensures holds { OnOk result (Holds view.entry.fences.now env.now.user.now (S.standing source.new).state work.new) }
+{
+    let held = eval(alloc, source, work, view, operand, env)?;
+    let truth = is_one_of(alloc, source, work, view, &held, list, env)?;
+    Ok(held_truth(truth.not()))
+}
+
+/// Whether the value is equal to one of the list.
+#[cycle(eval)]
+fn is_one_of<'a, 'c, S: Tables>(
+    alloc: Global,
+    source: &mut S,
+    work: &mut Work,
+    view: View<'a, 'c>,
+    value: &Held,
+    list: &'a [Expr],
+    env: &Env<'a>,
+) -> Result<Truth, AllocError>
+    requires { Holds view.fences.now env.now.user.now (S.standing source.old).state work.old }
+    ensures tells { Tells (together (or_equal (held_value value.now)) False (terms_of list.now) (shows (drop view.entry.from view.entry.fences.now) env.now.user.now) (env_of env.now)) (S.standing source.old) (S.standing source.new) work.old.notes work.new.notes result }
+    ensures holds { OnOk result (Holds view.entry.fences.now env.now.user.now (S.standing source.new).state work.new) }
+{
+    let mut so_far = Truth::False;
+    for part in list {
+        let held = eval(alloc, source, work, view, part, env)?;
+        so_far = so_far.or(equals(value, &held));
+    }
+    Ok(so_far)
+}
+
+/// The first part, and each further one by the sign before it.
+#[cycle(eval)]
+fn sum<'a, 'c, S: Tables>(
+    alloc: Global,
+    source: &mut S,
+    work: &mut Work,
+    view: View<'a, 'c>,
+    signs: &'a [Sign],
+    parts: &'a [Expr],
+    env: &Env<'a>,
+) -> Result<Held<'a>, AllocError>
+    requires { Holds view.fences.now env.now.user.now (S.standing source.old).state work.old }
+    ensures tells { Tells (value_of (t.Sum signs.now (terms_of parts.now)) (shows (drop view.entry.from view.entry.fences.now) env.now.user.now) (env_of env.now)) (S.standing source.old) (S.standing source.new) work.old.notes work.new.notes (held_now result) }
+    ensures holds { OnOk result (Holds view.entry.fences.now env.now.user.now (S.standing source.new).state work.new) }
+{
+    match parts {
+        [] => Ok(Held::Null),
+        [first, further @ ..] => {
+            let held = eval(alloc, source, work, view, first, env)?;
+            let number = held.number();
+            drop(held);
+            sum_from(alloc, source, work, view, number, signs, further, env)
+        }
+    }
+}
+
+/// The sum so far with the parts that have a sign.
+#[cycle(eval)]
+fn sum_from<'a, 'c, S: Tables>(
+    alloc: Global,
+    source: &mut S,
+    work: &mut Work,
+    view: View<'a, 'c>,
+    first: Option<i128>,
+    signs: &'a [Sign],
+    parts: &'a [Expr],
+    env: &Env<'a>,
+) -> Result<Held<'a>, AllocError>
+    requires { Holds view.fences.now env.now.user.now (S.standing source.old).state work.old }
+    ensures tells { Tells (means.sum_from (number_value first) signs.now (terms_of parts.now) (shows (drop view.entry.from view.entry.fences.now) env.now.user.now) (env_of env.now)) (S.standing source.old) (S.standing source.new) work.old.notes work.new.notes (held_now result) }
+    ensures holds { OnOk result (Holds view.entry.fences.now env.now.user.now (S.standing source.new).state work.new) }
+{
+    match (signs, parts) {
+        ([sign, other_signs @ ..], [part, other_parts @ ..]) => {
+            let held = eval(alloc, source, work, view, part, env)?;
+            let so_far = joined(*sign, first, &held);
+            drop(held);
+            match so_far {
+                Ok(so_far) => {
+                    sum_from(
+                        alloc,
+                        source,
+                        work,
+                        view,
+                        so_far,
+                        other_signs,
+                        other_parts,
+                        env,
+                    )
+                }
+                Err(refused) => Err(refused),
+            }
+        }
+        (_, _) => Ok(held_number(first)),
+    }
+}
+
+/// `EXISTS`: whether a row of the subquery's table meets its condition.
+#[cycle(eval)]
+fn exists<'a, 'c, S: Tables>(
+    alloc: Global,
+    source: &mut S,
+    work: &mut Work,
+    view: View<'a, 'c>,
+    query: &'a Subquery,
+    env: &Env<'a>,
+) -> Result<Held<'a>, AllocError>
+    requires { Holds view.fences.now env.now.user.now (S.standing source.old).state work.old }
+    ensures tells { Tells (value_of (t.Exists (query_of query.now)) (shows (drop view.entry.from view.entry.fences.now) env.now.user.now) (env_of env.now)) (S.standing source.old) (S.standing source.new) work.old.notes work.new.notes (held_now result) }
+    ensures holds { OnOk result (Holds view.entry.fences.now env.now.user.now (S.standing source.new).state work.new) }
+{
+    let rows = rows_for(alloc, source, work, view, query, env)?;
+    let is = is_met(
+        alloc,
+        source,
+        work,
+        view,
+        &query.condition,
+        &*env,
+        rows.as_slice(),
+    )?;
+    Ok(Held::Bool(is))
+}
+
+/// Whether one of the rows meets the condition.
+#[cycle(eval)]
+fn is_met<'a, 'c, S: Tables>(
+    alloc: Global,
+    source: &mut S,
+    work: &mut Work,
+    view: View<'a, 'c>,
+    condition: &'a Option<Expr>,
+    env: &'a Env<'a>,
+    rows: &'a [Row],
+) -> Result<bool, AllocError>
+    requires { Holds view.fences.now env.now.user.now (S.standing source.old).state work.old }
+    ensures tells { Tells (gathered (λ row is rest. is || rest) false (λ row. meets (maybe_term condition.now) (shows (drop view.entry.from view.entry.fences.now) env.now.user.now) (inside row (env_of env.now))) rows.now) (S.standing source.old) (S.standing source.new) work.old.notes work.new.notes result }
+    ensures holds { OnOk result (Holds view.entry.fences.now env.now.user.now (S.standing source.new).state work.new) }
+{
+    let mut so_far = false;
+    for row in rows {
+        let inner = Env {
+            user: env.user,
+            rows: Scoped::Over(row, &env.rows),
+        };
+        let is = meets_condition(alloc, source, work, view, condition, &inner)?;
+        so_far = either(so_far, is);
+    }
+    Ok(so_far)
+}
+
+/// `IN` with a subquery.
+#[cycle(eval)]
+fn within<'a, 'c, S: Tables>(
+    alloc: Global,
+    source: &mut S,
+    work: &mut Work,
+    view: View<'a, 'c>,
+    operand: &'a Expr,
+    query: &'a Subquery,
+    env: &Env<'a>,
+) -> Result<Held<'a>, AllocError>
+    requires { Holds view.fences.now env.now.user.now (S.standing source.old).state work.old }
+    ensures tells { Tells (value_of (t.Within operand.now (query_of query.now)) (shows (drop view.entry.from view.entry.fences.now) env.now.user.now) (env_of env.now)) (S.standing source.old) (S.standing source.new) work.old.notes work.new.notes (held_now result) }
+    ensures holds { OnOk result (Holds view.entry.fences.now env.now.user.now (S.standing source.new).state work.new) }
+{
+    let held = eval(alloc, source, work, view, operand, env)?;
+    let truth = is_within(alloc, source, work, view, &held, query, env)?;
+    Ok(held_truth(truth))
+}
+
+/// `NOT IN` with a subquery.
+#[cycle(eval)]
+fn not_within<'a, 'c, S: Tables>(
+    alloc: Global,
+    source: &mut S,
+    work: &mut Work,
+    view: View<'a, 'c>,
+    operand: &'a Expr,
+    query: &'a Subquery,
+    env: &Env<'a>,
+) -> Result<Held<'a>, AllocError>
+    requires { Holds view.fences.now env.now.user.now (S.standing source.old).state work.old }
+    ensures tells { Tells (value_of (t.NotWithin operand.now (query_of query.now)) (shows (drop view.entry.from view.entry.fences.now) env.now.user.now) (env_of env.now)) (S.standing source.old) (S.standing source.new) work.old.notes work.new.notes (held_now result) }
+    ensures holds { OnOk result (Holds view.entry.fences.now env.now.user.now (S.standing source.new).state work.new) }
+{
+    let held = eval(alloc, source, work, view, operand, env)?;
+    let truth = is_within(alloc, source, work, view, &held, query, env)?;
+    Ok(held_truth(truth.not()))
+}
+
+/// Whether the value is equal to the item of a row that meets the condition.
+#[cycle(eval)]
+fn is_within<'a, 'c, S: Tables>(
+    alloc: Global,
+    source: &mut S,
+    work: &mut Work,
+    view: View<'a, 'c>,
+    value: &Held,
+    query: &'a Subquery,
+    env: &Env<'a>,
+) -> Result<Truth, AllocError>
+    requires { Holds view.fences.now env.now.user.now (S.standing source.old).state work.old }
+    ensures tells { Tells (among_items (held_value value.now) (query_of query.now) (shows (drop view.entry.from view.entry.fences.now) env.now.user.now) (env_of env.now)) (S.standing source.old) (S.standing source.new) work.old.notes work.new.notes result }
+    ensures holds { OnOk result (Holds view.entry.fences.now env.now.user.now (S.standing source.new).state work.new) }
+{
+    let rows = rows_for(alloc, source, work, view, query, env)?;
+    let truth = is_item(
+        alloc,
+        source,
+        work,
+        view,
+        value,
+        query,
+        &*env,
+        rows.as_slice(),
+    )?;
+    Ok(truth)
+}
+
+/// Whether the value is equal to the item of one of these rows that meets the condition.
+#[cycle(eval)]
+fn is_item<'a, 'c, S: Tables>(
+    alloc: Global,
+    source: &mut S,
+    work: &mut Work,
+    view: View<'a, 'c>,
+    value: &Held,
+    query: &'a Subquery,
+    env: &'a Env<'a>,
+    rows: &'a [Row],
+) -> Result<Truth, AllocError>
+    requires { Holds view.fences.now env.now.user.now (S.standing source.old).state work.old }
+    ensures tells { Tells (gathered (λ row item rest. or_item (held_value value.now) item rest) False (λ row. means.item_if (meets (maybe_term query.now.condition) (shows (drop view.entry.from view.entry.fences.now) env.now.user.now) (inside row (env_of env.now))) (item_of (terms_of query.now.items.items) (shows (drop view.entry.from view.entry.fences.now) env.now.user.now) (inside row (env_of env.now)))) rows.now) (S.standing source.old) (S.standing source.new) work.old.notes work.new.notes result }
+    ensures holds { OnOk result (Holds view.entry.fences.now env.now.user.now (S.standing source.new).state work.new) }
+{
+    let mut so_far = Truth::False;
+    for row in rows {
+        let inner = Env {
+            user: env.user,
+            rows: Scoped::Over(row, &env.rows),
+        };
+        let item = item_if(alloc, source, work, view, query, &inner)?;
+        so_far = or_equal(so_far, value, &item);
+    }
+    Ok(so_far)
+}
+
+/// A scalar subquery: the item of the first row that meets the condition.
+#[cycle(eval)]
+fn scalar<'a, 'c, S: Tables>(
+    alloc: Global,
+    source: &mut S,
+    work: &mut Work,
+    view: View<'a, 'c>,
+    query: &'a Subquery,
+    env: &Env<'a>,
+) -> Result<Held<'a>, AllocError>
+    requires { Holds view.fences.now env.now.user.now (S.standing source.old).state work.old }
+    ensures tells { Tells (value_of (t.Scalar (query_of query.now)) (shows (drop view.entry.from view.entry.fences.now) env.now.user.now) (env_of env.now)) (S.standing source.old) (S.standing source.new) work.old.notes work.new.notes (held_now result) }
+    ensures holds { OnOk result (Holds view.entry.fences.now env.now.user.now (S.standing source.new).state work.new) }
+{
+    let rows = rows_for(alloc, source, work, view, query, env)?;
+    let item = first_item(alloc, source, work, view, query, &*env, rows.as_slice())?;
+    Ok(item)
+}
+
+/// The item of the first of these rows that meets the condition, whose text is its own; null where there is none.
+#[cycle(eval)]
+fn first_item<'a, 'b, 'c, S: Tables>(
+    alloc: Global,
+    source: &mut S,
+    work: &mut Work,
+    view: View<'a, 'c>,
+    query: &'a Subquery,
+    env: &'a Env<'a>,
+    rows: &'a [Row],
+) -> Result<Held<'b>, AllocError>
+    requires { Holds view.fences.now env.now.user.now (S.standing source.old).state work.old }
+    ensures tells { Tells (gathered (λ row item rest. item_or item rest) Null (λ row. means.item_if (meets (maybe_term query.now.condition) (shows (drop view.entry.from view.entry.fences.now) env.now.user.now) (inside row (env_of env.now))) (item_of (terms_of query.now.items.items) (shows (drop view.entry.from view.entry.fences.now) env.now.user.now) (inside row (env_of env.now)))) rows.now) (S.standing source.old) (S.standing source.new) work.old.notes work.new.notes (held_now result) }
+    ensures holds { OnOk result (Holds view.entry.fences.now env.now.user.now (S.standing source.new).state work.new) }
+{
+    let mut first = None;
+    for row in rows {
+        let inner = Env {
+            user: env.user,
+            rows: Scoped::Over(row, &env.rows),
+        };
+        let item = item_if(alloc, source, work, view, query, &inner)?;
+        first = first_of(alloc, first, &item)?;
+    }
+    Ok(or_null(first))
+}
+
+/// The item of the innermost row, if that meets the condition.
+#[cycle(eval)]
+fn item_if<'a, 'c, S: Tables>(
+    alloc: Global,
+    source: &mut S,
+    work: &mut Work,
+    view: View<'a, 'c>,
+    query: &'a Subquery,
+    env: &Env<'a>,
+) -> Result<Option<Held<'a>>, AllocError>
+    requires { Holds view.fences.now env.now.user.now (S.standing source.old).state work.old }
+    ensures tells { Tells (means.item_if (meets (maybe_term query.now.condition) (shows (drop view.entry.from view.entry.fences.now) env.now.user.now) (env_of env.now)) (item_of (terms_of query.now.items.items) (shows (drop view.entry.from view.entry.fences.now) env.now.user.now) (env_of env.now))) (S.standing source.old) (S.standing source.new) work.old.notes work.new.notes (maybe_now result) }
+    ensures holds { OnOk result (Holds view.entry.fences.now env.now.user.now (S.standing source.new).state work.new) }
+{
+    let is = meets_condition(alloc, source, work, view, &query.condition, env)?;
+    if !is {
+        return Ok(None);
+    }
+    let held = item(alloc, source, work, view, &query.items, env)?;
+    Ok(Some(held))
+}
+
+/// The one item that the subquery selects.
+#[cycle(eval)]
+fn item<'a, 'c, S: Tables>(
+    alloc: Global,
+    source: &mut S,
+    work: &mut Work,
+    view: View<'a, 'c>,
+    items: &'a [Expr],
+    env: &Env<'a>,
+) -> Result<Held<'a>, AllocError>
+    requires { Holds view.fences.now env.now.user.now (S.standing source.old).state work.old }
+    ensures tells { Tells (item_of (terms_of items.now) (shows (drop view.entry.from view.entry.fences.now) env.now.user.now) (env_of env.now)) (S.standing source.old) (S.standing source.new) work.old.notes work.new.notes (held_now result) }
+    ensures holds { OnOk result (Holds view.entry.fences.now env.now.user.now (S.standing source.new).state work.new) }
+{
+    match items {
+        [] => Ok(Held::Null),
+        [item, ..] => eval(alloc, source, work, view, item, env),
+    }
+}
+
+/// Whether the condition is true, or left out.
+#[cycle(eval)]
+fn meets_condition<'a, 'c, S: Tables>(
+    alloc: Global,
+    source: &mut S,
+    work: &mut Work,
+    view: View<'a, 'c>,
+    condition: &'a Option<Expr>,
+    env: &Env<'a>,
+) -> Result<bool, AllocError>
+    requires { Holds view.fences.now env.now.user.now (S.standing source.old).state work.old }
+    ensures tells { Tells (meets (maybe_term condition.now) (shows (drop view.entry.from view.entry.fences.now) env.now.user.now) (env_of env.now)) (S.standing source.old) (S.standing source.new) work.old.notes work.new.notes result }
+    ensures holds { OnOk result (Holds view.entry.fences.now env.now.user.now (S.standing source.new).state work.new) }
+{
+    match condition {
+        None => Ok(true),
+        Some(condition) => {
+            let held = eval(alloc, source, work, view, condition, env)?;
+            Ok(held.truth().is_true())
+        }
+    }
+}
+
+/// The rows that the subquery ranges over.
+#[cycle(eval)]
+fn rows_for<'a, 'c, S: Tables>(
+    alloc: Global,
+    source: &mut S,
+    work: &mut Work,
+    view: View<'a, 'c>,
+    query: &'a Subquery,
+    env: &Env<'a>,
+) -> Result<Rows, AllocError>
+    requires { Holds view.fences.now env.now.user.now (S.standing source.old).state work.old }
+    ensures tells { Tells (ranged_over (query_of query.now) (shows (drop view.entry.from view.entry.fences.now) env.now.user.now) (env_of env.now)) (S.standing source.old) (S.standing source.new) work.old.notes work.new.notes result }
+    ensures holds { OnOk result (Holds view.entry.fences.now env.now.user.now (S.standing source.new).state work.new) }
+{
+    let key = key_of(alloc, &query.key, &query.condition, env)?;
+    seen(alloc, source, work, view, env.user, &query.from.table, key)
+}
+
+/// What the table shows, by the fences from one on.
+#[cycle(eval)]
+fn seen<'a, 'c, S: Tables>(
+    alloc: Global,
+    source: &mut S,
+    work: &mut Work,
+    view: View<'a, 'c>,
+    user: &'a Name,
+    table: &Name,
+    key: Option<Row>,
+) -> Result<Rows, AllocError>
+    requires { Holds view.fences.now user.now (S.standing source.old).state work.old }
+    ensures tells { Tells (shows (drop view.entry.from view.entry.fences.now) user.now table.now key) (S.standing source.old) (S.standing source.new) work.old.notes work.new.notes result }
+    ensures holds { OnOk result (Holds view.entry.fences.now user.now (S.standing source.new).state work.new) }
+{
+    match place_of(view.fences, view.from, table) {
+        None => {
+            drop(key);
+            Rows::new(Vec::new(alloc))
+        }
+        Some(place) => {
+            let object = object_of(table, key)?;
+            let here = View {
+                fences: view.fences,
+                from: place,
+            };
+            shown_once(alloc, source, work, here, user, object)
+        }
+    }
+}
+
+/// What the first of the fences shows: as it was found before, or found and kept.
+#[cycle(eval)]
+fn shown_once<'a, 'c, S: Tables>(
+    alloc: Global,
+    source: &mut S,
+    work: &mut Work,
+    view: View<'a, 'c>,
+    user: &'a Name,
+    object: Object,
+) -> Result<Rows, AllocError>
+    requires { Holds view.fences.now user.now (S.standing source.old).state work.old }
+    ensures tells { Tells (shown_at view.entry.fences.now user.now view.entry.from object) (S.standing source.old) (S.standing source.new) work.old.notes work.new.notes result }
+    ensures holds { OnOk result (Holds view.entry.fences.now user.now (S.standing source.new).state work.new) }
+{
+    let known = found(&work.seen, view.from, &object)?;
+    match known {
+        Some(rows) => {
+            drop(object);
+            Ok(rows)
+        }
+        None => {
+            let rows = shown(alloc, source, work, view, user, &object)?;
+            let copy = rows.share()?;
+            remember(&mut work.seen, object, view.from, copy)?;
+            Ok(rows)
+        }
+    }
+}
+
+/// What the first of the fences shows.
+#[cycle(eval)]
+fn shown<'a, 'c, S: Tables>(
+    alloc: Global,
+    source: &mut S,
+    work: &mut Work,
+    view: View<'a, 'c>,
+    user: &'a Name,
+    object: &Object,
+) -> Result<Rows, AllocError>
+    requires { Holds view.fences.now user.now (S.standing source.old).state work.old }
+    ensures tells { Tells (shown_at view.entry.fences.now user.now view.entry.from object.now) (S.standing source.old) (S.standing source.new) work.old.notes work.new.notes result }
+    ensures holds { OnOk result (Holds view.entry.fences.now user.now (S.standing source.new).state work.new) }
+{
+    if view.from >= view.fences.len() {
+        return Rows::new(Vec::new(alloc));
+    }
+    let rows = asked(alloc, source, work, view, user, object)?;
+    let behind = View {
+        fences: view.fences,
+        from: view.from + 1,
+    };
+    let guard = &view.fences[view.from].guard;
+    let kept = kept_rows(alloc, source, work, behind, user, guard, rows.as_slice())?;
+    Ok(kept)
+}
+
+/// The rows of the object, with a note of it.
+fn asked<'a, 'c, S: Tables>(
+    alloc: Global,
+    source: &mut S,
+    work: &mut Work,
+    view: View<'a, 'c>,
+    user: &'a Name,
+    object: &Object,
+) -> Result<Items<Row>, AllocError>
+    requires { Holds view.fences.now user.now (S.standing source.old).state work.old }
+    ensures tells { Tells (asked_of object.now) (S.standing source.old) (S.standing source.new) work.old.notes work.new.notes result }
+    ensures holds { OnOk result (Holds view.entry.fences.now user.now (S.standing source.new).state work.new) }
+{
+    match object {
+        Object::Rows(table) => {
+            work.notes.note(object.copy(alloc)?)?;
+            source.all_rows(alloc, table)
+        }
+        Object::Key(table, key) => {
+            if has_null(key.as_slice()) {
+                return Ok(Items::new(alloc));
+            }
+            work.notes.note(object.copy(alloc)?)?;
+            source.rows_with(alloc, table, key)
+        }
+        Object::Role(_)
+        | Object::Members(_)
+        | Object::Table(_)
+        | Object::Grants(_)
+        | Object::Policies(_)
+        | Object::RowOf(_, _) => Ok(Items::new(alloc)),
+    }
+}
+
+/// The rows that the guard allows.
+#[cycle(eval)]
+fn kept_rows<'a, 'c, S: Tables>(
+    alloc: Global,
+    source: &mut S,
+    work: &mut Work,
+    view: View<'a, 'c>,
+    user: &'a Name,
+    guard: &'a Guard<'c>,
+    rows: &'a [Row],
+) -> Result<Rows, AllocError>
+    requires { Holds view.fences.now user.now (S.standing source.old).state work.old }
+    ensures tells { Tells (kept (is_allowed guard.now (shows (drop view.entry.from view.entry.fences.now) user.now) user.now) rows.now) (S.standing source.old) (S.standing source.new) work.old.notes work.new.notes result }
+    ensures holds { OnOk result (Holds view.entry.fences.now user.now (S.standing source.new).state work.new) }
+{
+    let mut judgements = Vec::new(alloc);
+    let mut kept = Items::new(alloc);
+    for row in rows {
+        let is = is_allowed(alloc, source, work, view, &mut judgements, guard, user, row)?;
+        push_if(alloc, &mut kept, is, row)?;
+    }
+    drop(judgements);
+    Rows::new(kept.into_vec())
+}
+
+/// Whether the guard allows the row.
+#[cycle(eval)]
+fn is_allowed<'a, 'c, S: Tables>(
+    alloc: Global,
+    source: &mut S,
+    work: &mut Work,
+    view: View<'a, 'c>,
+    judgements: &mut Vec<Judgement<'c>>,
+    guard: &'a Guard<'c>,
+    user: &'a Name,
+    row: &'a Row,
+) -> Result<bool, AllocError>
+    requires { Holds view.fences.now user.now (S.standing source.old).state work.old }
+    ensures tells { Tells (spec.is_allowed guard.now (shows (drop view.entry.from view.entry.fences.now) user.now) user.now row.now) (S.standing source.old) (S.standing source.new) work.old.notes work.new.notes result }
+    ensures holds { OnOk result (Holds view.entry.fences.now user.now (S.standing source.new).state work.new) }
+{
+    let verdict = verdict_on(alloc, source, work, view, judgements, guard, user, row)?;
+    Ok(allows(&verdict))
+}
+
+/// What the guard says of the row, with the buffer for what its policies say, whose memory serves the next row.
+#[cycle(eval)]
+pub fn verdict_on<'a, 'c, S: Tables>(
+    alloc: Global,
+    source: &mut S,
+    work: &mut Work,
+    view: View<'a, 'c>,
+    judgements: &mut Vec<Judgement<'c>>,
+    guard: &'a Guard<'c>,
+    user: &'a Name,
+    row: &'a Row,
+) -> Result<Verdict, AllocError>
+    requires { Holds view.fences.now user.now (S.standing source.old).state work.old }
+    ensures tells { Tells (spec.verdict_on guard.now (shows (drop view.entry.from view.entry.fences.now) user.now) user.now row.now) (S.standing source.old) (S.standing source.new) work.old.notes work.new.notes result }
+    ensures holds { OnOk result (Holds view.entry.fences.now user.now (S.standing source.new).state work.new) }
+{
+    match guard {
+        Guard::Exempt => Ok(Verdict::Exempt),
+        Guard::Policies(conditions) => {
+            put_judgements(
+                alloc,
+                source,
+                work,
+                view,
+                judgements,
+                conditions.as_slice(),
+                user,
+                row,
+            )?;
+            combine(judgements)
+        }
+    }
+}
+
+/// What each policy says of the row, which alone is in scope.
+#[cycle(eval)]
+fn put_judgements<'a, 'c, S: Tables>(
+    alloc: Global,
+    source: &mut S,
+    work: &mut Work,
+    view: View<'a, 'c>,
+    judgements: &mut Vec<Judgement<'c>>,
+    conditions: &'a [(Loan<'c, Policy>, Expr)],
+    user: &'a Name,
+    row: &'a Row,
+) -> Result<(), AllocError>
+    requires { Holds view.fences.now user.now (S.standing source.old).state work.old }
+    ensures tells { Tells (judgements_on conditions.now (shows (drop view.entry.from view.entry.fences.now) user.now) user.now row.now) (S.standing source.old) (S.standing source.new) work.old.notes work.new.notes (put_in judgements.new.items result) }
+    ensures holds { OnOk result (Holds view.entry.fences.now user.now (S.standing source.new).state work.new) }
+{
+    let nothing = Scoped::Nothing;
+    let env = Env {
+        user,
+        rows: Scoped::Over(row, &nothing),
+    };
+    judgements.clear();
+    for (policy, condition) in conditions {
+        let held = eval(alloc, source, work, view, condition, &env)?;
+        judgements.push((Loan::new(policy.get()), held.truth()))?;
+    }
+    Ok(())
+}
+
+/// What is read of a table: its rows with the key or, without one, all of them.
+fn object_of(table: &Name, key: Option<Row>) -> Result<Object, AllocError>
+    ensures { IfOk result (λ object. object ≡ object_for table.now key) }
+{
+    match table.copy() {
+        Ok(table) => match key {
+            None => Ok(Object::Rows(table)),
+            Some(key) => Ok(Object::Key(table, key)),
+        },
+        Err(refused) => {
+            drop(key);
+            Err(refused)
+        }
+    }
+}
+
+/// The row behind the others, if it is kept.
+fn push_if(alloc: Global, rows: &mut Items<Row>, is: bool, row: &Row) -> Result<(), AllocError>
+    ensures { OnOk result (rows.new ≡ rows.old ++ with_row row.now is []) }
+{
+    if is {
+        rows.push(row.copy(alloc)?)?;
+    }
+    Ok(())
+}
+
+fn either(one: bool, other: bool) -> bool
+    ensures { result ≡ (one || other) }
+{
+    one || other
+}
+
+/// OR with the equality of the item, if there is one.
+fn or_equal(so_far: Truth, value: &Held, item: &Option<Held>) -> Truth
+    ensures { result ≡ disjunction_of so_far (item_equals (held_value value.now) (maybe_held item.now)) }
+{
+    match item {
+        Some(item) => so_far.or(equals(value, item)),
+        None => so_far,
+    }
+}
+
+/// The first that is there; of the further one a value with its own text.
+fn first_of<'a>(
+    alloc: Global,
+    first: Option<Held<'a>>,
+    further: &Option<Held>,
+) -> Result<Option<Held<'a>>, AllocError>
+    ensures { IfOk result (λ held. maybe_held held ≡ or_else (maybe_held first.entry) (maybe_held further.now)) }
+{
+    match first {
+        Some(first) => Ok(Some(first)),
+        None => own_copy(alloc, further),
+    }
+}
+
+fn own_copy<'a>(alloc: Global, held: &Option<Held>) -> Result<Option<Held<'a>>, AllocError>
+    ensures { IfOk result (λ own. maybe_held own ≡ maybe_held held.now) }
+{
+    match held {
+        Some(held) => match held.to_own(alloc) {
+            Ok(own) => Ok(Some(own)),
+            Err(refused) => Err(refused),
+        },
+        None => Ok(None),
+    }
+}
+
+fn or_null(held: Option<Held>) -> Held
+    ensures { held_value result ≡ item_or (maybe_held held.entry) Null }
+{
+    match held {
+        Some(held) => held,
+        None => Held::Null,
+    }
+}
