@@ -21,7 +21,7 @@ use Rattle.rls_value.specs.declared.value.Value.{Value}
 use Rattle.rls_value.specs.Giving.{and_then}
 use Rattle.rls_value.specs.Values.{is_null}
 use Rattle.rls_expr.specs.declared.table.TableDef.{TableDef}
-use Rattle.rls_expr.specs.Terms.{Term}
+use Rattle.rls_expr.specs.Terms.{Term, maybe_term}
 use Rattle.rls_catalog.specs.declared.change.Change.{Change}
 use Rattle.rls_catalog.specs.declared.change.Change.TheVariants as c
 use Rattle.rls_catalog.specs.declared.change.RowChange.{RowChange}
@@ -33,7 +33,6 @@ use Rattle.rls_catalog.specs.Changed.{changed, with_row}
 use Rattle.rls_catalog.specs.Contents.{is_name}
 use Rattle.rls_catalog.specs.InOrder.{Ascend, RowsInOrder}
 use Rattle.rls_catalog.specs.RowsChanged.{entries_of, entries_of_changed, same_id, equal_if}
-use Rattle.rls_catalog.specs.declared.verdict.Side.TheVariants as side
 use Rattle.rls_statement.specs.declared.statement.Insert.{Insert}
 use Rattle.rls_statement.specs.declared.statement.Selected.{Selected}
 use Rattle.rls_statement.specs.declared.changing.Update.{Update}
@@ -41,24 +40,29 @@ use Rattle.rls_statement.specs.declared.changing.Delete.{Delete}
 use Rattle.rls_guard.specs.declared.context.Ctx.{Ctx}
 use Rattle.rls_guard.specs.declared.standing.Standing.{Standing}
 use Rattle.rls_guard.specs.declared.guard.Watch.{Watch}
+use Rattle.rls_evaluation.specs.declared.fence.Fence.{Fence}
+use Rattle.rls_evaluation.specs.Gathering.{gathered}
+use Rattle.rls_evaluation.specs.Showing.{shows}
+use Rattle.rls_expansion.specs.declared.protection.Protection.{Protection}
+use Rattle.rls_expansion.specs.Protecting.{protection_of}
+use Rattle.rls_expansion.specs.Used.{tables_if}
 use Rattle.rls_guard.specs.declared.reply.Decision.{Decision}
 use Rattle.rls_guard.specs.declared.effect.Effect.{Effect}
 use Rattle.rls_guard.specs.Standings.{standing_of}
-use Rattle.rls_guard.specs.Guards.{watches_for}
 use Rattle.rls_source.specs.Asked.{rows_at, keyed_at, asked_key}
-use Rattle.rls_source.specs.Askings.{known, followed_by}
-use Rattle.rls_source.specs.Sequences.{each_of}
+use Rattle.rls_source.specs.Askings.{Asking, known, followed_by}
 use Rattle.rls_source.specs.Named.{table_or_undefined}
 use Rattle.rls_dml.specs.declared.addition.Addition.{Addition}
 use Rattle.rls_dml.specs.declared.revision.Revision.{Revision}
 use Rattle.rls_dml.specs.declared.deleting.Removal.{Removal}
 use Rattle.rls_dml.specs.Checking.{names_over_none, returning_reads}
-use Rattle.rls_judging.specs.Judging.{is_hit, hits, decisions_of}
+use Rattle.rls_judging.specs.Judging.{hit_row, hits_of, judged_all, judged_old, with_judged, decisions_of}
+use Rattle.rls_judging.specs.Valuing.{settings_of, tuples_of}
 use Rattle.rls_judging.specs.Candidates.{pinned_key, candidates_with, candidates}
-use Rattle.rls_dml.specs.Writing.{privileges_or_denied, order_of, rows_or_refused}
-use Rattle.rls_dml.specs.Inserting.{places_of, tuple_placed, addition_named, addition_placed, addition_in, addition_or_refused, addition_for, row_of_tuple, numbered, new_rows, inserted_row, inserted, insert_rows, insert_guarded, insert_as, insert_into, insert}
-use Rattle.rls_dml.specs.Updating.{revision_for, revision_reads, places_set, updated_row, changed_rows, updated, update_rows, update_hits, update_guarded, update_as, update_in, update}
-use Rattle.rls_dml.specs.Deleting.{removal_for, removal_reads, deleted_row, deleted, delete_guarded, delete_as, delete_from, delete}
+use Rattle.rls_dml.specs.Writing.{privileges_or_denied, order_of, rows_or_refused, each_with, first_of, behind_first}
+use Rattle.rls_dml.specs.Inserting.{places_of, tuple_placed, addition_named, addition_placed, addition_in, addition_or_refused, addition_for, row_of_tuple, numbered, new_rows, inserted_row, inserted, insert_judged, insert_rows, insert_made, insert_values, tuples_tables, insert_guarded, insert_as, insert_into, insert}
+use Rattle.rls_dml.specs.Updating.{revision_for, revision_reads, places_set, updated_row, changed_rows, updated, update_judged, update_rows, update_values, update_hits, revision_tables, update_guarded, update_as, update_in, update}
+use Rattle.rls_dml.specs.Deleting.{removal_for, removal_reads, deleted_row, deleted, delete_hits, delete_guarded, delete_as, delete_from, delete}
 use Rattle.rls_dml.specs.Fitting.{IfDone, NumbersFree, numbers_from, Overwrite}
 
 -- ---- numbers
@@ -68,7 +72,7 @@ ids_total : IsTotalOrder id_order
 ids_total = then_total (on_total (λ id. id.txn) nat_cmp_total) (on_total (λ id. id.n) nat_cmp_total)
 
 -- a number is itself
-own_number : (id : RowId) → is_same_id id id ≡ true
+pub own_number : (id : RowId) → is_same_id id id ≡ true
 own_number id = ap is_eq (tied_itself ids_total id)
 
 -- ---- a change leaves what stands at another number
@@ -276,12 +280,50 @@ pub given_after : {A B : Type 0} (P : A → Type 0) (Q : B → Type 0) (given : 
 given_after P Q (Ok a) next may all = all a may
 given_after P Q (Err refusal) next may all = tt
 
+-- what follows of what is given
+if_ok_all : {A : Type 0} (given : Result A Refusal) (P Q : A → Type 0) → IfOk given P → ((a : A) → P a → Q a) → IfOk given Q
+if_ok_all (Ok a) P Q is all = all a is
+if_ok_all (Err refusal) P Q is all = tt
+
 -- as many are given as are gone through
-each_length : {A B : Type 0} (give : A → Result B Refusal) (xs : List A) → IfOk (each_of give xs) (λ ys. length ys ≡ length xs)
-each_length give [] = refl
-each_length {B = B} give (x ∷ xs) =
-    given_then (λ ys. length ys ≡ suc (length xs)) (give x) (λ y. and_then (each_of give xs) (λ ys. Ok (y ∷ ys))) (λ y.
-    given_after (λ ys. length ys ≡ length xs) (λ ys. length ys ≡ suc (length xs)) (each_of give xs) (λ ys. Ok (y ∷ ys)) (each_length give xs) (λ ys same. ap suc same))
+each_with_length : {A B : Type 0} (give : A → List Value → Result B Refusal) (xs : List A) (values : List (List Value)) → IfOk (each_with give xs values) (λ ys. length ys ≡ length xs)
+each_with_length give [] values = refl
+each_with_length {B = B} give (x ∷ xs) values =
+    given_then (λ ys. length ys ≡ suc (length xs)) (give x (first_of values)) (λ y. and_then (each_with give xs (behind_first values)) (λ ys. Ok (y ∷ ys))) (λ y.
+    given_after (λ ys. length ys ≡ length xs) (λ ys. length ys ≡ suc (length xs)) (each_with give xs (behind_first values)) (λ ys. Ok (y ∷ ys)) (each_with_length give xs (behind_first values)) (λ ys same. ap suc same))
+
+-- ---- the rows that are hit
+
+-- it holds of what is gathered, whatever is told on the way
+gathered_all : {A B R : Type 0} (P : List A → R → Type 0) (s : State) (put : A → B → R → R) (none : R) (ask : A → Asking B) → P [] none → ((x : A) (xs : List A) (y : B) (rest : R) → P xs rest → P (x ∷ xs) (put x y rest))
+    → (xs : List A) → IfOk ((gathered put none ask xs).in_state s).gives (P xs)
+gathered_all P s put none ask base step [] = base
+gathered_all P s put none ask base step (x ∷ xs) =
+    given_then (P (x ∷ xs)) ((ask x).in_state s).gives (λ y. ((followed_by (gathered put none ask xs) (λ rest. known (Ok (put x y rest)))).in_state s).gives) (λ y.
+    given_after (P xs) (P (x ∷ xs)) ((gathered put none ask xs).in_state s).gives (λ rest. Ok (put x y rest)) (gathered_all P s put none ask base step xs) (λ rest holds. step x xs y rest holds))
+
+-- rows that were picked out of others
+record Picked (s : State) (name : List ℕ) (rows picked : List Stored) : Type 0 where
+  others : (id : RowId) → OtherThan id rows → OtherThan id picked
+  apart : Apart rows → Apart picked
+  have : AllByRecursion (λ stored. row_at s name stored.id ≡ content_of stored) rows → AllByRecursion (λ stored. row_at s name stored.id ≡ content_of stored) picked
+
+picked_more : (s : State) (name : List ℕ) (is : Bool) (stored : Stored) (rows picked : List Stored) → Picked s name rows picked → Picked s name (stored ∷ rows) (hit_row is stored ++ picked)
+picked_more s name true stored rows picked so = record {
+  others = λ id other. (other.0, so.others id other.1);
+  apart = λ apart. (so.others stored.id apart.0, so.apart apart.1);
+  have = λ have. (have.0, so.have have.1);
+}
+picked_more s name false stored rows picked so = record { others = λ id other. so.others id other.1; apart = λ apart. so.apart apart.1; have = λ have. so.have have.1 }
+
+-- the rows that are hit stand in the table, where those that are looked at do
+pub hits_stand : (s : State) (name : List ℕ) (watches : List Watch) (fences : List Fence) (user : List ℕ) (condition : Option Term) (rows : List Stored) → StandIn s name rows
+    → IfOk ((hits_of watches fences user condition rows).in_state s).gives (λ judged. StandIn s name judged.1)
+hits_stand s name watches fences user condition rows stand =
+    if_ok_all ((judged_all watches fences user condition rows).in_state s).gives (λ judged. Picked s name rows judged.1) (λ judged. StandIn s name judged.1)
+    (gathered_all (λ rows judged. Picked s name rows judged.1) s with_judged ([], []) (judged_old watches (maybe_term condition) (shows fences user) user)
+    (record { others = λ id other. tt; apart = λ apart. tt; have = λ have. tt }) (λ stored rows judged rest so. picked_more s name judged.1 stored rows rest.1 so) rows)
+    (λ judged so. record { apart = so.apart stand.apart; have = so.have stand.have })
 
 -- ---- DELETE
 
@@ -290,29 +332,34 @@ deleted_at name [] = refl
 deleted_at name (stored ∷ rows) = ap (λ places. Row name stored.id ∷ places) (deleted_at name rows)
 
 -- a DELETE overwrites the rows that are hit
-pub delete_overwrites : (name : List ℕ) (watches : List Watch) (removal : Removal) (role : List ℕ) (rows : List Stored)
-    → IfDone (Ok (deleted name watches removal role rows)) (Overwrite name (map (λ stored. stored.id) (hits watches removal.condition role rows)))
-delete_overwrites name watches removal role rows = deleted_at name (hits watches removal.condition role rows)
+pub delete_overwrites : (name : List ℕ) (removal : Removal) (role : List ℕ) (judged : List Decision × List Stored)
+    → IfDone (Ok (deleted name removal role judged)) (Overwrite name (map (λ stored. stored.id) judged.1))
+delete_overwrites name removal role judged = deleted_at name judged.1
 
-delete_guarded_fit : (s : State) (standing : Standing) (watches : List Watch) (removal : Removal) (role name : List ℕ) (table : TableDef) → RowsInOrder s name
-    → IfDone ((delete_guarded standing watches removal role name table).in_state s).gives (FitsAll s)
+delete_hits_fit : (s : State) (role name : List ℕ) (protection : Protection) (removal : Removal) (rows : List Stored) → StandIn s name rows
+    → IfDone ((delete_hits role name protection removal rows).in_state s).gives (FitsAll s)
+unfolding delete_hits
+delete_hits_fit s role name protection removal rows stand =
+    done_after (λ judged. StandIn s name judged.1) (FitsAll s) ((hits_of protection.old protection.fences role removal.condition rows).in_state s).gives (λ judged. Ok (deleted name removal role judged))
+    (hits_stand s name protection.old protection.fences role removal.condition rows stand) (λ judged gone. deleted_fit s name judged.1 gone.apart gone.have)
+
+delete_guarded_fit : (s : State) (standing : Standing) (protection : Protection) (removal : Removal) (role name : List ℕ) (table : TableDef) → RowsInOrder s name
+    → IfDone ((delete_guarded standing protection removal role name table).in_state s).gives (FitsAll s)
 unfolding delete_guarded
-delete_guarded_fit s standing watches removal role name table ordered =
-    done_then (FitsAll s) ((privileges_or_denied standing privilege.Delete (removal_reads removal) name).in_state s).gives
-    (λ _. ((followed_by (candidates role name table removal.condition) (λ rows. known (Ok (deleted name watches removal role rows)))).in_state s).gives) (λ _.
+delete_guarded_fit s standing protection removal role name table ordered =
+    done_then (FitsAll s) ((privileges_or_denied standing privilege.Delete (removal_reads removal) name protection.asked).in_state s).gives
+    (λ _. ((followed_by (candidates role name table removal.condition) (λ rows. delete_hits role name protection removal rows)).in_state s).gives) (λ _.
     done_after (StandIn s name) (FitsAll s) ((candidates role name table removal.condition).in_state s).gives
-    (λ rows. Ok (deleted name watches removal role rows))
-    (candidates_stand s role name table removal.condition ordered) (λ rows stand.
-    let gone = filter_stand s name (is_hit watches removal.condition role) rows stand in
-    deleted_fit s name (hits watches removal.condition role rows) gone.apart gone.have))
+    (λ rows. ((delete_hits role name protection removal rows).in_state s).gives)
+    (candidates_stand s role name table removal.condition ordered) (λ rows stand. delete_hits_fit s role name protection removal rows stand))
 
 delete_as_fit : (s : State) (standing : Standing) (role name : List ℕ) (table : TableDef) (removal : Removal) → RowsInOrder s name
     → IfDone ((delete_as standing role name table removal).in_state s).gives (FitsAll s)
 unfolding delete_as
 delete_as_fit s standing role name table removal ordered =
-    done_then (FitsAll s) ((watches_for standing name table kind.Delete (removal_reads removal) (side.Old ∷ [])).in_state s).gives
-    (λ watches. ((delete_guarded standing watches removal role name table).in_state s).gives) (λ watches.
-    delete_guarded_fit s standing watches removal role name table ordered)
+    done_then (FitsAll s) ((protection_of standing name table kind.Delete (removal_reads removal) (tables_if removal.condition)).in_state s).gives
+    (λ protection. ((delete_guarded standing protection removal role name table).in_state s).gives) (λ protection.
+    delete_guarded_fit s standing protection removal role name table ordered)
 
 delete_from_fit : (s : State) (role name : List ℕ) (table : TableDef) (removal : Removal) → RowsInOrder s name
     → IfDone ((delete_from role name table removal).in_state s).gives (FitsAll s)
@@ -342,51 +389,58 @@ updated_done : (fact : List Change → Type 0) (name : List ℕ) (revision : Rev
 updated_done fact name revision role decisions old new (Ok _) is = is
 updated_done fact name revision role decisions old new (Err refusal) is = tt
 
-update_rows_done : (fact : List Change → Type 0) (s : State) (role name : List ℕ) (table : TableDef) (watches : List Watch) (revision : Revision) (before : List Decision) (old new : List Stored)
-    → fact (changed_rows name old new) → IfDone ((update_rows role name table watches revision before old new).in_state s).gives fact
-unfolding update_rows
-update_rows_done fact s role name table watches revision before old new is =
-    let after : List Decision = decisions_of side.New watches role new in
+update_rows_done : (fact : List Change → Type 0) (s : State) (role name : List ℕ) (table : TableDef) (protection : Protection) (revision : Revision) (before : List Decision) (old new : List Stored)
+    → fact (changed_rows name old new) → IfDone ((update_rows role name table protection revision before old new).in_state s).gives fact
+unfolding update_rows update_judged
+update_rows_done fact s role name table protection revision before old new is =
+    done_then fact ((decisions_of protection.new protection.fences role new).in_state s).gives
+    (λ after. Ok (updated name revision role (before ++ after) old new ((rows_or_refused name table.columns (order_of (places_set revision.settings) table.columns) after old new).in_state s).gives)) (λ after.
     updated_done fact name revision role (before ++ after) old new
-    ((rows_or_refused name table.columns (order_of (places_set revision.settings) table.columns) after old new).in_state s).gives is
+    ((rows_or_refused name table.columns (order_of (places_set revision.settings) table.columns) after old new).in_state s).gives is)
 
-update_hits_done : (fact : List Change → Type 0) (s : State) (role name : List ℕ) (table : TableDef) (watches : List Watch) (revision : Revision) (rows : List Stored)
-    → ((new : List Stored) → length new ≡ length (hits watches revision.condition role rows) → fact (changed_rows name (hits watches revision.condition role rows) new))
-    → IfDone ((update_hits role name table watches revision rows).in_state s).gives fact
-unfolding update_hits
-update_hits_done fact s role name table watches revision rows all =
-    let old : List Stored = hits watches revision.condition role rows in
-    done_after (λ new. length new ≡ length old) fact (each_of (updated_row table revision.settings role) old)
-    (λ new. ((update_rows role name table watches revision (decisions_of side.Old watches role rows) old new).in_state s).gives)
-    (each_length (updated_row table revision.settings role) old) (λ new same.
-    update_rows_done fact s role name table watches revision (decisions_of side.Old watches role rows) old new (all new same))
+update_values_done : (fact : List Change → Type 0) (s : State) (role name : List ℕ) (table : TableDef) (protection : Protection) (revision : Revision) (before : List Decision) (old : List Stored)
+    → ((new : List Stored) → length new ≡ length old → fact (changed_rows name old new)) → IfDone ((update_values role name table protection revision before old).in_state s).gives fact
+unfolding update_values
+update_values_done fact s role name table protection revision before old all =
+    done_then fact ((settings_of protection.fences role revision.settings old).in_state s).gives
+    (λ values. ((followed_by (known (each_with (updated_row table (places_set revision.settings)) old values)) (λ new. update_rows role name table protection revision before old new)).in_state s).gives) (λ values.
+    done_after (λ new. length new ≡ length old) fact (each_with (updated_row table (places_set revision.settings)) old values)
+    (λ new. ((update_rows role name table protection revision before old new).in_state s).gives)
+    (each_with_length (updated_row table (places_set revision.settings)) old values) (λ new same.
+    update_rows_done fact s role name table protection revision before old new (all new same)))
 
 -- an UPDATE overwrites the rows that are hit
-pub update_overwrites : (s : State) (role name : List ℕ) (table : TableDef) (watches : List Watch) (revision : Revision) (rows : List Stored)
-    → IfDone ((update_hits role name table watches revision rows).in_state s).gives (Overwrite name (map (λ stored. stored.id) (hits watches revision.condition role rows)))
-update_overwrites s role name table watches revision rows =
-    let old : List Stored = hits watches revision.condition role rows in
-    update_hits_done (Overwrite name (map (λ stored. stored.id) old)) s role name table watches revision rows (changed_at name old)
+pub update_overwrites : (s : State) (role name : List ℕ) (table : TableDef) (protection : Protection) (revision : Revision) (before : List Decision) (old : List Stored)
+    → IfDone ((update_values role name table protection revision before old).in_state s).gives (Overwrite name (map (λ stored. stored.id) old))
+update_overwrites s role name table protection revision before old =
+    update_values_done (Overwrite name (map (λ stored. stored.id) old)) s role name table protection revision before old (changed_at name old)
 
-update_guarded_fit : (s : State) (standing : Standing) (watches : List Watch) (revision : Revision) (role name : List ℕ) (table : TableDef) → RowsInOrder s name
-    → IfDone ((update_guarded standing watches revision role name table).in_state s).gives (FitsAll s)
+update_hits_fit : (s : State) (role name : List ℕ) (table : TableDef) (protection : Protection) (revision : Revision) (rows : List Stored) → StandIn s name rows
+    → IfDone ((update_hits role name table protection revision rows).in_state s).gives (FitsAll s)
+unfolding update_hits
+update_hits_fit s role name table protection revision rows stand =
+    done_after (λ judged. StandIn s name judged.1) (FitsAll s) ((hits_of protection.old protection.fences role revision.condition rows).in_state s).gives
+    (λ judged. ((update_values role name table protection revision judged.0 judged.1).in_state s).gives)
+    (hits_stand s name protection.old protection.fences role revision.condition rows stand) (λ judged old.
+    update_values_done (FitsAll s) s role name table protection revision judged.0 judged.1 (λ new _. changed_fit s name judged.1 new old.apart old.have))
+
+update_guarded_fit : (s : State) (standing : Standing) (protection : Protection) (revision : Revision) (role name : List ℕ) (table : TableDef) → RowsInOrder s name
+    → IfDone ((update_guarded standing protection revision role name table).in_state s).gives (FitsAll s)
 unfolding update_guarded
-update_guarded_fit s standing watches revision role name table ordered =
-    done_then (FitsAll s) ((privileges_or_denied standing privilege.Update (revision_reads revision) name).in_state s).gives
-    (λ _. ((followed_by (candidates role name table revision.condition) (λ rows. update_hits role name table watches revision rows)).in_state s).gives) (λ _.
+update_guarded_fit s standing protection revision role name table ordered =
+    done_then (FitsAll s) ((privileges_or_denied standing privilege.Update (revision_reads revision) name protection.asked).in_state s).gives
+    (λ _. ((followed_by (candidates role name table revision.condition) (λ rows. update_hits role name table protection revision rows)).in_state s).gives) (λ _.
     done_after (StandIn s name) (FitsAll s) ((candidates role name table revision.condition).in_state s).gives
-    (λ rows. ((update_hits role name table watches revision rows).in_state s).gives)
-    (candidates_stand s role name table revision.condition ordered) (λ rows stand.
-    let old = filter_stand s name (is_hit watches revision.condition role) rows stand in
-    update_hits_done (FitsAll s) s role name table watches revision rows (λ new _. changed_fit s name (hits watches revision.condition role rows) new old.apart old.have)))
+    (λ rows. ((update_hits role name table protection revision rows).in_state s).gives)
+    (candidates_stand s role name table revision.condition ordered) (λ rows stand. update_hits_fit s role name table protection revision rows stand))
 
 update_as_fit : (s : State) (standing : Standing) (role name : List ℕ) (table : TableDef) (revision : Revision) → RowsInOrder s name
     → IfDone ((update_as standing role name table revision).in_state s).gives (FitsAll s)
 unfolding update_as
 update_as_fit s standing role name table revision ordered =
-    done_then (FitsAll s) ((watches_for standing name table kind.Update (revision_reads revision) (side.Old ∷ side.New ∷ [])).in_state s).gives
-    (λ watches. ((update_guarded standing watches revision role name table).in_state s).gives) (λ watches.
-    update_guarded_fit s standing watches revision role name table ordered)
+    done_then (FitsAll s) ((protection_of standing name table kind.Update (revision_reads revision) (revision_tables revision)).in_state s).gives
+    (λ protection. ((update_guarded standing protection revision role name table).in_state s).gives) (λ protection.
+    update_guarded_fit s standing protection revision role name table ordered)
 
 update_in_fit : (s : State) (role name : List ℕ) (table : TableDef) (revision : Revision) → RowsInOrder s name
     → IfDone ((update_in role name table revision).in_state s).gives (FitsAll s)
@@ -445,38 +499,47 @@ inserted_done : (fact : List Change → Type 0) (name : List ℕ) (returning : O
 inserted_done fact name returning role decisions rows (Ok _) is = is
 inserted_done fact name returning role decisions rows (Err refusal) is = tt
 
-insert_rows_done : (fact : List Change → Type 0) (s : State) (role name : List ℕ) (table : TableDef) (watches : List Watch) (addition : Addition) (rows : List Stored) → fact (map (inserted_row name) rows)
-    → IfDone ((insert_rows role name table watches addition rows).in_state s).gives fact
-unfolding insert_rows
-insert_rows_done fact s role name table watches addition rows is =
-    let decisions : List Decision = decisions_of side.New watches role rows in
+insert_rows_done : (fact : List Change → Type 0) (s : State) (role name : List ℕ) (table : TableDef) (protection : Protection) (addition : Addition) (rows : List Stored) → fact (map (inserted_row name) rows)
+    → IfDone ((insert_rows role name table protection addition rows).in_state s).gives fact
+unfolding insert_rows insert_judged
+insert_rows_done fact s role name table protection addition rows is =
+    done_then fact ((decisions_of protection.new protection.fences role rows).in_state s).gives
+    (λ decisions. Ok (inserted name addition.returning role decisions rows ((rows_or_refused name table.columns (order_of addition.places table.columns) decisions [] rows).in_state s).gives)) (λ decisions.
     inserted_done fact name addition.returning role decisions rows
-    ((rows_or_refused name table.columns (order_of addition.places table.columns) decisions [] rows).in_state s).gives is
+    ((rows_or_refused name table.columns (order_of addition.places table.columns) decisions [] rows).in_state s).gives is)
 
-new_rows_hold : (fact : List Change → Type 0) (ctx : Ctx) (name : List ℕ) (table : TableDef) (addition : Addition) → HoldsOf fact ctx name (length addition.tuples)
-    → IfOk (new_rows ctx table addition) (λ rows. fact (map (inserted_row name) rows))
-new_rows_hold fact ctx name table addition all =
-    given_after (λ rows. length rows ≡ length addition.tuples) (λ rows. fact (map (inserted_row name) rows)) (each_of (row_of_tuple table addition.places ctx.role) addition.tuples)
-    (λ rows. Ok (numbered table.key ctx.txn ctx.next rows)) (each_length (row_of_tuple table addition.places ctx.role) addition.tuples) (all table.key)
+new_rows_hold : (fact : List Change → Type 0) (ctx : Ctx) (name : List ℕ) (table : TableDef) (addition : Addition) (values : List (List Value)) → HoldsOf fact ctx name (length addition.tuples)
+    → IfOk (new_rows ctx table addition values) (λ rows. fact (map (inserted_row name) rows))
+new_rows_hold fact ctx name table addition values all =
+    given_after (λ rows. length rows ≡ length addition.tuples) (λ rows. fact (map (inserted_row name) rows)) (each_with (row_of_tuple table addition.places) addition.tuples values)
+    (λ rows. Ok (numbered table.key ctx.txn ctx.next rows)) (each_with_length (row_of_tuple table addition.places) addition.tuples values) (all table.key)
 
-insert_guarded_done : (fact : List Change → Type 0) (s : State) (ctx : Ctx) (name : List ℕ) (table : TableDef) (standing : Standing) (watches : List Watch) (addition : Addition)
-    → HoldsOf fact ctx name (length addition.tuples) → IfDone ((insert_guarded ctx name table standing watches addition).in_state s).gives fact
+insert_values_done : (fact : List Change → Type 0) (s : State) (ctx : Ctx) (name : List ℕ) (table : TableDef) (protection : Protection) (addition : Addition)
+    → HoldsOf fact ctx name (length addition.tuples) → IfDone ((insert_values ctx name table protection addition).in_state s).gives fact
+unfolding insert_values insert_made
+insert_values_done fact s ctx name table protection addition all =
+    done_then fact ((tuples_of protection.fences ctx.role addition.tuples).in_state s).gives
+    (λ values. ((followed_by (known (new_rows ctx table addition values)) (λ rows. insert_rows ctx.role name table protection addition rows)).in_state s).gives) (λ values.
+    done_after (λ rows. fact (map (inserted_row name) rows)) fact (new_rows ctx table addition values)
+    (λ rows. ((insert_rows ctx.role name table protection addition rows).in_state s).gives)
+    (new_rows_hold fact ctx name table addition values all) (λ rows is.
+    insert_rows_done fact s ctx.role name table protection addition rows is))
+
+insert_guarded_done : (fact : List Change → Type 0) (s : State) (ctx : Ctx) (name : List ℕ) (table : TableDef) (standing : Standing) (protection : Protection) (addition : Addition)
+    → HoldsOf fact ctx name (length addition.tuples) → IfDone ((insert_guarded ctx name table standing protection addition).in_state s).gives fact
 unfolding insert_guarded
-insert_guarded_done fact s ctx name table standing watches addition all =
-    done_then fact ((privileges_or_denied standing privilege.Insert (returning_reads addition.returning) name).in_state s).gives
-    (λ _. ((followed_by (known (new_rows ctx table addition)) (λ rows. insert_rows ctx.role name table watches addition rows)).in_state s).gives) (λ _.
-    done_after (λ rows. fact (map (inserted_row name) rows)) fact (new_rows ctx table addition)
-    (λ rows. ((insert_rows ctx.role name table watches addition rows).in_state s).gives)
-    (new_rows_hold fact ctx name table addition all) (λ rows is.
-    insert_rows_done fact s ctx.role name table watches addition rows is))
+insert_guarded_done fact s ctx name table standing protection addition all =
+    done_then fact ((privileges_or_denied standing privilege.Insert (returning_reads addition.returning) name protection.asked).in_state s).gives
+    (λ _. ((insert_values ctx name table protection addition).in_state s).gives) (λ _.
+    insert_values_done fact s ctx name table protection addition all)
 
 insert_as_done : (fact : List Change → Type 0) (s : State) (ctx : Ctx) (name : List ℕ) (table : TableDef) (standing : Standing) (addition : Addition)
     → HoldsOf fact ctx name (length addition.tuples) → IfDone ((insert_as ctx name table standing addition).in_state s).gives fact
 unfolding insert_as
 insert_as_done fact s ctx name table standing addition all =
-    done_then fact ((watches_for standing name table kind.Insert (returning_reads addition.returning) (side.New ∷ [])).in_state s).gives
-    (λ watches. ((insert_guarded ctx name table standing watches addition).in_state s).gives) (λ watches.
-    insert_guarded_done fact s ctx name table standing watches addition all)
+    done_then fact ((protection_of standing name table kind.Insert (returning_reads addition.returning) (tuples_tables addition.tuples)).in_state s).gives
+    (λ protection. ((insert_guarded ctx name table standing protection addition).in_state s).gives) (λ protection.
+    insert_guarded_done fact s ctx name table standing protection addition all)
 
 pub insert_into_done : (fact : List Change → Type 0) (s : State) (ctx : Ctx) (name : List ℕ) (table : TableDef) (addition : Addition)
     → HoldsOf fact ctx name (length addition.tuples) → IfDone ((insert_into ctx name table addition).in_state s).gives fact

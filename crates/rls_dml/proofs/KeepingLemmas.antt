@@ -16,7 +16,6 @@ use Rattle.rls_expr.specs.declared.table.TableDef.{TableDef}
 use Rattle.rls_expr.specs.Terms.{Term}
 use Rattle.rls_catalog.specs.declared.change.Change.{Change}
 use Rattle.rls_catalog.specs.declared.stored.Stored.{Stored}
-use Rattle.rls_catalog.specs.declared.verdict.Side.TheVariants as side
 use Rattle.rls_catalog.specs.State.{State, is_same_id, table_of}
 use Rattle.rls_catalog.specs.Changed.{changed_all}
 use Rattle.rls_catalog.specs.InOrder.{RowsInOrder}
@@ -30,30 +29,30 @@ use Rattle.rls_statement.specs.declared.statement.Selected.{Selected}
 use Rattle.rls_source.specs.Asked.{table_at}
 use Rattle.rls_source.specs.Askings.{known, followed_by}
 use Rattle.rls_source.specs.Named.{found_or, table_or_undefined}
-use Rattle.rls_source.specs.Sequences.{each_of}
 use Rattle.rls_guard.specs.declared.context.Ctx.{Ctx}
-use Rattle.rls_guard.specs.declared.guard.Watch.{Watch}
+use Rattle.rls_expansion.specs.declared.protection.Protection.{Protection}
+use Rattle.rls_expansion.specs.Protecting.{protection_of}
+use Rattle.rls_expansion.specs.Used.{tables_if}
 use Rattle.rls_guard.specs.declared.reply.Decision.{Decision}
 use Rattle.rls_guard.specs.declared.standing.Standing.{Standing}
-use Rattle.rls_guard.specs.Eval.{over}
-use Rattle.rls_guard.specs.Guards.{watches_for}
-use Rattle.rls_guard.specs.Standings.{privilege_or_denied, standing_of}
+use Rattle.rls_guard.specs.Standings.{standing_of}
 use Rattle.rls_guard.specs.Keeping.{IfDone, IsNoRow, KeepsRowsSound, LeavesRows}
 use Rattle.rls_judging.specs.Candidates.{candidates}
-use Rattle.rls_judging.specs.Judging.{decisions_of, hits, is_hit}
+use Rattle.rls_judging.specs.Judging.{decisions_of, hits_of}
+use Rattle.rls_judging.specs.Valuing.{settings_of, tuples_of}
 use Rattle.rls_dml.specs.declared.addition.Addition.{Addition}
 use Rattle.rls_dml.specs.declared.deleting.Removal.{Removal}
 use Rattle.rls_dml.specs.declared.revision.Revision.{Revision}
 use Rattle.rls_dml.specs.declared.selecting.Query.{Query}
 use Rattle.rls_dml.specs.Checking.{returning_reads}
-use Rattle.rls_dml.specs.Deleting.{delete, delete_as, delete_from, delete_guarded, deleted, deleted_row, removal_for, removal_reads}
-use Rattle.rls_dml.specs.Inserting.{addition_for, insert, insert_as, insert_guarded, insert_into, insert_rows, inserted, inserted_row, new_rows, numbered, row_of_tuple}
+use Rattle.rls_dml.specs.Deleting.{delete, delete_as, delete_from, delete_guarded, delete_hits, deleted, deleted_row, removal_for, removal_reads}
+use Rattle.rls_dml.specs.Inserting.{addition_for, insert, insert_as, insert_guarded, insert_into, insert_judged, insert_made, insert_rows, insert_values, inserted, inserted_row, new_rows, numbered, row_of_tuple, tuples_tables}
 use Rattle.rls_dml.specs.NextRows.{NumberOn}
 use Rattle.rls_dml.specs.Numbers.{has_number}
-use Rattle.rls_dml.specs.Selecting.{listed_by, listed_for, qualifier_of, query_for, select, select_as, select_from}
-use Rattle.rls_dml.specs.Updating.{changed_rows, places_set, revision_for, revision_reads, update, update_as, update_guarded, update_hits, update_in, update_rows, updated, updated_row}
-use Rattle.rls_dml.specs.Writing.{assigned, key_at, order_of, privileges_or_denied, rows_or_refused}
-use Rattle.rls_dml.proofs.FittingLemmas.{Apart, OtherThan, StandIn, candidates_stand, done_after, done_then, filter_stand, given_after, given_then, insert_done, numbered_apart}
+use Rattle.rls_dml.specs.Selecting.{listed_by, listed_for, listed_from, qualifier_of, query_for, select, select_as, select_from}
+use Rattle.rls_dml.specs.Updating.{changed_rows, places_set, revision_for, revision_reads, revision_tables, update, update_as, update_guarded, update_hits, update_in, update_judged, update_rows, update_values, updated, updated_row}
+use Rattle.rls_dml.specs.Writing.{assigned, behind_first, each_with, first_of, key_at, order_of, privileges_or_denied, rows_or_refused}
+use Rattle.rls_dml.proofs.FittingLemmas.{Apart, OtherThan, StandIn, candidates_stand, done_after, done_then, given_after, given_then, hits_stand, insert_done, numbered_apart}
 use Rattle.rls_dml.proofs.PassingLemmas.{KeysAreMade, Pass, each_free, rows_carry, rows_passed}
 use Rattle.rls_dml.proofs.SoundLemmas.{AreRenewed, changed_leave, deleted_leave, inserted_leave, left_rows_sound, sound_in}
 use Rattle.rls_dml.proofs.WrittenLemmas.{MayStand, keyed_of, left_sound, with_rows, without_rows, written_sound}
@@ -102,9 +101,9 @@ numbered_made : (places : List ℕ) (txn next : ℕ) (rows : List (List Value)) 
 numbered_made places txn next [] = tt
 numbered_made places txn next (row ∷ rows) = (refl, numbered_made places txn (suc next) rows)
 
-new_rows_made : (ctx : Ctx) (table : TableDef) (addition : Addition) → IfOk (new_rows ctx table addition) (AreMade table)
-new_rows_made ctx table addition =
-    given_then (AreMade table) (each_of (row_of_tuple table addition.places ctx.role) addition.tuples) (λ rows. Ok (numbered table.key ctx.txn ctx.next rows)) (λ rows.
+new_rows_made : (ctx : Ctx) (table : TableDef) (addition : Addition) (values : List (List Value)) → IfOk (new_rows ctx table addition values) (AreMade table)
+new_rows_made ctx table addition values =
+    given_then (AreMade table) (each_with (row_of_tuple table addition.places) addition.tuples values) (λ rows. Ok (numbered table.key ctx.txn ctx.next rows)) (λ rows.
     record { apart = numbered_apart table.key ctx.txn ctx.next rows; keys = numbered_made table.key ctx.txn ctx.next rows })
 
 inserted_kept : (s : State) (name : List ℕ) (table : TableDef) (places : List ℕ) (rows : List Stored) → RowsAreSound s → table_of s name ≡ Some table → AreMade table rows
@@ -119,31 +118,39 @@ inserted_if : (fact : List Change → Type 0) (name : List ℕ) (returning : Opt
 inserted_if fact name returning role decisions rows (Ok _) is = is refl
 inserted_if fact name returning role decisions rows (Err refusal) is = tt
 
-insert_rows_keep : (s : State) (role name : List ℕ) (table : TableDef) (watches : List Watch) (addition : Addition) (rows : List Stored) → RowsAreSound s → table_of s name ≡ Some table
-    → AreMade table rows → IfDone ((insert_rows role name table watches addition rows).in_state s).gives (Keeps s)
-unfolding insert_rows
-insert_rows_keep s role name table watches addition rows sound there made =
-    let decisions : List Decision = decisions_of side.New watches role rows in
+insert_rows_keep : (s : State) (role name : List ℕ) (table : TableDef) (protection : Protection) (addition : Addition) (rows : List Stored) → RowsAreSound s → table_of s name ≡ Some table
+    → AreMade table rows → IfDone ((insert_rows role name table protection addition rows).in_state s).gives (Keeps s)
+unfolding insert_rows insert_judged
+insert_rows_keep s role name table protection addition rows sound there made =
     let order : List ℕ = order_of addition.places table.columns in
+    done_then (Keeps s) ((decisions_of protection.new protection.fences role rows).in_state s).gives
+    (λ decisions. Ok (inserted name addition.returning role decisions rows ((rows_or_refused name table.columns order decisions [] rows).in_state s).gives)) (λ decisions.
     inserted_if (Keeps s) name addition.returning role decisions rows ((rows_or_refused name table.columns order decisions [] rows).in_state s).gives (λ passed.
-    inserted_kept s name table addition.places rows sound there made (rows_passed s name table.columns order decisions [] rows passed))
+    inserted_kept s name table addition.places rows sound there made (rows_passed s name table.columns order decisions [] rows passed)))
 
-insert_guarded_keep : (s : State) (ctx : Ctx) (name : List ℕ) (table : TableDef) (standing : Standing) (watches : List Watch) (addition : Addition) → RowsAreSound s → table_of s name ≡ Some table
-    → IfDone ((insert_guarded ctx name table standing watches addition).in_state s).gives (Keeps s)
+insert_values_keep : (s : State) (ctx : Ctx) (name : List ℕ) (table : TableDef) (protection : Protection) (addition : Addition) → RowsAreSound s → table_of s name ≡ Some table
+    → IfDone ((insert_values ctx name table protection addition).in_state s).gives (Keeps s)
+unfolding insert_values insert_made
+insert_values_keep s ctx name table protection addition sound there =
+    done_then (Keeps s) ((tuples_of protection.fences ctx.role addition.tuples).in_state s).gives
+    (λ values. ((followed_by (known (new_rows ctx table addition values)) (λ rows. insert_rows ctx.role name table protection addition rows)).in_state s).gives) (λ values.
+    done_after (AreMade table) (Keeps s) (new_rows ctx table addition values) (λ rows. ((insert_rows ctx.role name table protection addition rows).in_state s).gives)
+    (new_rows_made ctx table addition values) (λ rows made. insert_rows_keep s ctx.role name table protection addition rows sound there made))
+
+insert_guarded_keep : (s : State) (ctx : Ctx) (name : List ℕ) (table : TableDef) (standing : Standing) (protection : Protection) (addition : Addition) → RowsAreSound s → table_of s name ≡ Some table
+    → IfDone ((insert_guarded ctx name table standing protection addition).in_state s).gives (Keeps s)
 unfolding insert_guarded
-insert_guarded_keep s ctx name table standing watches addition sound there =
-    done_then (Keeps s) ((privileges_or_denied standing privilege.Insert (returning_reads addition.returning) name).in_state s).gives
-    (λ _. ((followed_by (known (new_rows ctx table addition)) (λ rows. insert_rows ctx.role name table watches addition rows)).in_state s).gives) (λ _.
-    done_after (AreMade table) (Keeps s) (new_rows ctx table addition) (λ rows. ((insert_rows ctx.role name table watches addition rows).in_state s).gives)
-    (new_rows_made ctx table addition) (λ rows made. insert_rows_keep s ctx.role name table watches addition rows sound there made))
+insert_guarded_keep s ctx name table standing protection addition sound there =
+    done_then (Keeps s) ((privileges_or_denied standing privilege.Insert (returning_reads addition.returning) name protection.asked).in_state s).gives
+    (λ _. ((insert_values ctx name table protection addition).in_state s).gives) (λ _. insert_values_keep s ctx name table protection addition sound there)
 
 insert_as_keep : (s : State) (ctx : Ctx) (name : List ℕ) (table : TableDef) (standing : Standing) (addition : Addition) → RowsAreSound s → table_of s name ≡ Some table
     → IfDone ((insert_as ctx name table standing addition).in_state s).gives (Keeps s)
 unfolding insert_as
 insert_as_keep s ctx name table standing addition sound there =
-    done_then (Keeps s) ((watches_for standing name table kind.Insert (returning_reads addition.returning) (side.New ∷ [])).in_state s).gives
-    (λ watches. ((insert_guarded ctx name table standing watches addition).in_state s).gives) (λ watches.
-    insert_guarded_keep s ctx name table standing watches addition sound there)
+    done_then (Keeps s) ((protection_of standing name table kind.Insert (returning_reads addition.returning) (tuples_tables addition.tuples)).in_state s).gives
+    (λ protection. ((insert_guarded ctx name table standing protection addition).in_state s).gives) (λ protection.
+    insert_guarded_keep s ctx name table standing protection addition sound there)
 
 insert_into_keep : (s : State) (ctx : Ctx) (name : List ℕ) (table : TableDef) (addition : Addition) → RowsAreSound s → table_of s name ≡ Some table
     → IfDone ((insert_into ctx name table addition).in_state s).gives (Keeps s)
@@ -175,19 +182,19 @@ pub record AreUpdated (table : TableDef) (old new : List Stored) : Type 0 where
   pub renewed : AreRenewed old new
   pub keys : KeysAreMade table new
 
-row_made : (table : TableDef) (settings : List (ℕ × Term)) (role : List ℕ) (stored : Stored) → IfOk (updated_row table settings role stored) (λ new. (stored.id ≡ new.id) × (new.key ≡ key_at table.key new.row))
-row_made table settings role stored =
+row_made : (table : TableDef) (places : List ℕ) (stored : Stored) (values : List Value) → IfOk (updated_row table places stored values) (λ new. (stored.id ≡ new.id) × (new.key ≡ key_at table.key new.row))
+row_made table places stored values =
     given_then (λ new. (stored.id ≡ new.id) × (new.key ≡ key_at table.key new.row))
-    (assigned table.columns (over role stored.row) (places_set settings) (map (λ setting. setting.1) settings) stored.row)
+    (assigned table.columns places values stored.row)
     (λ row. Ok (record { id = stored.id; key = key_at table.key row; row = row })) (λ row. (refl, refl))
 
-updated_made : (table : TableDef) (settings : List (ℕ × Term)) (role : List ℕ) (old : List Stored) → IfOk (each_of (updated_row table settings role) old) (AreUpdated table old)
-updated_made table settings role [] = record { renewed = tt; keys = tt }
-updated_made table settings role (stored ∷ old) =
-    given_after (λ new. (stored.id ≡ new.id) × (new.key ≡ key_at table.key new.row)) (AreUpdated table (stored ∷ old)) (updated_row table settings role stored)
-    (λ new. and_then (each_of (updated_row table settings role) old) (λ news. Ok (new ∷ news)))
-    (row_made table settings role stored) (λ new one.
-    given_after (AreUpdated table old) (AreUpdated table (stored ∷ old)) (each_of (updated_row table settings role) old) (λ news. Ok (new ∷ news)) (updated_made table settings role old) (λ news others.
+updated_made : (table : TableDef) (places : List ℕ) (old : List Stored) (values : List (List Value)) → IfOk (each_with (updated_row table places) old values) (AreUpdated table old)
+updated_made table places [] values = record { renewed = tt; keys = tt }
+updated_made table places (stored ∷ old) values =
+    given_after (λ new. (stored.id ≡ new.id) × (new.key ≡ key_at table.key new.row)) (AreUpdated table (stored ∷ old)) (updated_row table places stored (first_of values))
+    (λ new. and_then (each_with (updated_row table places) old (behind_first values)) (λ news. Ok (new ∷ news)))
+    (row_made table places stored (first_of values)) (λ new one.
+    given_after (AreUpdated table old) (AreUpdated table (stored ∷ old)) (each_with (updated_row table places) old (behind_first values)) (λ news. Ok (new ∷ news)) (updated_made table places old (behind_first values)) (λ news others.
     record { renewed = (one.0, others.renewed); keys = (one.1, others.keys) }))
 
 other_renewed : (id : RowId) (old new : List Stored) → AreRenewed old new → AllByRecursion (λ stored. is_same_id stored.id id ≡ false) old → AllByRecursion (λ stored. is_same_id stored.id id ≡ false) new
@@ -237,43 +244,53 @@ updated_if : (fact : List Change → Type 0) (name : List ℕ) (revision : Revis
 updated_if fact name revision role decisions old new (Ok _) is = is refl
 updated_if fact name revision role decisions old new (Err refusal) is = tt
 
-update_rows_hold : (fact : List Change → Type 0) (s : State) (role name : List ℕ) (table : TableDef) (watches : List Watch) (revision : Revision) (before : List Decision) (old new : List Stored)
-    → HoldsOfRenewed fact s name → table_of s name ≡ Some table → Apart old → AreUpdated table old new → IfDone ((update_rows role name table watches revision before old new).in_state s).gives fact
-unfolding update_rows
-update_rows_hold fact s role name table watches revision before old new all there apart made =
-    let after : List Decision = decisions_of side.New watches role new in
+update_rows_hold : (fact : List Change → Type 0) (s : State) (role name : List ℕ) (table : TableDef) (protection : Protection) (revision : Revision) (before : List Decision) (old new : List Stored)
+    → HoldsOfRenewed fact s name → table_of s name ≡ Some table → Apart old → AreUpdated table old new → IfDone ((update_rows role name table protection revision before old new).in_state s).gives fact
+unfolding update_rows update_judged
+update_rows_hold fact s role name table protection revision before old new all there apart made =
     let order : List ℕ = order_of (places_set revision.settings) table.columns in
+    done_then fact ((decisions_of protection.new protection.fences role new).in_state s).gives
+    (λ after. Ok (updated name revision role (before ++ after) old new ((rows_or_refused name table.columns order after old new).in_state s).gives)) (λ after.
     updated_if fact name revision role (before ++ after) old new ((rows_or_refused name table.columns order after old new).in_state s).gives (λ passed.
-    all old new (record { table = table; places = places_set revision.settings; there = there; apart = apart; made = made; pass = rows_passed s name table.columns order after old new passed }))
+    all old new (record { table = table; places = places_set revision.settings; there = there; apart = apart; made = made; pass = rows_passed s name table.columns order after old new passed })))
 
-update_hits_hold : (fact : List Change → Type 0) (s : State) (role name : List ℕ) (table : TableDef) (watches : List Watch) (revision : Revision) (rows : List Stored) → HoldsOfRenewed fact s name
-    → table_of s name ≡ Some table → Apart (hits watches revision.condition role rows) → IfDone ((update_hits role name table watches revision rows).in_state s).gives fact
+update_values_hold : (fact : List Change → Type 0) (s : State) (role name : List ℕ) (table : TableDef) (protection : Protection) (revision : Revision) (before : List Decision) (old : List Stored) → HoldsOfRenewed fact s name
+    → table_of s name ≡ Some table → Apart old → IfDone ((update_values role name table protection revision before old).in_state s).gives fact
+unfolding update_values
+update_values_hold fact s role name table protection revision before old all there apart =
+    done_then fact ((settings_of protection.fences role revision.settings old).in_state s).gives
+    (λ values. ((followed_by (known (each_with (updated_row table (places_set revision.settings)) old values)) (λ new. update_rows role name table protection revision before old new)).in_state s).gives) (λ values.
+    done_after (AreUpdated table old) fact (each_with (updated_row table (places_set revision.settings)) old values)
+    (λ new. ((update_rows role name table protection revision before old new).in_state s).gives) (updated_made table (places_set revision.settings) old values) (λ new made.
+    update_rows_hold fact s role name table protection revision before old new all there apart made))
+
+update_hits_hold : (fact : List Change → Type 0) (s : State) (role name : List ℕ) (table : TableDef) (protection : Protection) (revision : Revision) (rows : List Stored) → HoldsOfRenewed fact s name
+    → table_of s name ≡ Some table → StandIn s name rows → IfDone ((update_hits role name table protection revision rows).in_state s).gives fact
 unfolding update_hits
-update_hits_hold fact s role name table watches revision rows all there apart =
-    let old : List Stored = hits watches revision.condition role rows in
-    let before : List Decision = decisions_of side.Old watches role rows in
-    done_after (AreUpdated table old) fact (each_of (updated_row table revision.settings role) old)
-    (λ new. ((update_rows role name table watches revision before old new).in_state s).gives) (updated_made table revision.settings role old) (λ new made.
-    update_rows_hold fact s role name table watches revision before old new all there apart made)
+update_hits_hold fact s role name table protection revision rows all there stand =
+    done_after (λ judged. StandIn s name judged.1) fact ((hits_of protection.old protection.fences role revision.condition rows).in_state s).gives
+    (λ judged. ((update_values role name table protection revision judged.0 judged.1).in_state s).gives)
+    (hits_stand s name protection.old protection.fences role revision.condition rows stand) (λ judged old.
+    update_values_hold fact s role name table protection revision judged.0 judged.1 all there old.apart)
 
-update_guarded_hold : (fact : List Change → Type 0) (s : State) (standing : Standing) (watches : List Watch) (revision : Revision) (role name : List ℕ) (table : TableDef) → HoldsOfRenewed fact s name
-    → RowsAreSound s → table_of s name ≡ Some table → IfDone ((update_guarded standing watches revision role name table).in_state s).gives fact
+update_guarded_hold : (fact : List Change → Type 0) (s : State) (standing : Standing) (protection : Protection) (revision : Revision) (role name : List ℕ) (table : TableDef) → HoldsOfRenewed fact s name
+    → RowsAreSound s → table_of s name ≡ Some table → IfDone ((update_guarded standing protection revision role name table).in_state s).gives fact
 unfolding update_guarded
-update_guarded_hold fact s standing watches revision role name table all sound there =
-    done_then fact ((privileges_or_denied standing privilege.Update (revision_reads revision) name).in_state s).gives
-    (λ _. ((followed_by (candidates role name table revision.condition) (λ rows. update_hits role name table watches revision rows)).in_state s).gives) (λ _.
+update_guarded_hold fact s standing protection revision role name table all sound there =
+    done_then fact ((privileges_or_denied standing privilege.Update (revision_reads revision) name protection.asked).in_state s).gives
+    (λ _. ((followed_by (candidates role name table revision.condition) (λ rows. update_hits role name table protection revision rows)).in_state s).gives) (λ _.
     done_after (StandIn s name) fact ((candidates role name table revision.condition).in_state s).gives
-    (λ rows. ((update_hits role name table watches revision rows).in_state s).gives)
+    (λ rows. ((update_hits role name table protection revision rows).in_state s).gives)
     (candidates_stand s role name table revision.condition (in_order s name table sound there)) (λ rows stand.
-    update_hits_hold fact s role name table watches revision rows all there (filter_stand s name (is_hit watches revision.condition role) rows stand).apart))
+    update_hits_hold fact s role name table protection revision rows all there stand))
 
 update_as_hold : (fact : List Change → Type 0) (s : State) (standing : Standing) (role name : List ℕ) (table : TableDef) (revision : Revision) → HoldsOfRenewed fact s name → RowsAreSound s
     → table_of s name ≡ Some table → IfDone ((update_as standing role name table revision).in_state s).gives fact
 unfolding update_as
 update_as_hold fact s standing role name table revision all sound there =
-    done_then fact ((watches_for standing name table kind.Update (revision_reads revision) (side.Old ∷ side.New ∷ [])).in_state s).gives
-    (λ watches. ((update_guarded standing watches revision role name table).in_state s).gives) (λ watches.
-    update_guarded_hold fact s standing watches revision role name table all sound there)
+    done_then fact ((protection_of standing name table kind.Update (revision_reads revision) (revision_tables revision)).in_state s).gives
+    (λ protection. ((update_guarded standing protection revision role name table).in_state s).gives) (λ protection.
+    update_guarded_hold fact s standing protection revision role name table all sound there)
 
 update_in_hold : (fact : List Change → Type 0) (s : State) (role name : List ℕ) (table : TableDef) (revision : Revision) → HoldsOfRenewed fact s name → RowsAreSound s → table_of s name ≡ Some table
     → IfDone ((update_in role name table revision).in_state s).gives fact
@@ -313,22 +330,28 @@ deleted_kept s name table rows sound there =
 abbrev pub HoldsOfGone : (List Change → Type 0) → State → List ℕ → Type 0
 HoldsOfGone fact s name = (table : TableDef) (rows : List Stored) → table_of s name ≡ Some table → fact (map (deleted_row name) rows)
 
-delete_guarded_hold : (fact : List Change → Type 0) (s : State) (standing : Standing) (watches : List Watch) (removal : Removal) (role name : List ℕ) (table : TableDef) → HoldsOfGone fact s name
-    → table_of s name ≡ Some table → IfDone ((delete_guarded standing watches removal role name table).in_state s).gives fact
+delete_hits_hold : (fact : List Change → Type 0) (s : State) (role name : List ℕ) (table : TableDef) (protection : Protection) (removal : Removal) (rows : List Stored) → HoldsOfGone fact s name
+    → table_of s name ≡ Some table → IfDone ((delete_hits role name protection removal rows).in_state s).gives fact
+unfolding delete_hits
+delete_hits_hold fact s role name table protection removal rows all there =
+    done_then fact ((hits_of protection.old protection.fences role removal.condition rows).in_state s).gives (λ judged. Ok (deleted name removal role judged)) (λ judged. all table judged.1 there)
+
+delete_guarded_hold : (fact : List Change → Type 0) (s : State) (standing : Standing) (protection : Protection) (removal : Removal) (role name : List ℕ) (table : TableDef) → HoldsOfGone fact s name
+    → table_of s name ≡ Some table → IfDone ((delete_guarded standing protection removal role name table).in_state s).gives fact
 unfolding delete_guarded
-delete_guarded_hold fact s standing watches removal role name table all there =
-    done_then fact ((privileges_or_denied standing privilege.Delete (removal_reads removal) name).in_state s).gives
-    (λ _. ((followed_by (candidates role name table removal.condition) (λ rows. known (Ok (deleted name watches removal role rows)))).in_state s).gives) (λ _.
-    done_then fact ((candidates role name table removal.condition).in_state s).gives (λ rows. Ok (deleted name watches removal role rows)) (λ rows.
-    all table (hits watches removal.condition role rows) there))
+delete_guarded_hold fact s standing protection removal role name table all there =
+    done_then fact ((privileges_or_denied standing privilege.Delete (removal_reads removal) name protection.asked).in_state s).gives
+    (λ _. ((followed_by (candidates role name table removal.condition) (λ rows. delete_hits role name protection removal rows)).in_state s).gives) (λ _.
+    done_then fact ((candidates role name table removal.condition).in_state s).gives (λ rows. ((delete_hits role name protection removal rows).in_state s).gives) (λ rows.
+    delete_hits_hold fact s role name table protection removal rows all there))
 
 delete_as_hold : (fact : List Change → Type 0) (s : State) (standing : Standing) (role name : List ℕ) (table : TableDef) (removal : Removal) → HoldsOfGone fact s name → table_of s name ≡ Some table
     → IfDone ((delete_as standing role name table removal).in_state s).gives fact
 unfolding delete_as
 delete_as_hold fact s standing role name table removal all there =
-    done_then fact ((watches_for standing name table kind.Delete (removal_reads removal) (side.Old ∷ [])).in_state s).gives
-    (λ watches. ((delete_guarded standing watches removal role name table).in_state s).gives) (λ watches.
-    delete_guarded_hold fact s standing watches removal role name table all there)
+    done_then fact ((protection_of standing name table kind.Delete (removal_reads removal) (tables_if removal.condition)).in_state s).gives
+    (λ protection. ((delete_guarded standing protection removal role name table).in_state s).gives) (λ protection.
+    delete_guarded_hold fact s standing protection removal role name table all there)
 
 delete_from_hold : (fact : List Change → Type 0) (s : State) (role name : List ℕ) (table : TableDef) (removal : Removal) → HoldsOfGone fact s name → table_of s name ≡ Some table
     → IfDone ((delete_from role name table removal).in_state s).gives fact
@@ -358,21 +381,27 @@ delete_numbers_on s ctx asked = delete_holds (NumberOn ctx.txn ctx.next) s ctx a
 
 -- ---- SELECT
 
-listed_for_hold : (fact : List Change → Type 0) (s : State) (standing : Standing) (watches : List Watch) (query : Query) (role name : List ℕ) (table : TableDef) → fact []
-    → IfDone ((listed_for standing watches query role name table).in_state s).gives fact
+listed_from_hold : (fact : List Change → Type 0) (s : State) (role : List ℕ) (protection : Protection) (query : Query) (rows : List Stored) → fact [] → IfDone ((listed_from role protection query rows).in_state s).gives fact
+unfolding listed_from
+listed_from_hold fact s role protection query rows none =
+    done_then fact ((hits_of protection.old protection.fences role query.condition rows).in_state s).gives (λ judged. Ok (listed_by query role judged)) (λ _. none)
+
+listed_for_hold : (fact : List Change → Type 0) (s : State) (standing : Standing) (protection : Protection) (query : Query) (role name : List ℕ) (table : TableDef) → fact []
+    → IfDone ((listed_for standing protection query role name table).in_state s).gives fact
 unfolding listed_for
-listed_for_hold fact s standing watches query role name table none =
-    done_then fact ((privilege_or_denied standing privilege.Select name).in_state s).gives
-    (λ _. ((followed_by (candidates role name table query.condition) (λ rows. known (Ok (listed_by watches query role rows)))).in_state s).gives) (λ _.
-    done_then fact ((candidates role name table query.condition).in_state s).gives (λ rows. Ok (listed_by watches query role rows)) (λ _. none))
+listed_for_hold fact s standing protection query role name table none =
+    done_then fact ((privileges_or_denied standing privilege.Select false name protection.asked).in_state s).gives
+    (λ _. ((followed_by (candidates role name table query.condition) (λ rows. listed_from role protection query rows)).in_state s).gives) (λ _.
+    done_then fact ((candidates role name table query.condition).in_state s).gives (λ rows. ((listed_from role protection query rows).in_state s).gives) (λ rows.
+    listed_from_hold fact s role protection query rows none))
 
 select_as_hold : (fact : List Change → Type 0) (s : State) (standing : Standing) (role name : List ℕ) (table : TableDef) (query : Query) → fact []
     → IfDone ((select_as standing role name table query).in_state s).gives fact
 unfolding select_as
 select_as_hold fact s standing role name table query none =
-    done_then fact ((watches_for standing name table kind.Select false (side.Old ∷ [])).in_state s).gives
-    (λ watches. ((listed_for standing watches query role name table).in_state s).gives) (λ watches.
-    listed_for_hold fact s standing watches query role name table none)
+    done_then fact ((protection_of standing name table kind.Select false (tables_if query.condition)).in_state s).gives
+    (λ protection. ((listed_for standing protection query role name table).in_state s).gives) (λ protection.
+    listed_for_hold fact s standing protection query role name table none)
 
 select_from_hold : (fact : List Change → Type 0) (s : State) (role name : List ℕ) (table : TableDef) (query : Query) → fact [] → IfDone ((select_from role name table query).in_state s).gives fact
 unfolding select_from

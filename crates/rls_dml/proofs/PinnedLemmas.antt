@@ -1,13 +1,15 @@
--- Reading by the key that WHERE pins leaves out no row that is hit.
+-- Reading by the key that WHERE pins leaves out no row that it holds of.
 use Rattle.std.specs.Prelude.{◌≡◌, refl, ℕ, List, [], ◌∷◌, Option, Some, None, Bool, true, false, ◌&&◌, ◌||◌, cond, Result, Ok, Err, map, filter}
-use Rattle.std.specs.List.{All, list_any}
+use Rattle.std.specs.List.{All, AllByRecursion, list_any}
 use Rattle.std.specs.Option.{option_map}
 use Rattle.std.proofs.Common.{ap, sym, subst, ◌∙◌}
-use Rattle.std.proofs.lemmas.Bool.{true≢false, and_parts, eqb-true}
+use Rattle.std.proofs.lemmas.Bool.{true≢false, and_parts, eqb-true, or_left, or_right}
 use Rattle.std.proofs.lemmas.Bool.Decides.{Decides-int_eq}
-use Rattle.std.proofs.lemmas.List.Elements.{All-head, All-tail, All-weaker}
+use Rattle.std.proofs.lemmas.List.Elements.{All-head, All-tail}
 use Rattle.std.proofs.lemmas.Option.{none-some, same_Some}
 use Rattle.rls_value.specs.declared.refusal.Refusal.{Refusal}
+use Rattle.rls_value.specs.declared.row.RowId.{RowId}
+use Rattle.rls_value.specs.Giving.{and_then}
 use Rattle.rls_value.specs.declared.truth.Truth.{Truth}
 use Rattle.rls_value.specs.declared.truth.Truth.TheVariants.{True, False, Unknown}
 use Rattle.rls_value.specs.declared.value.Value.{Value}
@@ -17,19 +19,19 @@ use Rattle.rls_value.specs.Values.{equal_values, is_null, same_flag, truth_in, v
 use Rattle.rls_expr.specs.declared.expr.Comparison.TheVariants as c
 use Rattle.rls_expr.specs.declared.table.TableDef.{TableDef}
 use Rattle.rls_expr.specs.Pinning.{is_column, is_known, or_else, pin_among, pin_if, pin_in, pin_of, pins_of, with_pin}
-use Rattle.rls_expr.specs.Terms.{Term, Terms, Literal, Place, CurrentUser, Compare, And, End, More}
+use Rattle.rls_expr.specs.Terms.{Term, Terms, Literal, Place, CurrentUser, Compare, And, End, More, maybe_term}
 use Rattle.rls_catalog.specs.declared.stored.Stored.{Stored}
-use Rattle.rls_catalog.specs.State.{State, is_same_row, is_same_value, rows_of}
+use Rattle.rls_catalog.specs.State.{State, is_same_id, is_same_row, is_same_value, rows_of}
 use Rattle.rls_catalog.specs.Walks.{bytes_own, bytes_same}
 use Rattle.rls_source.specs.Asked.{rows_at, keyed_at, asked_key}
-use Rattle.rls_source.specs.Askings.{asked_if, known}
-use Rattle.rls_guard.specs.declared.guard.Watch.{Watch}
-use Rattle.rls_guard.specs.Eval.{all_of, over, row_at, value_of}
-use Rattle.rls_guard.specs.Guards.{truth_on}
+use Rattle.rls_source.specs.Askings.{asked_if, known, followed_by}
+use Rattle.rls_evaluation.specs.Environments.{over, row_at}
+use Rattle.rls_evaluation.specs.Eval.{Shows, and_value, meets, together, value_of}
 use Rattle.rls_judging.specs.Candidates.{candidates, candidates_with, pinned_key, pinned_value}
-use Rattle.rls_judging.specs.Judging.{hits, is_hit, meets}
 use Rattle.rls_dml.specs.Keys.{CarryKeys}
+use Rattle.rls_dml.specs.Numbers.{has_number}
 use Rattle.rls_dml.specs.Writing.{key_at}
+use Rattle.rls_dml.proofs.FittingLemmas.{own_number}
 
 -- false is not true
 no : {A : Type 0} → false ≡ true → A
@@ -96,28 +98,53 @@ equal_means x y is = no is
 turned : (x y : Value) → AreSame x y → AreSame y x
 turned x y same = (sym same.0, ap is_null same.0 ∙ same.1)
 
+-- ---- what a question gives
+
+-- something is given
+abbrev is_given : {A : Type 0} → Result A Refusal → Bool
+is_given (Ok a) = true
+is_given (Err refusal) = false
+
+-- what is given
+abbrev given_or : {A : Type 0} → A → Result A Refusal → A
+given_or other (Ok a) = a
+given_or other (Err refusal) = other
+
+-- the same is given
+same_given : {A : Type 0} (a b : A) → ◌≡◌ {A = Result A Refusal} (Ok a) (Ok b) → a ≡ b
+same_given a b is = ap (given_or b) is
+
+-- what was given first, and then
+parts_of : {A B : Type 0} (given : Result A Refusal) (next : A → Result B Refusal) (b : B) → and_then given next ≡ Ok b → (a : A) × ((given ≡ Ok a) × (next a ≡ Ok b))
+parts_of (Ok a) next b is = (a, (refl, is))
+parts_of (Err refusal) next b is = absurd (true≢false (sym (ap is_given is)))
+
 -- ---- one column
 
+-- the value of a term for a row
+abbrev IsWorth : State → Shows → List ℕ → List Value → Term → Value → Type 0
+IsWorth s sees user row t v = ((value_of t sees (over user row)).in_state s).gives ≡ Ok v
+
 -- what is known without a row is the same over each
-known_value : (user : List ℕ) (row : List Value) (t : Term) → is_known t ≡ true → value_of t (over user row) ≡ pinned_value user t
-known_value user row (Literal value) is = refl
-known_value user row CurrentUser is = refl
-known_value user row t is = no is
+known_value : (s : State) (sees : Shows) (user : List ℕ) (row : List Value) (t : Term) (x : Value) → is_known t ≡ true → IsWorth s sees user row t x → x ≡ pinned_value user t
+known_value s sees user row (Literal value) x is worth = sym (same_given value x worth)
+known_value s sees user row CurrentUser x is worth = sym (same_given (v.Text user) x worth)
+known_value s sees user row t x is worth = no is
 
 -- the column's value is the row's at its place
-column_value : (user : List ℕ) (row : List Value) (place : ℕ) (t : Term) → is_column place t ≡ true → value_of t (over user row) ≡ value_at row place
-column_value user row place (Place at) is =
+column_value : (s : State) (sees : Shows) (user : List ℕ) (row : List Value) (place : ℕ) (t : Term) (x : Value) → is_column place t ≡ true → IsWorth s sees user row t x → x ≡ value_at row place
+column_value s sees user row place (Place at) x is worth =
     let parts = and_parts _ _ is in
-    λ i. value_at (row_at (row ∷ []) (eqb-true at.out 0 parts.0 i)) (eqb-true at.column place parts.1 i)
-column_value user row place t is = no is
+    sym (same_given (value_at (row_at (row ∷ []) at.out) at.column) x worth) ∙ (λ i. value_at (row_at (row ∷ []) (eqb-true at.out 0 parts.0 i)) (eqb-true at.column place parts.1 i))
+column_value s sees user row place t x is worth = no is
 
 -- the column on the one side, what is known on the other
-sides_means : (user : List ℕ) (row : List Value) (place : ℕ) (column pin : Term) → (is_column place column && is_known pin) ≡ true
-    → AreSame (value_of column (over user row)) (value_of pin (over user row)) → AreSame (value_at row place) (pinned_value user pin)
-sides_means user row place column pin is same =
+sides_means : (s : State) (sees : Shows) (user : List ℕ) (row : List Value) (place : ℕ) (column pin : Term) (x y : Value) → (is_column place column && is_known pin) ≡ true
+    → IsWorth s sees user row column x → IsWorth s sees user row pin y → AreSame x y → AreSame (value_at row place) (pinned_value user pin)
+sides_means s sees user row place column pin x y is here there same =
     let parts = and_parts _ _ is in
-    let there = known_value user row pin parts.1 in
-    (sym (column_value user row place column parts.0) ∙ same.0 ∙ there, ap is_null (sym there) ∙ same.1)
+    let known = known_value s sees user row pin y parts.1 there in
+    (sym (column_value s sees user row place column x parts.0 here) ∙ same.0 ∙ known, ap is_null (sym known) ∙ same.1)
 
 -- a pin is on the one side or on the other
 side_of : (P : Term → Type 0) (first second : Bool) (a b pin : Term) → (first ≡ true → P b) → (second ≡ true → P a) → pin_if first b (pin_if second a None) ≡ Some pin → P pin
@@ -125,15 +152,23 @@ side_of P true second a b pin one two is = subst P (same_Some b pin is) (one ref
 side_of P false true a b pin one two is = subst P (same_Some a pin is) (two refl)
 side_of P false false a b pin one two is = never pin is
 
+-- the term is true of the row
+record IsTrueOf (s : State) (sees : Shows) (user : List ℕ) (row : List Value) (t : Term) : Type 0 where
+  value : Value
+  worth : IsWorth s sees user row t value
+  holds : is_true (truth_in value) ≡ true
+
 -- an equality that pins the column and is true of the row
-pinned_in : (user : List ℕ) (row : List Value) (place : ℕ) (t pin : Term) → pin_in place t ≡ Some pin → is_true (truth_on user row t) ≡ true → AreSame (value_at row place) (pinned_value user pin)
-pinned_in user row place (Compare c.Equal a b) pin is holds =
-    let same = equal_means _ _ (true_again _ holds) in
+pinned_in : (s : State) (sees : Shows) (user : List ℕ) (row : List Value) (place : ℕ) (t pin : Term) → pin_in place t ≡ Some pin → IsTrueOf s sees user row t → AreSame (value_at row place) (pinned_value user pin)
+pinned_in s sees user row place (Compare c.Equal a b) pin is true_of =
+    let left = parts_of ((value_of a sees (over user row)).in_state s).gives (λ x. ((followed_by (value_of b sees (over user row)) (λ y. known (Ok (value_of_truth (equal_values x y))))).in_state s).gives) true_of.value true_of.worth in
+    let right = parts_of ((value_of b sees (over user row)).in_state s).gives (λ y. Ok (value_of_truth (equal_values left.0 y))) true_of.value left.1.1 in
+    let same = equal_means left.0 right.0 (true_again (equal_values left.0 right.0) (ap (λ v. is_true (truth_in v)) (same_given (value_of_truth (equal_values left.0 right.0)) true_of.value right.1.1) ∙ true_of.holds)) in
     side_of (λ t. AreSame (value_at row place) (pinned_value user t)) (is_column place a && is_known b) (is_column place b && is_known a) a b pin
-    (λ first. sides_means user row place a b first same)
-    (λ second. sides_means user row place b a second (turned _ _ same))
+    (λ first. sides_means s sees user row place a b left.0 right.0 first left.1.0 right.1.0 same)
+    (λ second. sides_means s sees user row place b a right.0 left.0 second right.1.0 left.1.0 (turned left.0 right.0 same))
     is
-pinned_in user row place t pin is holds = never pin is
+pinned_in s sees user row place t pin is true_of = never pin is
 
 -- the first pin, or one of the others
 either_pin : {P : Type 0} (first other : Option Term) (pin : Term) → (first ≡ Some pin → P) → (other ≡ Some pin → P) → or_else first other ≡ Some pin → P
@@ -141,19 +176,24 @@ either_pin (Some t) other pin one two is = one is
 either_pin None other pin one two is = two is
 
 -- an AND of which a part pins the column, and that is true of the row
-pinned_among : (user : List ℕ) (row : List Value) (place : ℕ) (ts : Terms) (pin : Term) → pin_among place ts ≡ Some pin → is_true (all_of ts (over user row)) ≡ true → AreSame (value_at row place) (pinned_value user pin)
-pinned_among user row place End pin is holds = never pin is
-pinned_among user row place (More t ts) pin is holds =
-    let parts = both_true _ _ holds in
+pinned_among : (s : State) (sees : Shows) (user : List ℕ) (row : List Value) (place : ℕ) (ts : Terms) (pin : Term) (truth : Truth) → pin_among place ts ≡ Some pin
+    → ((together and_value True ts sees (over user row)).in_state s).gives ≡ Ok truth → is_true truth ≡ true → AreSame (value_at row place) (pinned_value user pin)
+pinned_among s sees user row place End pin truth is given holds = never pin is
+pinned_among s sees user row place (More t ts) pin truth is given holds =
+    let first = parts_of ((value_of t sees (over user row)).in_state s).gives (λ v. ((followed_by (together and_value True ts sees (over user row)) (λ rest. known (Ok (and_value v rest)))).in_state s).gives) truth given in
+    let rest = parts_of ((together and_value True ts sees (over user row)).in_state s).gives (λ rest. Ok (and_value first.0 rest)) truth first.1.1 in
+    let parts = both_true (truth_in first.0) rest.0 (ap is_true (same_given (and_value first.0 rest.0) truth rest.1.1) ∙ holds) in
     either_pin (pin_in place t) (pin_among place ts) pin
-    (λ here. pinned_in user row place t pin here parts.0)
-    (λ there. pinned_among user row place ts pin there parts.1)
+    (λ here. pinned_in s sees user row place t pin here (record { value = first.0; worth = first.1.0; holds = parts.0 }))
+    (λ there. pinned_among s sees user row place ts pin rest.0 there rest.1.0 parts.1)
     is
 
 -- a condition that pins the column and is true of the row
-pinned_of : (user : List ℕ) (row : List Value) (place : ℕ) (t pin : Term) → pin_of place t ≡ Some pin → is_true (truth_on user row t) ≡ true → AreSame (value_at row place) (pinned_value user pin)
-pinned_of user row place (And ts) pin is holds = pinned_among user row place ts pin is (true_again _ holds)
-pinned_of user row place t pin is holds = pinned_in user row place t pin is holds
+pinned_of : (s : State) (sees : Shows) (user : List ℕ) (row : List Value) (place : ℕ) (t pin : Term) → pin_of place t ≡ Some pin → IsTrueOf s sees user row t → AreSame (value_at row place) (pinned_value user pin)
+pinned_of s sees user row place (And ts) pin is true_of =
+    let truth = parts_of ((together and_value True ts sees (over user row)).in_state s).gives (λ truth. Ok (value_of_truth truth)) true_of.value true_of.worth in
+    pinned_among s sees user row place ts pin truth.0 is truth.1.0 (true_again truth.0 (ap (λ v. is_true (truth_in v)) (same_given (value_of_truth truth.0) true_of.value truth.1.1) ∙ true_of.holds))
+pinned_of s sees user row place t pin is true_of = pinned_in s sees user row place t pin is true_of
 
 -- ---- the key
 
@@ -178,13 +218,13 @@ both_pins user row place places (Some t) None pins one others is = never pins is
 both_pins user row place places None more pins one others is = never pins is
 
 -- a row of which the condition holds has the values of its pins
-pins_means : (user : List ℕ) (row : List Value) (places : List ℕ) (condition : Term) (pins : List Term) → pins_of places condition ≡ Some pins → is_true (truth_on user row condition) ≡ true
+pins_means : (s : State) (sees : Shows) (user : List ℕ) (row : List Value) (places : List ℕ) (condition : Term) (pins : List Term) → pins_of places condition ≡ Some pins → IsTrueOf s sees user row condition
     → HasKey places row (map (pinned_value user) pins)
-pins_means user row [] condition pins is holds = subst (λ all. HasKey [] row (map (pinned_value user) all)) (same_Some [] pins is) (refl, refl)
-pins_means user row (place ∷ places) condition pins is holds =
+pins_means s sees user row [] condition pins is true_of = subst (λ all. HasKey [] row (map (pinned_value user) all)) (same_Some [] pins is) (refl, refl)
+pins_means s sees user row (place ∷ places) condition pins is true_of =
     both_pins user row place places (pin_of place condition) (pins_of places condition) pins
-    (λ t here. pinned_of user row place condition t here holds)
-    (λ ts there. pins_means user row places condition ts there holds)
+    (λ t here. pinned_of s sees user row place condition t here true_of)
+    (λ ts there. pins_means s sees user row places condition ts there true_of)
     is
 
 -- what holds of the values of pins holds of the key that they make
@@ -192,42 +232,68 @@ of_pins : (P : List Value → Type 0) (f : Term → Value) (pins : Option (List 
 of_pins P f (Some ts) key all is = subst P (same_Some (map f ts) key is) (all ts refl)
 of_pins P f None key all is = never key is
 
--- a row of which the condition holds has the key that it pins
-key_means : (user : List ℕ) (row : List Value) (places : List ℕ) (condition : Option Term) (key : List Value) → pinned_key user places condition ≡ Some key → meets condition user row ≡ true → HasKey places row key
-key_means user row [] condition key is holds = never key is
-key_means user row (place ∷ places) None key is holds = never key is
-key_means user row (place ∷ places) (Some condition) key is holds =
+-- WHERE is true of the row
+true_where : (s : State) (sees : Shows) (user : List ℕ) (row : List Value) (condition : Term) → ((meets (maybe_term (Some condition)) sees (over user row)).in_state s).gives ≡ Ok true → IsTrueOf s sees user row condition
+true_where s sees user row condition met =
+    let parts = parts_of ((value_of condition sees (over user row)).in_state s).gives (λ v. Ok (is_true (truth_in v))) true met in
+    record { value = parts.0; worth = parts.1.0; holds = same_given (is_true (truth_in parts.0)) true parts.1.1 }
+
+-- a row that meets the condition has the key that it pins
+key_means : (s : State) (sees : Shows) (user : List ℕ) (row : List Value) (places : List ℕ) (condition : Option Term) (key : List Value) → pinned_key user places condition ≡ Some key
+    → ((meets (maybe_term condition) sees (over user row)).in_state s).gives ≡ Ok true → HasKey places row key
+key_means s sees user row [] condition key is met = never key is
+key_means s sees user row (place ∷ places) None key is met = never key is
+key_means s sees user row (place ∷ places) (Some condition) key is met =
     of_pins (HasKey (place ∷ places) row) (pinned_value user) (pins_of (place ∷ places) condition) key
-    (λ pins there. pins_means user row (place ∷ places) condition pins there holds)
+    (λ pins there. pins_means s sees user row (place ∷ places) condition pins there (true_where s sees user row condition met))
     is
 
 -- ---- rows
 
--- a test that is never passed
-not_true : (b : Bool) → (b ≡ true → false ≡ true) → b ≡ false
-not_true true only = sym (only refl)
-not_true false only = refl
+-- it holds of each where another does that it follows from
+all_weaker : (P Q : Stored → Type 0) → ((stored : Stored) → P stored → Q stored) → (rows : List Stored) → AllByRecursion P rows → AllByRecursion Q rows
+all_weaker P Q follows [] all = tt
+all_weaker P Q follows (stored ∷ rows) all = (follows stored all.0, all_weaker P Q follows rows all.1)
 
--- one row more: it is left out only where it isn't hit
-kept_first : {X : Type 0} (hit : X → Bool) (x : X) (xs left : List X) (b : Bool) → (hit x ≡ true → b ≡ true) → filter hit left ≡ filter hit xs → filter hit (cond b (x ∷ left) left) ≡ filter hit (x ∷ xs)
-kept_first hit x xs left true only further = ap (λ l. cond (hit x) (x ∷ l) l) further
-kept_first hit x xs left false only further = further ∙ sym (ap (λ b. cond b (x ∷ filter hit xs) (filter hit xs)) (not_true (hit x) only))
+-- or two others
+both_weaker : (P R Q : Stored → Type 0) → ((stored : Stored) → P stored → R stored → Q stored) → (rows : List Stored) → AllByRecursion P rows → AllByRecursion R rows → AllByRecursion Q rows
+both_weaker P R Q follows [] all other = tt
+both_weaker P R Q follows (stored ∷ rows) all other = (follows stored all.0 other.0, both_weaker P R Q follows rows all.1 other.1)
 
--- those that are left out aren't hit
-kept_all : {X : Type 0} (hit has : X → Bool) (xs : List X) → All (λ x. hit x ≡ true → has x ≡ true) xs → filter hit (filter has xs) ≡ filter hit xs
-kept_all hit has [] only = refl
-kept_all hit has (x ∷ xs) only =
-    kept_first hit x xs (filter has xs) (has x) (All-head (λ x. hit x ≡ true → has x ≡ true) x xs only)
-    (kept_all hit has xs (All-tail (λ x. hit x ≡ true → has x ≡ true) x xs only))
+-- of each, one after another
+all_by : (P : Stored → Type 0) (rows : List Stored) → All P rows → AllByRecursion P rows
+all_by P [] all = tt
+all_by P (stored ∷ rows) all = (All-head P stored rows all, all_by P rows (All-tail P stored rows all))
 
--- nothing is left where nothing is hit
-none_hit : {X : Type 0} (hit : X → Bool) (xs : List X) → ((x : X) → hit x ≡ true → false ≡ true) → filter hit xs ≡ []
-none_hit hit [] only = refl
-none_hit hit (x ∷ xs) only = ap (λ b. cond b (x ∷ filter hit xs) (filter hit xs)) (not_true (hit x) (only x)) ∙ none_hit hit xs only
+-- a number is itself
+has_first : (stored : Stored) (rows : List Stored) → has_number (stored ∷ rows) stored.id ≡ true
+has_first stored rows = or_left (is_same_id stored.id stored.id) (has_number rows stored.id) (own_number stored.id)
 
--- WHERE holds of a row that is hit
-hit_meets : (watches : List Watch) (condition : Option Term) (user : List ℕ) (stored : Stored) → is_hit watches condition user stored ≡ true → meets condition user stored.row ≡ true
-hit_meets watches condition user stored is = (and_parts _ _ is).1
+-- behind others it is there too
+has_behind : (first : Stored) (rows : List Stored) (id : RowId) → has_number rows id ≡ true → has_number (first ∷ rows) id ≡ true
+has_behind first rows id has = or_right (is_same_id id first.id) (has_number rows id) has
+
+kept_if : (test : Stored → Bool) (b : Bool) (first : Stored) (rows : List Stored) (stored : Stored) → has_number (filter test rows) stored.id ≡ true → has_number (cond b (first ∷ filter test rows) (filter test rows)) stored.id ≡ true
+kept_if test true first rows stored has = has_behind first (filter test rows) stored.id has
+kept_if test false first rows stored has = has
+
+first_if : (test : Stored → Bool) (b : Bool) (stored : Stored) (rows : List Stored) → b ≡ true → has_number (cond b (stored ∷ filter test rows) (filter test rows)) stored.id ≡ true
+first_if test true stored rows is = has_first stored (filter test rows)
+first_if test false stored rows is = no is
+
+-- the rows that pass a test are there behind it
+each_kept : (test : Stored → Bool) (rows : List Stored) → AllByRecursion (λ stored. test stored ≡ true → has_number (filter test rows) stored.id ≡ true) rows
+each_kept test [] = tt
+each_kept test (stored ∷ rows) = (
+  λ is. first_if test (test stored) stored rows is,
+  all_weaker (λ other. test other ≡ true → has_number (filter test rows) other.id ≡ true) (λ other. test other ≡ true → has_number (filter test (stored ∷ rows)) other.id ≡ true)
+      (λ other kept is. kept_if test (test stored) stored rows other (kept is)) rows (each_kept test rows),
+)
+
+-- each row is there
+each_there : (rows : List Stored) → AllByRecursion (λ stored. has_number rows stored.id ≡ true) rows
+each_there [] = tt
+each_there (stored ∷ rows) = (has_first stored rows, all_weaker (λ other. has_number rows other.id ≡ true) (λ other. has_number (stored ∷ rows) other.id ≡ true) (λ other has. has_behind stored rows other.id has) rows (each_there rows))
 
 -- ---- the statement's rows
 
@@ -236,32 +302,36 @@ abbrev rows_in : Result (List Stored) Refusal → List Stored
 rows_in (Ok rows) = rows
 rows_in (Err refusal) = []
 
--- nothing is read for a key with a null, and nothing is hit
-keyed_rows : (s : State) (user name places : List ℕ) (condition : Option Term) (watches : List Watch) (rows : List Stored) (key : List Value) (nulls : Bool)
+-- the row is looked at where it meets the condition
+abbrev IsLooked : State → Shows → List ℕ → Option Term → List Stored → Stored → Type 0
+IsLooked s sees user condition rows stored = ((meets (maybe_term condition) sees (over user stored.row)).in_state s).gives ≡ Ok true → has_number rows stored.id ≡ true
+
+-- nothing is read for a key with a null, and no row meets the condition
+keyed_rows : (s : State) (sees : Shows) (user name places : List ℕ) (condition : Option Term) (rows : List Stored) (key : List Value) (nulls : Bool)
     → pinned_key user places condition ≡ Some key → list_any is_null key ≡ nulls → CarryKeys places (rows_of s name)
-    → ((asked_if nulls (known (Ok [])) (asked_key name key)).in_state s).gives ≡ Ok rows → hits watches condition user rows ≡ hits watches condition user (rows_of s name)
+    → ((asked_if nulls (known (Ok [])) (asked_key name key)).in_state s).gives ≡ Ok rows → AllByRecursion (IsLooked s sees user condition rows) (rows_of s name)
 unfolding keyed_at
-keyed_rows s user name places condition watches rows key true pinned null carry given =
-    ap (hits watches condition user) (sym (ap rows_in given))
-    ∙ sym (none_hit (is_hit watches condition user) (rows_of s name)
-    (λ stored is. sym (key_means user stored.row places condition key pinned (hit_meets watches condition user stored is)).1 ∙ null))
-keyed_rows s user name places condition watches rows key false pinned null carry given =
-    ap (hits watches condition user) (sym (ap rows_in given))
-    ∙ kept_all (is_hit watches condition user) (λ stored. is_same_row stored.key key) (rows_of s name)
-    (All-weaker (λ stored. stored.key ≡ key_at places stored.row) (λ stored. is_hit watches condition user stored ≡ true → is_same_row stored.key key ≡ true)
-    (λ stored own is. ap (λ k. is_same_row k key) own ∙ (key_means user stored.row places condition key pinned (hit_meets watches condition user stored is)).0)
-    (rows_of s name) carry)
+keyed_rows s sees user name places condition rows key true pinned null carry given =
+    all_weaker (λ stored. stored.key ≡ key_at places stored.row) (IsLooked s sees user condition rows)
+    (λ stored own met. no (sym (key_means s sees user stored.row places condition key pinned met).1 ∙ null)) (rows_of s name) (all_by (λ stored. stored.key ≡ key_at places stored.row) (rows_of s name) carry)
+keyed_rows s sees user name places condition rows key false pinned null carry given =
+    both_weaker (λ stored. stored.key ≡ key_at places stored.row) (λ stored. is_same_row stored.key key ≡ true → has_number (filter (λ stored. is_same_row stored.key key) (rows_of s name)) stored.id ≡ true)
+    (IsLooked s sees user condition rows)
+    (λ stored own kept met. ap (λ all. has_number all stored.id) (sym (ap rows_in given)) ∙ kept (ap (λ k. is_same_row k key) own ∙ (key_means s sees user stored.row places condition key pinned met).0))
+    (rows_of s name) (all_by (λ stored. stored.key ≡ key_at places stored.row) (rows_of s name) carry) (each_kept (λ stored. is_same_row stored.key key) (rows_of s name))
 
 -- by the key, or all of them
-rows_with : (s : State) (user name places : List ℕ) (condition : Option Term) (watches : List Watch) (rows : List Stored) (key : Option (List Value))
+rows_with : (s : State) (sees : Shows) (user name places : List ℕ) (condition : Option Term) (rows : List Stored) (key : Option (List Value))
     → pinned_key user places condition ≡ key → CarryKeys places (rows_of s name)
-    → ((candidates_with name key).in_state s).gives ≡ Ok rows → hits watches condition user rows ≡ hits watches condition user (rows_of s name)
+    → ((candidates_with name key).in_state s).gives ≡ Ok rows → AllByRecursion (IsLooked s sees user condition rows) (rows_of s name)
 unfolding rows_at
-rows_with s user name places condition watches rows None pinned carry given = ap (hits watches condition user) (sym (ap rows_in given))
-rows_with s user name places condition watches rows (Some key) pinned carry given =
-    keyed_rows s user name places condition watches rows key (list_any is_null key) pinned refl carry given
+rows_with s sees user name places condition rows None pinned carry given =
+    all_weaker (λ stored. has_number (rows_of s name) stored.id ≡ true) (IsLooked s sees user condition rows)
+    (λ stored has met. ap (λ all. has_number all stored.id) (sym (ap rows_in given)) ∙ has) (rows_of s name) (each_there (rows_of s name))
+rows_with s sees user name places condition rows (Some key) pinned carry given =
+    keyed_rows s sees user name places condition rows key (list_any is_null key) pinned refl carry given
 
--- among the rows that are looked at the same are hit as among all
-pub pinned_rows : (s : State) (user name : List ℕ) (table : TableDef) (condition : Option Term) (watches : List Watch) (rows : List Stored) → CarryKeys table.key (rows_of s name)
-    → ((candidates user name table condition).in_state s).gives ≡ Ok rows → hits watches condition user rows ≡ hits watches condition user (rows_of s name)
-pinned_rows s user name table condition watches rows carry given = rows_with s user name table.key condition watches rows (pinned_key user table.key condition) refl carry given
+-- each row that meets the condition is among those that are looked at
+pub pinned_rows : (s : State) (sees : Shows) (user name : List ℕ) (table : TableDef) (condition : Option Term) (rows : List Stored) → CarryKeys table.key (rows_of s name)
+    → ((candidates user name table condition).in_state s).gives ≡ Ok rows → AllByRecursion (IsLooked s sees user condition rows) (rows_of s name)
+pinned_rows s sees user name table condition rows carry given = rows_with s sees user name table.key condition rows (pinned_key user table.key condition) refl carry given

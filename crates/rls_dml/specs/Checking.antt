@@ -17,7 +17,7 @@ use Rattle.rls_expr.specs.Typing.{type_of, is_typed, takes_boolean, goes_into}
 use Rattle.rls_expr.specs.Parts.{mentions}
 use Rattle.rls_statement.specs.declared.statement.Selected.{Selected}
 use Rattle.rls_statement.specs.declared.statement.Selected.TheVariants as selected
-use Rattle.rls_guard.specs.Checks.{is_unsupported}
+use Rattle.rls_guard.specs.Checks.{is_unsupported, is_unsupported_item}
 
 -- ---- names, which are looked for before all else
 
@@ -114,7 +114,7 @@ where_unsupported (Some condition) = is_unsupported condition
 -- an item
 abbrev pub selection_unsupported : Selected → Bool
 selection_unsupported selected.All = false
-selection_unsupported (selected.Items items) = list_any is_unsupported items
+selection_unsupported (selected.Items items) = list_any is_unsupported_item items
 selection_unsupported selected.Count = false
 
 -- an item of RETURNING

@@ -11,22 +11,23 @@ use Rattle.rls_expr.specs.Naming.{Step}
 use Rattle.rls_expr.specs.Placing.{Names}
 use Rattle.rls_catalog.specs.declared.change.Change.{Change}
 use Rattle.rls_catalog.specs.declared.change.Change.TheVariants as change
-use Rattle.rls_catalog.specs.declared.verdict.Side.TheVariants as side
 use Rattle.rls_catalog.specs.declared.stored.Stored.{Stored}
 use Rattle.rls_statement.specs.declared.changing.Delete.{Delete}
 use Rattle.rls_guard.specs.declared.context.Ctx.{Ctx}
 use Rattle.rls_guard.specs.declared.standing.Standing.{Standing}
-use Rattle.rls_guard.specs.declared.guard.Watch.{Watch}
+use Rattle.rls_expansion.specs.declared.protection.Protection.{Protection}
 use Rattle.rls_guard.specs.declared.effect.Effect.{Effect}
 use Rattle.rls_guard.specs.declared.effect.Effect.TheVariants as effect
 use Rattle.rls_guard.specs.Naming.{named, names_over}
 use Rattle.rls_guard.specs.Standings.{standing_of}
-use Rattle.rls_guard.specs.Guards.{watches_for}
+use Rattle.rls_guard.specs.declared.reply.Decision.{Decision}
+use Rattle.rls_expansion.specs.Used.{tables_if}
+use Rattle.rls_expansion.specs.Protecting.{protection_of}
 use Rattle.rls_source.specs.Askings.{Asking, known, followed_by}
 use Rattle.rls_source.specs.Named.{table_or_undefined}
 use Rattle.rls_dml.specs.declared.deleting.Removal.{Removal}
 use Rattle.rls_dml.specs.Checking.{where_names, returning_names, where_placed, returning_placed, where_fits, returning_fits, fitting_or_fault, where_unsupported, returning_unsupported, supported_or_refused, where_reads, returning_reads}
-use Rattle.rls_judging.specs.Judging.{hits, decisions_of}
+use Rattle.rls_judging.specs.Judging.{hits_of}
 use Rattle.rls_judging.specs.Candidates.{candidates}
 use Rattle.rls_dml.specs.Listings.{reply_of}
 use Rattle.rls_dml.specs.Writing.{privileges_or_denied}
@@ -61,19 +62,22 @@ abbrev pub deleted_row : List ℕ → Stored → Change
 deleted_row table stored = change.Row (record { table = table; id = stored.id; before = Some (record { key = stored.key; row = stored.row }); after = None })
 
 -- the rows that are hit go, and are answered
-abbrev pub deleted : List ℕ → List Watch → Removal → List ℕ → List Stored → Effect
-deleted name watches removal role rows = let gone = hits watches removal.condition role rows in
-    effect.Done (reply_of removal.returning role (map (λ stored. stored.row) gone)) (decisions_of side.Old watches role rows) (map (deleted_row name) gone) None
+abbrev pub deleted : List ℕ → Removal → List ℕ → List Decision × List Stored → Effect
+deleted name removal role judged = effect.Done (reply_of removal.returning role (map (λ stored. stored.row) judged.1)) judged.0 (map (deleted_row name) judged.1) None
+
+-- the rows that are hit
+unfoldable pub delete_hits : List ℕ → List ℕ → Protection → Removal → List Stored → Asking Effect
+delete_hits role name protection removal rows = followed_by (hits_of protection.old protection.fences role removal.condition rows) (λ judged. known (Ok (deleted name removal role judged)))
 
 -- the rows, where the role may delete them
-unfoldable pub delete_guarded : Standing → List Watch → Removal → List ℕ → List ℕ → TableDef → Asking Effect
-delete_guarded standing watches removal role name table = followed_by (privileges_or_denied standing privilege.Delete (removal_reads removal) name) (λ _.
-    followed_by (candidates role name table removal.condition) (λ rows. known (Ok (deleted name watches removal role rows))))
+unfoldable pub delete_guarded : Standing → Protection → Removal → List ℕ → List ℕ → TableDef → Asking Effect
+delete_guarded standing protection removal role name table = followed_by (privileges_or_denied standing privilege.Delete (removal_reads removal) name protection.asked) (λ _.
+    followed_by (candidates role name table removal.condition) (λ rows. delete_hits role name protection removal rows))
 
 -- what guards the rows from the role
 unfoldable pub delete_as : Standing → List ℕ → List ℕ → TableDef → Removal → Asking Effect
 delete_as standing role name table removal =
-    followed_by (watches_for standing name table kind.Delete (removal_reads removal) (side.Old ∷ [])) (λ watches. delete_guarded standing watches removal role name table)
+    followed_by (protection_of standing name table kind.Delete (removal_reads removal) (tables_if removal.condition)) (λ protection. delete_guarded standing protection removal role name table)
 
 -- who the role is
 unfoldable pub delete_from : List ℕ → List ℕ → TableDef → Removal → Asking Effect

@@ -18,29 +18,29 @@ use Rattle.rls_expr.specs.Naming.{Step, names_all}
 use Rattle.rls_expr.specs.Placing.{Names}
 use Rattle.rls_catalog.specs.declared.change.Change.{Change}
 use Rattle.rls_catalog.specs.declared.change.Change.TheVariants as change
-use Rattle.rls_catalog.specs.declared.verdict.Side.TheVariants as side
 use Rattle.rls_catalog.specs.declared.stored.Stored.{Stored}
 use Rattle.rls_statement.specs.declared.statement.Insert.{Insert}
 use Rattle.rls_statement.specs.declared.statement.Selected.{Selected}
 use Rattle.rls_guard.specs.declared.context.Ctx.{Ctx}
 use Rattle.rls_guard.specs.declared.standing.Standing.{Standing}
-use Rattle.rls_guard.specs.declared.guard.Watch.{Watch}
+use Rattle.rls_expansion.specs.declared.protection.Protection.{Protection}
 use Rattle.rls_guard.specs.declared.reply.Decision.{Decision}
 use Rattle.rls_guard.specs.declared.effect.Effect.{Effect}
 use Rattle.rls_guard.specs.declared.effect.Effect.TheVariants as effect
-use Rattle.rls_guard.specs.Eval.{alone}
 use Rattle.rls_guard.specs.Checks.{is_unsupported}
 use Rattle.rls_guard.specs.Naming.{named, names_over}
 use Rattle.rls_guard.specs.Standings.{standing_of}
-use Rattle.rls_guard.specs.Guards.{watches_for}
+use Rattle.rls_expansion.specs.Used.{all_tables}
+use Rattle.rls_expansion.specs.Protecting.{protection_of}
 use Rattle.rls_source.specs.Askings.{Asking, known, followed_by, settled}
 use Rattle.rls_source.specs.Sequences.{each_of}
 use Rattle.rls_source.specs.Named.{table_or_undefined}
 use Rattle.rls_dml.specs.declared.addition.Addition.{Addition}
 use Rattle.rls_dml.specs.Checking.{names_over_none, returning_names, place_in, returning_placed, place_or_undefined, value_fits, returning_fits, fitting_or_fault, returning_unsupported, supported_or_refused, returning_reads}
 use Rattle.rls_judging.specs.Judging.{decisions_of}
+use Rattle.rls_judging.specs.Valuing.{tuples_of}
 use Rattle.rls_dml.specs.Listings.{reply_of}
-use Rattle.rls_dml.specs.Writing.{privileges_or_denied, assigned, key_at, order_of, rows_or_refused}
+use Rattle.rls_dml.specs.Writing.{privileges_or_denied, assigned, each_with, key_at, order_of, rows_or_refused}
 
 -- ---- its parts
 
@@ -104,9 +104,9 @@ addition_for ctx insert table = followed_by (known (places_of table.columns inse
 abbrev pub nulls : List Column → List Value
 nulls columns = map (λ _. Null) columns
 
--- the values of a tuple; a column without one is null
-abbrev pub row_of_tuple : TableDef → List ℕ → List ℕ → List Term → Result (List Value) Refusal
-row_of_tuple table places role terms = assigned table.columns (alone role) places terms (nulls table.columns)
+-- the values of a tuple in their columns; a column without one is null
+abbrev pub row_of_tuple : TableDef → List ℕ → List Term → List Value → Result (List Value) Refusal
+row_of_tuple table places tuple values = assigned table.columns places values (nulls table.columns)
 
 -- the rows with their keys, numbered on from the transaction's next
 abbrev pub numbered : List ℕ → ℕ → ℕ → List (List Value) → List Stored
@@ -114,8 +114,8 @@ numbered places txn next [] = []
 numbered places txn next (row ∷ rows) = record { id = record { txn = txn; n = next }; key = key_at places row; row = row } ∷ numbered places txn (suc next) rows
 
 -- the rows of the tuples, whose values are in range, with their numbers
-abbrev pub new_rows : Ctx → TableDef → Addition → Result (List Stored) Refusal
-new_rows ctx table addition = and_then (each_of (row_of_tuple table addition.places ctx.role) addition.tuples) (λ rows. Ok (numbered table.key ctx.txn ctx.next rows))
+abbrev pub new_rows : Ctx → TableDef → Addition → List (List Value) → Result (List Stored) Refusal
+new_rows ctx table addition values = and_then (each_with (row_of_tuple table addition.places) addition.tuples values) (λ rows. Ok (numbered table.key ctx.txn ctx.next rows))
 
 -- the change that puts a new row into the table
 abbrev pub inserted_row : List ℕ → Stored → Change
@@ -129,21 +129,37 @@ inserted table returning role decisions rows (Ok _) = effect.Done (reply_of retu
 inserted table returning role decisions rows (Err refusal) = effect.Refused refusal decisions
 
 -- each new row is judged, and then all are put in or none
-unfoldable pub insert_rows : List ℕ → List ℕ → TableDef → List Watch → Addition → List Stored → Asking Effect
-insert_rows role name table watches addition rows =
-    let decisions = decisions_of side.New watches role rows in
+unfoldable pub insert_judged : List ℕ → List ℕ → TableDef → Addition → List Stored → List Decision → Asking Effect
+insert_judged role name table addition rows decisions =
     settled (rows_or_refused name table.columns (order_of addition.places table.columns) decisions [] rows) (inserted name addition.returning role decisions rows)
 
--- the privileges, then the ranges
-unfoldable pub insert_guarded : Ctx → List ℕ → TableDef → Standing → List Watch → Addition → Asking Effect
-insert_guarded ctx name table standing watches addition = followed_by (privileges_or_denied standing privilege.Insert (returning_reads addition.returning) name) (λ _.
-    followed_by (known (new_rows ctx table addition)) (λ rows.
-    insert_rows ctx.role name table watches addition rows))
+-- what row security says of them is asked first
+unfoldable pub insert_rows : List ℕ → List ℕ → TableDef → Protection → Addition → List Stored → Asking Effect
+insert_rows role name table protection addition rows = followed_by (decisions_of protection.new protection.fences role rows) (insert_judged role name table addition rows)
+
+-- the ranges of the values
+unfoldable pub insert_made : Ctx → List ℕ → TableDef → Protection → Addition → List (List Value) → Asking Effect
+insert_made ctx name table protection addition values = followed_by (known (new_rows ctx table addition values)) (λ rows.
+    insert_rows ctx.role name table protection addition rows)
+
+-- the values of the tuples, then their ranges
+unfoldable pub insert_values : Ctx → List ℕ → TableDef → Protection → Addition → Asking Effect
+insert_values ctx name table protection addition = followed_by (tuples_of protection.fences ctx.role addition.tuples) (insert_made ctx name table protection addition)
+
+-- the privileges, then the values
+unfoldable pub insert_guarded : Ctx → List ℕ → TableDef → Standing → Protection → Addition → Asking Effect
+insert_guarded ctx name table standing protection addition = followed_by (privileges_or_denied standing privilege.Insert (returning_reads addition.returning) name protection.asked) (λ _.
+    insert_values ctx name table protection addition)
+
+-- the tables of the tuples' subqueries
+abbrev pub tuples_tables : List (List Term) → List (List ℕ)
+tuples_tables [] = []
+tuples_tables (tuple ∷ tuples) = all_tables tuple ++ tuples_tables tuples
 
 -- what guards the new rows from the role
 unfoldable pub insert_as : Ctx → List ℕ → TableDef → Standing → Addition → Asking Effect
 insert_as ctx name table standing addition =
-    followed_by (watches_for standing name table kind.Insert (returning_reads addition.returning) (side.New ∷ [])) (λ watches. insert_guarded ctx name table standing watches addition)
+    followed_by (protection_of standing name table kind.Insert (returning_reads addition.returning) (tuples_tables addition.tuples)) (λ protection. insert_guarded ctx name table standing protection addition)
 
 -- who the role is
 unfoldable pub insert_into : Ctx → List ℕ → TableDef → Addition → Asking Effect

@@ -9,23 +9,25 @@ use Rattle.rls_expr.specs.declared.table.TableDef.{TableDef}
 use Rattle.rls_expr.specs.Scopes.{InScope}
 use Rattle.rls_expr.specs.Naming.{Step}
 use Rattle.rls_expr.specs.Placing.{Names}
-use Rattle.rls_catalog.specs.declared.verdict.Side.TheVariants as side
 use Rattle.rls_catalog.specs.declared.stored.Stored.{Stored}
 use Rattle.rls_statement.specs.declared.statement.Select.{Select}
 use Rattle.rls_guard.specs.declared.context.Ctx.{Ctx}
 use Rattle.rls_guard.specs.declared.standing.Standing.{Standing}
-use Rattle.rls_guard.specs.declared.guard.Watch.{Watch}
+use Rattle.rls_expansion.specs.declared.protection.Protection.{Protection}
 use Rattle.rls_guard.specs.declared.reply.Reply.TheVariants.{Rows}
 use Rattle.rls_guard.specs.declared.effect.Effect.{Effect}
 use Rattle.rls_guard.specs.declared.effect.Effect.TheVariants as effect
 use Rattle.rls_guard.specs.Naming.{named, names_over}
-use Rattle.rls_guard.specs.Standings.{standing_of, privilege_or_denied}
-use Rattle.rls_guard.specs.Guards.{watches_for}
+use Rattle.rls_guard.specs.Standings.{standing_of}
+use Rattle.rls_guard.specs.declared.reply.Decision.{Decision}
+use Rattle.rls_expansion.specs.Used.{tables_if}
+use Rattle.rls_expansion.specs.Protecting.{protection_of}
+use Rattle.rls_dml.specs.Writing.{privileges_or_denied}
 use Rattle.rls_source.specs.Askings.{Asking, known, followed_by}
 use Rattle.rls_source.specs.Named.{table_or_undefined}
 use Rattle.rls_dml.specs.declared.selecting.Query.{Query}
 use Rattle.rls_dml.specs.Checking.{selection_names, where_names, selection_placed, where_placed, selection_fits, where_fits, fitting_or_fault, selection_unsupported, where_unsupported, supported_or_refused}
-use Rattle.rls_judging.specs.Judging.{hits, decisions_of}
+use Rattle.rls_judging.specs.Judging.{hits_of}
 use Rattle.rls_judging.specs.Candidates.{candidates}
 use Rattle.rls_dml.specs.Listings.{answered}
 
@@ -55,19 +57,22 @@ abbrev pub query_for : Select → InScope → Asking Query
 query_for select from = followed_by (named (query_names select) (from ∷ []) []) (λ found. known (query_in select from found))
 
 -- the answer from the rows that are allowed and meet the condition, and the decision on each row
-abbrev pub listed_by : List Watch → Query → List ℕ → List Stored → Effect
-listed_by watches query role rows =
-    effect.Done (Rows (answered query.items role (map (λ stored. stored.row) (hits watches query.condition role rows)))) (decisions_of side.Old watches role rows) [] None
+abbrev pub listed_by : Query → List ℕ → List Decision × List Stored → Effect
+listed_by query role judged = effect.Done (Rows (answered query.items role (map (λ stored. stored.row) judged.1))) judged.0 [] None
+
+-- the rows that are allowed and meet the condition
+unfoldable pub listed_from : List ℕ → Protection → Query → List Stored → Asking Effect
+listed_from role protection query rows = followed_by (hits_of protection.old protection.fences role query.condition rows) (λ judged. known (Ok (listed_by query role judged)))
 
 -- the rows, where the role may read the table
-unfoldable pub listed_for : Standing → List Watch → Query → List ℕ → List ℕ → TableDef → Asking Effect
-listed_for standing watches query role name table = followed_by (privilege_or_denied standing privilege.Select name) (λ _.
-    followed_by (candidates role name table query.condition) (λ rows. known (Ok (listed_by watches query role rows))))
+unfoldable pub listed_for : Standing → Protection → Query → List ℕ → List ℕ → TableDef → Asking Effect
+listed_for standing protection query role name table = followed_by (privileges_or_denied standing privilege.Select false name protection.asked) (λ _.
+    followed_by (candidates role name table query.condition) (λ rows. listed_from role protection query rows))
 
 -- what guards the rows from the role, and the rows
 unfoldable pub select_as : Standing → List ℕ → List ℕ → TableDef → Query → Asking Effect
 select_as standing role name table query =
-    followed_by (watches_for standing name table kind.Select false (side.Old ∷ [])) (λ watches. listed_for standing watches query role name table)
+    followed_by (protection_of standing name table kind.Select false (tables_if query.condition)) (λ protection. listed_for standing protection query role name table)
 
 -- who the role is, and the rows
 unfoldable pub select_from : List ℕ → List ℕ → TableDef → Query → Asking Effect

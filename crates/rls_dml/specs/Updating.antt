@@ -5,39 +5,41 @@ use Rattle.std.specs.List.{list_any}
 use Rattle.rls_value.specs.declared.refusal.Refusal.{Refusal}
 use Rattle.rls_value.specs.declared.verb.Privilege.TheVariants as privilege
 use Rattle.rls_value.specs.declared.verb.Kind.TheVariants as kind
+use Rattle.rls_value.specs.declared.value.Value.{Value}
 use Rattle.rls_value.specs.Giving.{and_then}
 use Rattle.rls_expr.specs.declared.table.Column.{Column}
 use Rattle.rls_expr.specs.declared.table.TableDef.{TableDef}
-use Rattle.rls_expr.specs.Parts.{has_query, mentions}
+use Rattle.rls_expr.specs.Parts.{mentions}
 use Rattle.rls_expr.specs.Scopes.{InScope}
 use Rattle.rls_expr.specs.Naming.{Step, Look, names_of}
 use Rattle.rls_expr.specs.Placing.{Names}
 use Rattle.rls_expr.specs.Terms.{Term}
 use Rattle.rls_catalog.specs.declared.change.Change.{Change}
 use Rattle.rls_catalog.specs.declared.change.Change.TheVariants as change
-use Rattle.rls_catalog.specs.declared.verdict.Side.TheVariants as side
 use Rattle.rls_catalog.specs.declared.stored.Stored.{Stored}
 use Rattle.rls_statement.specs.declared.changing.Setting.{Setting}
 use Rattle.rls_statement.specs.declared.changing.Update.{Update}
 use Rattle.rls_guard.specs.declared.context.Ctx.{Ctx}
 use Rattle.rls_guard.specs.declared.standing.Standing.{Standing}
-use Rattle.rls_guard.specs.declared.guard.Watch.{Watch}
+use Rattle.rls_expansion.specs.declared.protection.Protection.{Protection}
 use Rattle.rls_guard.specs.declared.reply.Decision.{Decision}
 use Rattle.rls_guard.specs.declared.effect.Effect.{Effect}
 use Rattle.rls_guard.specs.declared.effect.Effect.TheVariants as effect
-use Rattle.rls_guard.specs.Eval.{over}
+use Rattle.rls_guard.specs.Support.{is_unsupported}
 use Rattle.rls_guard.specs.Naming.{named, names_over}
 use Rattle.rls_guard.specs.Standings.{standing_of}
-use Rattle.rls_guard.specs.Guards.{watches_for}
+use Rattle.rls_expansion.specs.Used.{all_tables, tables_if}
+use Rattle.rls_expansion.specs.Protecting.{protection_of}
 use Rattle.rls_source.specs.Askings.{Asking, known, followed_by, settled}
 use Rattle.rls_source.specs.Sequences.{each_of}
 use Rattle.rls_source.specs.Named.{table_or_undefined}
 use Rattle.rls_dml.specs.declared.revision.Revision.{Revision}
 use Rattle.rls_dml.specs.Checking.{where_names, returning_names, place_in, where_placed, returning_placed, place_or_undefined, value_fits, where_fits, returning_fits, fitting_or_fault, where_unsupported, returning_unsupported, supported_or_refused, where_reads, returning_reads}
-use Rattle.rls_judging.specs.Judging.{hits, decisions_of}
+use Rattle.rls_judging.specs.Judging.{hits_of, decisions_of}
+use Rattle.rls_judging.specs.Valuing.{settings_of}
 use Rattle.rls_judging.specs.Candidates.{candidates}
 use Rattle.rls_dml.specs.Listings.{reply_of}
-use Rattle.rls_dml.specs.Writing.{privileges_or_denied, assigned, key_at, order_of, rows_or_refused}
+use Rattle.rls_dml.specs.Writing.{privileges_or_denied, assigned, each_with, key_at, order_of, rows_or_refused}
 
 -- ---- its parts
 
@@ -64,9 +66,9 @@ abbrev pub settings_fit : List Column → List (ℕ × Term) → Bool
 settings_fit columns [] = true
 settings_fit columns ((place, value) ∷ settings) = value_fits columns place value && settings_fit columns settings
 
--- a subquery stands in what a column is set to
+-- something in what a column is set to isn't supported, where a sum may stand
 abbrev pub settings_unsupported : List (ℕ × Term) → Bool
-settings_unsupported settings = list_any (λ setting. has_query setting.1) settings
+settings_unsupported settings = list_any (λ setting. is_unsupported true setting.1) settings
 
 -- types, then that nothing isn't supported; in what a column is set to a sum is
 abbrev pub revision_or_refused : List Column → Revision → Result (Unit {0}) Refusal
@@ -93,10 +95,9 @@ abbrev pub places_set : List (ℕ × Term) → List ℕ
 places_set settings = map (λ setting. setting.0) settings
 
 -- the row with its new values; its number stays
-abbrev pub updated_row : TableDef → List (ℕ × Term) → List ℕ → Stored → Result Stored Refusal
-updated_row table settings role stored =
-    and_then (assigned table.columns (over role stored.row) (places_set settings) (map (λ setting. setting.1) settings) stored.row) (λ row.
-    Ok (record { id = stored.id; key = key_at table.key row; row = row }))
+abbrev pub updated_row : TableDef → List ℕ → Stored → List Value → Result Stored Refusal
+updated_row table places stored values =
+    and_then (assigned table.columns places values stored.row) (λ row. Ok (record { id = stored.id; key = key_at table.key row; row = row }))
 
 -- the change from the old row to the new one
 abbrev pub changed_row : List ℕ → Stored → Stored → Change
@@ -116,27 +117,38 @@ updated table revision role decisions old new (Ok _) = effect.Done (reply_of rev
 updated table revision role decisions old new (Err refusal) = effect.Refused refusal decisions
 
 -- each new row is judged, and then all are changed or none
-unfoldable pub update_rows : List ℕ → List ℕ → TableDef → List Watch → Revision → List Decision → List Stored → List Stored → Asking Effect
-update_rows role name table watches revision before old new =
-    let after = decisions_of side.New watches role new in
+unfoldable pub update_judged : List ℕ → List ℕ → TableDef → Revision → List Decision → List Stored → List Stored → List Decision → Asking Effect
+update_judged role name table revision before old new after =
     settled (rows_or_refused name table.columns (order_of (places_set revision.settings) table.columns) after old new) (updated name revision role (before ++ after) old new)
 
--- the new values of the rows that are hit
-unfoldable pub update_hits : List ℕ → List ℕ → TableDef → List Watch → Revision → List Stored → Asking Effect
-update_hits role name table watches revision rows =
-    let old = hits watches revision.condition role rows in
-    followed_by (known (each_of (updated_row table revision.settings role) old)) (λ new.
-    update_rows role name table watches revision (decisions_of side.Old watches role rows) old new)
+-- what row security says of them is asked first
+unfoldable pub update_rows : List ℕ → List ℕ → TableDef → Protection → Revision → List Decision → List Stored → List Stored → Asking Effect
+update_rows role name table protection revision before old new = followed_by (decisions_of protection.new protection.fences role new) (update_judged role name table revision before old new)
+
+-- the new values of the rows that are hit, which are told of all before their ranges are
+unfoldable pub update_values : List ℕ → List ℕ → TableDef → Protection → Revision → List Decision → List Stored → Asking Effect
+update_values role name table protection revision before old = followed_by (settings_of protection.fences role revision.settings old) (λ values.
+    followed_by (known (each_with (updated_row table (places_set revision.settings)) old values)) (λ new.
+    update_rows role name table protection revision before old new))
+
+-- the rows that are hit
+unfoldable pub update_hits : List ℕ → List ℕ → TableDef → Protection → Revision → List Stored → Asking Effect
+update_hits role name table protection revision rows = followed_by (hits_of protection.old protection.fences role revision.condition rows) (λ judged.
+    update_values role name table protection revision judged.0 judged.1)
 
 -- the rows, where the role may change them
-unfoldable pub update_guarded : Standing → List Watch → Revision → List ℕ → List ℕ → TableDef → Asking Effect
-update_guarded standing watches revision role name table = followed_by (privileges_or_denied standing privilege.Update (revision_reads revision) name) (λ _.
-    followed_by (candidates role name table revision.condition) (λ rows. update_hits role name table watches revision rows))
+unfoldable pub update_guarded : Standing → Protection → Revision → List ℕ → List ℕ → TableDef → Asking Effect
+update_guarded standing protection revision role name table = followed_by (privileges_or_denied standing privilege.Update (revision_reads revision) name protection.asked) (λ _.
+    followed_by (candidates role name table revision.condition) (λ rows. update_hits role name table protection revision rows))
+
+-- the tables of its subqueries: to the right of SET's equal signs, then in WHERE
+abbrev pub revision_tables : Revision → List (List ℕ)
+revision_tables revision = all_tables (map (λ setting. setting.1) revision.settings) ++ tables_if revision.condition
 
 -- what guards the rows from the role, before and after
 unfoldable pub update_as : Standing → List ℕ → List ℕ → TableDef → Revision → Asking Effect
 update_as standing role name table revision =
-    followed_by (watches_for standing name table kind.Update (revision_reads revision) (side.Old ∷ side.New ∷ [])) (λ watches. update_guarded standing watches revision role name table)
+    followed_by (protection_of standing name table kind.Update (revision_reads revision) (revision_tables revision)) (λ protection. update_guarded standing protection revision role name table)
 
 -- who the role is
 unfoldable pub update_in : List ℕ → List ℕ → TableDef → Revision → Asking Effect

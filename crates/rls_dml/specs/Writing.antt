@@ -5,6 +5,7 @@ use Rattle.std.specs.List.{list_any}
 use Rattle.std.specs.Cmp.Lexicographic.{slice_cmp}
 use Rattle.std.specs.Ordering.{is_eq, is_lt}
 use Rattle.rls_value.specs.declared.value.Value.{Value}
+use Rattle.rls_value.specs.declared.value.Value.TheVariants.{Null}
 use Rattle.rls_value.specs.declared.verb.Kind.{Kind}
 use Rattle.rls_value.specs.declared.verb.Privilege.{Privilege}
 use Rattle.rls_value.specs.declared.verb.Privilege.TheVariants as privileges
@@ -14,13 +15,12 @@ use Rattle.rls_value.specs.declared.refusal.Why.TheVariants as why
 use Rattle.rls_value.specs.Giving.{and_then}
 use Rattle.rls_value.specs.Values.{is_null, value_at, listed}
 use Rattle.rls_expr.specs.declared.table.Column.{Column}
-use Rattle.rls_expr.specs.Terms.{Term}
 use Rattle.rls_catalog.specs.declared.verdict.Verdict.{Verdict}
 use Rattle.rls_catalog.specs.declared.verdict.Verdict.TheVariants as verdict
 use Rattle.rls_catalog.specs.declared.stored.Stored.{Stored}
 use Rattle.rls_guard.specs.declared.reply.Decision.{Decision}
 use Rattle.rls_guard.specs.declared.standing.Standing.{Standing}
-use Rattle.rls_guard.specs.Eval.{Environment, value_of, assigned_value}
+use Rattle.rls_evaluation.specs.Environments.{assigned_value}
 use Rattle.rls_guard.specs.Standings.{privilege_or_denied}
 use Rattle.rls_source.specs.Askings.{Asking, known, asked_if, followed_by}
 use Rattle.rls_source.specs.Asked.{asked_key}
@@ -29,24 +29,47 @@ use Rattle.rls_dml.specs.Numbers.{has_number}
 
 -- ---- privileges
 
+-- SELECT on each of the tables
+abbrev pub readable_or_denied : Standing → List (List ℕ) → Asking (Unit {0})
+readable_or_denied standing [] = known (Ok tt)
+readable_or_denied standing (name ∷ names) = followed_by (privilege_or_denied standing privileges.Select name) (λ _. readable_or_denied standing names)
+
 -- that of the command, and SELECT where it reads the table
-abbrev pub privileges_or_denied : Standing → Privilege → Bool → List ℕ → Asking (Unit {0})
-privileges_or_denied standing privilege reads name = followed_by (privilege_or_denied standing privilege name) (λ _.
+abbrev pub own_or_denied : Standing → Privilege → Bool → List ℕ → Asking (Unit {0})
+own_or_denied standing privilege reads name = followed_by (privilege_or_denied standing privilege name) (λ _.
     asked_if reads (privilege_or_denied standing privileges.Select name) (known (Ok tt)))
+
+-- the same, then SELECT on each table that subqueries look at, those of policies too
+abbrev pub privileges_or_denied : Standing → Privilege → Bool → List ℕ → List (List ℕ) → Asking (Unit {0})
+privileges_or_denied standing privilege reads name others = followed_by (own_or_denied standing privilege reads name) (λ _. readable_or_denied standing others)
 
 -- ---- values
 
--- what the column is given, within its range
+-- what the column is given, within its range; a place that isn't there is given nothing
 abbrev pub given_to : Option Column → Value → Result Value Refusal
-given_to None value = Ok value
+given_to None value = Ok Null
 given_to (Some column) value = assigned_value column value
 
--- the row with each of these places given its term's value, in order
-abbrev pub assigned : List Column → Environment → List ℕ → List Term → List Value → Result (List Value) Refusal
-assigned columns env places [] row = Ok row
-assigned columns env [] (term ∷ terms) row = Ok row
-assigned columns env (place ∷ places) (term ∷ terms) row =
-    and_then (given_to (slice_get columns place) (value_of term env)) (λ value. assigned columns env places terms (slice_set row place value))
+-- the row with each of these places given its value, in order
+abbrev pub assigned : List Column → List ℕ → List Value → List Value → Result (List Value) Refusal
+assigned columns places [] row = Ok row
+assigned columns [] (value ∷ values) row = Ok row
+assigned columns (place ∷ places) (value ∷ values) row = and_then (given_to (slice_get columns place) value) (λ given. assigned columns places values (slice_set row place given))
+
+-- the first values, if there are some
+abbrev pub first_of : List (List Value) → List Value
+first_of [] = []
+first_of (values ∷ further) = values
+
+-- and those behind them
+abbrev pub behind_first : List (List Value) → List (List Value)
+behind_first [] = []
+behind_first (values ∷ further) = further
+
+-- what each of a list gives with its values; the first refusal stands
+abbrev pub each_with : {A B : Type 0} → (A → List Value → Result B Refusal) → List A → List (List Value) → Result (List B) Refusal
+each_with give [] values = Ok []
+each_with give (x ∷ xs) values = and_then (give x (first_of values)) (λ y. and_then (each_with give xs (behind_first values)) (λ ys. Ok (y ∷ ys)))
 
 -- the values at the places of the key
 abbrev pub key_at : List ℕ → List Value → List Value

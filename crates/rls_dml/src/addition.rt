@@ -14,7 +14,7 @@ ghost use Rattle.rls_dml.specs.Inserting as spec;
 
 use crate::checking::{
     known_place, place_returning, place_terms, put_returning_names, require_fitting,
-    require_supported, returning_fits, returning_unsupported, some_unsupported, value_fits,
+    require_supported, returning_fits, returning_unsupported, value_fits,
 };
 use rls_expr::{Column, Expr, NameStep, NamedTable, Scope, TableDef, put_all_names};
 use rls_guard::{Ctx, Found, named};
@@ -308,6 +308,12 @@ fn tuple_fits(mut tuple: &[Expr], mut places: &[usize], columns: &[Column]) -> b
         tuple = rest;
     }
     true
+}
+
+fn some_unsupported(exprs: &[Expr]) -> bool
+    ensures { result ≡ list_any is_unsupported exprs.now }
+{
+    exprs.iter().any(|expr| rls_guard::is_unsupported(expr))
 }
 
 fn tuples_unsupported(tuples: &[Items<Expr>]) -> bool

@@ -10,14 +10,14 @@ ghost use Rattle.rls_statement.specs.declared.changing.Delete.{Delete};
 ghost use Rattle.rls_statement.specs.declared.changing.Update.{Update};
 ghost use Rattle.rls_statement.specs.declared.statement.Insert.{Insert};
 ghost use Rattle.rls_guard.specs.declared.context.Ctx.{Ctx};
-ghost use Rattle.rls_guard.specs.declared.guard.Watch.{Watch};
+ghost use Rattle.rls_guard.specs.declared.reply.Decision.{Decision};
+ghost use Rattle.rls_expansion.specs.declared.protection.Protection.{Protection};
 ghost use Rattle.rls_dml.specs.declared.deleting.Removal.{Removal};
 ghost use Rattle.rls_dml.specs.declared.revision.Revision.{Revision};
 ghost use Rattle.rls_dml.specs.Deleting.{delete, deleted};
 ghost use Rattle.rls_dml.specs.Fitting.{IfDone, NumbersFree, numbers_from, Overwrite};
 ghost use Rattle.rls_dml.specs.Inserting.{insert};
-ghost use Rattle.rls_judging.specs.Judging.{hits};
-ghost use Rattle.rls_dml.specs.Updating.{update, update_hits};
+ghost use Rattle.rls_dml.specs.Updating.{update, update_values};
 
 /// Each change of a statement names as before what the earlier ones leave at its place: of an INSERT where the numbers
 /// that it gives are free, of an UPDATE and a DELETE where the rows of the table stand in order.
@@ -33,6 +33,6 @@ pub fn changes_fit()
 #[tactic(auto, using(crate::proofs::FittingLemmas::insert_overwrites, crate::proofs::FittingLemmas::update_overwrites, crate::proofs::FittingLemmas::delete_overwrites))]
 pub fn changes_overwrite()
     ensures insert { (s : State) (ctx : Ctx) (asked : Insert) → IfDone ((insert ctx asked).in_state s).gives (Overwrite asked.table (numbers_from ctx.txn ctx.next (length asked.tuples))) }
-    ensures update { (s : State) (role name : List ℕ) (table : TableDef) (watches : List Watch) (revision : Revision) (rows : List Stored) → IfDone ((update_hits role name table watches revision rows).in_state s).gives (Overwrite name (map (λ stored. stored.id) (hits watches revision.condition role rows))) }
-    ensures delete { (name : List ℕ) (watches : List Watch) (removal : Removal) (role : List ℕ) (rows : List Stored) → IfDone (Ok (deleted name watches removal role rows)) (Overwrite name (map (λ stored. stored.id) (hits watches removal.condition role rows))) }
+    ensures update { (s : State) (role name : List ℕ) (table : TableDef) (protection : Protection) (revision : Revision) (decisions : List Decision) (hits : List Stored) → IfDone ((update_values role name table protection revision decisions hits).in_state s).gives (Overwrite name (map (λ stored. stored.id) hits)) }
+    ensures delete { (name : List ℕ) (removal : Removal) (role : List ℕ) (judged : List Decision × List Stored) → IfDone (Ok (deleted name removal role judged)) (Overwrite name (map (λ stored. stored.id) judged.1)) }
 {}

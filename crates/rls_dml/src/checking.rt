@@ -6,14 +6,16 @@ ghost use Rattle.rls_value.specs.Giving.{Gives};
 ghost use Rattle.rls_expr.specs.Parts.{mentions};
 ghost use Rattle.rls_expr.specs.Naming.{step_of};
 ghost use Rattle.rls_expr.specs.Placing.{names_in};
-ghost use Rattle.rls_guard.specs.Checks.{is_unsupported as spec_is_unsupported};
+ghost use Rattle.rls_expansion.specs.Used.{tables_if};
+ghost use Rattle.rls_guard.specs.Checks.{is_unsupported_item as spec_unsupported_item};
 ghost use Rattle.rls_dml.specs.Checking as spec;
 
+use rls_expansion::put_tables_if;
 use rls_expr::{
     Column, Expr, NameStep, NamedTable, Scope, TableDef, goes_into, has_query, has_sum, is_boolean,
     is_typed, place_columns, put_all_names, reads_target, typing_of,
 };
-use rls_guard::is_unsupported;
+use rls_guard::{is_unsupported, is_unsupported_item};
 use rls_statement::Selected;
 use rls_value::{Items, Name, NameKind, Refusal};
 use std::alloc::{AllocError, Global};
@@ -185,7 +187,16 @@ pub fn where_unsupported(condition: &Option<Expr>) -> bool
     }
 }
 
-/// The same of what is selected.
+/// The tables of its subqueries, in text order.
+pub fn where_tables(alloc: Global, condition: &Option<Expr>) -> Result<Items<Name>, AllocError>
+    ensures { IfOk result (λ tables. tables ≡ tables_if condition.now) }
+{
+    let mut tables = Items::new(alloc);
+    put_tables_if(alloc, &mut tables, condition)?;
+    Ok(tables)
+}
+
+/// The same of what is selected, where a subquery isn't supported either.
 pub fn selection_unsupported(selected: &Selected) -> bool
     ensures { result ≡ spec.selection_unsupported selected.now }
 {
@@ -195,11 +206,10 @@ pub fn selection_unsupported(selected: &Selected) -> bool
     }
 }
 
-/// The same of one of them.
-pub fn some_unsupported(exprs: &[Expr]) -> bool
-    ensures { result ≡ list_any spec_is_unsupported exprs.now }
+fn some_unsupported(items: &[Expr]) -> bool
+    ensures { result ≡ list_any spec_unsupported_item items.now }
 {
-    exprs.iter().any(|expr| is_unsupported(expr))
+    items.iter().any(|item| is_unsupported_item(item))
 }
 
 /// The same of RETURNING.

@@ -6,22 +6,23 @@ ghost use Rattle.rls_source.specs.Answering.{Answers, Tells};
 ghost use Rattle.rls_expr.specs.Naming.{step_of};
 ghost use Rattle.rls_expr.specs.Placing.{names_in};
 ghost use Rattle.rls_guard.specs.Naming.{named};
-ghost use Rattle.rls_guard.specs.Guards.{watches_for};
+ghost use Rattle.rls_expansion.specs.Protecting.{protection_of};
+ghost use Rattle.rls_expansion.specs.Used.{tables_if};
 ghost use Rattle.rls_dml.specs.Deleting as spec;
 
 use crate::checking::{
     place_returning, place_where, put_returning_names, require_fitting, require_supported,
-    returning_fits, returning_reads, returning_unsupported, where_fits, where_reads,
+    returning_fits, returning_reads, returning_unsupported, where_fits, where_reads, where_tables,
     where_unsupported,
 };
 use crate::replying::{reply_of, standing_rows};
+use crate::sighting::hits_under;
 use crate::writing::require_privileges;
-use rls_catalog::{Change, Delta, Keyed, Lent, RowChange, Side};
+use rls_catalog::{Change, Delta, Keyed, Lent, RowChange};
+use rls_expansion::{Protection, protection_of};
 use rls_expr::{Expr, FromTable, NameStep, NamedTable, Scope, TableDef, put_names_if};
-use rls_guard::{
-    Ctx, Decision, Effect, Found, Reply, Standing, Watch, named_over, standing_of, watches_of,
-};
-use rls_judging::{candidates, hits_of};
+use rls_guard::{Ctx, Decision, Effect, Found, Reply, Standing, named_over, standing_of};
+use rls_judging::candidates;
 use rls_source::{Reads, RowSource, table_named};
 use rls_statement::{Delete, Selected};
 use rls_value::{Items, Kind, Name, Privilege, Refusal};
@@ -186,34 +187,35 @@ fn delete_as<'c, 'x, S: RowSource<'c>>(
 ) -> Result<Effect, Refusal>
     ensures { Answers S.state S.after (spec.delete_as standing.now role.now from.entry.name.now from.entry.table.now removal.now) source.old source.new notes.old notes.new result }
 {
-    let watches = watches(alloc, source, notes, standing, from, removal)?;
+    let protection = protection(alloc, source, notes, standing, from, removal)?;
     let deleted = delete_guarded(
         alloc,
         source,
         notes,
         standing,
-        watches.as_slice(),
+        &protection,
         removal,
         role,
         from,
     );
-    drop(watches);
+    drop(protection);
     deleted
 }
 
 /// What guards the rows from the role.
-fn watches<'c, 'x, S: RowSource<'c>>(
+fn protection<'c, 'x, S: RowSource<'c>>(
     alloc: Global,
     source: &mut S,
     notes: &mut Reads,
     standing: &Standing,
     from: FromTable<'x>,
     removal: &Removal,
-) -> Result<Items<Watch<'c>>, AllocError>
-    ensures { Tells S.state S.after (watches_for standing.now from.entry.name.now from.entry.table.now Kind.Delete (spec.removal_reads removal.now) (Side.Old ∷ [])) source.old source.new notes.old notes.new result }
+) -> Result<Protection<'c>, Refusal>
+    ensures { Answers S.state S.after (protection_of standing.now from.entry.name.now from.entry.table.now Kind.Delete (spec.removal_reads removal.now) (tables_if removal.now.condition)) source.old source.new notes.old notes.new result }
 {
     let reads = reads(removal);
-    watches_of(
+    let tables = where_tables(alloc, &removal.condition)?;
+    let protection = protection_of(
         alloc,
         source,
         notes,
@@ -221,8 +223,10 @@ fn watches<'c, 'x, S: RowSource<'c>>(
         from,
         Kind::Delete,
         reads,
-        &[Side::Old],
-    )
+        tables.as_slice(),
+    );
+    drop(tables);
+    protection
 }
 
 /// The rows, where the role may delete them.
@@ -232,12 +236,12 @@ fn delete_guarded<'c, 'x, S: RowSource<'c>>(
     source: &mut S,
     notes: &mut Reads,
     standing: &Standing,
-    watches: &[Watch<'c>],
+    protection: &Protection<'c>,
     removal: &Removal,
     role: &Name,
     from: FromTable<'x>,
 ) -> Result<Effect, Refusal>
-    ensures { Answers S.state S.after (spec.delete_guarded standing.now watches.now removal.now role.now from.entry.name.now from.entry.table.now) source.old source.new notes.old notes.new result }
+    ensures { Answers S.state S.after (spec.delete_guarded standing.now protection.now removal.now role.now from.entry.name.now from.entry.table.now) source.old source.new notes.old notes.new result }
 {
     let reads = reads(removal);
     require_privileges(
@@ -248,35 +252,63 @@ fn delete_guarded<'c, 'x, S: RowSource<'c>>(
         Privilege::Delete,
         reads,
         from.name,
+        protection.asked.as_slice(),
     )?;
     let rows = candidates(alloc, source, notes, role, from, &removal.condition)?;
-    Ok(deleted(alloc, from.name, watches, removal, role, rows.as_slice())?)
+    let deleted = delete_hits(
+        alloc,
+        source,
+        notes,
+        from.name,
+        &*protection,
+        &*removal,
+        &*role,
+        rows.as_slice(),
+    )?;
+    Ok(deleted)
 }
 
 /// Judges each candidate; those that are allowed and meet the condition go.
+#[tactic(auto, unfolding(crate::specs::Deleting::delete_hits))]
+fn delete_hits<'a, 'c, S: RowSource<'c>>(
+    alloc: Global,
+    source: &mut S,
+    notes: &mut Reads,
+    name: &Name,
+    protection: &'a Protection<'c>,
+    removal: &'a Removal,
+    role: &'a Name,
+    candidates: &'a [Lent<'c>],
+) -> Result<Effect, AllocError>
+    ensures { Tells S.state S.after (spec.delete_hits role.now name.now protection.now removal.now candidates.now) source.old source.new notes.old notes.new result }
+{
+    let (decisions, hits) = hits_under(
+        alloc,
+        source,
+        notes,
+        protection,
+        role,
+        &removal.condition,
+        candidates,
+    )?;
+    deleted(alloc, name, removal, role, decisions, &hits)
+}
+
+/// The rows that are hit go.
 fn deleted<'c>(
     alloc: Global,
     name: &Name,
-    watches: &[Watch<'c>],
     removal: &Removal,
     role: &Name,
-    candidates: &[Lent<'c>],
+    decisions: Vec<Decision>,
+    hits: &[&Lent<'c>],
 ) -> Result<Effect, AllocError>
-    ensures { IfOk result (λ effect. effect ≡ spec.deleted name.now watches.now removal.now role.now candidates.now) }
+    ensures { IfOk result (λ effect. effect ≡ spec.deleted name.now removal.now role.now (decisions.items, map (λ hit. hit.now) hits.now)) }
 {
-    let mut decisions = Vec::with_capacity(alloc, candidates.len())?;
-    let hits = hits_of(
-        alloc,
-        watches,
-        &removal.condition,
-        role,
-        candidates,
-        &mut decisions,
-    )?;
-    let rows = standing_rows(alloc, &hits)?;
+    let rows = standing_rows(alloc, hits)?;
     let reply = reply_of(alloc, &removal.returning, role, &rows)?;
     drop(rows);
-    taken_out(alloc, name, &hits, reply, Items::from_vec(decisions))
+    taken_out(alloc, name, hits, reply, Items::from_vec(decisions))
 }
 
 /// The rows that are hit, as changes beside the reply.

@@ -3,12 +3,13 @@
 ghost use Rattle.std.specs.Prelude.{◌≡◌, ◌+◌, ◌≤◌, [], ◌∷◌, None, length, map, IfOk};
 ghost use Rattle.rls_value.specs.Giving.{Gives};
 ghost use Rattle.rls_source.specs.Answering.{Answers, Tells};
-ghost use Rattle.rls_source.specs.Sequences.{each_of};
 ghost use Rattle.rls_dml.specs.Listings.{reply_of as spec_reply_of};
-ghost use Rattle.rls_guard.specs.Eval.{alone};
-ghost use Rattle.rls_guard.specs.Guards.{watches_for};
+ghost use Rattle.rls_evaluation.specs.Scoping.{held_value};
+ghost use Rattle.rls_expansion.specs.Protecting.{protection_of};
+ghost use Rattle.rls_judging.specs.Handed.{held_each, values_held};
+ghost use Rattle.rls_judging.specs.Valuing.{tuples_of};
 ghost use Rattle.rls_dml.specs.Checking.{returning_reads as spec_returning_reads};
-ghost use Rattle.rls_dml.specs.Writing.{assigned, rows_or_refused, order_of as spec_order_of};
+ghost use Rattle.rls_dml.specs.Writing.{assigned, each_with, rows_or_refused, order_of as spec_order_of};
 ghost use Rattle.rls_dml.specs.Inserting as spec;
 
 use crate::addition::{Addition, known_addition};
@@ -16,11 +17,14 @@ use crate::checking::returning_reads;
 use crate::keys::key_at;
 use crate::replaced::Replaced;
 use crate::replying::reply_of_new;
-use crate::writing::{given_alone, order_of, put_value, require_privileges, require_rows};
-use rls_catalog::{Change, Delta, Keyed, RowChange, Side, Stored};
+use crate::sighting::judged_under;
+use crate::writing::{assign, behind_first, first_of, order_of, require_privileges, require_rows};
+use rls_catalog::{Change, Delta, Keyed, RowChange, Stored};
+use rls_evaluation::Held;
+use rls_expansion::{Protection, protection_of, put_all_tables};
 use rls_expr::{Column, Expr, FromTable, TableDef};
-use rls_guard::{Ctx, Decision, Effect, Standing, Watch, standing_of, watches_of};
-use rls_judging::judged;
+use rls_guard::{Ctx, Decision, Effect, Standing, standing_of};
+use rls_judging::tuples_of;
 use rls_source::{Reads, RowSource, table_named};
 use rls_statement::{Insert, Selected};
 use rls_value::{Items, Kind, Name, Privilege, Refusal, Row, RowId, Value};
@@ -80,7 +84,7 @@ fn insert_as<'c, 'x, S: RowSource<'c>>(
     requires { ctx.now.next + length addition.now.tuples ≤ 4294967295 }
     ensures { Answers S.state S.after (spec.insert_as ctx.now from.entry.name.now from.entry.table.now standing.now addition.now) source.old source.new notes.old notes.new result }
 {
-    let watches = watches(alloc, source, notes, standing, from, addition)?;
+    let protection = protection(alloc, source, notes, standing, from, addition)?;
     let inserted = insert_guarded(
         alloc,
         source,
@@ -88,26 +92,27 @@ fn insert_as<'c, 'x, S: RowSource<'c>>(
         ctx,
         from,
         standing,
-        watches.as_slice(),
+        &protection,
         addition,
     );
-    drop(watches);
+    drop(protection);
     inserted
 }
 
 /// What guards the new rows from the role.
-fn watches<'c, 'x, S: RowSource<'c>>(
+fn protection<'c, 'x, S: RowSource<'c>>(
     alloc: Global,
     source: &mut S,
     notes: &mut Reads,
     standing: &Standing,
     from: FromTable<'x>,
     addition: &Addition,
-) -> Result<Items<Watch<'c>>, AllocError>
-    ensures { Tells S.state S.after (watches_for standing.now from.entry.name.now from.entry.table.now Kind.Insert (spec_returning_reads addition.now.returning) (Side.New ∷ [])) source.old source.new notes.old notes.new result }
+) -> Result<Protection<'c>, Refusal>
+    ensures { Answers S.state S.after (protection_of standing.now from.entry.name.now from.entry.table.now Kind.Insert (spec_returning_reads addition.now.returning) (spec.tuples_tables addition.now.tuples)) source.old source.new notes.old notes.new result }
 {
     let reads = returning_reads(&addition.returning);
-    watches_of(
+    let tables = tuples_tables(alloc, addition.tuples.as_slice())?;
+    let protection = protection_of(
         alloc,
         source,
         notes,
@@ -115,11 +120,24 @@ fn watches<'c, 'x, S: RowSource<'c>>(
         from,
         Kind::Insert,
         reads,
-        &[Side::New],
-    )
+        tables.as_slice(),
+    );
+    drop(tables);
+    protection
 }
 
-/// The privileges, the ranges, and then the rows.
+/// The tables of the tuples' subqueries, in text order.
+fn tuples_tables(alloc: Global, tuples: &[Items<Expr>]) -> Result<Items<Name>, AllocError>
+    ensures { IfOk result (λ tables. tables ≡ spec.tuples_tables tuples.now) }
+{
+    let mut tables = Items::new(alloc);
+    for tuple in tuples {
+        put_all_tables(alloc, &mut tables, tuple.as_slice())?;
+    }
+    Ok(tables)
+}
+
+/// The privileges, the values, and then the rows.
 #[tactic(auto, unfolding(crate::specs::Inserting::insert_guarded))]
 fn insert_guarded<'c, 'x, S: RowSource<'c>>(
     alloc: Global,
@@ -128,11 +146,11 @@ fn insert_guarded<'c, 'x, S: RowSource<'c>>(
     ctx: &Ctx,
     from: FromTable<'x>,
     standing: &Standing,
-    watches: &[Watch<'c>],
+    protection: &Protection<'c>,
     addition: &Addition,
 ) -> Result<Effect, Refusal>
     requires { ctx.now.next + length addition.now.tuples ≤ 4294967295 }
-    ensures { Answers S.state S.after (spec.insert_guarded ctx.now from.entry.name.now from.entry.table.now standing.now watches.now addition.now) source.old source.new notes.old notes.new result }
+    ensures { Answers S.state S.after (spec.insert_guarded ctx.now from.entry.name.now from.entry.table.now standing.now protection.now addition.now) source.old source.new notes.old notes.new result }
 {
     let reads = returning_reads(&addition.returning);
     require_privileges(
@@ -143,10 +161,79 @@ fn insert_guarded<'c, 'x, S: RowSource<'c>>(
         Privilege::Insert,
         reads,
         from.name,
+        protection.asked.as_slice(),
     )?;
-    let rows = new_rows(alloc, ctx, from.table, addition)?;
+    insert_values(alloc, source, notes, &*ctx, from, &*protection, &*addition)
+}
+
+/// The values of the tuples, their ranges, and then the rows.
+#[tactic(auto, unfolding(crate::specs::Inserting::insert_values))]
+fn insert_values<'a, 'c, 'x, S: RowSource<'c>>(
+    alloc: Global,
+    source: &mut S,
+    notes: &mut Reads,
+    ctx: &'a Ctx,
+    from: FromTable<'x>,
+    protection: &'a Protection<'c>,
+    addition: &'a Addition,
+) -> Result<Effect, Refusal>
+    requires { ctx.now.next + length addition.now.tuples ≤ 4294967295 }
+    ensures { Answers S.state S.after (spec.insert_values ctx.now from.entry.name.now from.entry.table.now protection.now addition.now) source.old source.new notes.old notes.new result }
+{
+    let values = tuples_under(alloc, source, notes, ctx, protection, addition)?;
+    let inserted = insert_made(
+        alloc, source, notes, ctx, from, protection, addition, &values,
+    );
+    drop(values);
+    inserted
+}
+
+/// The values of the tuples.
+fn tuples_under<'a, 'c, S: RowSource<'c>>(
+    alloc: Global,
+    source: &mut S,
+    notes: &mut Reads,
+    ctx: &'a Ctx,
+    protection: &'a Protection<'c>,
+    addition: &'a Addition,
+) -> Result<Vec<Vec<Held<'a>>>, AllocError>
+    ensures { Tells S.state S.after (tuples_of protection.now.fences ctx.now.role addition.now.tuples) source.old source.new notes.old notes.new (held_each result) }
+{
+    tuples_of(
+        alloc,
+        source,
+        notes,
+        protection.fences.as_slice(),
+        &ctx.role,
+        addition.tuples.as_slice(),
+    )
+}
+
+/// The ranges of the values, and then the rows.
+#[tactic(auto, unfolding(crate::specs::Inserting::insert_made))]
+fn insert_made<'c, 'x, S: RowSource<'c>>(
+    alloc: Global,
+    source: &mut S,
+    notes: &mut Reads,
+    ctx: &Ctx,
+    from: FromTable<'x>,
+    protection: &Protection<'c>,
+    addition: &Addition,
+    values: &[Vec<Held>],
+) -> Result<Effect, Refusal>
+    requires { ctx.now.next + length addition.now.tuples ≤ 4294967295 }
+    ensures { Answers S.state S.after (spec.insert_made ctx.now from.entry.name.now from.entry.table.now protection.now addition.now (map values_held values.now)) source.old source.new notes.old notes.new result }
+{
+    let rows = new_rows(alloc, ctx, from.table, addition, values)?;
     Ok(insert_rows(
-        alloc, source, notes, &ctx.role, from, watches, addition, rows,
+        alloc,
+        source,
+        notes,
+        &ctx.role,
+        from,
+        &*protection,
+        addition,
+        rows,
     )?)
 }
 
@@ -156,16 +243,17 @@ fn new_rows(
     ctx: &Ctx,
     table: &TableDef,
     addition: &Addition,
+    values: &[Vec<Held>],
 ) -> Result<Items<Stored>, Refusal>
     requires { ctx.now.next + length addition.now.tuples ≤ 4294967295 }
-    ensures { Gives result (spec.new_rows ctx.now table.now addition.now) }
+    ensures { Gives result (spec.new_rows ctx.now table.now addition.now (map values_held values.now)) }
 {
     let rows = rows_of(
         alloc,
         addition.tuples.as_slice(),
         table,
         addition.places.as_slice(),
-        &ctx.role,
+        values,
     )?;
     Ok(numbered(alloc, ctx, table.key.as_slice(), rows.into_vec())?)
 }
@@ -175,48 +263,32 @@ fn rows_of(
     tuples: &[Items<Expr>],
     table: &TableDef,
     places: &[usize],
-    role: &Name,
+    values: &[Vec<Held>],
 ) -> Result<Items<Row>, Refusal>
-    ensures given { Gives result (each_of (spec.row_of_tuple table.now places.now role.now) tuples.now) }
+    ensures given { Gives result (each_with (spec.row_of_tuple table.now places.now) tuples.now (map values_held values.now)) }
     ensures count { IfOk result (λ rows. length rows ≡ length tuples.now) }
 {
     let mut rows = Items::new(alloc);
-    for tuple in tuples {
-        let row = row_of(
-            alloc,
-            tuple.as_slice(),
-            table.columns.as_slice(),
-            places,
-            role,
-        )?;
+    let mut left = values;
+    for _tuple in tuples {
+        let row = row_of(alloc, table.columns.as_slice(), places, first_of(left))?;
         rows.push(row)?;
+        left = behind_first(left);
     }
     Ok(rows)
 }
 
-/// The row of a tuple; columns without a value are null.
+/// The row of the values; columns without one are null.
 fn row_of(
     alloc: Global,
-    mut tuple: &[Expr],
     columns: &[Column],
-    mut places: &[usize],
-    role: &Name,
+    places: &[usize],
+    values: &[Held],
 ) -> Result<Row, Refusal>
-    ensures { Gives result (assigned columns.now (alone role.now) places.entry.now tuple.entry.now (spec.nulls columns.now)) }
+    ensures { Gives result (assigned columns.now places.now (map held_value values.now) (spec.nulls columns.now)) }
 {
-    let mut values = nulls(alloc, columns)?;
-    while let [expr, rest @ ..] = tuple {
-        match places {
-            [place, others @ ..] => {
-                let value = given_alone(alloc, columns, *place, expr, role)?;
-                put_value(&mut values, *place, value);
-                places = others;
-            }
-            [] => return Ok(Row::new(values)?),
-        }
-        tuple = rest;
-    }
-    Ok(Row::new(values)?)
+    let nulls = nulls(alloc, columns)?;
+    assign(alloc, columns, places, values, nulls)
 }
 
 /// A null for each column.
@@ -253,19 +325,36 @@ fn numbered(
 
 /// Each new row is judged, and then all are put in or none.
 #[tactic(auto, unfolding(crate::specs::Inserting::insert_rows))]
-fn insert_rows<'c, 'x, S: RowSource<'c>>(
+fn insert_rows<'a, 'c, 'x, S: RowSource<'c>>(
+    alloc: Global,
+    source: &mut S,
+    notes: &mut Reads,
+    role: &'a Name,
+    from: FromTable<'x>,
+    protection: &'a Protection<'c>,
+    addition: &Addition,
+    rows: Items<Stored>,
+) -> Result<Effect, AllocError>
+    ensures { Tells S.state S.after (spec.insert_rows role.now from.entry.name.now from.entry.table.now protection.now addition.now rows) source.old source.new notes.old notes.new result }
+{
+    let decisions = judged_under(alloc, source, notes, &*protection, &*role, &rows)?;
+    insert_judged(alloc, source, notes, role, from, addition, rows, decisions)
+}
+
+/// Where none of the new rows is refused, all are put in.
+#[tactic(auto, unfolding(crate::specs::Inserting::insert_judged))]
+fn insert_judged<'c, 'x, S: RowSource<'c>>(
     alloc: Global,
     source: &mut S,
     notes: &mut Reads,
     role: &Name,
     from: FromTable<'x>,
-    watches: &[Watch<'c>],
     addition: &Addition,
     rows: Items<Stored>,
+    decisions: Vec<Decision>,
 ) -> Result<Effect, AllocError>
-    ensures { Tells S.state S.after (spec.insert_rows role.now from.entry.name.now from.entry.table.now watches.now addition.now rows) source.old source.new notes.old notes.new result }
+    ensures { Tells S.state S.after (spec.insert_judged role.now from.entry.name.now from.entry.table.now addition.now rows decisions.items) source.old source.new notes.old notes.new result }
 {
-    let decisions = judged(alloc, watches, role, rows.as_slice())?;
     match require_inserted(
         alloc,
         source,

@@ -14,6 +14,7 @@ mod replying;
 mod revision;
 mod rows_laws;
 mod selecting;
+mod sighting;
 mod updating;
 mod writing;
 

@@ -16,14 +16,15 @@ use crate::checking::{
     require_supported, returning_fits, returning_reads, returning_unsupported, value_fits,
     where_fits, where_reads, where_unsupported,
 };
+use rls_expansion::{put_tables, put_tables_if};
 use rls_expr::{
-    Column, Expr, NameStep, NamedTable, Scope, TableDef, has_query, place_columns, put_names,
-    put_names_if, put_step, reads_target,
+    Column, Expr, NameStep, NamedTable, Scope, TableDef, place_columns, put_names, put_names_if,
+    put_step, reads_target,
 };
-use rls_guard::{Found, named_over};
+use rls_guard::{Found, is_unsupported_with, named_over};
 use rls_source::{Reads, RowSource};
 use rls_statement::{Selected, Setting, Update};
-use rls_value::{Items, Refusal};
+use rls_value::{Items, Name, Refusal};
 use std::alloc::{AllocError, Global};
 
 /// An UPDATE whose names are resolved: what is set, each column by its place.
@@ -192,7 +193,9 @@ fn settings_fit(settings: &[(usize, Expr)], columns: &[Column]) -> bool
 fn settings_unsupported(settings: &[(usize, Expr)]) -> bool
     ensures { result ≡ spec.settings_unsupported settings.now }
 {
-    settings.iter().any(|setting| has_query(&setting.1))
+    settings
+        .iter()
+        .any(|setting| is_unsupported_with(&setting.1, true))
 }
 
 /// Whether it mentions a column of the table, to the right of SET's equal signs too.
@@ -207,6 +210,18 @@ fn settings_read(settings: &[(usize, Expr)]) -> bool
     ensures { result ≡ list_any (λ setting. mentions 0 setting.1) settings.now }
 {
     settings.iter().any(|setting| reads_target(&setting.1))
+}
+
+/// The tables of its subqueries, in text order.
+pub fn revision_tables(alloc: Global, revision: &Revision) -> Result<Items<Name>, AllocError>
+    ensures { IfOk result (λ tables. tables ≡ spec.revision_tables revision.now) }
+{
+    let mut tables = Items::new(alloc);
+    for (_, value) in revision.settings.as_slice() {
+        put_tables(alloc, &mut tables, value)?;
+    }
+    put_tables_if(alloc, &mut tables, &revision.condition)?;
+    Ok(tables)
 }
 
 /// The places that are set.

@@ -5,18 +5,23 @@ ghost use Rattle.rls_value.specs.Giving.{Gives};
 ghost use Rattle.rls_expr.specs.Naming.{step_of};
 ghost use Rattle.rls_expr.specs.Placing.{names_in};
 ghost use Rattle.rls_guard.specs.Naming.{named};
-ghost use Rattle.rls_source.specs.Answering.{Answers};
+ghost use Rattle.rls_source.specs.Answering.{Answers, Tells};
+ghost use Rattle.rls_expansion.specs.Protecting.{protection_of};
+ghost use Rattle.rls_expansion.specs.Used.{tables_if};
 ghost use Rattle.rls_dml.specs.Selecting as spec;
 
 use crate::checking::{
     place_selection, place_where, put_selection_names, require_fitting, require_supported,
-    selection_fits, selection_unsupported, where_fits, where_unsupported,
+    selection_fits, selection_unsupported, where_fits, where_tables, where_unsupported,
 };
 use crate::replying::{answered, standing_rows};
-use rls_catalog::{Delta, Lent, Side};
+use crate::sighting::hits_under;
+use crate::writing::require_privileges;
+use rls_catalog::{Delta, Lent};
+use rls_expansion::{Protection, protection_of};
 use rls_expr::{Expr, FromTable, NameStep, NamedTable, Scope, TableDef, put_names_if};
-use rls_guard::{Ctx, Effect, Found, Reply, Standing, Watch, named_over, standing_of, watches_of};
-use rls_judging::{candidates, hits_of};
+use rls_guard::{Ctx, Decision, Effect, Found, Reply, Standing, named_over, standing_of};
+use rls_judging::candidates;
 use rls_source::{Reads, RowSource, table_named};
 use rls_statement::{Select, Selected};
 use rls_value::{Items, Kind, Name, Privilege, Refusal, Row};
@@ -179,7 +184,34 @@ fn select_as<'c, 'x, S: RowSource<'c>>(
 ) -> Result<Effect, Refusal>
     ensures { Answers S.state S.after (spec.select_as standing.now role.now from.entry.name.now from.entry.table.now query.now) source.old source.new notes.old notes.new result }
 {
-    let watches = watches_of(
+    let protection = protection(alloc, source, notes, standing, from, query)?;
+    let listed = list_guarded(
+        alloc,
+        source,
+        notes,
+        standing,
+        &protection,
+        query,
+        role,
+        from,
+    );
+    drop(protection);
+    listed
+}
+
+/// What guards the rows from the role.
+fn protection<'c, 'x, S: RowSource<'c>>(
+    alloc: Global,
+    source: &mut S,
+    notes: &mut Reads,
+    standing: &Standing,
+    from: FromTable<'x>,
+    query: &Query,
+) -> Result<Protection<'c>, Refusal>
+    ensures { Answers S.state S.after (protection_of standing.now from.entry.name.now from.entry.table.now Kind.Select false (tables_if query.now.condition)) source.old source.new notes.old notes.new result }
+{
+    let tables = where_tables(alloc, &query.condition)?;
+    let protection = protection_of(
         alloc,
         source,
         notes,
@@ -187,20 +219,10 @@ fn select_as<'c, 'x, S: RowSource<'c>>(
         from,
         Kind::Select,
         false,
-        &[Side::Old],
-    )?;
-    let listed = list_guarded(
-        alloc,
-        source,
-        notes,
-        standing,
-        watches.as_slice(),
-        query,
-        role,
-        from,
+        tables.as_slice(),
     );
-    drop(watches);
-    listed
+    drop(tables);
+    protection
 }
 
 /// The rows, where the role may read the table.
@@ -210,38 +232,72 @@ fn list_guarded<'c, 'x, S: RowSource<'c>>(
     source: &mut S,
     notes: &mut Reads,
     standing: &Standing,
-    watches: &[Watch<'c>],
+    protection: &Protection<'c>,
     query: &Query,
     role: &Name,
     from: FromTable<'x>,
 ) -> Result<Effect, Refusal>
-    ensures { Answers S.state S.after (spec.listed_for standing.now watches.now query.now role.now from.entry.name.now from.entry.table.now) source.old source.new notes.old notes.new result }
+    ensures { Answers S.state S.after (spec.listed_for standing.now protection.now query.now role.now from.entry.name.now from.entry.table.now) source.old source.new notes.old notes.new result }
 {
-    standing.require_privilege(alloc, source, notes, Privilege::Select, from.name)?;
+    require_privileges(
+        alloc,
+        source,
+        notes,
+        standing,
+        Privilege::Select,
+        false,
+        from.name,
+        protection.asked.as_slice(),
+    )?;
     let rows = candidates(alloc, source, notes, role, from, &query.condition)?;
-    Ok(list(alloc, watches, query, role, rows.as_slice())?)
+    let listed = list(
+        alloc,
+        source,
+        notes,
+        &*protection,
+        &*query,
+        &*role,
+        rows.as_slice(),
+    )?;
+    Ok(listed)
 }
 
 /// Judges each candidate, and answers from those that are allowed and meet the condition.
-fn list<'c>(
+#[tactic(auto, unfolding(crate::specs::Selecting::listed_from))]
+fn list<'a, 'c, S: RowSource<'c>>(
     alloc: Global,
-    watches: &[Watch<'c>],
+    source: &mut S,
+    notes: &mut Reads,
+    protection: &'a Protection<'c>,
+    query: &'a Query,
+    role: &'a Name,
+    candidates: &'a [Lent<'c>],
+) -> Result<Effect, AllocError>
+    ensures { Tells S.state S.after (spec.listed_from role.now protection.now query.now candidates.now) source.old source.new notes.old notes.new result }
+{
+    let (decisions, hits) = hits_under(
+        alloc,
+        source,
+        notes,
+        protection,
+        role,
+        &query.condition,
+        candidates,
+    )?;
+    answer(alloc, query, role, decisions, &hits)
+}
+
+/// The answer from the rows that are hit.
+fn answer<'c>(
+    alloc: Global,
     query: &Query,
     role: &Name,
-    candidates: &[Lent<'c>],
+    decisions: Vec<Decision>,
+    hits: &[&Lent<'c>],
 ) -> Result<Effect, AllocError>
-    ensures { IfOk result (λ effect. effect ≡ spec.listed_by watches.now query.now role.now candidates.now) }
+    ensures { IfOk result (λ effect. effect ≡ spec.listed_by query.now role.now (decisions.items, map (λ hit. hit.now) hits.now)) }
 {
-    let mut decisions = Vec::with_capacity(alloc, candidates.len())?;
-    let hits = hits_of(
-        alloc,
-        watches,
-        &query.condition,
-        role,
-        candidates,
-        &mut decisions,
-    )?;
-    let rows = standing_rows(alloc, &hits)?;
+    let rows = standing_rows(alloc, hits)?;
     match answered(alloc, &query.items, role, &rows) {
         Ok(rows) => Ok(Effect::Done(
             Reply::Rows(rows),

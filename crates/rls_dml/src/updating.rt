@@ -2,26 +2,29 @@
 
 ghost use Rattle.std.specs.Prelude.{◌≡◌, ◌++◌, [], ◌∷◌, None, map, IfOk};
 ghost use Rattle.rls_value.specs.Giving.{Gives};
-ghost use Rattle.rls_guard.specs.Eval.{over};
+ghost use Rattle.rls_evaluation.specs.Scoping.{held_value};
 ghost use Rattle.rls_source.specs.Answering.{Answers, Tells};
-ghost use Rattle.rls_source.specs.Sequences.{each_of};
 ghost use Rattle.rls_dml.specs.Listings as listings;
-ghost use Rattle.rls_dml.specs.Writing.{assigned, rows_or_refused, order_of as spec_order_of};
-ghost use Rattle.rls_guard.specs.Guards.{watches_for};
+ghost use Rattle.rls_dml.specs.Writing.{each_with, rows_or_refused, order_of as spec_order_of};
+ghost use Rattle.rls_expansion.specs.Protecting.{protection_of};
+ghost use Rattle.rls_judging.specs.Handed.{values_held};
 ghost use Rattle.rls_dml.specs.Updating as spec;
 
 use crate::keys::key_like;
 use crate::replaced::Replaced;
 use crate::replying::reply_of_new;
-use crate::revision::{Revision, known_revision, places_set, reads};
-use crate::writing::{given_over, order_of, put_value, require_privileges, require_rows};
-use rls_catalog::{Change, Delta, Keyed, Lent, RowChange, Side, Stored};
-use rls_expr::{Column, Expr, FromTable, TableDef};
-use rls_guard::{Ctx, Decision, Effect, Standing, Watch, standing_of, watches_of};
-use rls_judging::{candidates, hits_of, judged};
+use crate::revision::{Revision, known_revision, places_set, reads, revision_tables};
+use crate::sighting::{hits_under, judged_under};
+use crate::writing::{assign, behind_first, first_of, order_of, require_privileges, require_rows};
+use rls_catalog::{Change, Delta, Keyed, Lent, RowChange, Stored};
+use rls_evaluation::{Held, Scoped};
+use rls_expansion::{Protection, protection_of};
+use rls_expr::{FromTable, TableDef};
+use rls_guard::{Ctx, Decision, Effect, Standing, standing_of};
+use rls_judging::{candidates, settings_of};
 use rls_source::{Reads, RowSource, table_named};
 use rls_statement::Update;
-use rls_value::{Items, Kind, Name, Privilege, Refusal, Row};
+use rls_value::{Items, Kind, Name, Privilege, Refusal};
 use std::alloc::{AllocError, Global};
 
 /// Changes the rows that row security lets change and that meet the condition. What it hides stays; a new row that it
@@ -77,34 +80,35 @@ fn update_as<'c, 'x, S: RowSource<'c>>(
 ) -> Result<Effect, Refusal>
     ensures { Answers S.state S.after (spec.update_as standing.now role.now from.entry.name.now from.entry.table.now revision.now) source.old source.new notes.old notes.new result }
 {
-    let watches = watches(alloc, source, notes, standing, from, revision)?;
+    let protection = protection(alloc, source, notes, standing, from, revision)?;
     let updated = update_guarded(
         alloc,
         source,
         notes,
         standing,
-        watches.as_slice(),
+        &protection,
         revision,
         role,
         from,
     );
-    drop(watches);
+    drop(protection);
     updated
 }
 
 /// What guards the rows from the role.
-fn watches<'c, 'x, S: RowSource<'c>>(
+fn protection<'c, 'x, S: RowSource<'c>>(
     alloc: Global,
     source: &mut S,
     notes: &mut Reads,
     standing: &Standing,
     from: FromTable<'x>,
     revision: &Revision,
-) -> Result<Items<Watch<'c>>, AllocError>
-    ensures { Tells S.state S.after (watches_for standing.now from.entry.name.now from.entry.table.now Kind.Update (spec.revision_reads revision.now) (Side.Old ∷ Side.New ∷ [])) source.old source.new notes.old notes.new result }
+) -> Result<Protection<'c>, Refusal>
+    ensures { Answers S.state S.after (protection_of standing.now from.entry.name.now from.entry.table.now Kind.Update (spec.revision_reads revision.now) (spec.revision_tables revision.now)) source.old source.new notes.old notes.new result }
 {
     let reads = reads(revision);
-    watches_of(
+    let tables = revision_tables(alloc, revision)?;
+    let protection = protection_of(
         alloc,
         source,
         notes,
@@ -112,8 +116,10 @@ fn watches<'c, 'x, S: RowSource<'c>>(
         from,
         Kind::Update,
         reads,
-        &[Side::Old, Side::New],
-    )
+        tables.as_slice(),
+    );
+    drop(tables);
+    protection
 }
 
 /// The rows, where the role may change them.
@@ -123,12 +129,12 @@ fn update_guarded<'c, 'x, S: RowSource<'c>>(
     source: &mut S,
     notes: &mut Reads,
     standing: &Standing,
-    watches: &[Watch<'c>],
+    protection: &Protection<'c>,
     revision: &Revision,
     role: &Name,
     from: FromTable<'x>,
 ) -> Result<Effect, Refusal>
-    ensures { Answers S.state S.after (spec.update_guarded standing.now watches.now revision.now role.now from.entry.name.now from.entry.table.now) source.old source.new notes.old notes.new result }
+    ensures { Answers S.state S.after (spec.update_guarded standing.now protection.now revision.now role.now from.entry.name.now from.entry.table.now) source.old source.new notes.old notes.new result }
 {
     let reads = reads(revision);
     require_privileges(
@@ -139,15 +145,16 @@ fn update_guarded<'c, 'x, S: RowSource<'c>>(
         Privilege::Update,
         reads,
         from.name,
+        protection.asked.as_slice(),
     )?;
     let rows = candidates(alloc, source, notes, role, from, &revision.condition)?;
     update_hits(
         alloc,
         source,
         notes,
-        watches,
-        revision,
-        role,
+        &*protection,
+        &*revision,
+        &*role,
         from,
         rows.as_slice(),
     )
@@ -155,30 +162,62 @@ fn update_guarded<'c, 'x, S: RowSource<'c>>(
 
 /// Judges each candidate; those that are allowed and meet the condition get their new values.
 #[tactic(auto, unfolding(crate::specs::Updating::update_hits))]
-fn update_hits<'c, 'x, S: RowSource<'c>>(
+fn update_hits<'a, 'c, 'x, S: RowSource<'c>>(
     alloc: Global,
     source: &mut S,
     notes: &mut Reads,
-    watches: &[Watch<'c>],
-    revision: &Revision,
-    role: &Name,
+    protection: &'a Protection<'c>,
+    revision: &'a Revision,
+    role: &'a Name,
     from: FromTable<'x>,
-    candidates: &[Lent<'c>],
+    candidates: &'a [Lent<'c>],
 ) -> Result<Effect, Refusal>
-    ensures { Answers S.state S.after (spec.update_hits role.now from.entry.name.now from.entry.table.now watches.now revision.now candidates.now) source.old source.new notes.old notes.new result }
+    ensures { Answers S.state S.after (spec.update_hits role.now from.entry.name.now from.entry.table.now protection.now revision.now candidates.now) source.old source.new notes.old notes.new result }
 {
-    let mut decisions = Vec::with_capacity(alloc, candidates.len())?;
-    let hits = hits_of(
+    let (decisions, hits) = hits_under(
         alloc,
-        watches,
-        &revision.condition,
+        source,
+        notes,
+        protection,
         role,
+        &revision.condition,
         candidates,
-        &mut decisions,
     )?;
-    let new = updated_rows(alloc, from.table, revision.settings.as_slice(), role, &hits)?;
+    update_values(
+        alloc, source, notes, protection, revision, role, from, decisions, &hits,
+    )
+}
+
+/// The new values of all rows that are hit, and then the rows.
+#[tactic(auto, unfolding(crate::specs::Updating::update_values))]
+fn update_values<'a, 'c, 'x, S: RowSource<'c>>(
+    alloc: Global,
+    source: &mut S,
+    notes: &mut Reads,
+    protection: &'a Protection<'c>,
+    revision: &'a Revision,
+    role: &'a Name,
+    from: FromTable<'x>,
+    decisions: Vec<Decision>,
+    hits: &[&'a Lent<'c>],
+) -> Result<Effect, Refusal>
+    ensures { Answers S.state S.after (spec.update_values role.now from.entry.name.now from.entry.table.now protection.now revision.now decisions.items (map (λ hit. hit.now) hits.now)) source.old source.new notes.old notes.new result }
+{
+    let nothing = Scoped::Nothing;
+    let values = settings_of(
+        alloc,
+        source,
+        notes,
+        protection.fences.as_slice(),
+        role,
+        &nothing,
+        revision.settings.as_slice(),
+        hits,
+    )?;
+    let new = updated_rows(alloc, from.table, revision, hits, &values)?;
+    drop(values);
     Ok(update_rows(
-        alloc, source, notes, watches, revision, role, from, decisions, &hits, new,
+        alloc, source, notes, protection, revision, role, from, decisions, hits, new,
     )?)
 }
 
@@ -186,16 +225,33 @@ fn update_hits<'c, 'x, S: RowSource<'c>>(
 fn updated_rows<'c>(
     alloc: Global,
     table: &TableDef,
-    settings: &[(usize, Expr)],
-    role: &Name,
+    revision: &Revision,
     hits: &[&Lent<'c>],
+    values: &[Vec<Held>],
 ) -> Result<Items<Stored>, Refusal>
-    ensures { Gives result (each_of (spec.updated_row table.now settings.now role.now) (map (λ hit. hit.now) hits.now)) }
+    ensures { Gives result (each_with (spec.updated_row table.now (spec.places_set revision.now.settings)) (map (λ hit. hit.now) hits.now) (map values_held values.now)) }
+{
+    let places = places_set(alloc, revision.settings.as_slice())?;
+    let rows = rows_with(alloc, table, &places, hits, values);
+    drop(places);
+    rows
+}
+
+fn rows_with<'c>(
+    alloc: Global,
+    table: &TableDef,
+    places: &[usize],
+    hits: &[&Lent<'c>],
+    values: &[Vec<Held>],
+) -> Result<Items<Stored>, Refusal>
+    ensures { Gives result (each_with (spec.updated_row table.now places.now) (map (λ hit. hit.now) hits.now) (map values_held values.now)) }
 {
     let mut rows = Items::new(alloc);
+    let mut left = values;
     for hit in hits {
-        let row = updated_row(alloc, table, settings, role, hit)?;
+        let row = updated_row(alloc, table, places, hit, first_of(left))?;
         rows.push(row)?;
+        left = behind_first(left);
     }
     Ok(rows)
 }
@@ -203,19 +259,14 @@ fn updated_rows<'c>(
 fn updated_row<'c>(
     alloc: Global,
     table: &TableDef,
-    settings: &[(usize, Expr)],
-    role: &Name,
+    places: &[usize],
     stored: &Lent<'c>,
+    values: &[Held],
 ) -> Result<Stored, Refusal>
-    ensures { Gives result (spec.updated_row table.now settings.now role.now stored.now) }
+    ensures { Gives result (spec.updated_row table.now places.now stored.now (map held_value values.now)) }
 {
-    let row = row_with(
-        alloc,
-        table.columns.as_slice(),
-        settings,
-        role,
-        stored.row(),
-    )?;
+    let old = stored.row().to_vec(alloc)?;
+    let row = assign(alloc, table.columns.as_slice(), places, values, old)?;
     let key = key_like(alloc, table.key.as_slice(), &row, stored.key())?;
     Ok(Stored {
         id: stored.id(),
@@ -224,41 +275,44 @@ fn updated_row<'c>(
     })
 }
 
-/// The row with its new values, in the order in which they are set.
-fn row_with(
-    alloc: Global,
-    columns: &[Column],
-    settings: &[(usize, Expr)],
-    role: &Name,
-    old: &Row,
-) -> Result<Row, Refusal>
-    ensures { Gives result (assigned columns.now (over role.now old.now) (spec.places_set settings.now) (map (λ setting. setting.1) settings.now) old.now) }
-{
-    let mut values = old.to_vec(alloc)?;
-    for (place, value) in settings {
-        let value = given_over(alloc, columns, *place, value, role, old)?;
-        put_value(&mut values, *place, value);
-    }
-    Ok(Row::new(values)?)
-}
-
 /// Each new row is judged, and then all are changed or none.
 #[tactic(auto, unfolding(crate::specs::Updating::update_rows))]
-fn update_rows<'c, 'x, S: RowSource<'c>>(
+fn update_rows<'a, 'c, 'x, S: RowSource<'c>>(
     alloc: Global,
     source: &mut S,
     notes: &mut Reads,
-    watches: &[Watch<'c>],
+    protection: &'a Protection<'c>,
     revision: &Revision,
-    role: &Name,
+    role: &'a Name,
     from: FromTable<'x>,
     before: Vec<Decision>,
     hits: &[&Lent<'c>],
     new: Items<Stored>,
 ) -> Result<Effect, AllocError>
-    ensures { Tells S.state S.after (spec.update_rows role.now from.entry.name.now from.entry.table.now watches.now revision.now before.items (map (λ hit. hit.now) hits.now) new) source.old source.new notes.old notes.new result }
+    ensures { Tells S.state S.after (spec.update_rows role.now from.entry.name.now from.entry.table.now protection.now revision.now before.items (map (λ hit. hit.now) hits.now) new) source.old source.new notes.old notes.new result }
 {
-    let after = judged(alloc, watches, role, new.as_slice())?;
+    let after = judged_under(alloc, source, notes, &*protection, &*role, &new)?;
+    update_judged(
+        alloc, source, notes, revision, role, from, before, after, hits, new,
+    )
+}
+
+/// Where none of the new rows is refused, all are changed.
+#[tactic(auto, unfolding(crate::specs::Updating::update_judged))]
+fn update_judged<'c, 'x, S: RowSource<'c>>(
+    alloc: Global,
+    source: &mut S,
+    notes: &mut Reads,
+    revision: &Revision,
+    role: &Name,
+    from: FromTable<'x>,
+    before: Vec<Decision>,
+    after: Vec<Decision>,
+    hits: &[&Lent<'c>],
+    new: Items<Stored>,
+) -> Result<Effect, AllocError>
+    ensures { Tells S.state S.after (spec.update_judged role.now from.entry.name.now from.entry.table.now revision.now before.items (map (λ hit. hit.now) hits.now) new after.items) source.old source.new notes.old notes.new result }
+{
     match require_updated(
         alloc,
         source,

@@ -1,9 +1,10 @@
 //! New rows: the values that columns are given, and what the rows are refused for.
 
-ghost use Rattle.std.specs.Prelude.{◌≡◌, slice_get, slice_set, IfOk};
+ghost use Rattle.std.specs.Prelude.{◌≡◌, map, slice_get, slice_set, IfOk};
 ghost use Rattle.rls_value.specs.Giving.{Gives};
 ghost use Rattle.rls_value.specs.Values.{is_null, value_at};
-ghost use Rattle.rls_guard.specs.Eval.{value_of, alone, over};
+ghost use Rattle.rls_evaluation.specs.Scoping.{held_value};
+ghost use Rattle.rls_judging.specs.Handed.{values_held};
 ghost use Rattle.rls_source.specs.Answering.{Answers};
 ghost use Rattle.rls_source.specs.Sequences.{each_or_refused};
 ghost use Rattle.rls_dml.specs.Writing as spec;
@@ -11,13 +12,15 @@ ghost use Rattle.rls_dml.specs.Writing as spec;
 use crate::keys::require_unique;
 use crate::replaced::Replaced;
 use rls_catalog::{Stored, Verdict};
-use rls_expr::{Column, Expr, FromTable};
-use rls_guard::{Decision, Standing, assigned_alone, assigned_over, value_alone, value_over};
+use rls_evaluation::Held;
+use rls_expr::{Column, FromTable};
+use rls_guard::{Decision, Standing};
 use rls_source::{Reads, RowSource};
 use rls_value::{Name, Privilege, Refusal, Row, Value, Why};
 use std::alloc::{AllocError, Global};
 
-/// Denied where the role lacks the privilege of the command or, where that reads the table, SELECT.
+/// Denied where the role lacks the privilege of the command or, where that reads the table, SELECT; or SELECT on one of
+/// the other tables.
 pub fn require_privileges<'c, S: RowSource<'c>>(
     alloc: Global,
     source: &mut S,
@@ -26,8 +29,24 @@ pub fn require_privileges<'c, S: RowSource<'c>>(
     privilege: Privilege,
     reads: bool,
     name: &Name,
+    others: &[Name],
 ) -> Result<(), Refusal>
-    ensures { Answers S.state S.after (spec.privileges_or_denied standing.now privilege reads name.now) source.old source.new notes.old notes.new result }
+    ensures { Answers S.state S.after (spec.privileges_or_denied standing.now privilege reads name.now others.now) source.old source.new notes.old notes.new result }
+{
+    require_own(alloc, source, notes, standing, privilege, reads, name)?;
+    require_readable(alloc, source, notes, standing, others)
+}
+
+fn require_own<'c, S: RowSource<'c>>(
+    alloc: Global,
+    source: &mut S,
+    notes: &mut Reads,
+    standing: &Standing,
+    privilege: Privilege,
+    reads: bool,
+    name: &Name,
+) -> Result<(), Refusal>
+    ensures { Answers S.state S.after (spec.own_or_denied standing.now privilege reads name.now) source.old source.new notes.old notes.new result }
 {
     standing.require_privilege(alloc, source, notes, privilege, name)?;
     if reads {
@@ -37,41 +56,80 @@ pub fn require_privileges<'c, S: RowSource<'c>>(
     }
 }
 
-/// What the column at that place is given for the row: the value of the expression, in the column's range.
-pub fn given_over(
+fn require_readable<'c, S: RowSource<'c>>(
+    alloc: Global,
+    source: &mut S,
+    notes: &mut Reads,
+    standing: &Standing,
+    names: &[Name],
+) -> Result<(), Refusal>
+    ensures { Answers S.state S.after (spec.readable_or_denied standing.now names.now) source.old source.new notes.old notes.new result }
+{
+    for name in names {
+        standing.require_privilege(alloc, source, notes, Privilege::Select, name)?;
+    }
+    Ok(())
+}
+
+/// The row with each of these places given its value, in order, within the column's range.
+pub fn assign(
     alloc: Global,
     columns: &[Column],
-    place: usize,
-    expr: &Expr,
-    role: &Name,
-    row: &Row,
-) -> Result<Value, Refusal>
-    ensures { Gives result (spec.given_to (slice_get columns.now place) (value_of expr.now (over role.now row.now))) }
+    places: &[usize],
+    values: &[Held],
+    row: Vec<Value>,
+) -> Result<Row, Refusal>
+    ensures { Gives result (spec.assigned columns.now places.now (map held_value values.now) row.items) }
+{
+    let mut row = row;
+    let mut places_left = places;
+    let mut left = values;
+    while let [value, further @ ..] = left {
+        match places_left {
+            [place, others @ ..] => {
+                let given = given_to(alloc, columns, *place, value)?;
+                put_value(&mut row, *place, given);
+                places_left = others;
+            }
+            [] => return Ok(Row::new(row)?),
+        }
+        left = further;
+    }
+    Ok(Row::new(row)?)
+}
+
+/// What the column at that place is given, in the column's range.
+fn given_to(alloc: Global, columns: &[Column], place: usize, value: &Held) -> Result<Value, Refusal>
+    ensures { Gives result (spec.given_to (slice_get columns.now place) (held_value value.now)) }
 {
     match columns.get(place) {
-        Some(column) => assigned_over(alloc, expr, role, row, column),
-        None => Ok(value_over(alloc, expr, role, row)?),
+        Some(column) => value.to_column(alloc, column),
+        None => Ok(Value::Null),
     }
 }
 
-/// The same of an expression that no row is in scope of.
-pub fn given_alone(
-    alloc: Global,
-    columns: &[Column],
-    place: usize,
-    expr: &Expr,
-    role: &Name,
-) -> Result<Value, Refusal>
-    ensures { Gives result (spec.given_to (slice_get columns.now place) (value_of expr.now (alone role.now))) }
+/// The first values, if there are some.
+pub fn first_of<'x, 'a>(values: &'x [Vec<Held<'a>>]) -> &'x [Held<'a>]
+    ensures { map held_value result.now ≡ spec.first_of (map values_held values.now) }
 {
-    match columns.get(place) {
-        Some(column) => assigned_alone(alloc, expr, role, column),
-        None => Ok(value_alone(alloc, expr, role)?),
+    match values {
+        [first, ..] => first.as_slice(),
+        [] => &[],
+    }
+}
+
+/// And those behind them.
+pub fn behind_first<'x, 'a>(values: &'x [Vec<Held<'a>>]) -> &'x [Vec<Held<'a>>]
+    ensures { map values_held result.now ≡ spec.behind_first (map values_held values.now) }
+{
+    match values {
+        [_, further @ ..] => further,
+        [] => &[],
     }
 }
 
 /// The value in its place.
-pub fn put_value(values: &mut Vec<Value>, place: usize, value: Value)
+fn put_value(values: &mut Vec<Value>, place: usize, value: Value)
     ensures { values.new.items ≡ slice_set values.old.items place value }
 {
     if place < values.len() {

@@ -14,7 +14,6 @@ use Rattle.rls_value.specs.ObjectOrder.{objects_total}
 use Rattle.rls_catalog.specs.State.{State}
 use Rattle.rls_source.specs.Footprints.{with_object, with_reads, is_object, is_among, IsInOrder}
 use Rattle.rls_source.specs.FootprintLaws.{is_object_same, among_with_object, among_with_reads, with_object_in_order}
-use Rattle.rls_evaluation.specs.Standing.{Standing}
 use Rattle.rls_evaluation.specs.declared.fence.Fence.{Fence}
 use Rattle.rls_evaluation.specs.declared.memo.Seen.{Seen}
 use Rattle.rls_evaluation.specs.declared.memo.Work.{Work}
@@ -108,28 +107,28 @@ new_if true fences user s notes at place key object shown rows old is kept was f
 new_if false fences user s notes at place key object shown rows old is kept was found = was found
 
 -- with what was just shown
-pub holds_shown : (fences : List Fence) (user : List ℕ) (before after : Standing) (old : List Object) (work new : Work) (place : ℕ) (object : Object) (rows : List (List Value))
-    → Tells (shown_at fences user place object) before after old work.notes (Ok rows) → Holds fences user after.state work → new.notes ≡ work.notes
+pub holds_shown : (fences : List Fence) (user : List ℕ) (before after : State) (old : List Object) (work new : Work) (place : ℕ) (object : Object) (rows : List (List Value))
+    → Tells (shown_at fences user place object) before after old work.notes (Ok rows) → Holds fences user after work → new.notes ≡ work.notes
     → ((other : Object) → lookup (is_at (object_order other)) new.seen.entries ≡ cond (is_object object other) (Some (record { place = place; rows = rows })) (lookup (is_at (object_order other)) work.seen.entries))
-    → Holds fences user after.state new
+    → Holds fences user after new
 holds_shown fences user before after old work new place object rows told holds same grown =
-    let reads : List Object = ((shown_at fences user place object).in_state before.state).reads in
+    let reads : List Object = ((shown_at fences user place object).in_state before).reads in
     let noted : with_reads work.notes reads ≡ work.notes =
     ap (λ n. with_reads n reads) told.noted ∙ noted_absorbed old reads (subst IsInOrder told.noted holds.ordered) ∙ sym told.noted in
-    let here : IsKept fences user after.state work.notes place object rows = record {
-      given = subst (λ s. ((shown_at fences user place object).in_state s.state).gives ≡ Ok rows) (sym told.stands) told.given;
-      noted = subst (λ s. with_reads work.notes ((shown_at fences user place object).in_state s.state).reads ≡ work.notes) (sym told.stands) noted;
+    let here : IsKept fences user after work.notes place object rows = record {
+      given = subst (λ s. ((shown_at fences user place object).in_state s).gives ≡ Ok rows) (sym told.stands) told.given;
+      noted = subst (λ s. with_reads work.notes ((shown_at fences user place object).in_state s).reads ≡ work.notes) (sym told.stands) noted;
     } in
     record {
       ordered = subst IsInOrder (sym same) holds.ordered;
-      kept = λ at other shown found. subst (λ n. IsKept fences user after.state n at other shown) (sym same)
-          (new_if (is_object object other) fences user after.state work.notes place at object other rows shown (lookup (is_at (object_order other)) work.seen.entries) refl here (λ was. holds.kept at other shown was)
+      kept = λ at other shown found. subst (λ n. IsKept fences user after n at other shown) (sym same)
+          (new_if (is_object object other) fences user after work.notes place at object other rows shown (lookup (is_at (object_order other)) work.seen.entries) refl here (λ was. holds.kept at other shown was)
           (ap (at_place at) (sym (grown other)) ∙ found));
     }
 
 -- a second look adds nothing
-pub tells_found : (fences : List Fence) (user : List ℕ) (s : Standing) (work : Work) (place : ℕ) (object : Object) (rows : List (List Value))
-    → Holds fences user s.state work → found_in work.seen.entries place object ≡ Some rows → Tells (shown_at fences user place object) s s work.notes work.notes (Ok rows)
+pub tells_found : (fences : List Fence) (user : List ℕ) (s : State) (work : Work) (place : ℕ) (object : Object) (rows : List (List Value))
+    → Holds fences user s work → found_in work.seen.entries place object ≡ Some rows → Tells (shown_at fences user place object) s s work.notes work.notes (Ok rows)
 tells_found fences user s work place object rows holds found =
-    let kept : IsKept fences user s.state work.notes place object rows = holds.kept place object rows found in
+    let kept : IsKept fences user s work.notes place object rows = holds.kept place object rows found in
     record { given = kept.given; noted = sym kept.noted; stands = refl }

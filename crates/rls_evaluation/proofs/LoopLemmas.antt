@@ -13,12 +13,12 @@ use Rattle.rls_expr.specs.declared.expr.Sign.{Sign}
 use Rattle.rls_expr.specs.declared.expr.Sign.TheVariants.{Plus}
 use Rattle.rls_expr.specs.Terms.{Term, More, terms_of}
 use Rattle.rls_expr.specs.declared.policy.Policy.{Policy}
+use Rattle.rls_catalog.specs.State.{State}
 use Rattle.rls_source.specs.Askings.{Asking, followed_by}
 use Rattle.rls_evaluation.specs.Environments.{Environment, joined, number_or_null}
 use Rattle.rls_evaluation.specs.Gathering.{gathered, with_row}
 use Rattle.rls_evaluation.specs.Keys.{or_else}
 use Rattle.rls_evaluation.specs.Eval.{Shows, value_of, together, item_or, sum_of, sum_from}
-use Rattle.rls_evaluation.specs.Standing.{Standing}
 use Rattle.rls_evaluation.specs.Holding.{Tells}
 use Rattle.rls_evaluation.proofs.Telling.{Leads, turn, tells_on, drop_at}
 
@@ -66,7 +66,7 @@ terms_left es i e h is = simp unary_clauses (terms_from es i e h is)
 
 -- a turn over parts, whose truths are put together by AND or by OR
 pub terms_turn : (op : Truth → Truth → Truth) (again : (a b c : Truth) → op (op a b) c ≡ op a (op b c)) (truth : Value → Truth) (none : Truth) (sees : Shows) (env : Environment)
-    (es : List Term) (i : ℕ) (e : Term) (v : Value) (so_far next : Truth) (now mid after : Standing) (old notes new : List Object)
+    (es : List Term) (i : ℕ) (e : Term) (v : Value) (so_far next : Truth) (now mid after : State) (old notes new : List Object)
     → i < length es → e ≡ get_or es i e → next ≡ op so_far (truth v) → mid ≡ now
     → Leads (together (λ v rest. op (truth v) rest) none (terms_of es) sees env) (together (λ v rest. op (truth v) rest) none (terms_of (drop i es)) sees env) (op so_far) now old notes
     → Tells (value_of e sees env) mid after notes new (Ok v)
@@ -79,7 +79,7 @@ terms_turn op again truth none sees env es i e v so_far next now mid after old n
 
 -- a turn over a list
 pub rows_turn : {A B R V : Type 0} (whole : Asking V) (join next : R → V) (put : A → B → R → R) (none : R) (ask : A → Asking B) (xs : List A) (i : ℕ) (x : A) (y : B)
-    (now mid after : Standing) (old notes new : List Object)
+    (now mid after : State) (old notes new : List Object)
     → i < length xs → x ≡ get_or xs i x → ((rest : R) → next rest ≡ join (put x y rest)) → mid ≡ now
     → Leads whole (gathered put none ask (drop i xs)) join now old notes → Tells (ask x) mid after notes new (Ok y)
     → Leads whole (gathered put none ask (drop (i + 1) xs)) next now old new
@@ -106,7 +106,7 @@ behind_first : {A : Type 0} (x : A) (xs : List A) → take (length (x ∷ xs) - 
 behind_first x xs = take_all (length (x ∷ xs) - 1) xs (omega arith)
 
 -- the first part of a sum, then the others
-pub sum_told : (sees : Shows) (env : Environment) (signs : List Sign) (parts : List Term) (e : Term) (before mid after : Standing) (old between new : List Object) (v number : Value) (result : Result Value AllocError)
+pub sum_told : (sees : Shows) (env : Environment) (signs : List Sign) (parts : List Term) (e : Term) (before mid after : State) (old between new : List Object) (v number : Value) (result : Result Value AllocError)
     → 1 ≤ length parts → e ≡ get_or parts 0 e → Tells (value_of e sees env) before mid old between (Ok v) → number ≡ number_or_null v
     → Tells (sum_from number signs (terms_of (take (length parts - 1) (drop 1 parts))) sees env) mid after between new result → Tells (sum_of signs (terms_of parts) sees env) before after old new result
 sum_told sees env signs [] e before mid after old between new v number result some is first same rest = absurd (omega (arith, some))
@@ -117,7 +117,7 @@ sum_told sees env signs (x ∷ xs) e before mid after old between new v number r
     (subst (λ n. Tells (sum_from n signs (terms_of (take (length (x ∷ xs) - 1) xs)) sees env) mid after between new result) same rest))
 
 -- one part more of a sum, then the others
-pub sum_on : (sees : Shows) (env : Environment) (so_far : Value) (signs : List Sign) (parts : List Term) (e : Term) (before mid after : Standing) (old between new : List Object) (v next : Value) (result : Result Value AllocError)
+pub sum_on : (sees : Shows) (env : Environment) (so_far : Value) (signs : List Sign) (parts : List Term) (e : Term) (before mid after : State) (old between new : List Object) (v next : Value) (result : Result Value AllocError)
     → 1 ≤ length signs → 1 ≤ length parts → e ≡ get_or parts 0 e → Tells (value_of e sees env) before mid old between (Ok v) → next ≡ joined (slice_index_or signs 0 Plus) so_far v
     → Tells (sum_from next (take (length signs - 1) (drop 1 signs)) (terms_of (take (length parts - 1) (drop 1 parts))) sees env) mid after between new result → Tells (sum_from so_far signs (terms_of parts) sees env) before after old new result
 sum_on sees env so_far [] parts e before mid after old between new v next result some many is first same rest = absurd (omega (arith, some))

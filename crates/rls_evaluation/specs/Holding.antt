@@ -13,14 +13,13 @@ use Rattle.rls_source.specs.Askings.{Asking, known}
 use Rattle.rls_evaluation.specs.declared.fence.Fence.{Fence}
 use Rattle.rls_evaluation.specs.declared.memo.Seen.{Seen}
 use Rattle.rls_evaluation.specs.declared.memo.Work.{Work}
-use Rattle.rls_evaluation.specs.Standing.{Standing}
 use Rattle.rls_evaluation.specs.Showing.{asked_for, shown_first}
 
 -- a call answers what is asked, unless memory ran out: what is read is added to the notes, each object once, and the
 -- source stands as before
-pub record Tells {A : Type 0} (asking : Asking A) (before after : Standing) (old new : List Object) (result : Result A AllocError) : Type 0 where
-  pub given : IfOk result (λ a. (asking.in_state before.state).gives ≡ Ok a)
-  pub noted : OnOk result (new ≡ with_reads old (asking.in_state before.state).reads)
+pub record Tells {A : Type 0} (asking : Asking A) (before after : State) (old new : List Object) (result : Result A AllocError) : Type 0 where
+  pub given : IfOk result (λ a. (asking.in_state before).gives ≡ Ok a)
+  pub noted : OnOk result (new ≡ with_reads old (asking.in_state before).reads)
   pub stands : after ≡ before
 
 -- what is read of a table, by a key or all of it

@@ -4,6 +4,5 @@ pub mod Keys
 pub mod Eval
 pub mod Showing
 pub mod Sizes
-pub mod Standing
 pub mod Scoping
 pub mod Holding

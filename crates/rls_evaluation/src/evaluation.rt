@@ -31,7 +31,7 @@ use std::alloc::{AllocError, Global};
 
 /// The value of the expression. Nothing is cut short: every part is evaluated.
 #[cycle(eval)]
-fn eval<'a, 'c, S: Tables>(
+pub fn eval<'a, 'c, S: Tables>(
     alloc: Global,
     source: &mut S,
     work: &mut Work,
@@ -39,9 +39,9 @@ fn eval<'a, 'c, S: Tables>(
     expr: &'a Expr,
     env: &Env<'a>,
 ) -> Result<Held<'a>, AllocError>
-    requires { Holds view.fences.now env.now.user.now (S.standing source.old).state work.old }
-    ensures tells { Tells (value_of expr.now (shows (drop view.entry.from view.entry.fences.now) env.now.user.now) (env_of env.now)) (S.standing source.old) (S.standing source.new) work.old.notes work.new.notes (held_now result) }
-    ensures holds { OnOk result (Holds view.entry.fences.now env.now.user.now (S.standing source.new).state work.new) }
+    requires { Holds view.fences.now env.now.user.now (S.state source.old) work.old }
+    ensures tells { Tells (value_of expr.now (shows (drop view.entry.from view.entry.fences.now) env.now.user.now) (env_of env.now)) (S.state source.old) (S.state source.new) work.old.notes work.new.notes (held_now result) }
+    ensures holds { OnOk result (Holds view.entry.fences.now env.now.user.now (S.state source.new) work.new) }
 {
     match expr.node() {
         Node::Literal(value) => Ok(held_of(value)),
@@ -80,9 +80,9 @@ fn comparison<'a, 'c, S: Tables>(
     right: &'a Expr,
     env: &Env<'a>,
 ) -> Result<Held<'a>, AllocError>
-    requires { Holds view.fences.now env.now.user.now (S.standing source.old).state work.old }
-    ensures tells { Tells (value_of (t.Compare how left.now right.now) (shows (drop view.entry.from view.entry.fences.now) env.now.user.now) (env_of env.now)) (S.standing source.old) (S.standing source.new) work.old.notes work.new.notes (held_now result) }
-    ensures holds { OnOk result (Holds view.entry.fences.now env.now.user.now (S.standing source.new).state work.new) }
+    requires { Holds view.fences.now env.now.user.now (S.state source.old) work.old }
+    ensures tells { Tells (value_of (t.Compare how left.now right.now) (shows (drop view.entry.from view.entry.fences.now) env.now.user.now) (env_of env.now)) (S.state source.old) (S.state source.new) work.old.notes work.new.notes (held_now result) }
+    ensures holds { OnOk result (Holds view.entry.fences.now env.now.user.now (S.state source.new) work.new) }
 {
     let left = eval(alloc, source, work, view, left, env)?;
     let right = eval(alloc, source, work, view, right, env)?;
@@ -99,9 +99,9 @@ fn conjunction<'a, 'c, S: Tables>(
     parts: &'a [Expr],
     env: &Env<'a>,
 ) -> Result<Held<'a>, AllocError>
-    requires { Holds view.fences.now env.now.user.now (S.standing source.old).state work.old }
-    ensures tells { Tells (value_of (t.And (terms_of parts.now)) (shows (drop view.entry.from view.entry.fences.now) env.now.user.now) (env_of env.now)) (S.standing source.old) (S.standing source.new) work.old.notes work.new.notes (held_now result) }
-    ensures holds { OnOk result (Holds view.entry.fences.now env.now.user.now (S.standing source.new).state work.new) }
+    requires { Holds view.fences.now env.now.user.now (S.state source.old) work.old }
+    ensures tells { Tells (value_of (t.And (terms_of parts.now)) (shows (drop view.entry.from view.entry.fences.now) env.now.user.now) (env_of env.now)) (S.state source.old) (S.state source.new) work.old.notes work.new.notes (held_now result) }
+    ensures holds { OnOk result (Holds view.entry.fences.now env.now.user.now (S.state source.new) work.new) }
 {
     let truth = all_of(alloc, source, work, view, parts, env)?;
     Ok(held_truth(truth))
@@ -117,9 +117,9 @@ fn all_of<'a, 'c, S: Tables>(
     parts: &'a [Expr],
     env: &Env<'a>,
 ) -> Result<Truth, AllocError>
-    requires { Holds view.fences.now env.now.user.now (S.standing source.old).state work.old }
-    ensures tells { Tells (together and_value True (terms_of parts.now) (shows (drop view.entry.from view.entry.fences.now) env.now.user.now) (env_of env.now)) (S.standing source.old) (S.standing source.new) work.old.notes work.new.notes result }
-    ensures holds { OnOk result (Holds view.entry.fences.now env.now.user.now (S.standing source.new).state work.new) }
+    requires { Holds view.fences.now env.now.user.now (S.state source.old) work.old }
+    ensures tells { Tells (together and_value True (terms_of parts.now) (shows (drop view.entry.from view.entry.fences.now) env.now.user.now) (env_of env.now)) (S.state source.old) (S.state source.new) work.old.notes work.new.notes result }
+    ensures holds { OnOk result (Holds view.entry.fences.now env.now.user.now (S.state source.new) work.new) }
 {
     let mut so_far = Truth::True;
     for part in parts {
@@ -139,9 +139,9 @@ fn disjunction<'a, 'c, S: Tables>(
     parts: &'a [Expr],
     env: &Env<'a>,
 ) -> Result<Held<'a>, AllocError>
-    requires { Holds view.fences.now env.now.user.now (S.standing source.old).state work.old }
-    ensures tells { Tells (value_of (t.Or (terms_of parts.now)) (shows (drop view.entry.from view.entry.fences.now) env.now.user.now) (env_of env.now)) (S.standing source.old) (S.standing source.new) work.old.notes work.new.notes (held_now result) }
-    ensures holds { OnOk result (Holds view.entry.fences.now env.now.user.now (S.standing source.new).state work.new) }
+    requires { Holds view.fences.now env.now.user.now (S.state source.old) work.old }
+    ensures tells { Tells (value_of (t.Or (terms_of parts.now)) (shows (drop view.entry.from view.entry.fences.now) env.now.user.now) (env_of env.now)) (S.state source.old) (S.state source.new) work.old.notes work.new.notes (held_now result) }
+    ensures holds { OnOk result (Holds view.entry.fences.now env.now.user.now (S.state source.new) work.new) }
 {
     let truth = any_of(alloc, source, work, view, parts, env)?;
     Ok(held_truth(truth))
@@ -157,9 +157,9 @@ fn any_of<'a, 'c, S: Tables>(
     parts: &'a [Expr],
     env: &Env<'a>,
 ) -> Result<Truth, AllocError>
-    requires { Holds view.fences.now env.now.user.now (S.standing source.old).state work.old }
-    ensures tells { Tells (together or_value False (terms_of parts.now) (shows (drop view.entry.from view.entry.fences.now) env.now.user.now) (env_of env.now)) (S.standing source.old) (S.standing source.new) work.old.notes work.new.notes result }
-    ensures holds { OnOk result (Holds view.entry.fences.now env.now.user.now (S.standing source.new).state work.new) }
+    requires { Holds view.fences.now env.now.user.now (S.state source.old) work.old }
+    ensures tells { Tells (together or_value False (terms_of parts.now) (shows (drop view.entry.from view.entry.fences.now) env.now.user.now) (env_of env.now)) (S.state source.old) (S.state source.new) work.old.notes work.new.notes result }
+    ensures holds { OnOk result (Holds view.entry.fences.now env.now.user.now (S.state source.new) work.new) }
 {
     let mut so_far = Truth::False;
     for part in parts {
@@ -179,9 +179,9 @@ fn negation<'a, 'c, S: Tables>(
     operand: &'a Expr,
     env: &Env<'a>,
 ) -> Result<Held<'a>, AllocError>
-    requires { Holds view.fences.now env.now.user.now (S.standing source.old).state work.old }
-    ensures tells { Tells (value_of (t.Not operand.now) (shows (drop view.entry.from view.entry.fences.now) env.now.user.now) (env_of env.now)) (S.standing source.old) (S.standing source.new) work.old.notes work.new.notes (held_now result) }
-    ensures holds { OnOk result (Holds view.entry.fences.now env.now.user.now (S.standing source.new).state work.new) }
+    requires { Holds view.fences.now env.now.user.now (S.state source.old) work.old }
+    ensures tells { Tells (value_of (t.Not operand.now) (shows (drop view.entry.from view.entry.fences.now) env.now.user.now) (env_of env.now)) (S.state source.old) (S.state source.new) work.old.notes work.new.notes (held_now result) }
+    ensures holds { OnOk result (Holds view.entry.fences.now env.now.user.now (S.state source.new) work.new) }
 {
     let held = eval(alloc, source, work, view, operand, env)?;
     Ok(held_truth(held.truth().not()))
@@ -197,9 +197,9 @@ fn null_test<'a, 'c, S: Tables>(
     operand: &'a Expr,
     env: &Env<'a>,
 ) -> Result<Held<'a>, AllocError>
-    requires { Holds view.fences.now env.now.user.now (S.standing source.old).state work.old }
-    ensures tells { Tells (value_of (t.IsNull operand.now) (shows (drop view.entry.from view.entry.fences.now) env.now.user.now) (env_of env.now)) (S.standing source.old) (S.standing source.new) work.old.notes work.new.notes (held_now result) }
-    ensures holds { OnOk result (Holds view.entry.fences.now env.now.user.now (S.standing source.new).state work.new) }
+    requires { Holds view.fences.now env.now.user.now (S.state source.old) work.old }
+    ensures tells { Tells (value_of (t.IsNull operand.now) (shows (drop view.entry.from view.entry.fences.now) env.now.user.now) (env_of env.now)) (S.state source.old) (S.state source.new) work.old.notes work.new.notes (held_now result) }
+    ensures holds { OnOk result (Holds view.entry.fences.now env.now.user.now (S.state source.new) work.new) }
 {
     let held = eval(alloc, source, work, view, operand, env)?;
     Ok(Held::Bool(held.is_null()))
@@ -215,9 +215,9 @@ fn not_null_test<'a, 'c, S: Tables>(
     operand: &'a Expr,
     env: &Env<'a>,
 ) -> Result<Held<'a>, AllocError>
-    requires { Holds view.fences.now env.now.user.now (S.standing source.old).state work.old }
-    ensures tells { Tells (value_of (t.IsNotNull operand.now) (shows (drop view.entry.from view.entry.fences.now) env.now.user.now) (env_of env.now)) (S.standing source.old) (S.standing source.new) work.old.notes work.new.notes (held_now result) }
-    ensures holds { OnOk result (Holds view.entry.fences.now env.now.user.now (S.standing source.new).state work.new) }
+    requires { Holds view.fences.now env.now.user.now (S.state source.old) work.old }
+    ensures tells { Tells (value_of (t.IsNotNull operand.now) (shows (drop view.entry.from view.entry.fences.now) env.now.user.now) (env_of env.now)) (S.state source.old) (S.state source.new) work.old.notes work.new.notes (held_now result) }
+    ensures holds { OnOk result (Holds view.entry.fences.now env.now.user.now (S.state source.new) work.new) }
 {
     let held = eval(alloc, source, work, view, operand, env)?;
     Ok(Held::Bool(!held.is_null()))
@@ -234,9 +234,9 @@ fn among<'a, 'c, S: Tables>(
     list: &'a [Expr],
     env: &Env<'a>,
 ) -> Result<Held<'a>, AllocError>
-    requires { Holds view.fences.now env.now.user.now (S.standing source.old).state work.old }
-    ensures tells { Tells (value_of (t.Among operand.now (terms_of list.now)) (shows (drop view.entry.from view.entry.fences.now) env.now.user.now) (env_of env.now)) (S.standing source.old) (S.standing source.new) work.old.notes work.new.notes (held_now result) }
-    ensures holds { OnOk result (Holds view.entry.fences.now env.now.user.now (S.standing source.new).state work.new) }
+    requires { Holds view.fences.now env.now.user.now (S.state source.old) work.old }
+    ensures tells { Tells (value_of (t.Among operand.now (terms_of list.now)) (shows (drop view.entry.from view.entry.fences.now) env.now.user.now) (env_of env.now)) (S.state source.old) (S.state source.new) work.old.notes work.new.notes (held_now result) }
+    ensures holds { OnOk result (Holds view.entry.fences.now env.now.user.now (S.state source.new) work.new) }
 {
     let held = eval(alloc, source, work, view, operand, env)?;
     let truth = is_one_of(alloc, source, work, view, &held, list, env)?;
@@ -254,9 +254,9 @@ fn not_among<'a, 'c, S: Tables>(
     list: &'a [Expr],
     env: &Env<'a>,
 ) -> Result<Held<'a>, AllocError>
-    requires { Holds view.fences.now env.now.user.now (S.standing source.old).state work.old }
-    ensures tells { Tells (value_of (t.NotAmong operand.now (terms_of list.now)) (shows (drop view.entry.from view.entry.fences.now) env.now.user.now) (env_of env.now)) (S.standing source.old) (S.standing source.new) work.old.notes work.new.notes (held_now result) }
-    ensures holds { OnOk result (Holds view.entry.fences.now env.now.user.now (S.standing source.new).state work.new) }
+    requires { Holds view.fences.now env.now.user.now (S.state source.old) work.old }
+    ensures tells { Tells (value_of (t.NotAmong operand.now (terms_of list.now)) (shows (drop view.entry.from view.entry.fences.now) env.now.user.now) (env_of env.now)) (S.state source.old) (S.state source.new) work.old.notes work.new.notes (held_now result) }
+    ensures holds { OnOk result (Holds view.entry.fences.now env.now.user.now (S.state source.new) work.new) }
 {
     let held = eval(alloc, source, work, view, operand, env)?;
     let truth = is_one_of(alloc, source, work, view, &held, list, env)?;
@@ -274,9 +274,9 @@ fn is_one_of<'a, 'c, S: Tables>(
     list: &'a [Expr],
     env: &Env<'a>,
 ) -> Result<Truth, AllocError>
-    requires { Holds view.fences.now env.now.user.now (S.standing source.old).state work.old }
-    ensures tells { Tells (together (or_equal (held_value value.now)) False (terms_of list.now) (shows (drop view.entry.from view.entry.fences.now) env.now.user.now) (env_of env.now)) (S.standing source.old) (S.standing source.new) work.old.notes work.new.notes result }
-    ensures holds { OnOk result (Holds view.entry.fences.now env.now.user.now (S.standing source.new).state work.new) }
+    requires { Holds view.fences.now env.now.user.now (S.state source.old) work.old }
+    ensures tells { Tells (together (or_equal (held_value value.now)) False (terms_of list.now) (shows (drop view.entry.from view.entry.fences.now) env.now.user.now) (env_of env.now)) (S.state source.old) (S.state source.new) work.old.notes work.new.notes result }
+    ensures holds { OnOk result (Holds view.entry.fences.now env.now.user.now (S.state source.new) work.new) }
 {
     let mut so_far = Truth::False;
     for part in list {
@@ -297,9 +297,9 @@ fn sum<'a, 'c, S: Tables>(
     parts: &'a [Expr],
     env: &Env<'a>,
 ) -> Result<Held<'a>, AllocError>
-    requires { Holds view.fences.now env.now.user.now (S.standing source.old).state work.old }
-    ensures tells { Tells (value_of (t.Sum signs.now (terms_of parts.now)) (shows (drop view.entry.from view.entry.fences.now) env.now.user.now) (env_of env.now)) (S.standing source.old) (S.standing source.new) work.old.notes work.new.notes (held_now result) }
-    ensures holds { OnOk result (Holds view.entry.fences.now env.now.user.now (S.standing source.new).state work.new) }
+    requires { Holds view.fences.now env.now.user.now (S.state source.old) work.old }
+    ensures tells { Tells (value_of (t.Sum signs.now (terms_of parts.now)) (shows (drop view.entry.from view.entry.fences.now) env.now.user.now) (env_of env.now)) (S.state source.old) (S.state source.new) work.old.notes work.new.notes (held_now result) }
+    ensures holds { OnOk result (Holds view.entry.fences.now env.now.user.now (S.state source.new) work.new) }
 {
     match parts {
         [] => Ok(Held::Null),
@@ -324,9 +324,9 @@ fn sum_from<'a, 'c, S: Tables>(
     parts: &'a [Expr],
     env: &Env<'a>,
 ) -> Result<Held<'a>, AllocError>
-    requires { Holds view.fences.now env.now.user.now (S.standing source.old).state work.old }
-    ensures tells { Tells (means.sum_from (number_value first) signs.now (terms_of parts.now) (shows (drop view.entry.from view.entry.fences.now) env.now.user.now) (env_of env.now)) (S.standing source.old) (S.standing source.new) work.old.notes work.new.notes (held_now result) }
-    ensures holds { OnOk result (Holds view.entry.fences.now env.now.user.now (S.standing source.new).state work.new) }
+    requires { Holds view.fences.now env.now.user.now (S.state source.old) work.old }
+    ensures tells { Tells (means.sum_from (number_value first) signs.now (terms_of parts.now) (shows (drop view.entry.from view.entry.fences.now) env.now.user.now) (env_of env.now)) (S.state source.old) (S.state source.new) work.old.notes work.new.notes (held_now result) }
+    ensures holds { OnOk result (Holds view.entry.fences.now env.now.user.now (S.state source.new) work.new) }
 {
     match (signs, parts) {
         ([sign, other_signs @ ..], [part, other_parts @ ..]) => {
@@ -363,9 +363,9 @@ fn exists<'a, 'c, S: Tables>(
     query: &'a Subquery,
     env: &Env<'a>,
 ) -> Result<Held<'a>, AllocError>
-    requires { Holds view.fences.now env.now.user.now (S.standing source.old).state work.old }
-    ensures tells { Tells (value_of (t.Exists (query_of query.now)) (shows (drop view.entry.from view.entry.fences.now) env.now.user.now) (env_of env.now)) (S.standing source.old) (S.standing source.new) work.old.notes work.new.notes (held_now result) }
-    ensures holds { OnOk result (Holds view.entry.fences.now env.now.user.now (S.standing source.new).state work.new) }
+    requires { Holds view.fences.now env.now.user.now (S.state source.old) work.old }
+    ensures tells { Tells (value_of (t.Exists (query_of query.now)) (shows (drop view.entry.from view.entry.fences.now) env.now.user.now) (env_of env.now)) (S.state source.old) (S.state source.new) work.old.notes work.new.notes (held_now result) }
+    ensures holds { OnOk result (Holds view.entry.fences.now env.now.user.now (S.state source.new) work.new) }
 {
     let rows = rows_for(alloc, source, work, view, query, env)?;
     let is = is_met(
@@ -391,9 +391,9 @@ fn is_met<'a, 'c, S: Tables>(
     env: &'a Env<'a>,
     rows: &'a [Row],
 ) -> Result<bool, AllocError>
-    requires { Holds view.fences.now env.now.user.now (S.standing source.old).state work.old }
-    ensures tells { Tells (gathered (λ row is rest. is || rest) false (λ row. meets (maybe_term condition.now) (shows (drop view.entry.from view.entry.fences.now) env.now.user.now) (inside row (env_of env.now))) rows.now) (S.standing source.old) (S.standing source.new) work.old.notes work.new.notes result }
-    ensures holds { OnOk result (Holds view.entry.fences.now env.now.user.now (S.standing source.new).state work.new) }
+    requires { Holds view.fences.now env.now.user.now (S.state source.old) work.old }
+    ensures tells { Tells (gathered (λ row is rest. is || rest) false (λ row. meets (maybe_term condition.now) (shows (drop view.entry.from view.entry.fences.now) env.now.user.now) (inside row (env_of env.now))) rows.now) (S.state source.old) (S.state source.new) work.old.notes work.new.notes result }
+    ensures holds { OnOk result (Holds view.entry.fences.now env.now.user.now (S.state source.new) work.new) }
 {
     let mut so_far = false;
     for row in rows {
@@ -418,9 +418,9 @@ fn within<'a, 'c, S: Tables>(
     query: &'a Subquery,
     env: &Env<'a>,
 ) -> Result<Held<'a>, AllocError>
-    requires { Holds view.fences.now env.now.user.now (S.standing source.old).state work.old }
-    ensures tells { Tells (value_of (t.Within operand.now (query_of query.now)) (shows (drop view.entry.from view.entry.fences.now) env.now.user.now) (env_of env.now)) (S.standing source.old) (S.standing source.new) work.old.notes work.new.notes (held_now result) }
-    ensures holds { OnOk result (Holds view.entry.fences.now env.now.user.now (S.standing source.new).state work.new) }
+    requires { Holds view.fences.now env.now.user.now (S.state source.old) work.old }
+    ensures tells { Tells (value_of (t.Within operand.now (query_of query.now)) (shows (drop view.entry.from view.entry.fences.now) env.now.user.now) (env_of env.now)) (S.state source.old) (S.state source.new) work.old.notes work.new.notes (held_now result) }
+    ensures holds { OnOk result (Holds view.entry.fences.now env.now.user.now (S.state source.new) work.new) }
 {
     let held = eval(alloc, source, work, view, operand, env)?;
     let truth = is_within(alloc, source, work, view, &held, query, env)?;
@@ -438,9 +438,9 @@ fn not_within<'a, 'c, S: Tables>(
     query: &'a Subquery,
     env: &Env<'a>,
 ) -> Result<Held<'a>, AllocError>
-    requires { Holds view.fences.now env.now.user.now (S.standing source.old).state work.old }
-    ensures tells { Tells (value_of (t.NotWithin operand.now (query_of query.now)) (shows (drop view.entry.from view.entry.fences.now) env.now.user.now) (env_of env.now)) (S.standing source.old) (S.standing source.new) work.old.notes work.new.notes (held_now result) }
-    ensures holds { OnOk result (Holds view.entry.fences.now env.now.user.now (S.standing source.new).state work.new) }
+    requires { Holds view.fences.now env.now.user.now (S.state source.old) work.old }
+    ensures tells { Tells (value_of (t.NotWithin operand.now (query_of query.now)) (shows (drop view.entry.from view.entry.fences.now) env.now.user.now) (env_of env.now)) (S.state source.old) (S.state source.new) work.old.notes work.new.notes (held_now result) }
+    ensures holds { OnOk result (Holds view.entry.fences.now env.now.user.now (S.state source.new) work.new) }
 {
     let held = eval(alloc, source, work, view, operand, env)?;
     let truth = is_within(alloc, source, work, view, &held, query, env)?;
@@ -458,9 +458,9 @@ fn is_within<'a, 'c, S: Tables>(
     query: &'a Subquery,
     env: &Env<'a>,
 ) -> Result<Truth, AllocError>
-    requires { Holds view.fences.now env.now.user.now (S.standing source.old).state work.old }
-    ensures tells { Tells (among_items (held_value value.now) (query_of query.now) (shows (drop view.entry.from view.entry.fences.now) env.now.user.now) (env_of env.now)) (S.standing source.old) (S.standing source.new) work.old.notes work.new.notes result }
-    ensures holds { OnOk result (Holds view.entry.fences.now env.now.user.now (S.standing source.new).state work.new) }
+    requires { Holds view.fences.now env.now.user.now (S.state source.old) work.old }
+    ensures tells { Tells (among_items (held_value value.now) (query_of query.now) (shows (drop view.entry.from view.entry.fences.now) env.now.user.now) (env_of env.now)) (S.state source.old) (S.state source.new) work.old.notes work.new.notes result }
+    ensures holds { OnOk result (Holds view.entry.fences.now env.now.user.now (S.state source.new) work.new) }
 {
     let rows = rows_for(alloc, source, work, view, query, env)?;
     let truth = is_item(
@@ -488,9 +488,9 @@ fn is_item<'a, 'c, S: Tables>(
     env: &'a Env<'a>,
     rows: &'a [Row],
 ) -> Result<Truth, AllocError>
-    requires { Holds view.fences.now env.now.user.now (S.standing source.old).state work.old }
-    ensures tells { Tells (gathered (λ row item rest. or_item (held_value value.now) item rest) False (λ row. means.item_if (meets (maybe_term query.now.condition) (shows (drop view.entry.from view.entry.fences.now) env.now.user.now) (inside row (env_of env.now))) (item_of (terms_of query.now.items.items) (shows (drop view.entry.from view.entry.fences.now) env.now.user.now) (inside row (env_of env.now)))) rows.now) (S.standing source.old) (S.standing source.new) work.old.notes work.new.notes result }
-    ensures holds { OnOk result (Holds view.entry.fences.now env.now.user.now (S.standing source.new).state work.new) }
+    requires { Holds view.fences.now env.now.user.now (S.state source.old) work.old }
+    ensures tells { Tells (gathered (λ row item rest. or_item (held_value value.now) item rest) False (λ row. means.item_if (meets (maybe_term query.now.condition) (shows (drop view.entry.from view.entry.fences.now) env.now.user.now) (inside row (env_of env.now))) (item_of (terms_of query.now.items.items) (shows (drop view.entry.from view.entry.fences.now) env.now.user.now) (inside row (env_of env.now)))) rows.now) (S.state source.old) (S.state source.new) work.old.notes work.new.notes result }
+    ensures holds { OnOk result (Holds view.entry.fences.now env.now.user.now (S.state source.new) work.new) }
 {
     let mut so_far = Truth::False;
     for row in rows {
@@ -514,9 +514,9 @@ fn scalar<'a, 'c, S: Tables>(
     query: &'a Subquery,
     env: &Env<'a>,
 ) -> Result<Held<'a>, AllocError>
-    requires { Holds view.fences.now env.now.user.now (S.standing source.old).state work.old }
-    ensures tells { Tells (value_of (t.Scalar (query_of query.now)) (shows (drop view.entry.from view.entry.fences.now) env.now.user.now) (env_of env.now)) (S.standing source.old) (S.standing source.new) work.old.notes work.new.notes (held_now result) }
-    ensures holds { OnOk result (Holds view.entry.fences.now env.now.user.now (S.standing source.new).state work.new) }
+    requires { Holds view.fences.now env.now.user.now (S.state source.old) work.old }
+    ensures tells { Tells (value_of (t.Scalar (query_of query.now)) (shows (drop view.entry.from view.entry.fences.now) env.now.user.now) (env_of env.now)) (S.state source.old) (S.state source.new) work.old.notes work.new.notes (held_now result) }
+    ensures holds { OnOk result (Holds view.entry.fences.now env.now.user.now (S.state source.new) work.new) }
 {
     let rows = rows_for(alloc, source, work, view, query, env)?;
     let item = first_item(alloc, source, work, view, query, &*env, rows.as_slice())?;
@@ -534,9 +534,9 @@ fn first_item<'a, 'b, 'c, S: Tables>(
     env: &'a Env<'a>,
     rows: &'a [Row],
 ) -> Result<Held<'b>, AllocError>
-    requires { Holds view.fences.now env.now.user.now (S.standing source.old).state work.old }
-    ensures tells { Tells (gathered (λ row item rest. item_or item rest) Null (λ row. means.item_if (meets (maybe_term query.now.condition) (shows (drop view.entry.from view.entry.fences.now) env.now.user.now) (inside row (env_of env.now))) (item_of (terms_of query.now.items.items) (shows (drop view.entry.from view.entry.fences.now) env.now.user.now) (inside row (env_of env.now)))) rows.now) (S.standing source.old) (S.standing source.new) work.old.notes work.new.notes (held_now result) }
-    ensures holds { OnOk result (Holds view.entry.fences.now env.now.user.now (S.standing source.new).state work.new) }
+    requires { Holds view.fences.now env.now.user.now (S.state source.old) work.old }
+    ensures tells { Tells (gathered (λ row item rest. item_or item rest) Null (λ row. means.item_if (meets (maybe_term query.now.condition) (shows (drop view.entry.from view.entry.fences.now) env.now.user.now) (inside row (env_of env.now))) (item_of (terms_of query.now.items.items) (shows (drop view.entry.from view.entry.fences.now) env.now.user.now) (inside row (env_of env.now)))) rows.now) (S.state source.old) (S.state source.new) work.old.notes work.new.notes (held_now result) }
+    ensures holds { OnOk result (Holds view.entry.fences.now env.now.user.now (S.state source.new) work.new) }
 {
     let mut first = None;
     for row in rows {
@@ -560,9 +560,9 @@ fn item_if<'a, 'c, S: Tables>(
     query: &'a Subquery,
     env: &Env<'a>,
 ) -> Result<Option<Held<'a>>, AllocError>
-    requires { Holds view.fences.now env.now.user.now (S.standing source.old).state work.old }
-    ensures tells { Tells (means.item_if (meets (maybe_term query.now.condition) (shows (drop view.entry.from view.entry.fences.now) env.now.user.now) (env_of env.now)) (item_of (terms_of query.now.items.items) (shows (drop view.entry.from view.entry.fences.now) env.now.user.now) (env_of env.now))) (S.standing source.old) (S.standing source.new) work.old.notes work.new.notes (maybe_now result) }
-    ensures holds { OnOk result (Holds view.entry.fences.now env.now.user.now (S.standing source.new).state work.new) }
+    requires { Holds view.fences.now env.now.user.now (S.state source.old) work.old }
+    ensures tells { Tells (means.item_if (meets (maybe_term query.now.condition) (shows (drop view.entry.from view.entry.fences.now) env.now.user.now) (env_of env.now)) (item_of (terms_of query.now.items.items) (shows (drop view.entry.from view.entry.fences.now) env.now.user.now) (env_of env.now))) (S.state source.old) (S.state source.new) work.old.notes work.new.notes (maybe_now result) }
+    ensures holds { OnOk result (Holds view.entry.fences.now env.now.user.now (S.state source.new) work.new) }
 {
     let is = meets_condition(alloc, source, work, view, &query.condition, env)?;
     if !is {
@@ -582,9 +582,9 @@ fn item<'a, 'c, S: Tables>(
     items: &'a [Expr],
     env: &Env<'a>,
 ) -> Result<Held<'a>, AllocError>
-    requires { Holds view.fences.now env.now.user.now (S.standing source.old).state work.old }
-    ensures tells { Tells (item_of (terms_of items.now) (shows (drop view.entry.from view.entry.fences.now) env.now.user.now) (env_of env.now)) (S.standing source.old) (S.standing source.new) work.old.notes work.new.notes (held_now result) }
-    ensures holds { OnOk result (Holds view.entry.fences.now env.now.user.now (S.standing source.new).state work.new) }
+    requires { Holds view.fences.now env.now.user.now (S.state source.old) work.old }
+    ensures tells { Tells (item_of (terms_of items.now) (shows (drop view.entry.from view.entry.fences.now) env.now.user.now) (env_of env.now)) (S.state source.old) (S.state source.new) work.old.notes work.new.notes (held_now result) }
+    ensures holds { OnOk result (Holds view.entry.fences.now env.now.user.now (S.state source.new) work.new) }
 {
     match items {
         [] => Ok(Held::Null),
@@ -594,7 +594,7 @@ fn item<'a, 'c, S: Tables>(
 
 /// Whether the condition is true, or left out.
 #[cycle(eval)]
-fn meets_condition<'a, 'c, S: Tables>(
+pub fn meets_condition<'a, 'c, S: Tables>(
     alloc: Global,
     source: &mut S,
     work: &mut Work,
@@ -602,9 +602,9 @@ fn meets_condition<'a, 'c, S: Tables>(
     condition: &'a Option<Expr>,
     env: &Env<'a>,
 ) -> Result<bool, AllocError>
-    requires { Holds view.fences.now env.now.user.now (S.standing source.old).state work.old }
-    ensures tells { Tells (meets (maybe_term condition.now) (shows (drop view.entry.from view.entry.fences.now) env.now.user.now) (env_of env.now)) (S.standing source.old) (S.standing source.new) work.old.notes work.new.notes result }
-    ensures holds { OnOk result (Holds view.entry.fences.now env.now.user.now (S.standing source.new).state work.new) }
+    requires { Holds view.fences.now env.now.user.now (S.state source.old) work.old }
+    ensures tells { Tells (meets (maybe_term condition.now) (shows (drop view.entry.from view.entry.fences.now) env.now.user.now) (env_of env.now)) (S.state source.old) (S.state source.new) work.old.notes work.new.notes result }
+    ensures holds { OnOk result (Holds view.entry.fences.now env.now.user.now (S.state source.new) work.new) }
 {
     match condition {
         None => Ok(true),
@@ -625,9 +625,9 @@ fn rows_for<'a, 'c, S: Tables>(
     query: &'a Subquery,
     env: &Env<'a>,
 ) -> Result<Rows, AllocError>
-    requires { Holds view.fences.now env.now.user.now (S.standing source.old).state work.old }
-    ensures tells { Tells (ranged_over (query_of query.now) (shows (drop view.entry.from view.entry.fences.now) env.now.user.now) (env_of env.now)) (S.standing source.old) (S.standing source.new) work.old.notes work.new.notes result }
-    ensures holds { OnOk result (Holds view.entry.fences.now env.now.user.now (S.standing source.new).state work.new) }
+    requires { Holds view.fences.now env.now.user.now (S.state source.old) work.old }
+    ensures tells { Tells (ranged_over (query_of query.now) (shows (drop view.entry.from view.entry.fences.now) env.now.user.now) (env_of env.now)) (S.state source.old) (S.state source.new) work.old.notes work.new.notes result }
+    ensures holds { OnOk result (Holds view.entry.fences.now env.now.user.now (S.state source.new) work.new) }
 {
     let key = key_of(alloc, &query.key, &query.condition, env)?;
     seen(alloc, source, work, view, env.user, &query.from.table, key)
@@ -644,9 +644,9 @@ fn seen<'a, 'c, S: Tables>(
     table: &Name,
     key: Option<Row>,
 ) -> Result<Rows, AllocError>
-    requires { Holds view.fences.now user.now (S.standing source.old).state work.old }
-    ensures tells { Tells (shows (drop view.entry.from view.entry.fences.now) user.now table.now key) (S.standing source.old) (S.standing source.new) work.old.notes work.new.notes result }
-    ensures holds { OnOk result (Holds view.entry.fences.now user.now (S.standing source.new).state work.new) }
+    requires { Holds view.fences.now user.now (S.state source.old) work.old }
+    ensures tells { Tells (shows (drop view.entry.from view.entry.fences.now) user.now table.now key) (S.state source.old) (S.state source.new) work.old.notes work.new.notes result }
+    ensures holds { OnOk result (Holds view.entry.fences.now user.now (S.state source.new) work.new) }
 {
     match place_of(view.fences, view.from, table) {
         None => {
@@ -674,9 +674,9 @@ fn shown_once<'a, 'c, S: Tables>(
     user: &'a Name,
     object: Object,
 ) -> Result<Rows, AllocError>
-    requires { Holds view.fences.now user.now (S.standing source.old).state work.old }
-    ensures tells { Tells (shown_at view.entry.fences.now user.now view.entry.from object) (S.standing source.old) (S.standing source.new) work.old.notes work.new.notes result }
-    ensures holds { OnOk result (Holds view.entry.fences.now user.now (S.standing source.new).state work.new) }
+    requires { Holds view.fences.now user.now (S.state source.old) work.old }
+    ensures tells { Tells (shown_at view.entry.fences.now user.now view.entry.from object) (S.state source.old) (S.state source.new) work.old.notes work.new.notes result }
+    ensures holds { OnOk result (Holds view.entry.fences.now user.now (S.state source.new) work.new) }
 {
     let known = found(&work.seen, view.from, &object)?;
     match known {
@@ -703,9 +703,9 @@ fn shown<'a, 'c, S: Tables>(
     user: &'a Name,
     object: &Object,
 ) -> Result<Rows, AllocError>
-    requires { Holds view.fences.now user.now (S.standing source.old).state work.old }
-    ensures tells { Tells (shown_at view.entry.fences.now user.now view.entry.from object.now) (S.standing source.old) (S.standing source.new) work.old.notes work.new.notes result }
-    ensures holds { OnOk result (Holds view.entry.fences.now user.now (S.standing source.new).state work.new) }
+    requires { Holds view.fences.now user.now (S.state source.old) work.old }
+    ensures tells { Tells (shown_at view.entry.fences.now user.now view.entry.from object.now) (S.state source.old) (S.state source.new) work.old.notes work.new.notes result }
+    ensures holds { OnOk result (Holds view.entry.fences.now user.now (S.state source.new) work.new) }
 {
     if view.from >= view.fences.len() {
         return Rows::new(Vec::new(alloc));
@@ -729,9 +729,9 @@ fn asked<'a, 'c, S: Tables>(
     user: &'a Name,
     object: &Object,
 ) -> Result<Items<Row>, AllocError>
-    requires { Holds view.fences.now user.now (S.standing source.old).state work.old }
-    ensures tells { Tells (asked_of object.now) (S.standing source.old) (S.standing source.new) work.old.notes work.new.notes result }
-    ensures holds { OnOk result (Holds view.entry.fences.now user.now (S.standing source.new).state work.new) }
+    requires { Holds view.fences.now user.now (S.state source.old) work.old }
+    ensures tells { Tells (asked_of object.now) (S.state source.old) (S.state source.new) work.old.notes work.new.notes result }
+    ensures holds { OnOk result (Holds view.entry.fences.now user.now (S.state source.new) work.new) }
 {
     match object {
         Object::Rows(table) => {
@@ -765,9 +765,9 @@ fn kept_rows<'a, 'c, S: Tables>(
     guard: &'a Guard<'c>,
     rows: &'a [Row],
 ) -> Result<Rows, AllocError>
-    requires { Holds view.fences.now user.now (S.standing source.old).state work.old }
-    ensures tells { Tells (kept (is_allowed guard.now (shows (drop view.entry.from view.entry.fences.now) user.now) user.now) rows.now) (S.standing source.old) (S.standing source.new) work.old.notes work.new.notes result }
-    ensures holds { OnOk result (Holds view.entry.fences.now user.now (S.standing source.new).state work.new) }
+    requires { Holds view.fences.now user.now (S.state source.old) work.old }
+    ensures tells { Tells (kept (is_allowed guard.now (shows (drop view.entry.from view.entry.fences.now) user.now) user.now) rows.now) (S.state source.old) (S.state source.new) work.old.notes work.new.notes result }
+    ensures holds { OnOk result (Holds view.entry.fences.now user.now (S.state source.new) work.new) }
 {
     let mut judgements = Vec::new(alloc);
     let mut kept = Items::new(alloc);
@@ -791,9 +791,9 @@ fn is_allowed<'a, 'c, S: Tables>(
     user: &'a Name,
     row: &'a Row,
 ) -> Result<bool, AllocError>
-    requires { Holds view.fences.now user.now (S.standing source.old).state work.old }
-    ensures tells { Tells (spec.is_allowed guard.now (shows (drop view.entry.from view.entry.fences.now) user.now) user.now row.now) (S.standing source.old) (S.standing source.new) work.old.notes work.new.notes result }
-    ensures holds { OnOk result (Holds view.entry.fences.now user.now (S.standing source.new).state work.new) }
+    requires { Holds view.fences.now user.now (S.state source.old) work.old }
+    ensures tells { Tells (spec.is_allowed guard.now (shows (drop view.entry.from view.entry.fences.now) user.now) user.now row.now) (S.state source.old) (S.state source.new) work.old.notes work.new.notes result }
+    ensures holds { OnOk result (Holds view.entry.fences.now user.now (S.state source.new) work.new) }
 {
     let verdict = verdict_on(alloc, source, work, view, judgements, guard, user, row)?;
     Ok(allows(&verdict))
@@ -811,9 +811,9 @@ pub fn verdict_on<'a, 'c, S: Tables>(
     user: &'a Name,
     row: &'a Row,
 ) -> Result<Verdict, AllocError>
-    requires { Holds view.fences.now user.now (S.standing source.old).state work.old }
-    ensures tells { Tells (spec.verdict_on guard.now (shows (drop view.entry.from view.entry.fences.now) user.now) user.now row.now) (S.standing source.old) (S.standing source.new) work.old.notes work.new.notes result }
-    ensures holds { OnOk result (Holds view.entry.fences.now user.now (S.standing source.new).state work.new) }
+    requires { Holds view.fences.now user.now (S.state source.old) work.old }
+    ensures tells { Tells (spec.verdict_on guard.now (shows (drop view.entry.from view.entry.fences.now) user.now) user.now row.now) (S.state source.old) (S.state source.new) work.old.notes work.new.notes result }
+    ensures holds { OnOk result (Holds view.entry.fences.now user.now (S.state source.new) work.new) }
 {
     match guard {
         Guard::Exempt => Ok(Verdict::Exempt),
@@ -845,9 +845,9 @@ fn put_judgements<'a, 'c, S: Tables>(
     user: &'a Name,
     row: &'a Row,
 ) -> Result<(), AllocError>
-    requires { Holds view.fences.now user.now (S.standing source.old).state work.old }
-    ensures tells { Tells (judgements_on conditions.now (shows (drop view.entry.from view.entry.fences.now) user.now) user.now row.now) (S.standing source.old) (S.standing source.new) work.old.notes work.new.notes (put_in judgements.new.items result) }
-    ensures holds { OnOk result (Holds view.entry.fences.now user.now (S.standing source.new).state work.new) }
+    requires { Holds view.fences.now user.now (S.state source.old) work.old }
+    ensures tells { Tells (judgements_on conditions.now (shows (drop view.entry.from view.entry.fences.now) user.now) user.now row.now) (S.state source.old) (S.state source.new) work.old.notes work.new.notes (put_in judgements.new.items result) }
+    ensures holds { OnOk result (Holds view.entry.fences.now user.now (S.state source.new) work.new) }
 {
     let nothing = Scoped::Nothing;
     let env = Env {

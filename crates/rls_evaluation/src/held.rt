@@ -1,14 +1,15 @@
 //! Values whose texts are lent, and what is made of them.
 
 ghost use Rattle.std.specs.Prelude.{◌≡◌, IfOk, IfSome};
-ghost use Rattle.rls_value.specs.Values.{equal_values, is_null, less_values, truth_in, value_at, value_of_truth};
+ghost use Rattle.rls_value.specs.Giving.{Gives};
+ghost use Rattle.rls_value.specs.Values.{equal_values, fits_type, is_null, less_values, truth_in, value_at, value_of_truth};
 ghost use Rattle.rls_evaluation.specs.Environments as spec;
-ghost use Rattle.rls_evaluation.specs.Environments.{compared};
+ghost use Rattle.rls_evaluation.specs.Environments.{assigned_value, compared};
 ghost use Rattle.rls_value.specs.declared.value.Value.TheVariants as v;
 ghost use Rattle.rls_evaluation.specs.Scoping.{held_value, number_value, text_in, text_now};
 
-use rls_expr::{Comparison, Sign};
-use rls_value::{Row, Text, Truth, Value};
+use rls_expr::{Column, Comparison, Sign};
+use rls_value::{ColType, Refusal, Row, Text, Truth, Value};
 use std::alloc::{AllocError, Global};
 use std::cmp::Ordering;
 
@@ -120,6 +121,50 @@ impl<'a> Held<'a> {
             Held::Text(text) => text_value(alloc, text),
             Held::Own(text) => Ok(Value::Text(text)),
             Held::Bool(flag) => Ok(Value::Bool(flag)),
+        }
+    }
+
+    /// The value for the column: refused where it is out of the column's range (PostgreSQL manual, 8.1: 22003).
+    pub fn to_column(&self, alloc: Global, column: &Column) -> Result<Value, Refusal>
+        ensures { Gives result (assigned_value column.now (held_value self.now)) }
+    {
+        if !self.fits(column.kind) {
+            return Err(Refusal::Range(column.name.copy()?));
+        }
+        let value = self.copy_value(alloc)?;
+        Ok(value)
+    }
+
+    fn fits(&self, column: ColType) -> bool
+        ensures { result ≡ fits_type (held_value self.now) column }
+    {
+        match (self, column) {
+            (Held::Null, _) => true,
+            (Held::Int(number), ColType::Integer) => {
+                -2147483648 <= *number && *number <= 2147483647
+            }
+            (Held::Int(number), ColType::BigInt) => {
+                -9223372036854775808 <= *number && *number <= 9223372036854775807
+            }
+            (Held::Text(_), ColType::Text) | (Held::Own(_), ColType::Text) => true,
+            (Held::Bool(_), ColType::Boolean) => true,
+            (_, _) => false,
+        }
+    }
+
+    /// A copy of the value itself. A number beyond 64 bits, which only a sum can be, is answered as want of memory.
+    fn copy_value(&self, alloc: Global) -> Result<Value, AllocError>
+        ensures { IfOk result (λ value. value ≡ held_value self.now) }
+    {
+        match self {
+            Held::Null => Ok(Value::Null),
+            Held::Int(number) => match i64::try_from(*number) {
+                Ok(number) => Ok(Value::Int(number)),
+                Err(_) => Err(AllocError),
+            },
+            Held::Text(text) => text_value(alloc, *text),
+            Held::Own(text) => text_value(alloc, text.as_str()),
+            Held::Bool(flag) => Ok(Value::Bool(*flag)),
         }
     }
 

@@ -9,7 +9,9 @@ mod memo;
 mod scope;
 mod tables;
 
-pub use evaluation::verdict_on;
-pub use fence::{Fence, Guard, View};
+pub use evaluation::{eval, meets_condition, verdict_on};
+pub use fence::{Fence, Guard, View, allows};
+pub use held::Held;
 pub use memo::Work;
-pub use tables::{Borrowed, Tables};
+pub use scope::{Env, Scoped};
+pub use tables::{Looked, Tables};

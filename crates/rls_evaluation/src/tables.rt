@@ -1,8 +1,7 @@
 //! Who gives the rows of tables.
 
 ghost use Rattle.std.specs.Prelude.{◌≡◌, IfOk};
-ghost use Rattle.rls_catalog.specs.State.{rows_of, rows_with_key};
-ghost use Rattle.rls_evaluation.specs.Standing.{Standing};
+ghost use Rattle.rls_catalog.specs.State.{State, rows_of, rows_with_key};
 ghost use Rattle.rls_evaluation.specs.Showing.{values_of};
 
 use rls_catalog::Lent;
@@ -14,13 +13,13 @@ use std::marker::PhantomData;
 /// Gives the rows of tables; the rows share their values with those of the state. It names no lifetime, so that functions
 /// which call one another in a circle may be over it.
 pub trait Tables {
-    /// What it is known by, which no look-up changes.
-    ghost standing: { Self → Standing };
+    /// The state that it stands for, which no look-up changes.
+    ghost state: { Self → State };
 
     /// The rows of the table, in order of their numbers.
     fn all_rows(&mut self, alloc: Global, table: &Name) -> Result<Items<Row>, AllocError>
-        ensures found { IfOk result (λ rows. rows ≡ values_of (rows_of (standing self.old).state table.now)) }
-        ensures stands { standing self.new ≡ standing self.old };
+        ensures found { IfOk result (λ rows. rows ≡ values_of (rows_of (state self.old) table.now)) }
+        ensures stands { state self.new ≡ state self.old };
 
     /// The rows of the table that have the key, in order of their numbers.
     fn rows_with(
@@ -29,22 +28,33 @@ pub trait Tables {
         table: &Name,
         key: &Row,
     ) -> Result<Items<Row>, AllocError>
-        ensures found { IfOk result (λ rows. rows ≡ values_of (rows_with_key (standing self.old).state table.now key.now)) }
-        ensures stands { standing self.new ≡ standing self.old };
+        ensures found { IfOk result (λ rows. rows ≡ values_of (rows_with_key (state self.old) table.now key.now)) }
+        ensures stands { state self.new ≡ state self.old };
 }
 
-/// A source that is borrowed, which gives the rows of its tables.
+/// A source that is looked at, which gives the rows of its tables.
 #[derive(Drop)]
-pub struct Borrowed<'s, 'c, S> {
-    pub source: &'s mut S,
-    pub lends: PhantomData<&'c Row>,
+pub struct Looked<'s, 'c, S> {
+    source: &'s S,
+    lends: PhantomData<&'c Row>,
 }
 
-impl<'s, 'c, S: RowSource<'c>> Tables for Borrowed<'s, 'c, S> {
-    ghost standing = { λ it. record { borrow = it.source.ghost_name; state = S.state it.source.now } };
+impl<'s, 'c, S> Looked<'s, 'c, S> {
+    pub fn new(source: &'s S) -> Looked<'s, 'c, S>
+        ensures { result.source.now ≡ source.now }
+    {
+        Looked {
+            source,
+            lends: PhantomData,
+        }
+    }
+}
+
+impl<'s, 'c, S: RowSource<'c>> Tables for Looked<'s, 'c, S> {
+    ghost state = { λ it. S.state it.source.now };
 
     fn all_rows(&mut self, alloc: Global, table: &Name) -> Result<Items<Row>, AllocError> {
-        let rows = self.source.scan(alloc, table)?;
+        let rows = self.source.look(alloc, table)?;
         shared(alloc, rows.as_slice())
     }
 
@@ -54,7 +64,7 @@ impl<'s, 'c, S: RowSource<'c>> Tables for Borrowed<'s, 'c, S> {
         table: &Name,
         key: &Row,
     ) -> Result<Items<Row>, AllocError> {
-        let rows = self.source.by_key(alloc, table, key)?;
+        let rows = self.source.look_by_key(alloc, table, key)?;
         shared(alloc, rows.as_slice())
     }
 }

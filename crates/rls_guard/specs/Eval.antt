@@ -1,19 +1,16 @@
 -- The value of a checked term (PostgreSQL manual, 9.1 and 9.2, "Row and Array Comparisons"): a comparison with null is
 -- null, AND, OR and NOT are Kleene's, IN is the OR of equalities, and a sum is a whole number without a range.
-use Rattle.std.specs.Prelude.{ℕ, ℤ, ◌+ℤ◌, ◌-ℤ◌, List, [], ◌∷◌, not, Result, Ok, Err, slice_get, unwrap_or, if◌then◌else◌}
-use Rattle.rls_value.specs.declared.refusal.Refusal.{Refusal}
-use Rattle.rls_value.specs.declared.refusal.Refusal.TheVariants.{Range}
+use Rattle.std.specs.Prelude.{ℕ, ℤ, ◌+ℤ◌, ◌-ℤ◌, List, [], ◌∷◌, not, slice_get, unwrap_or}
 use Rattle.rls_value.specs.declared.value.Value.{Value}
 use Rattle.rls_value.specs.declared.value.Value.TheVariants.{Null, Int, Text, Bool as Flag}
 use Rattle.rls_value.specs.declared.truth.Truth.{Truth}
 use Rattle.rls_value.specs.declared.truth.Truth.TheVariants.{True, False}
 use Rattle.rls_value.specs.Truths.{conjunction_of, disjunction_of, negation_of}
-use Rattle.rls_value.specs.Values.{equal_values, less_values, value_of_truth, truth_in, is_null, value_at, fits_type}
+use Rattle.rls_value.specs.Values.{equal_values, less_values, value_of_truth, truth_in, is_null, value_at}
 use Rattle.rls_expr.specs.declared.expr.Comparison.{Comparison}
 use Rattle.rls_expr.specs.declared.expr.Comparison.TheVariants as c
 use Rattle.rls_expr.specs.declared.expr.Sign.{Sign}
 use Rattle.rls_expr.specs.declared.expr.Sign.TheVariants.{Plus, Minus}
-use Rattle.rls_expr.specs.declared.table.Column.{Column as ColumnOf}
 use Rattle.rls_expr.specs.Terms.{Term, Terms, Literal, Column, Place, CurrentUser, Compare, And, Or, Not, IsNull, IsNotNull, Among, NotAmong, Exists, Within, NotWithin, Scalar, Sum, End, More}
 
 -- what a term is evaluated in: the current role, and the rows in scope, the innermost first
@@ -103,7 +100,3 @@ abbrev mutual
   sum_from so_far (sign ∷ signs) (More t ts) env = sum_from (joined sign so_far (value_of t env)) signs ts env
   sum_from so_far (sign ∷ signs) End env = so_far
   sum_from so_far [] ts env = so_far
-
--- what a column is set to: a value that it can't hold is out of its range
-abbrev pub assigned_value : ColumnOf → Value → Result Value Refusal
-assigned_value column value = if fits_type value column.kind then Ok value else Err (Range column.name)

@@ -1,5 +1,6 @@
 pub mod Eval
 pub mod Envs
+pub mod Support
 pub mod Checks
 pub mod Naming
 pub mod Standings

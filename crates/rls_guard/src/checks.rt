@@ -5,6 +5,7 @@ ghost use Rattle.rls_source.specs.Answering.{Answers};
 ghost use Rattle.rls_guard.specs.Checks as spec;
 ghost use Rattle.rls_guard.specs.Checks.{superuser_or_denied};
 
+use crate::support::is_unsupported_with;
 use rls_expr::{Expr, has_query, has_sum};
 use rls_source::{Reads, RowSource, noted_role};
 use rls_value::{Name, Refusal, Why};
@@ -26,9 +27,16 @@ pub fn require_superuser<'c, S: RowSource<'c>>(
     }
 }
 
-/// Whether a sum stands in it, which may stand in what a column is set to alone, or a subquery: none is answered yet.
+/// Whether something in it isn't supported where no sum may stand: everywhere but in what a column is set to.
 pub fn is_unsupported(expr: &Expr) -> bool
     ensures { result ≡ spec.is_unsupported expr.now }
+{
+    is_unsupported_with(expr, false)
+}
+
+/// The same of an item that is listed, where no subquery may stand either.
+pub fn is_unsupported_item(expr: &Expr) -> bool
+    ensures { result ≡ spec.is_unsupported_item expr.now }
 {
     has_sum(expr) || has_query(expr)
 }

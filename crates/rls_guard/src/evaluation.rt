@@ -2,16 +2,15 @@
 
 ghost use Rattle.std.specs.Prelude.{◌≡◌, IfOk, IfSome, not};
 ghost use Rattle.rls_value.specs.declared.value.Value.TheVariants.{Bool as Flag};
-ghost use Rattle.rls_value.specs.Giving.{Gives};
-ghost use Rattle.rls_value.specs.Values.{equal_values, fits_type, is_null, less_values, truth_in, value_at, value_of_truth};
+ghost use Rattle.rls_value.specs.Values.{equal_values, is_null, less_values, truth_in, value_at, value_of_truth};
 ghost use Rattle.rls_value.specs.Truths.{negation_of};
 ghost use Rattle.rls_expr.specs.Terms.{terms_of};
 ghost use Rattle.rls_guard.specs.Eval as spec;
-ghost use Rattle.rls_guard.specs.Eval.{value_of, all_of, any_of, among_of, sum_of, assigned_value, compared, row_at, over, alone};
+ghost use Rattle.rls_guard.specs.Eval.{value_of, all_of, any_of, among_of, sum_of, compared, row_at, over, alone};
 ghost use Rattle.rls_guard.specs.Envs.{env_of, held_value, rows_in};
 
-use rls_expr::{Column, Comparison, Expr, Node, Sign};
-use rls_value::{ColType, Name, Refusal, Row, Text, Truth, Value};
+use rls_expr::{Comparison, Expr, Node, Sign};
+use rls_value::{Name, Row, Text, Truth, Value};
 use std::alloc::{AllocError, Global};
 use std::cmp::Ordering;
 
@@ -58,23 +57,6 @@ pub fn value_over<'x>(
     held.to_value(alloc)
 }
 
-/// The truth value of a condition for the one row in scope. It fails only at a sum beyond 128 bits, which no text spells.
-pub fn truth_over<'x>(
-    condition: &'x Expr,
-    user: &'x Name,
-    row: &'x Row,
-) -> Result<Truth, AllocError>
-    ensures { IfOk result (λ truth. truth ≡ truth_in (value_of condition.now (over user.now row.now))) }
-{
-    let nothing = Scoped::Nothing;
-    let env = Env {
-        user,
-        rows: Scoped::Over(row, &nothing),
-    };
-    let held = eval(condition, &env)?;
-    Ok(held.truth())
-}
-
 /// The value of an expression that no row is in scope of. A number beyond 64 bits, which only a sum can be, is answered
 /// as want of memory.
 pub fn value_alone<'x>(alloc: Global, expr: &'x Expr, user: &'x Name) -> Result<Value, AllocError>
@@ -86,44 +68,6 @@ pub fn value_alone<'x>(alloc: Global, expr: &'x Expr, user: &'x Name) -> Result<
     };
     let held = eval(expr, &env)?;
     held.to_value(alloc)
-}
-
-/// The value of the expression for the one row in scope, to be given to the column: refused where it is out of the
-/// column's range.
-pub fn assigned_over<'x>(
-    alloc: Global,
-    expr: &'x Expr,
-    user: &'x Name,
-    row: &'x Row,
-    column: &Column,
-) -> Result<Value, Refusal>
-    ensures { Gives result (assigned_value column.now (value_of expr.now (over user.now row.now))) }
-{
-    let nothing = Scoped::Nothing;
-    let env = Env {
-        user,
-        rows: Scoped::Over(row, &nothing),
-    };
-    let held = eval(expr, &env)?;
-    held.to_column(alloc, column)
-}
-
-/// The value of an expression that no row is in scope of, to be given to the column: refused where it is out of the
-/// column's range.
-pub fn assigned_alone<'x>(
-    alloc: Global,
-    expr: &'x Expr,
-    user: &'x Name,
-    column: &Column,
-) -> Result<Value, Refusal>
-    ensures { Gives result (assigned_value column.now (value_of expr.now (alone user.now))) }
-{
-    let env = Env {
-        user,
-        rows: Scoped::Nothing,
-    };
-    let held = eval(expr, &env)?;
-    held.to_column(alloc, column)
 }
 
 /// The value of the expression. Nothing is cut short: every part is evaluated.
@@ -384,33 +328,6 @@ impl<'a> Held<'a> {
         match self {
             Held::Int(number) => Held::Int(number),
             Held::Null | Held::Text(_) | Held::Bool(_) => Held::Null,
-        }
-    }
-
-    /// The value for the column: refused where it is out of the column's range.
-    fn to_column(self, alloc: Global, column: &Column) -> Result<Value, Refusal>
-        ensures { Gives result (assigned_value column.now (held_value self.entry)) }
-    {
-        if !self.fits(column.kind) {
-            return Err(Refusal::Range(column.name.copy()?));
-        }
-        Ok(self.to_value(alloc)?)
-    }
-
-    fn fits(self, column: ColType) -> bool
-        ensures { result ≡ fits_type (held_value self.entry) column }
-    {
-        match (self, column) {
-            (Held::Null, _) => true,
-            (Held::Int(number), ColType::Integer) => {
-                -2147483648 <= number && number <= 2147483647
-            }
-            (Held::Int(number), ColType::BigInt) => {
-                -9223372036854775808 <= number && number <= 9223372036854775807
-            }
-            (Held::Text(_), ColType::Text) => true,
-            (Held::Bool(_), ColType::Boolean) => true,
-            (_, _) => false,
         }
     }
 

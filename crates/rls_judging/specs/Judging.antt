@@ -1,52 +1,72 @@
 -- What row security says of rows, one after another, for each type of command that a statement judges them for; and the
--- rows that a statement hits.
-use Rattle.std.specs.Prelude.{ℕ, List, [], ◌∷◌, ◌++◌, Bool, true, false, ◌&&◌, Option, Some, None, filter, if◌then◌else◌}
+-- rows that a statement hits. What is read for all of them is read once.
+use Rattle.std.specs.Prelude.{ℕ, List, [], ◌∷◌, ◌++◌, Bool, true, false, Option, Ok}
 use Rattle.std.specs.List.{list_all}
 use Rattle.rls_value.specs.declared.row.RowId.{RowId}
 use Rattle.rls_value.specs.declared.value.Value.{Value}
-use Rattle.rls_value.specs.Truths.{is_true}
-use Rattle.rls_expr.specs.Terms.{Term}
-use Rattle.rls_catalog.specs.declared.verdict.Side.{Side}
-use Rattle.rls_catalog.specs.declared.verdict.Side.TheVariants as sides
+use Rattle.rls_expr.specs.Terms.{Term, Terms, maybe_term}
 use Rattle.rls_catalog.specs.declared.stored.Stored.{Stored}
+use Rattle.rls_source.specs.Askings.{Asking, known, followed_by, asked_if}
+use Rattle.rls_source.specs.Once.{each_once}
+use Rattle.rls_evaluation.specs.declared.fence.Fence.{Fence}
+use Rattle.rls_evaluation.specs.Environments.{over}
+use Rattle.rls_evaluation.specs.Gathering.{gathered}
+use Rattle.rls_evaluation.specs.Eval.{Shows, meets}
+use Rattle.rls_evaluation.specs.Showing.{shows, verdict_on, allows}
 use Rattle.rls_guard.specs.declared.guard.Watch.{Watch}
 use Rattle.rls_guard.specs.declared.reply.Decision.{Decision}
-use Rattle.rls_guard.specs.Guards.{truth_on, verdict_on, allows}
-
--- the two are one side
-abbrev pub is_same_side : Side → Side → Bool
-is_same_side sides.Old sides.Old = true
-is_same_side sides.New sides.New = true
-is_same_side _ _ = false
 
 -- what row security says of the row for one type of command
-abbrev pub decision_by : Watch → List ℕ → RowId → List Value → Decision
-decision_by watch user id row = record { id = id; side = watch.side; kind = watch.kind; verdict = verdict_on watch.guard user row }
+abbrev pub decision_by : Shows → List ℕ → RowId → List Value → Watch → Asking Decision
+decision_by sees user id row watch = followed_by (verdict_on watch.guard sees user row) (λ verdict.
+    known (Ok (record { id = id; side = watch.side; kind = watch.kind; verdict = verdict })))
 
--- for each type of command that judges this side
-abbrev pub decisions_on : Side → List Watch → List ℕ → RowId → List Value → List Decision
-decisions_on side [] user id row = []
-decisions_on side (watch ∷ watches) user id row =
-    if is_same_side watch.side side then decision_by watch user id row ∷ decisions_on side watches user id row else decisions_on side watches user id row
+-- a decision in front of the others
+abbrev pub with_decision : Watch → Decision → List Decision → List Decision
+with_decision watch decision decisions = decision ∷ decisions
 
--- of each row
-abbrev pub decisions_of : Side → List Watch → List ℕ → List Stored → List Decision
-decisions_of side watches user [] = []
-decisions_of side watches user (stored ∷ rows) = decisions_on side watches user stored.id stored.row ++ decisions_of side watches user rows
+-- for each type of command
+abbrev pub decisions_on : List Watch → Shows → List ℕ → RowId → List Value → Asking (List Decision)
+decisions_on watches sees user id row = gathered with_decision [] (decision_by sees user id row) watches
 
 -- all of them allow it
 abbrev pub are_allowed : List Decision → Bool
 are_allowed decisions = list_all (λ decision. allows decision.verdict) decisions
 
--- WHERE holds of the row, if there is one
-abbrev pub meets : Option Term → List ℕ → List Value → Bool
-meets None user row = true
-meets (Some condition) user row = is_true (truth_on user row condition)
+-- WHERE is asked of a row that may be seen for each type of command
+abbrev pub hit_if : Bool → Terms → Shows → List ℕ → List Value → Asking Bool
+hit_if allowed condition sees user row = asked_if allowed (meets condition sees (over user row)) (known (Ok false))
 
--- the row may be seen for each type of command, and WHERE holds of it
-abbrev pub is_hit : List Watch → Option Term → List ℕ → Stored → Bool
-is_hit watches condition user stored = are_allowed (decisions_on sides.Old watches user stored.id stored.row) && meets condition user stored.row
+-- the decisions on a row as it stands, and whether it is hit
+abbrev pub judged_old : List Watch → Terms → Shows → List ℕ → Stored → Asking (List Decision × Bool)
+judged_old watches condition sees user stored = followed_by (decisions_on watches sees user stored.id stored.row) (λ decisions.
+    followed_by (hit_if (are_allowed decisions) condition sees user stored.row) (λ is. known (Ok (decisions, is))))
 
--- the rows that are hit
-abbrev pub hits : List Watch → Option Term → List ℕ → List Stored → List Stored
-hits watches condition user candidates = filter (is_hit watches condition user) candidates
+-- the row, if it is hit
+abbrev pub hit_row : Bool → Stored → List Stored
+hit_row true stored = stored ∷ []
+hit_row false stored = []
+
+-- what was found of a row in front of what was found of the others
+abbrev pub with_judged : Stored → List Decision × Bool → List Decision × List Stored → List Decision × List Stored
+with_judged stored judged further = (judged.0 ++ further.0, hit_row judged.1 stored ++ further.1)
+
+-- the decisions on each candidate, and the rows that are hit
+abbrev pub judged_all : List Watch → List Fence → List ℕ → Option Term → List Stored → Asking (List Decision × List Stored)
+judged_all watches fences user condition rows = gathered with_judged ([], []) (judged_old watches (maybe_term condition) (shows fences user) user) rows
+
+-- the same, what is read being read once
+abbrev pub hits_of : List Watch → List Fence → List ℕ → Option Term → List Stored → Asking (List Decision × List Stored)
+hits_of watches fences user condition rows = each_once (judged_all watches fences user condition rows)
+
+-- the decisions on a row in front of those on the others
+abbrev pub with_decisions : Stored → List Decision → List Decision → List Decision
+with_decisions stored decisions further = decisions ++ further
+
+-- the decisions on each new row
+abbrev pub judged_new : List Watch → List Fence → List ℕ → List Stored → Asking (List Decision)
+judged_new watches fences user rows = gathered with_decisions [] (λ stored. decisions_on watches (shows fences user) user stored.id stored.row) rows
+
+-- the same, what is read being read once
+abbrev pub decisions_of : List Watch → List Fence → List ℕ → List Stored → Asking (List Decision)
+decisions_of watches fences user rows = each_once (judged_new watches fences user rows)

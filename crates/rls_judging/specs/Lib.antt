@@ -1,2 +1,4 @@
 pub mod Candidates
 pub mod Judging
+pub mod Valuing
+pub mod Handed

@@ -1,110 +1,276 @@
 //! What row security says of rows, and which rows a statement hits.
 
-ghost use Rattle.std.specs.Prelude.{◌≡◌, ◌++◌, map, IfOk, OnOk};
+ghost use Rattle.std.specs.Prelude.{◌≡◌, ◌++◌, ◌&&◌, OnOk};
+ghost use Rattle.rls_expr.specs.Terms.{maybe_term};
+ghost use Rattle.rls_source.specs.Answering.{Tells as Reading};
+ghost use Rattle.rls_source.specs.Askings.{followed_by, known};
+ghost use Rattle.rls_evaluation.specs.Holding.{Holds, Tells};
+ghost use Rattle.rls_evaluation.specs.Showing.{shows};
+ghost use Rattle.rls_judging.specs.Handed.{TellsAt, allowing, behind, beside, items_now, judged_now, rows_lent};
 ghost use Rattle.rls_judging.specs.Judging as spec;
 
-use rls_catalog::{Lent, Side, Stored};
+use crate::sight::{Sight, mark_all};
+use rls_catalog::{Lent, Stored};
+use rls_evaluation::{
+    Env, Looked, Scoped, Tables, View, Work, allows, meets_condition, verdict_on,
+};
 use rls_expr::Expr;
-use rls_guard::{Decision, Judgement, Watch, allows, truth_over, verdict_on};
-use rls_value::{Name, Row, RowId};
+use rls_guard::{Decision, Judgement};
+use rls_source::{Reads, RowSource};
+use rls_value::{Row, RowId};
 use std::alloc::{AllocError, Global};
 
-/// What row security says of the row for each type of command that judges its side, put behind the decisions; whether
-/// all of them allow it. The buffer of judgements serves all rows.
-fn judge<'c>(
+/// Judges each candidate as it stands, and gives the decisions and those that are allowed and meet the condition.
+pub fn hits_of<'a, 'c, S: RowSource<'c>>(
+    alloc: Global,
+    source: &mut S,
+    notes: &mut Reads,
+    sight: Sight<'a, 'c>,
+    condition: &'a Option<Expr>,
+    candidates: &'a [Lent<'c>],
+) -> Result<(Vec<Decision>, Vec<&'a Lent<'c>>), AllocError>
+    ensures { Reading S.state S.after (spec.hits_of sight.entry.watches.now sight.entry.fences.now sight.entry.role.now condition.now candidates.now) source.old source.new notes.old notes.new (judged_now result) }
+{
+    let mut work = Work::new(alloc);
+    let found = judge_over(alloc, &*source, &mut work, sight, condition, candidates)?;
+    match mark_all(alloc, source, notes, work) {
+        Ok(()) => Ok(found),
+        Err(refused) => {
+            drop(found);
+            Err(refused)
+        }
+    }
+}
+
+/// Judges each new row.
+pub fn judged<'a, 'c, S: RowSource<'c>>(
+    alloc: Global,
+    source: &mut S,
+    notes: &mut Reads,
+    sight: Sight<'a, 'c>,
+    rows: &'a [Stored],
+) -> Result<Vec<Decision>, AllocError>
+    ensures { Reading S.state S.after (spec.decisions_of sight.entry.watches.now sight.entry.fences.now sight.entry.role.now rows.now) source.old source.new notes.old notes.new (items_now result) }
+{
+    let mut work = Work::new(alloc);
+    let decisions = judge_new_over(alloc, &*source, &mut work, sight, rows)?;
+    match mark_all(alloc, source, notes, work) {
+        Ok(()) => Ok(decisions),
+        Err(refused) => {
+            drop(decisions);
+            Err(refused)
+        }
+    }
+}
+
+/// Judges each candidate, while the source is looked at.
+fn judge_over<'s, 'a, 'c, S: RowSource<'c>>(
+    alloc: Global,
+    source: &'s S,
+    work: &mut Work,
+    sight: Sight<'a, 'c>,
+    condition: &'a Option<Expr>,
+    candidates: &'a [Lent<'c>],
+) -> Result<(Vec<Decision>, Vec<&'a Lent<'c>>), AllocError>
+    requires { Holds sight.fences.now sight.role.now (S.state source.now) work.old }
+    ensures { TellsAt (spec.judged_all sight.entry.watches.now sight.entry.fences.now sight.entry.role.now condition.now candidates.now) (S.state source.now) work.old.notes work.new.notes (judged_now result) }
+{
+    let mut tables: Looked<'s, 'c, S> = Looked::new(source);
+    judge_all(alloc, &mut tables, work, sight, condition, candidates)
+}
+
+/// Judges each new row, while the source is looked at.
+fn judge_new_over<'a, 'c, S: RowSource<'c>>(
+    alloc: Global,
+    source: &S,
+    work: &mut Work,
+    sight: Sight<'a, 'c>,
+    rows: &'a [Stored],
+) -> Result<Vec<Decision>, AllocError>
+    requires { Holds sight.fences.now sight.role.now (S.state source.now) work.old }
+    ensures { TellsAt (spec.judged_new sight.entry.watches.now sight.entry.fences.now sight.entry.role.now rows.now) (S.state source.now) work.old.notes work.new.notes (items_now result) }
+{
+    let mut tables = Looked::new(source);
+    judge_new(alloc, &mut tables, work, sight, rows)
+}
+
+/// Judges each candidate. The buffer of judgements serves all rows.
+fn judge_all<'a, 'c, T: Tables>(
+    alloc: Global,
+    tables: &mut T,
+    work: &mut Work,
+    sight: Sight<'a, 'c>,
+    condition: &'a Option<Expr>,
+    candidates: &'a [Lent<'c>],
+) -> Result<(Vec<Decision>, Vec<&'a Lent<'c>>), AllocError>
+    requires { Holds sight.fences.now sight.role.now (T.state tables.old) work.old }
+    ensures { Tells (spec.judged_all sight.entry.watches.now sight.entry.fences.now sight.entry.role.now condition.now candidates.now) (T.state tables.old) (T.state tables.new) work.old.notes work.new.notes (judged_now result) }
+{
+    let mut decisions = Vec::with_capacity(alloc, candidates.len())?;
+    let mut hits = Vec::new(alloc);
+    let mut judgements = Vec::new(alloc);
+    for stored in candidates {
+        let is = judge_old(
+            alloc,
+            tables,
+            work,
+            &mut judgements,
+            &mut decisions,
+            sight,
+            condition,
+            stored,
+        )?;
+        push_if(&mut hits, is, stored)?;
+    }
+    drop(judgements);
+    Ok((decisions, hits))
+}
+
+/// The row behind the others, if it is hit.
+fn push_if<'a, 'c>(
+    hits: &mut Vec<&'a Lent<'c>>,
+    is: bool,
+    stored: &'a Lent<'c>,
+) -> Result<(), AllocError>
+    ensures { OnOk result (rows_lent hits.new ≡ rows_lent hits.old ++ spec.hit_row is stored.now) }
+{
+    if is {
+        hits.push(stored)?;
+    }
+    Ok(())
+}
+
+/// Judges a row as it stands; whether it is allowed and meets the condition.
+fn judge_old<'a, 'c, T: Tables>(
+    alloc: Global,
+    tables: &mut T,
+    work: &mut Work,
     judgements: &mut Vec<Judgement<'c>>,
     decisions: &mut Vec<Decision>,
-    watches: &[Watch<'c>],
-    side: Side,
-    role: &Name,
-    id: RowId,
-    row: &Row,
+    sight: Sight<'a, 'c>,
+    condition: &'a Option<Expr>,
+    stored: &'a Lent<'c>,
 ) -> Result<bool, AllocError>
-    ensures allowed { IfOk result (λ allowed. allowed ≡ spec.are_allowed (spec.decisions_on side watches.now role.now id row.now)) }
-    ensures judged { OnOk result (decisions.new.items ≡ decisions.old.items ++ spec.decisions_on side watches.now role.now id row.now) }
+    requires { Holds sight.fences.now sight.role.now (T.state tables.old) work.old }
+    ensures tells { Tells (followed_by (spec.judged_old sight.entry.watches.now (maybe_term condition.now) (shows sight.entry.fences.now sight.entry.role.now) sight.entry.role.now stored.now) (λ judged. known (Ok (behind decisions.old.items judged)))) (T.state tables.old) (T.state tables.new) work.old.notes work.new.notes (beside decisions.new.items result) }
+    ensures holds { OnOk result (Holds sight.entry.fences.now sight.entry.role.now (T.state tables.new) work.new) }
 {
+    let row = stored.row();
+    let allowed = judge(
+        alloc,
+        tables,
+        work,
+        judgements,
+        decisions,
+        sight,
+        stored.id(),
+        row,
+    )?;
+    is_hit(alloc, tables, work, sight, condition, allowed, row)
+}
+
+/// Whether an allowed row meets the condition.
+fn is_hit<'a, 'c, T: Tables>(
+    alloc: Global,
+    tables: &mut T,
+    work: &mut Work,
+    sight: Sight<'a, 'c>,
+    condition: &'a Option<Expr>,
+    allowed: bool,
+    row: &'a Row,
+) -> Result<bool, AllocError>
+    requires { Holds sight.fences.now sight.role.now (T.state tables.old) work.old }
+    ensures tells { Tells (spec.hit_if allowed (maybe_term condition.now) (shows sight.entry.fences.now sight.entry.role.now) sight.entry.role.now row.now) (T.state tables.old) (T.state tables.new) work.old.notes work.new.notes result }
+    ensures holds { OnOk result (Holds sight.entry.fences.now sight.entry.role.now (T.state tables.new) work.new) }
+{
+    if !allowed {
+        return Ok(false);
+    }
+    let nothing = Scoped::Nothing;
+    let env = Env {
+        user: sight.role,
+        rows: Scoped::Over(row, &nothing),
+    };
+    let view = View {
+        fences: sight.fences,
+        from: 0,
+    };
+    meets_condition(alloc, tables, work, view, condition, &env)
+}
+
+/// What row security says of the row for each type of command, put behind the decisions; whether all of them allow it.
+fn judge<'a, 'c, T: Tables>(
+    alloc: Global,
+    tables: &mut T,
+    work: &mut Work,
+    judgements: &mut Vec<Judgement<'c>>,
+    decisions: &mut Vec<Decision>,
+    sight: Sight<'a, 'c>,
+    id: RowId,
+    row: &'a Row,
+) -> Result<bool, AllocError>
+    requires { Holds sight.fences.now sight.role.now (T.state tables.old) work.old }
+    ensures tells { Tells (followed_by (spec.decisions_on sight.entry.watches.now (shows sight.entry.fences.now sight.entry.role.now) sight.entry.role.now id row.now) (λ said. known (Ok (allowing decisions.old.items said)))) (T.state tables.old) (T.state tables.new) work.old.notes work.new.notes (beside decisions.new.items result) }
+    ensures holds { OnOk result (Holds sight.entry.fences.now sight.entry.role.now (T.state tables.new) work.new) }
+{
+    let view = View {
+        fences: sight.fences,
+        from: 0,
+    };
     let mut allowed = true;
-    for watch in watches {
-        if watch.side == side {
-            let verdict = verdict_on(judgements, &watch.guard, role, row)?;
-            allowed = allowed && allows(&verdict);
-            decisions.push(Decision {
-                id,
-                side: watch.side,
-                kind: watch.kind,
-                verdict,
-            })?;
-        }
+    for watch in sight.watches {
+        let verdict = verdict_on(
+            alloc,
+            tables,
+            work,
+            view,
+            judgements,
+            &watch.guard,
+            sight.role,
+            row,
+        )?;
+        allowed = both(allowed, allows(&verdict));
+        decisions.push(Decision {
+            id,
+            side: watch.side,
+            kind: watch.kind,
+            verdict,
+        })?;
     }
     Ok(allowed)
 }
 
-/// Judges each candidate as it stands, and gives those that are allowed and meet the condition.
-pub fn hits_of<'c, 'r>(
-    alloc: Global,
-    watches: &[Watch<'c>],
-    condition: &Option<Expr>,
-    role: &Name,
-    candidates: &'r [Lent<'c>],
-    decisions: &mut Vec<Decision>,
-) -> Result<Vec<&'r Lent<'c>>, AllocError>
-    ensures hits { IfOk result (λ hits. map (λ hit. hit.now) hits.items ≡ spec.hits watches.now condition.now role.now candidates.now) }
-    ensures judged { OnOk result (decisions.new.items ≡ decisions.old.items ++ spec.decisions_of Side.Old watches.now role.now candidates.now) }
+fn both(one: bool, other: bool) -> bool
+    ensures { result ≡ (one && other) }
 {
-    let mut hits = Vec::new(alloc);
-    let mut judgements = Vec::new(alloc);
-    for stored in candidates {
-        let row = stored.row();
-        let allowed = judge(
-            &mut judgements,
-            decisions,
-            watches,
-            Side::Old,
-            role,
-            stored.id(),
-            row,
-        )?;
-        if allowed && meets(condition, role, row)? {
-            hits.push(stored)?;
-        }
-    }
-    Ok(hits)
+    one && other
 }
 
-/// Judges each new row.
-pub fn judged<'c>(
+/// Judges each new row. The buffer of judgements serves all rows.
+fn judge_new<'a, 'c, T: Tables>(
     alloc: Global,
-    watches: &[Watch<'c>],
-    role: &Name,
-    rows: &[Stored],
+    tables: &mut T,
+    work: &mut Work,
+    sight: Sight<'a, 'c>,
+    rows: &'a [Stored],
 ) -> Result<Vec<Decision>, AllocError>
-    ensures { IfOk result (λ decisions. decisions.items ≡ spec.decisions_of Side.New watches.now role.now rows.now) }
+    requires { Holds sight.fences.now sight.role.now (T.state tables.old) work.old }
+    ensures { Tells (spec.judged_new sight.entry.watches.now sight.entry.fences.now sight.entry.role.now rows.now) (T.state tables.old) (T.state tables.new) work.old.notes work.new.notes (items_now result) }
 {
     let mut decisions = Vec::with_capacity(alloc, rows.len())?;
     let mut judgements = Vec::new(alloc);
     for stored in rows {
         judge(
+            alloc,
+            tables,
+            work,
             &mut judgements,
             &mut decisions,
-            watches,
-            Side::New,
-            role,
+            sight,
             stored.id,
             &stored.row,
         )?;
     }
+    drop(judgements);
     Ok(decisions)
-}
-
-/// Whether the condition holds of the row, if there is one.
-fn meets(condition: &Option<Expr>, role: &Name, row: &Row) -> Result<bool, AllocError>
-    ensures { IfOk result (λ meets. meets ≡ spec.meets condition.now role.now row.now) }
-{
-    match condition {
-        None => Ok(true),
-        Some(condition) => {
-            let truth = truth_over(condition, role, row)?;
-            Ok(truth.is_true())
-        }
-    }
 }

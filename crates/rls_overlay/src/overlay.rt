@@ -6,7 +6,7 @@ use crate::own_changes::OwnChanges;
 use rls_catalog::{Change, Grant, Lent, Membership, RoleDef};
 use rls_expr::{Policy, TableDef};
 use rls_source::RowSource;
-use rls_value::{Items, Name, Row};
+use rls_value::{Items, Name, Object, Row};
 use std::alloc::{AllocError, Global};
 
 /// A source, and changes that are put on it one after another: it stands for the state behind them. Each look-up is one of
@@ -87,6 +87,27 @@ impl<'c, S: RowSource<'c>> RowSource<'c> for Overlay<'c, S> {
     ) -> Result<Items<Lent<'c>>, AllocError> {
         let found = self.source.by_key(alloc, table, key)?;
         self.changes.keyed_over(alloc, found, table, key)
+    }
+
+    #[tactic(auto, using(crate::proofs::Laws::rows_behind))]
+    fn look(&self, alloc: Global, table: &Name) -> Result<Items<Lent<'c>>, AllocError> {
+        let found = self.source.look(alloc, table)?;
+        self.changes.rows_over(alloc, found, table)
+    }
+
+    #[tactic(auto, using(crate::proofs::Laws::keyed_behind))]
+    fn look_by_key(
+        &self,
+        alloc: Global,
+        table: &Name,
+        key: &Row,
+    ) -> Result<Items<Lent<'c>>, AllocError> {
+        let found = self.source.look_by_key(alloc, table, key)?;
+        self.changes.keyed_over(alloc, found, table, key)
+    }
+
+    fn mark(&mut self, alloc: Global, objects: &[Object]) -> Result<(), AllocError> {
+        self.source.mark(alloc, objects)
     }
 
     ghost stands = { λ s os. ap (λ state. changed_all state s.changes) (S.stands s.source os) };

@@ -2,6 +2,7 @@ pub mod Footprints
 pub mod FootprintLaws
 pub mod Readings
 pub mod Askings
+pub mod Once
 pub mod Asked
 pub mod Sequences
 pub mod Named

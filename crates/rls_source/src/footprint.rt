@@ -2,7 +2,7 @@
 
 ghost use Rattle.std.specs.Prelude.{◌≡◌, [], IfOk, OnOk, OnErr};
 ghost use Rattle.rls_value.specs.declared.object.Object.{Object as Read};
-ghost use Rattle.rls_source.specs.Footprints.{with_object, footprint_of, is_among, IsInOrder};
+ghost use Rattle.rls_source.specs.Footprints.{with_object, with_reads, footprint_of, is_among, IsInOrder};
 
 use crate::reads::Reads;
 use rls_value::Object;
@@ -54,6 +54,27 @@ impl Footprint {
     {
         self.objects.insert(object)?;
         Ok(())
+    }
+
+    /// Puts copies of the objects in their places.
+    pub fn note_all(&mut self, alloc: Global, objects: &[Object]) -> Result<(), AllocError>
+        ensures { OnOk result (self.new ≡ with_reads self.old objects.now) }
+    {
+        for object in objects {
+            self.note(object.copy(alloc)?)?;
+        }
+        Ok(())
+    }
+
+    /// Copies of the objects, in order.
+    pub fn to_vec(&self, alloc: Global) -> Result<Vec<Object>, AllocError>
+        ensures { IfOk result (λ objects. objects.items ≡ self.now) }
+    {
+        let mut objects = Vec::with_capacity(alloc, self.objects.len())?;
+        for object in self.objects.iter() {
+            objects.push(object.copy(alloc)?)?;
+        }
+        Ok(objects)
     }
 
     /// Whether the object was read.

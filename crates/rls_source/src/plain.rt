@@ -5,7 +5,7 @@ ghost use Rattle.std.specs.Prelude.{◌≡◌, refl};
 use crate::source::RowSource;
 use rls_catalog::{Catalog, Grant, Lent, Membership, RoleDef};
 use rls_expr::{Policy, TableDef};
-use rls_value::{Items, Name, Row};
+use rls_value::{Items, Name, Object, Row};
 use std::alloc::{AllocError, Global};
 
 /// A catalogue that is lent, as a source that keeps no note of what is read.
@@ -58,6 +58,23 @@ impl<'c> RowSource<'c> for Plain<'c> {
         key: &Row,
     ) -> Result<Items<Lent<'c>>, AllocError> {
         self.catalog.rows_with_key(alloc, table, key)
+    }
+
+    fn look(&self, alloc: Global, table: &Name) -> Result<Items<Lent<'c>>, AllocError> {
+        self.catalog.rows(alloc, table)
+    }
+
+    fn look_by_key(
+        &self,
+        alloc: Global,
+        table: &Name,
+        key: &Row,
+    ) -> Result<Items<Lent<'c>>, AllocError> {
+        self.catalog.rows_with_key(alloc, table, key)
+    }
+
+    fn mark(&mut self, _: Global, _: &[Object]) -> Result<(), AllocError> {
+        Ok(())
     }
 
     ghost stands = { λ s os. refl };

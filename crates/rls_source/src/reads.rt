@@ -42,6 +42,16 @@ impl Reads {
         Ok(())
     }
 
+    /// Puts the objects behind the others.
+    pub fn note_all(&mut self, objects: Vec<Object>) -> Result<(), AllocError>
+        ensures { OnOk result (self.new ≡ self.old ++ objects.items) }
+    {
+        for object in objects {
+            self.note(object)?;
+        }
+        Ok(())
+    }
+
     /// Gives the list back; no memory is needed.
     pub fn into_vec(self) -> Vec<Object>
         ensures { result.items ≡ self }

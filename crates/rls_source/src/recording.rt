@@ -89,6 +89,24 @@ impl<'c, S: RowSource<'c>> RowSource<'c> for Recording<S> {
         Ok(found)
     }
 
+    fn look(&self, alloc: Global, table: &Name) -> Result<Items<Lent<'c>>, AllocError> {
+        self.source.look(alloc, table)
+    }
+
+    fn look_by_key(
+        &self,
+        alloc: Global,
+        table: &Name,
+        key: &Row,
+    ) -> Result<Items<Lent<'c>>, AllocError> {
+        self.source.look_by_key(alloc, table, key)
+    }
+
+    fn mark(&mut self, alloc: Global, objects: &[Object]) -> Result<(), AllocError> {
+        self.source.mark(alloc, objects)?;
+        self.footprint.note_all(alloc, objects)
+    }
+
     ghost stands = { λ s os. S.stands s.source os };
 
     ghost after_none = { λ s i. record { source = S.after_none s.source i; footprint = s.footprint } };

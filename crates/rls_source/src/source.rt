@@ -71,6 +71,25 @@ pub trait RowSource<'c> {
         ensures read { OnOk result (self.new ≡ after self.old (Object.Key table.now key.now ∷ [])) }
         ensures err { OnErr result (state self.new ≡ state self.old) };
 
+    /// The rows of the table, in order of their numbers. It is no read: whoever looks marks what was looked at.
+    fn look(&self, alloc: Global, table: &Name) -> Result<Items<Lent<'c>>, AllocError>
+        ensures { IfOk result (λ found. found ≡ rows_of (state self.now) table.now) };
+
+    /// The rows of the table that have the key, in order of their numbers. It is no read: whoever looks marks what was
+    /// looked at.
+    fn look_by_key(
+        &self,
+        alloc: Global,
+        table: &Name,
+        key: &Row,
+    ) -> Result<Items<Lent<'c>>, AllocError>
+        ensures { IfOk result (λ found. found ≡ rows_with_key (state self.now) table.now key.now) };
+
+    /// Marks that the objects were read.
+    fn mark(&mut self, alloc: Global, objects: &[Object]) -> Result<(), AllocError>
+        ensures read { OnOk result (self.new ≡ after self.old objects.now) }
+        ensures err { OnErr result (state self.new ≡ state self.old) };
+
     /// No read changes the state.
     ghost stands: { (s : Self) (os : List Read) → state (after s os) ≡ state s };
 

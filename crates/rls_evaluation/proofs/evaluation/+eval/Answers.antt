@@ -110,37 +110,37 @@ comparison-returns-clause-tells g t c =
 pub eval-returns-in-Compare-clause-tells : goal.eval-returns-in-Compare-clause-tells
 eval-returns-in-Compare-clause-tells g t c =
     let same : terms.Compare c.in-Compare.how c.deref.result.now c.deref-in-Compare.result.now ≡ c.args.expr.now = search rules in
-    subst (λ k. Tells (value_of k (shows (drop c.args.view.from c.args.view.fences.now) c.args.env.now.user.now) (env_of c.args.env.now)) (g.S.Tables.standing c.args.source.now) (g.S.Tables.standing c.comparison.new.source) c.args.work.now.notes c.comparison.new.work.notes (held_now c.comparison.result)) same c.comparison.ensures.tells
+    subst (λ k. Tells (value_of k (shows (drop c.args.view.from c.args.view.fences.now) c.args.env.now.user.now) (env_of c.args.env.now)) (g.S.Tables.state c.args.source.now) (g.S.Tables.state c.comparison.new.source) c.args.work.now.notes c.comparison.new.work.notes (held_now c.comparison.result)) same c.comparison.ensures.tells
 
 pub eval-returns-in-Among-clause-tells : goal.eval-returns-in-Among-clause-tells
 eval-returns-in-Among-clause-tells g t c =
     let same : terms.Among c.deref-in-Among.result.now (terms_of c.deref-in-Among-2.result.now) ≡ c.args.expr.now = search rules in
-    subst (λ k. Tells (value_of k (shows (drop c.args.view.from c.args.view.fences.now) c.args.env.now.user.now) (env_of c.args.env.now)) (g.S.Tables.standing c.args.source.now) (g.S.Tables.standing c.among.new.source) c.args.work.now.notes c.among.new.work.notes (held_now c.among.result)) same c.among.ensures.tells
+    subst (λ k. Tells (value_of k (shows (drop c.args.view.from c.args.view.fences.now) c.args.env.now.user.now) (env_of c.args.env.now)) (g.S.Tables.state c.args.source.now) (g.S.Tables.state c.among.new.source) c.args.work.now.notes c.among.new.work.notes (held_now c.among.result)) same c.among.ensures.tells
 
 pub eval-returns-in-NotAmong-clause-tells : goal.eval-returns-in-NotAmong-clause-tells
 eval-returns-in-NotAmong-clause-tells g t c =
     let same : terms.NotAmong c.deref-in-NotAmong.result.now (terms_of c.deref-in-NotAmong-2.result.now) ≡ c.args.expr.now = search rules in
-    subst (λ k. Tells (value_of k (shows (drop c.args.view.from c.args.view.fences.now) c.args.env.now.user.now) (env_of c.args.env.now)) (g.S.Tables.standing c.args.source.now) (g.S.Tables.standing c.not_among.new.source) c.args.work.now.notes c.not_among.new.work.notes (held_now c.not_among.result)) same c.not_among.ensures.tells
+    subst (λ k. Tells (value_of k (shows (drop c.args.view.from c.args.view.fences.now) c.args.env.now.user.now) (env_of c.args.env.now)) (g.S.Tables.state c.args.source.now) (g.S.Tables.state c.not_among.new.source) c.args.work.now.notes c.not_among.new.work.notes (held_now c.not_among.result)) same c.not_among.ensures.tells
 
 pub eval-returns-in-Exists-clause-tells : goal.eval-returns-in-Exists-clause-tells
 eval-returns-in-Exists-clause-tells g t c =
     let same : terms.Exists (query_of c.deref-in-Exists.result.now) ≡ c.args.expr.now = search rules in
-    subst (λ k. Tells (value_of k (shows (drop c.args.view.from c.args.view.fences.now) c.args.env.now.user.now) (env_of c.args.env.now)) (g.S.Tables.standing c.args.source.now) (g.S.Tables.standing c.exists.new.source) c.args.work.now.notes c.exists.new.work.notes (held_now c.exists.result)) same c.exists.ensures.tells
+    subst (λ k. Tells (value_of k (shows (drop c.args.view.from c.args.view.fences.now) c.args.env.now.user.now) (env_of c.args.env.now)) (g.S.Tables.state c.args.source.now) (g.S.Tables.state c.exists.new.source) c.args.work.now.notes c.exists.new.work.notes (held_now c.exists.result)) same c.exists.ensures.tells
 
 pub eval-returns-in-Within-clause-tells : goal.eval-returns-in-Within-clause-tells
 eval-returns-in-Within-clause-tells g t c =
     let same : terms.Within c.deref-in-Within.result.now (query_of c.deref-in-Within-2.result.now) ≡ c.args.expr.now = search rules in
-    subst (λ k. Tells (value_of k (shows (drop c.args.view.from c.args.view.fences.now) c.args.env.now.user.now) (env_of c.args.env.now)) (g.S.Tables.standing c.args.source.now) (g.S.Tables.standing c.within.new.source) c.args.work.now.notes c.within.new.work.notes (held_now c.within.result)) same c.within.ensures.tells
+    subst (λ k. Tells (value_of k (shows (drop c.args.view.from c.args.view.fences.now) c.args.env.now.user.now) (env_of c.args.env.now)) (g.S.Tables.state c.args.source.now) (g.S.Tables.state c.within.new.source) c.args.work.now.notes c.within.new.work.notes (held_now c.within.result)) same c.within.ensures.tells
 
 pub eval-returns-in-NotWithin-clause-tells : goal.eval-returns-in-NotWithin-clause-tells
 eval-returns-in-NotWithin-clause-tells g t c =
     let same : terms.NotWithin c.deref-in-NotWithin.result.now (query_of c.deref-in-NotWithin-2.result.now) ≡ c.args.expr.now = search rules in
-    subst (λ k. Tells (value_of k (shows (drop c.args.view.from c.args.view.fences.now) c.args.env.now.user.now) (env_of c.args.env.now)) (g.S.Tables.standing c.args.source.now) (g.S.Tables.standing c.not_within.new.source) c.args.work.now.notes c.not_within.new.work.notes (held_now c.not_within.result)) same c.not_within.ensures.tells
+    subst (λ k. Tells (value_of k (shows (drop c.args.view.from c.args.view.fences.now) c.args.env.now.user.now) (env_of c.args.env.now)) (g.S.Tables.state c.args.source.now) (g.S.Tables.state c.not_within.new.source) c.args.work.now.notes c.not_within.new.work.notes (held_now c.not_within.result)) same c.not_within.ensures.tells
 
 pub eval-returns-in-Scalar-clause-tells : goal.eval-returns-in-Scalar-clause-tells
 eval-returns-in-Scalar-clause-tells g t c =
     let same : terms.Scalar (query_of c.deref-in-Scalar.result.now) ≡ c.args.expr.now = search rules in
-    subst (λ k. Tells (value_of k (shows (drop c.args.view.from c.args.view.fences.now) c.args.env.now.user.now) (env_of c.args.env.now)) (g.S.Tables.standing c.args.source.now) (g.S.Tables.standing c.scalar.new.source) c.args.work.now.notes c.scalar.new.work.notes (held_now c.scalar.result)) same c.scalar.ensures.tells
+    subst (λ k. Tells (value_of k (shows (drop c.args.view.from c.args.view.fences.now) c.args.env.now.user.now) (env_of c.args.env.now)) (g.S.Tables.state c.args.source.now) (g.S.Tables.state c.scalar.new.source) c.args.work.now.notes c.scalar.new.work.notes (held_now c.scalar.result)) same c.scalar.ensures.tells
 
 pub exists-returns-clause-tells : goal.exists-returns-clause-tells
 exists-returns-clause-tells g t c =
@@ -191,7 +191,7 @@ is_met-loop-row-preserved g t c =
 pub item_if-returns-clause-tells : goal.item_if-returns-clause-tells
 item_if-returns-clause-tells g t c =
     tells_item (meets (maybe_term c.args.query.now.condition) (shows (drop c.args.view.from c.args.view.fences.now) c.args.env.now.user.now) (env_of c.args.env.now)) (item_of (terms_of c.args.query.now.items.items) (shows (drop c.args.view.from c.args.view.fences.now) c.args.env.now.user.now) (env_of c.args.env.now)) _ _ _ _ _ _ c.in_ok-is.is' (held_value c.in_ok-held.held) (search rules) c.in_ok-is.ensures.tells
-    (subst (λ items. Tells (item_of (terms_of items) (shows (drop c.args.view.from c.args.view.fences.now) c.args.env.now.user.now) (env_of c.args.env.now)) (g.S.Tables.standing c.meets_condition.new.source) (g.S.Tables.standing c.item.new.source) c.meets_condition.new.work.notes c.item.new.work.notes (Ok (held_value c.in_ok-held.held))) c.deref.ensures.value c.in_ok-held.ensures.tells)
+    (subst (λ items. Tells (item_of (terms_of items) (shows (drop c.args.view.from c.args.view.fences.now) c.args.env.now.user.now) (env_of c.args.env.now)) (g.S.Tables.state c.meets_condition.new.source) (g.S.Tables.state c.item.new.source) c.meets_condition.new.work.notes c.item.new.work.notes (Ok (held_value c.in_ok-held.held))) c.deref.ensures.value c.in_ok-held.ensures.tells)
 
 pub kept_rows-loop-row-preserved : goal.kept_rows-loop-row-preserved
 kept_rows-loop-row-preserved g t c =
@@ -224,19 +224,19 @@ seen-shown_once-requires g t c κs within = (omega (arith, c.decreases, size_fou
 
 pub seen-returns-in-None-clause-tells : goal.seen-returns-in-None-clause-tells
 seen-returns-in-None-clause-tells g t c =
-    tells_unread ((shows (drop c.args.view.from c.args.view.fences.now) c.args.user.now) c.args.table.now c.args.key) (g.S.Tables.standing c.args.source.now) _ c.args.work.now.notes [] c.new-in-None.result
-    (shows_none (drop c.args.view.from c.args.view.fences.now) c.args.view.from c.args.user.now c.args.table.now c.args.key (g.S.Tables.standing c.args.source.now).state (sym c.in-None.ensures)) refl
+    tells_unread ((shows (drop c.args.view.from c.args.view.fences.now) c.args.user.now) c.args.table.now c.args.key) (g.S.Tables.state c.args.source.now) _ c.args.work.now.notes [] c.new-in-None.result
+    (shows_none (drop c.args.view.from c.args.view.fences.now) c.args.view.from c.args.user.now c.args.table.now c.args.key (g.S.Tables.state c.args.source.now) (sym c.in-None.ensures)) refl
     (subst (λ xs. IfOk c.new-in-None.result (λ found. found ≡ xs)) c.new.ensures.items c.new-in-None.ensures)
 
 pub seen-returns-in_ok-object-in-Some-clause-tells : goal.seen-returns-in_ok-object-in-Some-clause-tells
 seen-returns-in_ok-object-in-Some-clause-tells g t c =
     tells_same ((shows (drop c.args.view.from c.args.view.fences.now) c.args.user.now) c.args.table.now c.args.key) (shown_at c.args.view.fences.now c.args.user.now c.in-Some.place c.in_ok-object-in-Some.object) _ _ _ _ _
-    (shows_found c.args.view.fences.now c.args.view.from c.in-Some.place c.args.user.now c.args.table.now c.args.key (g.S.Tables.standing c.args.source.now).state (sym c.in-Some.ensures)
-    ∙ ap (λ object. (shown_at c.args.view.fences.now c.args.user.now c.in-Some.place object).in_state (g.S.Tables.standing c.args.source.now).state) (sym c.in_ok-object-in-Some.ensures)) c.shown_once.ensures.tells
+    (shows_found c.args.view.fences.now c.args.view.from c.in-Some.place c.args.user.now c.args.table.now c.args.key (g.S.Tables.state c.args.source.now) (sym c.in-Some.ensures)
+    ∙ ap (λ object. (shown_at c.args.view.fences.now c.args.user.now c.in-Some.place object).in_state (g.S.Tables.state c.args.source.now)) (sym c.in_ok-object-in-Some.ensures)) c.shown_once.ensures.tells
 
 pub shown_once-returns-in_ok-remember-in-None-clause-holds : goal.shown_once-returns-in_ok-remember-in-None-clause-holds
 shown_once-returns-in_ok-remember-in-None-clause-holds g t c =
-    holds_shown c.args.view.fences.now c.args.user.now (g.S.Tables.standing c.args.source.now) (g.S.Tables.standing c.shown.new.source) c.args.work.now.notes c.shown.new.work (record { notes = c.shown.new.work.notes; seen = c.remember.new.seen }) c.args.view.from c.args.object c.in_ok-copy-in-None.copy
+    holds_shown c.args.view.fences.now c.args.user.now (g.S.Tables.state c.args.source.now) (g.S.Tables.state c.shown.new.source) c.args.work.now.notes c.shown.new.work (record { notes = c.shown.new.work.notes; seen = c.remember.new.seen }) c.args.view.from c.args.object c.in_ok-copy-in-None.copy
     (tells_result _ _ _ _ _ c.in_ok-rows-in-None.rows c.in_ok-copy-in-None.copy c.in_ok-rows-in-None.ensures.tells c.in_ok-copy-in-None.ensures) c.in_ok-rows-in-None.ensures.holds refl c.in_ok-remember-in-None.ensures
 
 pub sum-returns-in_ok-held-in-len1-up-clause-tells : goal.sum-returns-in_ok-held-in-len1-up-clause-tells

@@ -120,83 +120,83 @@ decreases-put_judgements g l = fences_size (drop l.view.from l.view.fences.now) 
 abbrev pub invariant-all_of-loop-part : goal.invariant-all_of-loop-part
 invariant-all_of-loop-part g l =
     let sees = shows (drop l.view.from l.view.fences.now) l.env.user.now in
-    let now = g.S.Tables.standing l.fn.source in
+    let now = g.S.Tables.state l.fn.source in
     record {
-      stands : g.S.Tables.standing l.source ≡ now;
+      stands : g.S.Tables.state l.source ≡ now;
       leads : Leads (together and_value True (terms_of l.parts) sees (env_of l.env)) (together and_value True (terms_of (drop l.part-index l.parts)) sees (env_of l.env)) (conjunction_of l.so_far) now l.fn.work.notes l.work.notes;
-      holds : Holds l.view.fences.now l.env.user.now (g.S.Tables.standing l.source).state l.work;
+      holds : Holds l.view.fences.now l.env.user.now (g.S.Tables.state l.source) l.work;
     }
 
 abbrev pub invariant-any_of-loop-part : goal.invariant-any_of-loop-part
 invariant-any_of-loop-part g l =
     let sees = shows (drop l.view.from l.view.fences.now) l.env.user.now in
-    let now = g.S.Tables.standing l.fn.source in
+    let now = g.S.Tables.state l.fn.source in
     record {
-      stands : g.S.Tables.standing l.source ≡ now;
+      stands : g.S.Tables.state l.source ≡ now;
       leads : Leads (together or_value False (terms_of l.parts) sees (env_of l.env)) (together or_value False (terms_of (drop l.part-index l.parts)) sees (env_of l.env)) (disjunction_of l.so_far) now l.fn.work.notes l.work.notes;
-      holds : Holds l.view.fences.now l.env.user.now (g.S.Tables.standing l.source).state l.work;
+      holds : Holds l.view.fences.now l.env.user.now (g.S.Tables.state l.source) l.work;
     }
 
 abbrev pub invariant-is_one_of-loop-part : goal.invariant-is_one_of-loop-part
 invariant-is_one_of-loop-part g l =
     let sees = shows (drop l.view.from l.view.fences.now) l.env.user.now in
-    let now = g.S.Tables.standing l.fn.source in
+    let now = g.S.Tables.state l.fn.source in
     record {
-      stands : g.S.Tables.standing l.source ≡ now;
+      stands : g.S.Tables.state l.source ≡ now;
       leads : Leads (together (or_equal (held_value l.value)) False (terms_of l.list) sees (env_of l.env)) (together (or_equal (held_value l.value)) False (terms_of (drop l.part-index l.list)) sees (env_of l.env)) (disjunction_of l.so_far) now l.fn.work.notes l.work.notes;
-      holds : Holds l.view.fences.now l.env.user.now (g.S.Tables.standing l.source).state l.work;
+      holds : Holds l.view.fences.now l.env.user.now (g.S.Tables.state l.source) l.work;
     }
 
 abbrev pub invariant-is_met-loop-row : goal.invariant-is_met-loop-row
 invariant-is_met-loop-row g l =
     let sees = shows (drop l.view.from l.view.fences.now) l.env.user.now in
     let asked = λ (rows : List (List Value)). gathered (λ row is rest. is || rest) false (λ row. meets (maybe_term l.condition) sees (inside row (env_of l.env))) rows in
-    let now = g.S.Tables.standing l.fn.source in
+    let now = g.S.Tables.state l.fn.source in
     record {
-      stands : g.S.Tables.standing l.source ≡ now;
+      stands : g.S.Tables.state l.source ≡ now;
       leads : Leads (asked l.rows) (asked (drop l.row-index l.rows)) (λ rest. l.so_far || rest) now l.fn.work.notes l.work.notes;
-      holds : Holds l.view.fences.now l.env.user.now (g.S.Tables.standing l.source).state l.work;
+      holds : Holds l.view.fences.now l.env.user.now (g.S.Tables.state l.source) l.work;
     }
 
 abbrev pub invariant-is_item-loop-row : goal.invariant-is_item-loop-row
 invariant-is_item-loop-row g l =
     let sees = shows (drop l.view.from l.view.fences.now) l.env.user.now in
     let asked = λ (rows : List (List Value)). gathered (λ row item rest. or_item (held_value l.value) item rest) False (λ row. item_if (meets (maybe_term l.query.condition) sees (inside row (env_of l.env))) (item_of (terms_of l.query.items.items) sees (inside row (env_of l.env)))) rows in
-    let now = g.S.Tables.standing l.fn.source in
+    let now = g.S.Tables.state l.fn.source in
     record {
-      stands : g.S.Tables.standing l.source ≡ now;
+      stands : g.S.Tables.state l.source ≡ now;
       leads : Leads (asked l.rows) (asked (drop l.row-index l.rows)) (disjunction_of l.so_far) now l.fn.work.notes l.work.notes;
-      holds : Holds l.view.fences.now l.env.user.now (g.S.Tables.standing l.source).state l.work;
+      holds : Holds l.view.fences.now l.env.user.now (g.S.Tables.state l.source) l.work;
     }
 
 abbrev pub invariant-first_item-loop-row : goal.invariant-first_item-loop-row
 invariant-first_item-loop-row g l =
     let sees = shows (drop l.view.from l.view.fences.now) l.env.user.now in
     let asked = λ (rows : List (List Value)). gathered (λ row item rest. item_or item rest) Null (λ row. item_if (meets (maybe_term l.query.condition) sees (inside row (env_of l.env))) (item_of (terms_of l.query.items.items) sees (inside row (env_of l.env)))) rows in
-    let now = g.S.Tables.standing l.fn.source in
+    let now = g.S.Tables.state l.fn.source in
     record {
-      stands : g.S.Tables.standing l.source ≡ now;
+      stands : g.S.Tables.state l.source ≡ now;
       leads : Leads (asked l.rows) (asked (drop l.row-index l.rows)) (item_or (maybe_held l.first)) now l.fn.work.notes l.work.notes;
-      holds : Holds l.view.fences.now l.env.user.now (g.S.Tables.standing l.source).state l.work;
+      holds : Holds l.view.fences.now l.env.user.now (g.S.Tables.state l.source) l.work;
     }
 
 abbrev pub invariant-kept_rows-loop-row : goal.invariant-kept_rows-loop-row
 invariant-kept_rows-loop-row g l =
     let sees = shows (drop l.view.from l.view.fences.now) l.user in
     let asked = λ (rows : List (List Value)). kept (is_allowed l.guard sees l.user) rows in
-    let now = g.S.Tables.standing l.fn.source in
+    let now = g.S.Tables.state l.fn.source in
     record {
-      stands : g.S.Tables.standing l.source ≡ now;
+      stands : g.S.Tables.state l.source ≡ now;
       leads : Leads (asked l.rows) (asked (drop l.row-index l.rows)) (λ rest. l.kept ++ rest) now l.fn.work.notes l.work.notes;
-      holds : Holds l.view.fences.now l.user (g.S.Tables.standing l.source).state l.work;
+      holds : Holds l.view.fences.now l.user (g.S.Tables.state l.source) l.work;
     }
 
 abbrev pub invariant-put_judgements-loop-policy : goal.invariant-put_judgements-loop-policy
 invariant-put_judgements-loop-policy g l =
     let sees = shows (drop l.view.from l.view.fences.now) l.user in
-    let now = g.S.Tables.standing l.fn.source in
+    let now = g.S.Tables.state l.fn.source in
     record {
-      stands : g.S.Tables.standing l.source ≡ now;
+      stands : g.S.Tables.state l.source ≡ now;
       leads : Leads (judgements_on l.conditions sees l.user l.row) (judgements_on (drop l.policy-index l.conditions) sees l.user l.row) (λ rest. l.judgements.items ++ rest) now l.fn.work.notes l.work.notes;
-      holds : Holds l.view.fences.now l.user (g.S.Tables.standing l.source).state l.work;
+      holds : Holds l.view.fences.now l.user (g.S.Tables.state l.source) l.work;
     }

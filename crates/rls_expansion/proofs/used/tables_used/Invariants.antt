@@ -1,0 +1,7 @@
+use Rattle.std.proofs.Common.{◌≡◌, ◌++◌, drop}
+use Rattle.rls_expansion.specs.Used as spec
+use Rattle.rls_expansion.proofs.used.tables_used.Given as goal
+
+-- the tables so far, and those of the policies that are left, are all
+abbrev pub invariant-loop-policy : goal.invariant-loop-policy
+invariant-loop-policy l = l.tables ++ spec.tables_used l.reach.superuser l.reach.names l.asks (drop l.policy-index l.policies) ≡ spec.tables_used l.reach.superuser l.reach.names l.asks l.policies

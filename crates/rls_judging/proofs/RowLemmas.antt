@@ -1,0 +1,133 @@
+-- What is told of rows, one after another.
+use Rattle.std.specs.Borrow.{Bor}
+use Rattle.std.specs.Prelude.{◌≡◌, refl, ℕ, List, [], ◌∷◌, ◌++◌, Bool, true, false, ◌&&◌, Result, Ok, Err, OnOk, map, drop, length, get_or, ◌<◌, ◌+◌}
+use Rattle.std.proofs.Common.{ap, sym, ◌∙◌, subst, append-nil, append_assoc}
+use Rattle.std.proofs.lemmas.Bool.{true≢false}
+use Rattle.std.specs.declared.alloc.AllocError.{AllocError}
+use Rattle.rls_value.specs.declared.refusal.Refusal.{Refusal}
+use Rattle.rls_value.specs.declared.object.Object.{Object}
+use Rattle.rls_value.specs.declared.value.Value.{Value}
+use Rattle.rls_value.specs.Giving.{and_then}
+use Rattle.rls_expr.specs.Terms.{Terms}
+use Rattle.rls_catalog.specs.State.{State}
+use Rattle.rls_catalog.specs.declared.stored.Stored.{Stored}
+use Rattle.rls_source.specs.Footprints.{with_reads, footprint_of}
+use Rattle.rls_source.specs.Readings.{unread, next_reads}
+use Rattle.rls_source.specs.Askings.{Asking, known, followed_by}
+use Rattle.rls_source.specs.Once.{each_once}
+use Rattle.rls_source.specs.Answering.{Tells as Reading}
+use Rattle.rls_evaluation.specs.Eval.{Shows}
+use Rattle.rls_evaluation.specs.Showing.{allows}
+use Rattle.rls_evaluation.specs.Gathering.{gathered}
+use Rattle.rls_evaluation.specs.Holding.{Tells}
+use Rattle.rls_evaluation.proofs.Telling.{Leads, turn, tells_then, tells_map, leads_whole, leads_map, drop_at}
+use Rattle.rls_guard.specs.declared.guard.Watch.{Watch}
+use Rattle.rls_guard.specs.declared.reply.Decision.{Decision}
+use Rattle.rls_judging.specs.Judging.{decisions_on, are_allowed, hit_if, judged_old, hit_row, with_judged}
+use Rattle.rls_judging.specs.Handed.{beside, allowing, behind}
+
+-- ---- what is told of a call, of which more is made
+
+abbrev is_given : {A : Type 0} → Result A Refusal → Bool
+is_given (Ok a) = true
+is_given (Err refusal) = false
+
+abbrev given_or : {A : Type 0} → A → Result A Refusal → A
+given_or d (Ok a) = a
+given_or d (Err refusal) = d
+
+given_before : {A B : Type 0} (given : Result A Refusal) (f : A → B) (b : B) → and_then given (λ a. Ok (f a)) ≡ Ok b → (a : A) × ((given ≡ Ok a) × (f a ≡ b))
+given_before (Ok a) f b is = (a, (refl, ap (given_or b) is))
+given_before (Err refusal) f b is = absurd (true≢false (sym (ap is_given is)))
+
+none_next : {A B : Type 0} (r : Result A Refusal) (f : A → B) → next_reads r (λ a. unread (Ok (f a))) ≡ []
+none_next (Ok a) f = refl
+none_next (Err refusal) f = refl
+
+-- what was told before something was made of it
+pub told_before : {A B : Type 0} (first : Asking A) (f : A → B) (before after : State) (old new : List Object) (b : B)
+    → Tells (followed_by first (λ a. known (Ok (f a)))) before after old new (Ok b) → (a : A) × (Tells first before after old new (Ok a) × (f a ≡ b))
+told_before first f before after old new b told =
+    let parts = given_before (first.in_state before).gives f b told.given in (
+      parts.0,
+      (
+        record {
+          given = parts.1.0;
+          noted = told.noted ∙ ap (λ more. with_reads old ((first.in_state before).reads ++ more)) (none_next (first.in_state before).gives f) ∙ ap (with_reads old) (append-nil (first.in_state before).reads);
+          stands = told.stands;
+        },
+        parts.1.1,
+      ),
+    )
+
+-- ---- one row
+
+-- the decisions on a row, and then whether it is hit
+pub old_told : (watches : List Watch) (condition : Terms) (sees : Shows) (user : List ℕ) (stored : Stored) (decisions left : List Decision) (allowed : Bool)
+    (before mid after : State) (old between new : List Object) (result : Result Bool AllocError)
+    → Tells (followed_by (decisions_on watches sees user stored.id stored.row) (λ said. known (Ok (allowing decisions said)))) before mid old between (Ok (left, allowed))
+    → Tells (hit_if allowed condition sees user stored.row) mid after between new result
+    → Tells (followed_by (judged_old watches condition sees user stored) (λ judged. known (Ok (behind decisions judged)))) before after old new (beside left result)
+old_told watches condition sees user stored decisions left allowed before mid after old between new (Ok is) said hit =
+    let parts = told_before (decisions_on watches sees user stored.id stored.row) (allowing decisions) before mid old between (left, allowed) said in
+    let judged : Tells (judged_old watches condition sees user stored) before after old new (Ok (parts.0, is)) =
+    tells_then (decisions_on watches sees user stored.id stored.row) (λ decisions. followed_by (hit_if (are_allowed decisions) condition sees user stored.row) (λ is. known (Ok (decisions, is)))) before mid after old between new parts.0 (parts.0, is)
+    parts.1.0
+    (tells_map (hit_if (are_allowed parts.0) condition sees user stored.row) (λ is. (parts.0, is)) mid after between new is
+    (subst (λ b. Tells (hit_if b condition sees user stored.row) mid after between new (Ok is)) (sym (ap (λ pair. pair.1) parts.1.1)) hit)) in
+    subst (λ left. Tells (followed_by (judged_old watches condition sees user stored) (λ judged. known (Ok (behind decisions judged)))) before after old new (Ok (left, is))) (ap (λ pair. pair.0) parts.1.1)
+    (tells_map (judged_old watches condition sees user stored) (behind decisions) before after old new (parts.0, is) judged)
+old_told watches condition sees user stored decisions left allowed before mid after old between new (Err refused) said hit = record { given = tt; noted = tt; stands = hit.stands ∙ said.stands }
+
+-- ---- loops
+
+and_again : (a b c : Bool) → ((a && b) && c) ≡ (a && (b && c))
+and_again true b c = refl
+and_again false b c = refl
+
+-- one decision more
+pub decided : (decisions next rest : List Decision) (decision : Decision) (allowed both : Bool) → next ≡ decisions ++ decision ∷ [] → both ≡ (allowed && allows decision.verdict)
+    → ◌≡◌ {A = List Decision × Bool} (next ++ rest, both && are_allowed rest) (decisions ++ decision ∷ rest, allowed && are_allowed (decision ∷ rest))
+decided decisions next rest decision allowed both pushed is i = (
+  (ap (λ n. n ++ rest) pushed ∙ append_assoc decisions (decision ∷ []) rest) i,
+  (ap (λ b. b && are_allowed rest) is ∙ and_again allowed (allows decision.verdict) (are_allowed rest)) i,
+)
+
+-- one candidate more
+pub found_more : (decisions left : List Decision) (hits now_hit : List Stored) (stored : Stored) (judged : List Decision × Bool) (is : Bool) (rest : List Decision × List Stored)
+    → behind decisions judged ≡ (left, is) → now_hit ≡ hits ++ hit_row is stored → ◌≡◌ {A = List Decision × List Stored} (left ++ rest.0, now_hit ++ rest.1) (decisions ++ (with_judged stored judged rest).0, hits ++ (with_judged stored judged rest).1)
+found_more decisions left hits now_hit stored judged is rest same grown i = (
+  (ap (λ pair. pair.0 ++ rest.0) (sym same) ∙ append_assoc decisions judged.0 rest.0) i,
+  (ap (λ n. n ++ rest.1) grown ∙ ap (λ pair. (hits ++ hit_row pair.1 stored) ++ rest.1) (sym same) ∙ append_assoc hits (hit_row judged.1 stored) rest.1) i,
+)
+
+-- the decisions on one new row more
+pub said_more : (decisions left said : List Decision) (allowed : Bool) (rest : List Decision) → allowing decisions said ≡ (left, allowed) → left ++ rest ≡ decisions ++ (said ++ rest)
+said_more decisions left said allowed rest same = ap (λ pair. pair.0 ++ rest) (sym same) ∙ append_assoc decisions said rest
+
+-- a turn over a list, each element of which stands for another
+pub mapped_turn : {X A B R V : Type 0} (whole : Asking V) (join next : R → V) (put : A → B → R → R) (none : R) (ask : A → Asking B) (f : X → A) (xs : List X) (i : ℕ) (x : X) (y : B)
+    (now mid after : State) (old notes new : List Object)
+    → i < length xs → x ≡ get_or xs i x → ((rest : R) → next rest ≡ join (put (f x) y rest)) → mid ≡ now
+    → Leads whole (gathered put none ask (map f (drop i xs))) join now old notes → Tells (ask (f x)) mid after notes new (Ok y)
+    → Leads whole (gathered put none ask (map f (drop (i + 1) xs))) next now old new
+mapped_turn whole join next put none ask f xs i x y now mid after old notes new below is step same leads told =
+    turn whole join next (put (f x)) (gathered put none ask (map f (drop i xs))) (ask (f x)) (gathered put none ask (map f (drop (i + 1) xs))) now mid after old notes new y
+    (ap (λ ys. gathered put none ask (map f ys)) (drop_at xs i x below is)) step same leads told
+
+-- one element more of a list
+pub one_more : {A : Type 0} (xs next rest : List A) (x : A) → next ≡ xs ++ x ∷ [] → next ++ rest ≡ xs ++ x ∷ rest
+one_more xs next rest x added = ap (λ n. n ++ rest) added ∙ append_assoc xs (x ∷ []) rest
+
+-- ---- what is read is read once
+
+-- the whole of a phase: what was looked at is marked and noted
+pub once_told : {S A E : Type 0} (stands : S → State) (after : S → List Object → S) (asking : Asking A) (before now : S) (seen : State) (notes old new : List Object) (a : A)
+    → Tells asking (stands before) seen [] notes (Ok a) → new ≡ old ++ notes → now ≡ after before notes → stands now ≡ stands before
+    → Reading {E = E} stands after (each_once asking) before now old new (Ok a)
+once_told stands after asking before now seen notes old new a told noted read state = record {
+  given = told.given;
+  noted = noted ∙ ap (λ n. old ++ n) told.noted;
+  read = read ∙ ap (after before) told.noted;
+  state = state;
+}

@@ -1,0 +1,236 @@
+//! The search over the tables that chains of policies meet.
+
+ghost use Rattle.std.specs.Prelude.{◌≡◌, ◌++◌, ℕ, suc, true, false, Some, length, IfOk};
+ghost use Rattle.std.specs.Option.{option_copied};
+ghost use Rattle.rls_value.specs.Giving.{Gives};
+ghost use Rattle.rls_value.specs.Names.{one_of};
+ghost use Rattle.rls_recursion.specs.Chains.{chain_of};
+ghost use Rattle.rls_recursion.specs.Searching as spec;
+ghost use Rattle.rls_recursion.specs.Searching.{IsEnough, as_found, told_by, ordered_by};
+
+use crate::progress::{Progress, push_copy};
+use crate::room::Room;
+use rls_value::{Items, Name, Refusal};
+use std::alloc::{AllocError, Global};
+
+/// The tables that a statement reaches through its policies and subqueries, in two orders.
+#[derive(Drop)]
+pub struct Reached {
+    /// Each once, in front of those that its policies lead to.
+    pub fenced: Items<Name>,
+    /// In the order in which the SELECT privilege is asked: those of the statement's subqueries, then each as it is met.
+    pub asked: Items<Name>,
+}
+
+/// The tables of a chain, the last first.
+#[derive(Clone, Copy)]
+pub enum Chain<'a> {
+    Nothing,
+    Over(&'a Name, &'a Chain<'a>),
+}
+
+/// The first room of the table.
+pub fn room_in<'x, 'c>(rooms: &'x [Room<'c>], table: &Name) -> Option<&'x Room<'c>>
+    ensures { option_copied result ≡ spec.room_in rooms.now table.now }
+{
+    for room in rooms {
+        if room.table.is(table) {
+            return Some(room);
+        }
+    }
+    None
+}
+
+fn inner_of(rooms: &[Room], table: &Name) -> bool
+    ensures { result ≡ spec.inner_of rooms.now table.now }
+{
+    match room_in(rooms, table) {
+        Some(room) => room.inner,
+        None => false,
+    }
+}
+
+fn next_of<'x>(rooms: &'x [Room], table: &Name) -> &'x [Name]
+    ensures { result.now ≡ spec.next_of rooms.now table.now }
+{
+    match room_in(rooms, table) {
+        Some(room) => room.next.as_slice(),
+        None => &[],
+    }
+}
+
+fn is_on(chain: &Chain, table: &Name) -> bool
+    ensures { result ≡ one_of (chain_of chain.now) table.now }
+{
+    match chain {
+        Chain::Nothing => false,
+        Chain::Over(name, rest) => name.is(table) || is_on(rest, table),
+    }
+}
+
+/// Visits a table: the one that a chain closes on first, if one does; else it and its own are done.
+#[cycle(visit)]
+#[tactic(auto, using(crate::proofs::Steps::visit_was, crate::proofs::Steps::visit_leaf, crate::proofs::Steps::visit_loop))]
+fn visit<'x>(
+    rooms: &[Room],
+    chain: &'x Chain<'x>,
+    progress: &mut Progress,
+    table: &'x Name,
+) -> Result<Option<Name>, AllocError>
+    ensures { IfOk result (λ closed. (n : ℕ) → IsEnough rooms.now (chain_of chain.now) n → spec.visit n rooms.now (chain_of chain.now) progress.old table.now ≡ as_found closed progress.new) }
+{
+    if progress.done.has(table) {
+        return Ok(None);
+    }
+    if !inner_of(rooms, table) {
+        progress.pass(table)?;
+        return Ok(None);
+    }
+    if is_on(chain, table) {
+        return met(table);
+    }
+    visit_own(rooms, chain, progress, table)
+}
+
+/// The chain closes on the table.
+fn met(table: &Name) -> Result<Option<Name>, AllocError>
+    ensures { IfOk result (λ closed. closed ≡ Some table.now) }
+{
+    match table.copy() {
+        Ok(table) => Ok(Some(table)),
+        Err(refused) => Err(refused),
+    }
+}
+
+/// Visits the tables that the policies of a new table lead to, which then is done.
+#[cycle(visit)]
+fn visit_own<'x>(
+    rooms: &[Room],
+    chain: &'x Chain<'x>,
+    progress: &mut Progress,
+    table: &'x Name,
+) -> Result<Option<Name>, AllocError>
+    requires new { one_of progress.old.done table.now ≡ false }
+    requires inner { spec.inner_of rooms.now table.now ≡ true }
+    requires off { one_of (chain_of chain.now) table.now ≡ false }
+    ensures { IfOk result (λ closed. (n : ℕ) → IsEnough rooms.now (chain_of chain.now) n → spec.visit n rooms.now (chain_of chain.now) progress.old table.now ≡ as_found closed progress.new) }
+{
+    progress.list(table)?;
+    let longer = Chain::Over(table, chain);
+    let closed = visit_all(rooms, &longer, progress, next_of(rooms, table))?;
+    match closed {
+        Some(met) => Ok(Some(met)),
+        None => {
+            progress.finish(table)?;
+            Ok(None)
+        }
+    }
+}
+
+/// Visits one table after the other.
+#[cycle(visit)]
+fn visit_all<'x>(
+    rooms: &[Room],
+    chain: &'x Chain<'x>,
+    progress: &mut Progress,
+    tables: &'x [Name],
+) -> Result<Option<Name>, AllocError>
+    ensures { IfOk result (λ closed. (n : ℕ) → IsEnough rooms.now (chain_of chain.now) n → spec.visit_all (spec.visit n rooms.now (chain_of chain.now)) progress.old tables.now ≡ as_found closed progress.new) }
+{
+    for table in tables {
+        let closed = visit(rooms, chain, progress, table)?;
+        if let Some(met) = closed {
+            return Ok(Some(met));
+        }
+    }
+    Ok(None)
+}
+
+/// The tables of the statement in their two orders; `Recursion` names the first table that a chain meets again, where its
+/// policies hold a subquery. `own` are those that the policies of the target lead to, `queries` those of the statement's
+/// subqueries, in text order.
+pub fn search(
+    alloc: Global,
+    rooms: &[Room],
+    target: &Name,
+    own: &[Name],
+    queries: &[Name],
+) -> Result<Reached, Refusal>
+    ensures { Gives result (ordered_by rooms.now target.now own.now queries.now) }
+{
+    let mut progress = Progress::new(alloc);
+    let closed = search_all(rooms, &mut progress, target, own, queries)?;
+    match closed {
+        Some(met) => {
+            drop(progress);
+            Err(Refusal::Recursion(met))
+        }
+        None => both_orders(alloc, progress, queries),
+    }
+}
+
+/// First the target's own tables, then those that begin chains.
+fn search_all(
+    rooms: &[Room],
+    progress: &mut Progress,
+    target: &Name,
+    own: &[Name],
+    queries: &[Name],
+) -> Result<Option<Name>, AllocError>
+    ensures { IfOk result (λ closed. spec.searched_from (suc (length rooms.now)) rooms.now progress.old target.now own.now queries.now ≡ as_found closed progress.new) }
+{
+    let nothing = Chain::Nothing;
+    let begun = Chain::Over(target, &nothing);
+    let closed = visit_from(rooms, &begun, progress, own)?;
+    match closed {
+        Some(met) => Ok(Some(met)),
+        None => visit_from(rooms, &nothing, progress, queries),
+    }
+}
+
+/// Visits one table after the other, from the chain on; no chain gets longer than there are rooms.
+#[tactic(auto, using(crate::proofs::Steps::rooms_enough))]
+fn visit_from<'x>(
+    rooms: &[Room],
+    chain: &'x Chain<'x>,
+    progress: &mut Progress,
+    tables: &'x [Name],
+) -> Result<Option<Name>, AllocError>
+    ensures { IfOk result (λ closed. spec.visit_all (spec.visit (suc (length rooms.now)) rooms.now (chain_of chain.now)) progress.old tables.now ≡ as_found closed progress.new) }
+{
+    let closed = visit_all(rooms, chain, progress, tables)?;
+    Ok(closed)
+}
+
+/// What is told of a search that came to its end.
+fn both_orders(alloc: Global, progress: Progress, queries: &[Name]) -> Result<Reached, Refusal>
+    ensures { Gives result (told_by queries.now (spec.Fits progress)) }
+{
+    let Progress { done, listed } = progress;
+    let asked = in_front(alloc, queries, listed)?;
+    Ok(Reached {
+        fenced: done.into_items(),
+        asked,
+    })
+}
+
+/// Copies of the names in front of the others.
+fn in_front(alloc: Global, names: &[Name], others: Items<Name>) -> Result<Items<Name>, AllocError>
+    ensures { IfOk result (λ all. all ≡ names.now ++ others) }
+{
+    let all = copies(alloc, names)?;
+    let mut all = all.into_vec();
+    let mut others = others.into_vec();
+    all.append(&mut others)?;
+    Ok(Items::from_vec(all))
+}
+
+fn copies(alloc: Global, names: &[Name]) -> Result<Items<Name>, AllocError>
+    ensures { IfOk result (λ copies. copies ≡ names.now) }
+{
+    let mut copies = Items::new(alloc);
+    for name in names {
+        push_copy(&mut copies, name)?;
+    }
+    Ok(copies)
+}
