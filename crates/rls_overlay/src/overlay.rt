@@ -89,13 +89,13 @@ impl<'c, S: RowSource<'c>> RowSource<'c> for Overlay<'c, S> {
         self.changes.keyed_over(alloc, found, table, key)
     }
 
-    #[tactic(auto, using(crate::proofs::Laws::rows_behind))]
+    #[tactic(auto, using(crate::proofs::Laws::rows_behind, crate::proofs::Laws::in_order_behind))]
     fn look(&self, alloc: Global, table: &Name) -> Result<Items<Lent<'c>>, AllocError> {
         let found = self.source.look(alloc, table)?;
         self.changes.rows_over(alloc, found, table)
     }
 
-    #[tactic(auto, using(crate::proofs::Laws::keyed_behind))]
+    #[tactic(auto, using(crate::proofs::Laws::keyed_behind, crate::proofs::Laws::in_order_behind))]
     fn look_by_key(
         &self,
         alloc: Global,

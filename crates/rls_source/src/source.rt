@@ -73,7 +73,8 @@ pub trait RowSource<'c> {
 
     /// The rows of the table, in order of their numbers. It is no read: whoever looks marks what was looked at.
     fn look(&self, alloc: Global, table: &Name) -> Result<Items<Lent<'c>>, AllocError>
-        ensures { IfOk result (λ found. found ≡ rows_of (state self.now) table.now) };
+        ensures found { IfOk result (λ found. found ≡ rows_of (state self.now) table.now) }
+        ensures ordered { OnOk result (RowsInOrder (state self.now) table.now) };
 
     /// The rows of the table that have the key, in order of their numbers. It is no read: whoever looks marks what was
     /// looked at.
@@ -83,7 +84,8 @@ pub trait RowSource<'c> {
         table: &Name,
         key: &Row,
     ) -> Result<Items<Lent<'c>>, AllocError>
-        ensures { IfOk result (λ found. found ≡ rows_with_key (state self.now) table.now key.now) };
+        ensures found { IfOk result (λ found. found ≡ rows_with_key (state self.now) table.now key.now) }
+        ensures ordered { OnOk result (RowsInOrder (state self.now) table.now) };
 
     /// Marks that the objects were read.
     fn mark(&mut self, alloc: Global, objects: &[Object]) -> Result<(), AllocError>
