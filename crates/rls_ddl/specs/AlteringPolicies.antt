@@ -48,7 +48,7 @@ placed_or_unsupported kind alter = if has_no_place_for kind alter then Err Unsup
 abbrev pub conditions_or_refused : Names → PolicyKind → AlterPolicy → Result (Unit {0}) Refusal
 conditions_or_refused names kind alter =
     and_then (both_conditions (condition_fits names) alter.using alter.check) (λ _.
-    and_then (both_conditions is_supported alter.using alter.check) (λ _. placed_or_unsupported kind alter))
+    and_then (both_conditions (is_supported names) alter.using alter.check) (λ _. placed_or_unsupported kind alter))
 
 -- the policy with what is written
 abbrev pub altered : AlterPolicy → Policy → Policy

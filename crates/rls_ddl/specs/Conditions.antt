@@ -19,9 +19,9 @@ condition_fits names None = Ok tt
 condition_fits names (Some term) = if takes_boolean (type_of (placed term names)) then Ok tt else Err TypeFault
 
 -- nothing may stand in it that isn't supported, if there is one
-abbrev pub is_supported : Option Term → Result (Unit {0}) Refusal
-is_supported None = Ok tt
-is_supported (Some term) = if is_unsupported term then Err Unsupported else Ok tt
+abbrev pub is_supported : Names → Option Term → Result (Unit {0}) Refusal
+is_supported names None = Ok tt
+is_supported names (Some term) = if is_unsupported (placed term names) then Err Unsupported else Ok tt
 
 -- USING, then WITH CHECK
 abbrev pub both_conditions : (Option Term → Result (Unit {0}) Refusal) → Option Term → Option Term → Result (Unit {0}) Refusal

@@ -36,7 +36,7 @@ abbrev pub policy_or_refused : Names → List Policy → Policy → Result (Unit
 policy_or_refused names policies policy =
     and_then (new_or_duplicate policies policy.name) (λ _.
     and_then (both_conditions (condition_fits names) policy.using policy.check) (λ _.
-    and_then (both_conditions is_supported policy.using policy.check) (λ _. room_for_policy policies)))
+    and_then (both_conditions (is_supported names) policy.using policy.check) (λ _. room_for_policy policies)))
 
 -- the policy is made where the role has the privileges of the table's owner
 unfoldable pub policy_made : List ℕ → List ℕ → TableDef → List Policy → Policy → Asking Effect

@@ -164,7 +164,14 @@ fn require_conditions<'x>(
         table,
         known,
     )?;
-    require_supported(&alter.using, &alter.check)?;
+    require_supported(
+        alloc,
+        &alter.using,
+        &alter.check,
+        &alter.table,
+        table,
+        known,
+    )?;
     if has_no_place_for(kind, alter) {
         return Err(Refusal::Unsupported);
     }

@@ -91,18 +91,47 @@ fn require_boolean_expr(alloc: Global, expr: &Expr, scope: &Scope) -> Result<(),
 }
 
 /// Nothing may stand in USING or in WITH CHECK that isn't supported.
-pub fn require_supported(using: &Option<Expr>, check: &Option<Expr>) -> Result<(), Refusal>
-    ensures { Gives result (both_conditions spec.is_supported «using».now check.now) }
+pub fn require_supported<'x>(
+    alloc: Global,
+    using: &Option<Expr>,
+    check: &Option<Expr>,
+    name: &Name,
+    table: &'x TableDef,
+    known: &'x [NamedTable<'x>],
+) -> Result<(), Refusal>
+    ensures { Gives result (both_conditions (spec.is_supported (names_over (name.now, table.now) known.now)) «using».now check.now) }
 {
-    require_one_supported(using)?;
-    require_one_supported(check)
+    let tables = [NamedTable::new(name, table)?];
+    let scope = Scope {
+        tables: &tables,
+        known,
+    };
+    require_one_supported(alloc, using, &scope)?;
+    require_one_supported(alloc, check, &scope)
 }
 
-fn require_one_supported(condition: &Option<Expr>) -> Result<(), Refusal>
-    ensures { Gives result (spec.is_supported condition.now) }
+fn require_one_supported(
+    alloc: Global,
+    condition: &Option<Expr>,
+    scope: &Scope,
+) -> Result<(), Refusal>
+    ensures { Gives result (spec.is_supported (names_in scope.now) condition.now) }
 {
     match condition {
-        Some(expr) if is_unsupported(expr) => Err(Refusal::Unsupported),
-        _ => Ok(()),
+        None => Ok(()),
+        Some(expr) => require_supported_expr(alloc, expr, scope),
+    }
+}
+
+fn require_supported_expr(alloc: Global, expr: &Expr, scope: &Scope) -> Result<(), Refusal>
+    ensures { Gives result (spec.is_supported (names_in scope.now) (Some expr.now)) }
+{
+    let placed = place_columns(alloc, expr, scope)?;
+    let unsupported = is_unsupported(&placed);
+    drop(placed);
+    if unsupported {
+        Err(Refusal::Unsupported)
+    } else {
+        Ok(())
     }
 }

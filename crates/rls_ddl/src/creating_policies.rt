@@ -171,7 +171,7 @@ fn require_policy<'x>(
         return Err(Refusal::Duplicate(DefinedKind::Policy, policy.name.copy()?));
     }
     require_booleans(alloc, &policy.using, &policy.check, name, table, known)?;
-    require_supported(&policy.using, &policy.check)?;
+    require_supported(alloc, &policy.using, &policy.check, name, table, known)?;
     if policies.len() >= MAX_POLICIES {
         return Err(Refusal::Limit(Limit::Policies));
     }
