@@ -4,8 +4,8 @@ ghost use Rattle.std.specs.Prelude.{◌≡◌, ◌↔◌, true, [], ◌∷◌, f
 ghost use Rattle.rls_catalog.specs.State.{AgreesAt, is_same_id};
 ghost use Rattle.rls_agreement.specs.LookedUp.{looked_up};
 
-use crate::same::{are_both_same, are_same};
 use rls_catalog::Lent;
+use rls_equality::{are_both_same, are_same};
 use rls_source::RowSource;
 use rls_value::{Items, Name, Object, Row, RowId};
 use std::alloc::{AllocError, Global};

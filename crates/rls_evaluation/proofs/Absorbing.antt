@@ -1,5 +1,5 @@
 -- What is noted already adds nothing, and stays noted.
-use Rattle.std.specs.Prelude.{◌≡◌, refl, ℕ, List, [], ◌∷◌, ◌++◌, Bool, true, false, ◌||◌, ◌&&◌, Option, Some, None, Result, Ok, nat_eq, if◌then◌else◌}
+use Rattle.std.specs.Prelude.{◌≡◌, refl, ℕ, List, [], ◌∷◌, Bool, true, false, ◌||◌, Option, Some, None, Ok, nat_eq, if◌then◌else◌}
 use Rattle.std.specs.List.{AllByRecursion}
 use Rattle.std.specs.List.Sorted.{IsStrictlySortedBy}
 use Rattle.std.specs.Ordering.{is_eq, match_ordering}
@@ -15,11 +15,14 @@ use Rattle.rls_catalog.specs.State.{State}
 use Rattle.rls_source.specs.Footprints.{with_object, with_reads, is_object, is_among, IsInOrder}
 use Rattle.rls_source.specs.FootprintLaws.{is_object_same, among_with_object, among_with_reads, with_object_in_order}
 use Rattle.rls_evaluation.specs.declared.fence.Fence.{Fence}
+use Rattle.rls_expr.specs.ExprTerms.{query_of}
+use Rattle.rls_evaluation.specs.declared.memo.Answer.{Answer}
 use Rattle.rls_evaluation.specs.declared.memo.Seen.{Seen}
 use Rattle.rls_evaluation.specs.declared.memo.Work.{Work}
 use Rattle.std.specs.Prelude.{cond}
 use Rattle.std.specs.BTreeMap.{is_at}
 use Rattle.std.specs.Map.{lookup}
+use Rattle.rls_evaluation.specs.Answering.{IsAnswered, AreAnswered, answer_of}
 use Rattle.rls_evaluation.specs.Holding.{IsKept, Holds, Tells, at_place, found_in, shown_at}
 
 below_none : (x y : Object) (objects : List Object) → object_order x y ≡ Less → AllByRecursion (λ z. object_order y z ≡ Less) objects → is_among objects x ≡ false
@@ -70,16 +73,35 @@ still_absorbed notes reads more ordered same =
 
 -- ---- what was shown stays so
 
+-- what a subquery gave
+answered_noted : (fences : List Fence) (user : List ℕ) (s : State) (notes : List Object) (more : Object) (answer : Answer) → IsInOrder notes
+    → IsAnswered fences user s notes answer → IsAnswered fences user s (with_object notes more) answer
+answered_noted fences user s notes more answer ordered was = record {
+  items = was.items;
+  is = was.is;
+  given = was.given;
+  noted = still_absorbed notes ((answer_of fences user answer.from answer.has_items (query_of answer.query.value)).in_state s).reads more ordered was.noted;
+  set = was.set;
+}
+
+-- the answers are the same list
+answers_same : (fences : List Fence) (user : List ℕ) (s : State) (notes : List Object) (old new : List Answer) → new ≡ old → AreAnswered fences user s notes old → AreAnswered fences user s notes new
+answers_same fences user s notes old new same answered = subst (AreAnswered fences user s notes) (sym same) answered
+
 -- under a further note, in the same state
 pub holds_noted : (fences : List Fence) (user : List ℕ) (before after : State) (work new : Work) (more : Object) → after ≡ before → new.notes ≡ with_object work.notes more → new.seen.entries ≡ work.seen.entries
-    → Holds fences user before work → Holds fences user after new
-holds_noted fences user before after work new more same grown kept holds = record {
+    → new.answers.items ≡ work.answers.items → Holds fences user before work → Holds fences user after new
+holds_noted fences user before after work new more same grown kept answers holds = record {
   ordered = subst IsInOrder (sym grown) (with_object_in_order work.notes more holds.ordered);
   kept = λ place object rows found.
       let was : IsKept fences user before work.notes place object rows = holds.kept place object rows (ap (λ seen. found_in seen place object) (sym kept) ∙ found) in
       subst (λ s. IsKept fences user s new.notes place object rows) (sym same)
       (subst (λ n. IsKept fences user before n place object rows) (sym grown)
       (record { given = was.given; noted = still_absorbed work.notes ((shown_at fences user place object).in_state before).reads more holds.ordered was.noted }));
+  answered = answers_same fences user after new.notes work.answers.items new.answers.items answers
+      (subst (λ s. AreAnswered fences user s new.notes work.answers.items) (sym same)
+      (subst (λ n. AreAnswered fences user before n work.answers.items) (sym grown)
+      (λ place answer below is. answered_noted fences user before work.notes more answer holds.ordered (holds.answered place answer below is))));
 }
 
 same_place : (a b : ℕ) → nat_eq a b ≡ true → a ≡ b
@@ -108,10 +130,10 @@ new_if false fences user s notes at place key object shown rows old is kept was 
 
 -- with what was just shown
 pub holds_shown : (fences : List Fence) (user : List ℕ) (before after : State) (old : List Object) (work new : Work) (place : ℕ) (object : Object) (rows : List (List Value))
-    → Tells (shown_at fences user place object) before after old work.notes (Ok rows) → Holds fences user after work → new.notes ≡ work.notes
+    → Tells (shown_at fences user place object) before after old work.notes (Ok rows) → Holds fences user after work → new.notes ≡ work.notes → new.answers.items ≡ work.answers.items
     → ((other : Object) → lookup (is_at (object_order other)) new.seen.entries ≡ cond (is_object object other) (Some (record { place = place; rows = rows })) (lookup (is_at (object_order other)) work.seen.entries))
     → Holds fences user after new
-holds_shown fences user before after old work new place object rows told holds same grown =
+holds_shown fences user before after old work new place object rows told holds same answers grown =
     let reads : List Object = ((shown_at fences user place object).in_state before).reads in
     let noted : with_reads work.notes reads ≡ work.notes =
     ap (λ n. with_reads n reads) told.noted ∙ noted_absorbed old reads (subst IsInOrder told.noted holds.ordered) ∙ sym told.noted in
@@ -124,7 +146,23 @@ holds_shown fences user before after old work new place object rows told holds s
       kept = λ at other shown found. subst (λ n. IsKept fences user after n at other shown) (sym same)
           (new_if (is_object object other) fences user after work.notes place at object other rows shown (lookup (is_at (object_order other)) work.seen.entries) refl here (λ was. holds.kept at other shown was)
           (ap (at_place at) (sym (grown other)) ∙ found));
+      answered = answers_same fences user after new.notes work.answers.items new.answers.items answers
+          (subst (λ n. AreAnswered fences user after n work.answers.items) (sym same) holds.answered);
     }
+
+none_in_order : (notes : List Object) → notes ≡ [] → IsInOrder notes
+unfolding IsStrictlySortedBy
+none_in_order notes none = subst IsInOrder (sym none) tt
+
+-- where nothing was read, shown or answered
+pub holds_new : (fences : List Fence) (user : List ℕ) (s : State) (work : Work) → work.notes ≡ [] → work.seen.entries ≡ [] → work.answers.items ≡ [] → Holds fences user s work
+holds_new fences user s work unread unseen unanswered = record {
+  ordered = none_in_order work.notes unread;
+  kept = λ place object rows found.
+      let none : None ≡ Some rows = ap (λ seen. found_in seen place object) (sym unseen) ∙ found in
+      absurd (true≢false (sym (ap is_there none)));
+  answered = answers_same fences user s work.notes [] work.answers.items unanswered (λ place answer below is. absurd (omega (arith, below)));
+}
 
 -- a second look adds nothing
 pub tells_found : (fences : List Fence) (user : List ℕ) (s : State) (work : Work) (place : ℕ) (object : Object) (rows : List (List Value))

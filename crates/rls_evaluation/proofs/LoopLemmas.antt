@@ -15,6 +15,7 @@ use Rattle.rls_expr.specs.Terms.{Term, More, terms_of}
 use Rattle.rls_expr.specs.declared.policy.Policy.{Policy}
 use Rattle.rls_catalog.specs.State.{State}
 use Rattle.rls_source.specs.Askings.{Asking, followed_by}
+use Rattle.rls_evaluation.specs.Alone.{with_item}
 use Rattle.rls_evaluation.specs.Environments.{Environment, joined, number_or_null}
 use Rattle.rls_evaluation.specs.Gathering.{gathered, with_row}
 use Rattle.rls_evaluation.specs.Keys.{or_else}
@@ -96,6 +97,11 @@ item_again (Some v) item next rest is = ap (λ item. item_or item rest) is
 pub row_added : (next rows rest : List (List Value)) (is : Bool) (row : List Value) → next ≡ rows ++ with_row row is [] → next ++ rest ≡ rows ++ with_row row is rest
 row_added next rows rest true row added = ap (λ n. n ++ rest) added ∙ append_assoc rows (row ∷ []) rest
 row_added next rows rest false row added = ap (λ n. n ++ rest) added ∙ ap (λ n. n ++ rest) (append-nil rows)
+
+-- an item more, if there is one
+pub item_added : (next values rest : List Value) (row : List Value) (item : Option Value) → next ≡ values ++ with_item [] item [] → next ++ rest ≡ values ++ with_item row item rest
+item_added next values rest row (Some v) added = ap (λ n. n ++ rest) added ∙ append_assoc values (v ∷ []) rest
+item_added next values rest row None added = ap (λ n. n ++ rest) added ∙ ap (λ n. n ++ rest) (append-nil values)
 
 -- a judgement more
 pub judgement_added : (next first rest : List (Policy × Truth)) (policy : Policy) (truth : Truth) → next ≡ first ++ (policy, truth) ∷ [] → next ++ rest ≡ first ++ (policy, truth) ∷ rest

@@ -1,5 +1,5 @@
 -- What is kept while a statement is evaluated: the notes of what was read, each object once, and what was shown.
-use Rattle.std.specs.Prelude.{◌≡◌, ℕ, List, [], ◌∷◌, Option, Some, None, Result, Ok, Err, IfOk, OnOk, nat_eq, drop, if◌then◌else◌}
+use Rattle.std.specs.Prelude.{◌≡◌, ℕ, List, [], Bool, true, false, Option, Some, None, Result, Ok, Err, IfOk, OnOk, nat_eq, drop, if◌then◌else◌}
 use Rattle.std.specs.BTreeMap.{is_at}
 use Rattle.std.specs.Map.{lookup}
 use Rattle.std.specs.declared.alloc.AllocError.{AllocError}
@@ -14,6 +14,7 @@ use Rattle.rls_evaluation.specs.declared.fence.Fence.{Fence}
 use Rattle.rls_evaluation.specs.declared.memo.Seen.{Seen}
 use Rattle.rls_evaluation.specs.declared.memo.Work.{Work}
 use Rattle.rls_evaluation.specs.Showing.{asked_for, shown_first}
+use Rattle.rls_evaluation.specs.Answering.{AreAnswered}
 
 -- a call answers what is asked, unless memory ran out: what is read is added to the notes, each object once, and the
 -- source stands as before
@@ -32,6 +33,11 @@ abbrev pub asked_of : Object → Asking (List (List Value))
 asked_of (o.Rows table) = asked_for table None
 asked_of (o.Key table key) = asked_for table (Some key)
 asked_of _ = known (Ok [])
+
+-- it is a key
+abbrev pub is_key : Object → Bool
+is_key (o.Key table key) = true
+is_key _ = false
 
 -- a list that a call leaves behind, as if it gave it
 abbrev pub put_in : {A E : Type 0} → List A → Result (Unit {0}) E → Result (List A) E
@@ -66,3 +72,4 @@ pub record IsKept (fences : List Fence) (user : List ℕ) (s : State) (notes : L
 pub record Holds (fences : List Fence) (user : List ℕ) (s : State) (work : Work) : Type 0 where
   pub ordered : IsInOrder work.notes
   pub kept : (place : ℕ) (object : Object) (rows : List (List Value)) → found_in work.seen.entries place object ≡ Some rows → IsKept fences user s work.notes place object rows
+  pub answered : AreAnswered fences user s work.notes work.answers.items

@@ -2,7 +2,12 @@ pub mod Gathering
 pub mod Environments
 pub mod Keys
 pub mod Eval
+pub mod Alone
+pub mod Depths
 pub mod Showing
 pub mod Sizes
 pub mod Scoping
+pub mod Wides
+pub mod ValueSets
+pub mod Answering
 pub mod Holding

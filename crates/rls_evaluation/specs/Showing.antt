@@ -43,6 +43,11 @@ abbrev pub verdict_on : Guard → Shows → List ℕ → List Value → Asking V
 verdict_on Exempt sees user row = known (Ok v.Exempt)
 verdict_on (Policies conditions) sees user row = followed_by (judgements_on conditions sees user row) (λ judgements. known (Ok (verdict_of judgements)))
 
+-- row security doesn't apply
+abbrev pub is_exempt : Guard → Bool
+is_exempt Exempt = true
+is_exempt (Policies conditions) = false
+
 -- whether the row may be seen or written
 abbrev pub allows : Verdict → Bool
 allows v.Exempt = true

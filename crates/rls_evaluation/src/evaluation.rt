@@ -1,12 +1,14 @@
 //! The value of a placed expression, with its subqueries.
 
-ghost use Rattle.std.specs.Prelude.{◌≡◌, [], ◌++◌, ◌||◌, false, drop, IfOk, OnOk};
+ghost use Rattle.std.specs.Prelude.{◌≡◌, [], ◌++◌, ◌||◌, false, true, Some, None, drop, IfOk, OnOk, if◌then◌else◌};
 ghost use Rattle.rls_value.specs.declared.truth.Truth.TheVariants.{True, False};
 ghost use Rattle.rls_value.specs.declared.value.Value.TheVariants.{Null};
 ghost use Rattle.rls_value.specs.Truths.{disjunction_of};
 ghost use Rattle.rls_expr.specs.Terms as t;
 ghost use Rattle.rls_expr.specs.Terms.{maybe_term, terms_of};
 ghost use Rattle.rls_expr.specs.ExprTerms.{query_of};
+ghost use Rattle.rls_evaluation.specs.Alone.{is_alone, items_seen, items_for, asked_query, with_item};
+ghost use Rattle.rls_evaluation.specs.Answering.{Comes};
 ghost use Rattle.rls_evaluation.specs.Environments.{inside};
 ghost use Rattle.rls_evaluation.specs.Gathering.{gathered, kept, with_row};
 ghost use Rattle.rls_evaluation.specs.Keys.{or_else};
@@ -15,18 +17,20 @@ ghost use Rattle.rls_evaluation.specs.Eval.{value_of, together, and_value, or_va
 ghost use Rattle.rls_evaluation.specs.Showing as spec;
 ghost use Rattle.rls_evaluation.specs.Showing.{shows, judgements_on, is_allowed};
 ghost use Rattle.rls_evaluation.specs.Scoping.{env_of, held_value, held_now, maybe_held, maybe_now, number_value};
-ghost use Rattle.rls_evaluation.specs.Holding.{Holds, Tells, shown_at, object_for, asked_of, put_in};
+ghost use Rattle.rls_evaluation.specs.Holding.{Holds, Tells, shown_at, object_for, asked_of, is_key, put_in};
 
-use crate::fence::{Guard, View, allows, place_of};
+use crate::alone::is_alone;
+use crate::fence::{Guard, View, allows, is_exempt, place_of};
 use crate::held::{Held, compare, equals, held_number, held_of, held_truth, joined};
 use crate::keys::{has_null, key_of};
-use crate::memo::{Rows, Work, found, remember};
+use crate::memo::{Rows, Work, found, keep_answer, place_of_answer, remember};
 use crate::scope::{Env, Scoped, column_value};
 use crate::tables::Tables;
+use crate::value_set::ValueSet;
 use rls_catalog::Verdict;
 use rls_expr::{Comparison, Expr, Node, Policy, Sign, Subquery};
 use rls_policy::{Judgement, combine};
-use rls_value::{Items, Loan, Name, Object, Row, Truth};
+use rls_value::{Items, Loan, Name, Object, Row, Truth, Value};
 use std::alloc::{AllocError, Global};
 
 /// The value of the expression. Nothing is cut short: every part is evaluated.
@@ -367,6 +371,9 @@ fn exists<'a, 'c, S: Tables>(
     ensures tells { Tells (value_of (t.Exists (query_of query.now)) (shows (drop view.entry.from view.entry.fences.now) env.now.user.now) (env_of env.now)) (S.state source.old) (S.state source.new) work.old.notes work.new.notes (held_now result) }
     ensures holds { OnOk result (Holds view.entry.fences.now env.now.user.now (S.state source.new) work.new) }
 {
+    if is_alone(query) {
+        return exists_alone(alloc, source, work, view, query, env);
+    }
     let rows = rows_for(alloc, source, work, view, query, env)?;
     let is = is_met(
         alloc,
@@ -378,6 +385,36 @@ fn exists<'a, 'c, S: Tables>(
         rows.as_slice(),
     )?;
     Ok(Held::Bool(is))
+}
+
+/// `EXISTS` of a subquery that names no column further out: as it was found before, or found and kept.
+#[cycle(eval)]
+fn exists_alone<'a, 'c, S: Tables>(
+    alloc: Global,
+    source: &mut S,
+    work: &mut Work,
+    view: View<'a, 'c>,
+    query: &'a Subquery,
+    env: &Env<'a>,
+) -> Result<Held<'a>, AllocError>
+    requires alone { is_alone (query_of query.now) ≡ true }
+    requires holds { Holds view.fences.now env.now.user.now (S.state source.old) work.old }
+    ensures tells { Tells (value_of (t.Exists (query_of query.now)) (shows (drop view.entry.from view.entry.fences.now) env.now.user.now) (env_of env.now)) (S.state source.old) (S.state source.new) work.old.notes work.new.notes (held_now result) }
+    ensures holds { OnOk result (Holds view.entry.fences.now env.now.user.now (S.state source.new) work.new) }
+{
+    let found = place_of_answer(&work.answers, work.next, view.from, false, query);
+    match found {
+        Some(place) => {
+            work.next = place + 1;
+            Ok(Held::Bool(work.answers[place].values.is_some()))
+        }
+        None => {
+            let values = items_alone(alloc, source, work, view, query, false, env)?;
+            let is = values.is_some();
+            keep_answer(alloc, &mut work.answers, view.from, false, query, values)?;
+            Ok(Held::Bool(is))
+        }
+    }
 }
 
 /// Whether one of the rows meets the condition.
@@ -462,6 +499,9 @@ fn is_within<'a, 'c, S: Tables>(
     ensures tells { Tells (among_items (held_value value.now) (query_of query.now) (shows (drop view.entry.from view.entry.fences.now) env.now.user.now) (env_of env.now)) (S.state source.old) (S.state source.new) work.old.notes work.new.notes result }
     ensures holds { OnOk result (Holds view.entry.fences.now env.now.user.now (S.state source.new) work.new) }
 {
+    if is_alone(query) {
+        return is_within_alone(alloc, source, work, view, value, query, env);
+    }
     let rows = rows_for(alloc, source, work, view, query, env)?;
     let truth = is_item(
         alloc,
@@ -474,6 +514,117 @@ fn is_within<'a, 'c, S: Tables>(
         rows.as_slice(),
     )?;
     Ok(truth)
+}
+
+/// The same of a subquery that names no column further out: its items are looked up in a set, which is made once.
+#[cycle(eval)]
+fn is_within_alone<'a, 'c, S: Tables>(
+    alloc: Global,
+    source: &mut S,
+    work: &mut Work,
+    view: View<'a, 'c>,
+    value: &Held,
+    query: &'a Subquery,
+    env: &Env<'a>,
+) -> Result<Truth, AllocError>
+    requires alone { is_alone (query_of query.now) ≡ true }
+    requires holds { Holds view.fences.now env.now.user.now (S.state source.old) work.old }
+    ensures tells { Tells (among_items (held_value value.now) (query_of query.now) (shows (drop view.entry.from view.entry.fences.now) env.now.user.now) (env_of env.now)) (S.state source.old) (S.state source.new) work.old.notes work.new.notes result }
+    ensures holds { OnOk result (Holds view.entry.fences.now env.now.user.now (S.state source.new) work.new) }
+{
+    let found = place_of_answer(&work.answers, work.next, view.from, true, query);
+    match found {
+        Some(place) => {
+            work.next = place + 1;
+            work.answers[place].values.equals_any(alloc, value)
+        }
+        None => {
+            let values = items_alone(alloc, source, work, view, query, true, env)?;
+            let truth = values.equals_any(alloc, value)?;
+            keep_answer(alloc, &mut work.answers, view.from, true, query, values)?;
+            Ok(truth)
+        }
+    }
+}
+
+/// The items of the rows that meet the condition; a null for each where the items aren't asked.
+#[cycle(eval)]
+fn items_alone<'a, 'c, S: Tables>(
+    alloc: Global,
+    source: &mut S,
+    work: &mut Work,
+    view: View<'a, 'c>,
+    query: &'a Subquery,
+    has_items: bool,
+    env: &Env<'a>,
+) -> Result<ValueSet, AllocError>
+    requires { Holds view.fences.now env.now.user.now (S.state source.old) work.old }
+    ensures comes { IfOk result (λ set. Comes (items_seen (asked_query has_items (query_of query.now)) (shows (drop view.entry.from view.entry.fences.now) env.now.user.now) (env_of env.now)) (S.state source.old) (S.state source.new) work.old.notes work.new.notes set) }
+    ensures stands { S.state source.new ≡ S.state source.old }
+    ensures holds { OnOk result (Holds view.entry.fences.now env.now.user.now (S.state source.new) work.new) }
+{
+    let rows = rows_for(alloc, source, work, view, query, env)?;
+    let values = items_over(
+        alloc,
+        source,
+        work,
+        view,
+        query,
+        has_items,
+        &*env,
+        rows.as_slice(),
+    )?;
+    ValueSet::of(alloc, values)
+}
+
+/// The items of these rows that meet the condition.
+#[cycle(eval)]
+fn items_over<'a, 'c, S: Tables>(
+    alloc: Global,
+    source: &mut S,
+    work: &mut Work,
+    view: View<'a, 'c>,
+    query: &'a Subquery,
+    has_items: bool,
+    env: &'a Env<'a>,
+    rows: &'a [Row],
+) -> Result<Items<Value>, AllocError>
+    requires { Holds view.fences.now env.now.user.now (S.state source.old) work.old }
+    ensures tells { Tells (gathered with_item [] (λ row. means.item_if (meets (maybe_term query.now.condition) (shows (drop view.entry.from view.entry.fences.now) env.now.user.now) (inside row (env_of env.now))) (item_of (items_for has_items (terms_of query.now.items.items)) (shows (drop view.entry.from view.entry.fences.now) env.now.user.now) (inside row (env_of env.now)))) rows.now) (S.state source.old) (S.state source.new) work.old.notes work.new.notes result }
+    ensures holds { OnOk result (Holds view.entry.fences.now env.now.user.now (S.state source.new) work.new) }
+{
+    let mut values = Items::new(alloc);
+    for row in rows {
+        let inner = Env {
+            user: env.user,
+            rows: Scoped::Over(row, &env.rows),
+        };
+        let item = item_or_null(alloc, source, work, view, query, has_items, &inner)?;
+        push_item(alloc, &mut values, item)?;
+    }
+    Ok(values)
+}
+
+/// The item of the innermost row, or a null where items aren't asked, if the row meets the condition.
+#[cycle(eval)]
+fn item_or_null<'a, 'c, S: Tables>(
+    alloc: Global,
+    source: &mut S,
+    work: &mut Work,
+    view: View<'a, 'c>,
+    query: &'a Subquery,
+    has_items: bool,
+    env: &Env<'a>,
+) -> Result<Option<Held<'a>>, AllocError>
+    requires { Holds view.fences.now env.now.user.now (S.state source.old) work.old }
+    ensures tells { Tells (means.item_if (meets (maybe_term query.now.condition) (shows (drop view.entry.from view.entry.fences.now) env.now.user.now) (env_of env.now)) (item_of (items_for has_items (terms_of query.now.items.items)) (shows (drop view.entry.from view.entry.fences.now) env.now.user.now) (env_of env.now))) (S.state source.old) (S.state source.new) work.old.notes work.new.notes (maybe_now result) }
+    ensures holds { OnOk result (Holds view.entry.fences.now env.now.user.now (S.state source.new) work.new) }
+{
+    if has_items {
+        return item_if(alloc, source, work, view, query, env);
+    }
+    let is = meets_condition(alloc, source, work, view, &query.condition, env)?;
+    Ok(null_if(is))
 }
 
 /// Whether the value is equal to the item of one of these rows that meets the condition.
@@ -664,7 +815,8 @@ fn seen<'a, 'c, S: Tables>(
     }
 }
 
-/// What the first of the fences shows: as it was found before, or found and kept.
+/// What the first of the fences shows: as it was found before, or found and kept. A look-up by key that no policy judges
+/// costs no more than to find it again, and isn't kept.
 #[cycle(eval)]
 fn shown_once<'a, 'c, S: Tables>(
     alloc: Global,
@@ -678,6 +830,11 @@ fn shown_once<'a, 'c, S: Tables>(
     ensures tells { Tells (shown_at view.entry.fences.now user.now view.entry.from object) (S.state source.old) (S.state source.new) work.old.notes work.new.notes result }
     ensures holds { OnOk result (Holds view.entry.fences.now user.now (S.state source.new) work.new) }
 {
+    if is_looked_up(view, &object) {
+        let rows = shown(alloc, source, work, view, user, &object)?;
+        drop(object);
+        return Ok(rows);
+    }
     let known = found(&work.seen, view.from, &object)?;
     match known {
         Some(rows) => {
@@ -878,6 +1035,26 @@ fn object_of(table: &Name, key: Option<Row>) -> Result<Object, AllocError>
     }
 }
 
+/// Whether it is a key, of a table that row security doesn't apply to.
+fn is_looked_up(view: View, object: &Object) -> bool {
+    view.from < view.fences.len() && is_exempt(&view.fences[view.from].guard) && is_key(object)
+}
+
+fn is_key(object: &Object) -> bool
+    ensures { result ≡ is_key object.now }
+{
+    match object {
+        Object::Key(_, _) => true,
+        Object::Role(_)
+        | Object::Members(_)
+        | Object::Table(_)
+        | Object::Grants(_)
+        | Object::Policies(_)
+        | Object::Rows(_)
+        | Object::RowOf(_, _) => false,
+    }
+}
+
 /// The row behind the others, if it is kept.
 fn push_if(alloc: Global, rows: &mut Items<Row>, is: bool, row: &Row) -> Result<(), AllocError>
     ensures { OnOk result (rows.new ≡ rows.old ++ with_row row.now is []) }
@@ -892,6 +1069,26 @@ fn either(one: bool, other: bool) -> bool
     ensures { result ≡ (one || other) }
 {
     one || other
+}
+
+fn null_if<'a>(is: bool) -> Option<Held<'a>>
+    ensures { maybe_held result ≡ if is then Some Null else None }
+{
+    if is { Some(Held::Null) } else { None }
+}
+
+/// The item behind the others, if there is one. A number beyond 64 bits, which only a sum can be, is answered as want of
+/// memory.
+fn push_item(alloc: Global, values: &mut Items<Value>, item: Option<Held>) -> Result<(), AllocError>
+    ensures { OnOk result (values.new ≡ values.old ++ with_item [] (maybe_held item.entry) []) }
+{
+    match item {
+        Some(item) => {
+            let value = item.to_value(alloc)?;
+            values.push(value)
+        }
+        None => Ok(()),
+    }
 }
 
 /// OR with the equality of the item, if there is one.

@@ -1,7 +1,7 @@
 //! Fences: what guards the rows that tables show.
 
 ghost use Rattle.std.specs.Prelude.{◌≡◌, drop};
-ghost use Rattle.rls_evaluation.specs.Showing.{place_from, allows};
+ghost use Rattle.rls_evaluation.specs.Showing.{place_from, allows, is_exempt};
 
 use rls_catalog::Verdict;
 use rls_expr::{Expr, Policy};
@@ -42,6 +42,16 @@ pub fn place_of(fences: &[Fence], from: usize, table: &Name) -> Option<usize>
         place += 1;
     }
     None
+}
+
+/// Whether row security doesn't apply.
+pub fn is_exempt(guard: &Guard) -> bool
+    ensures { result ≡ is_exempt guard.now }
+{
+    match guard {
+        Guard::Exempt => true,
+        Guard::Policies(_) => false,
+    }
 }
 
 /// Whether the row may be seen.

@@ -1,6 +1,7 @@
 //! The value of an expression with subqueries, over a source, and what row security says of a row.
 #![tactic(auto)]
 
+mod alone;
 mod evaluation;
 mod fence;
 mod held;
@@ -8,6 +9,7 @@ mod keys;
 mod memo;
 mod scope;
 mod tables;
+mod value_set;
 
 pub use evaluation::{eval, meets_condition, verdict_on};
 pub use fence::{Fence, Guard, View, allows};

@@ -1,12 +1,19 @@
 //! What is kept while a statement is evaluated.
 
-ghost use Rattle.std.specs.Prelude.{◌≡◌, [], Some, cond, IfOk, OnOk};
+ghost use Rattle.std.specs.Prelude.{◌≡◌, ℕ, List, [], Some, true, cond, IfOk, IfSome, OnOk};
 ghost use Rattle.std.specs.BTreeMap.{is_at};
 ghost use Rattle.std.specs.Map.{lookup};
 ghost use Rattle.rls_value.specs.Objects.{object_order};
 ghost use Rattle.rls_source.specs.Footprints.{is_object, IsInOrder};
-ghost use Rattle.rls_evaluation.specs.Holding.{found_in};
+ghost use Rattle.rls_expr.specs.ExprTerms.{query_of};
+ghost use Rattle.rls_catalog.specs.State.{State};
+ghost use Rattle.rls_evaluation.specs.declared.fence.Fence.{Fence};
+ghost use Rattle.rls_evaluation.specs.Holding.{Holds, found_in};
+ghost use Rattle.rls_evaluation.specs.Answering.{IsFor, FoundAt, IsOneMore};
 
+use crate::value_set::ValueSet;
+use rls_equality::is_same_query;
+use rls_expr::Subquery;
 use rls_source::Footprint;
 use rls_value::{Object, Row};
 use std::alloc::{AllocError, Global};
@@ -62,11 +69,24 @@ pub struct Seen {
     pub rows: Rows,
 }
 
-/// The notes of what was read, and what was shown of each object.
+/// What a subquery gave that names no column further out, over the fences from one on: the items of its rows or, where
+/// they weren't asked, a null for each.
+#[derive(Drop)]
+pub struct Answer {
+    pub from: usize,
+    pub has_items: bool,
+    pub query: Box<Subquery>,
+    pub values: ValueSet,
+}
+
+/// The notes of what was read, what was shown of each object, and what subqueries gave.
 #[derive(Drop)]
 pub struct Work {
     pub notes: Footprint,
     pub seen: BTreeMap<Object, Seen>,
+    pub answers: Vec<Answer>,
+    /// Where an answer is sought first: expressions are evaluated again and again in the same order.
+    pub next: usize,
 }
 
 impl Work {
@@ -74,10 +94,14 @@ impl Work {
     pub fn new(alloc: Global) -> Work
         ensures notes { result.notes ≡ [] }
         ensures seen { result.seen.entries ≡ [] }
+        ensures answers { result.answers.items ≡ [] }
+        ensures holds { (fences : List Fence) (user : List ℕ) (s : State) → Holds fences user s result }
     {
         Work {
             notes: Footprint::new(alloc),
             seen: BTreeMap::new(alloc),
+            answers: Vec::new(alloc),
+            next: 0,
         }
     }
 
@@ -85,8 +109,14 @@ impl Work {
     pub fn into_notes(self) -> Footprint
         ensures { result ≡ self.notes }
     {
-        let Work { notes, seen } = self;
+        let Work {
+            notes,
+            seen,
+            answers,
+            ..
+        } = self;
         drop(seen);
+        drop(answers);
         notes
     }
 }
@@ -122,4 +152,61 @@ pub fn remember(
 {
     let _ = seen.insert(object, Seen { place, rows })?;
     Ok(())
+}
+
+/// The place of an answer of the subquery, if it was given; it is sought at the place `next` first.
+pub fn place_of_answer(
+    answers: &[Answer],
+    next: usize,
+    from: usize,
+    has_items: bool,
+    query: &Subquery,
+) -> Option<usize>
+    ensures { IfSome result (λ place. FoundAt answers.now place from has_items (query_of query.now)) }
+{
+    if next < answers.len() && is_for(&answers[next], from, has_items, query) {
+        return Some(next);
+    }
+    let mut place = 0;
+    while place < answers.len() {
+        if is_for(&answers[place], from, has_items, query) {
+            return Some(place);
+        }
+        place += 1;
+    }
+    None
+}
+
+fn is_for(answer: &Answer, from: usize, has_items: bool, query: &Subquery) -> bool
+    ensures { result ≡ true → IsFor answer.now from has_items (query_of query.now) }
+{
+    answer.from == from && answer.has_items == has_items && is_same_query(&answer.query, query)
+}
+
+/// Keeps what the subquery gave.
+pub fn keep_answer(
+    alloc: Global,
+    answers: &mut Vec<Answer>,
+    from: usize,
+    has_items: bool,
+    query: &Subquery,
+    values: ValueSet,
+) -> Result<(), AllocError>
+    ensures { OnOk result (IsOneMore answers.old.items answers.new.items from has_items (query_of query.now) values) }
+{
+    match query.copy_boxed(alloc) {
+        Ok(query) => {
+            answers.push(Answer {
+                from,
+                has_items,
+                query,
+                values,
+            })?;
+            Ok(())
+        }
+        Err(refused) => {
+            drop(values);
+            Err(refused)
+        }
+    }
 }

@@ -1,6 +1,7 @@
 -- The names in a statement have to be there (PostgreSQL manual, 4.2.1 and appendix A: 42P01, 42703): each column, and the
 -- table of each subquery, in text order. What stands in a subquery is looked for once its table is found.
-use Rattle.std.specs.Prelude.{ℕ, List, [], ◌∷◌, ◌++◌, drop, Result, Ok, Err}
+use Rattle.std.specs.Prelude.{◌≡◌, List, [], ◌∷◌, ◌++◌, drop, Some, Result, Ok, Err}
+use Rattle.std.specs.List.{AllByRecursion}
 use Rattle.rls_value.specs.declared.refusal.Refusal.{Refusal}
 use Rattle.rls_value.specs.declared.refusal.Refusal.TheVariants.{Undefined}
 use Rattle.rls_expr.specs.declared.expr.Place.{Place}
@@ -8,6 +9,7 @@ use Rattle.rls_expr.specs.Naming.{Step, Look, Enter, Leave}
 use Rattle.rls_expr.specs.Scopes.{InScope, Unknown, place_in}
 use Rattle.rls_expr.specs.Placing.{Names}
 use Rattle.rls_expr.specs.Terms.{qualifier_of}
+use Rattle.rls_catalog.specs.State.{State, table_of}
 use Rattle.rls_source.specs.Askings.{Asking, known, followed_by}
 use Rattle.rls_source.specs.Named.{table_or_undefined}
 
@@ -27,3 +29,7 @@ named (Leave ∷ steps) tables found = named steps (drop 1 tables) found
 -- names over one table, where these were found for subqueries
 abbrev pub names_over : InScope → List InScope → Names
 names_over from found = record { tables = from ∷ []; known = found }
+
+-- each of them is the state's table of its name
+abbrev pub AreTablesOf : State → List InScope → Type 0
+AreTablesOf s found = AllByRecursion (λ one. table_of s one.0 ≡ Some one.1) found

@@ -1,15 +1,30 @@
 //! Laws of the definitions, each a clause of a function that does nothing.
 
-ghost use Rattle.std.specs.Prelude.{◌≡◌, ◌||◌, ℕ, List};
+ghost use Rattle.std.specs.Prelude.{◌≡◌, ◌≤◌, ◌||◌, ℕ, List, [], Bool, true, false, Some, IfOk, length};
+ghost use Rattle.std.specs.Option.{is_some};
 ghost use Rattle.rls_value.specs.declared.verb.Kind.{Kind};
 ghost use Rattle.rls_value.specs.declared.verb.Privilege.{Privilege};
+ghost use Rattle.rls_expr.specs.declared.expr.FromItem.{FromItem};
+ghost use Rattle.rls_expr.specs.declared.expr.Selects.{Selects};
+ghost use Rattle.rls_expr.specs.Naming.{Step};
+ghost use Rattle.rls_expr.specs.Placing.{Names, definition_of, placed, query_placed};
+ghost use Rattle.rls_expr.specs.Scopes.{InScope};
+ghost use Rattle.rls_expr.specs.Terms.{Query, Terms, Scalar, Select};
 ghost use Rattle.rls_expr.specs.declared.table.TableDef.{TableDef};
 ghost use Rattle.rls_catalog.specs.declared.verdict.Side.{Side};
 ghost use Rattle.rls_catalog.specs.Membership.{attributes_of, has_privileges_of};
 ghost use Rattle.rls_catalog.specs.Privileges.{holds};
-ghost use Rattle.rls_catalog.specs.State.{State, grants_of, policies_of};
+ghost use Rattle.rls_catalog.specs.SoundRows.{RowsAreSound};
+ghost use Rattle.rls_catalog.specs.State.{State, grants_of, policies_of, table_of};
 ghost use Rattle.rls_catalog.specs.Verdict.{exempts, is_exempt, chosen, applying_of};
+ghost use Rattle.rls_evaluation.specs.declared.fence.Fence.{Fence};
+ghost use Rattle.rls_evaluation.specs.Environments.{Environment};
+ghost use Rattle.rls_evaluation.specs.Eval.{ranged_over};
+ghost use Rattle.rls_evaluation.specs.Keys.{key_of};
+ghost use Rattle.rls_evaluation.specs.Showing.{shows};
+ghost use Rattle.rls_guard.specs.Naming.{AreTablesOf, named};
 ghost use Rattle.rls_guard.specs.Standings.{standing_in, has_owner, is_granted};
+ghost use Rattle.rls_guard.specs.Support.{is_unsupported, pins_key};
 
 /// What the standing of a role tells is what the rules over a state say: whose privileges it has, which privileges it
 /// holds, where it is exempt, which policies apply.
@@ -19,4 +34,22 @@ pub fn standing_means()
     ensures granted { (s : State) (role : List ℕ) (privilege : Privilege) (table : List ℕ) → ((attributes_of s role).superuser || is_granted (standing_in s role) privilege (grants_of s table)) ≡ holds s role privilege table }
     ensures exempt { (s : State) (role : List ℕ) (table : TableDef) → exempts (standing_in s role).attributes table (has_owner (standing_in s role) table) ≡ is_exempt s role table }
     ensures applying { (s : State) (role table : List ℕ) (kind : Kind) (which : Side) → chosen (standing_in s role).reach.superuser (standing_in s role).reach.names kind which (policies_of s table) ≡ applying_of s role table kind which }
+{}
+
+/// A subquery is evaluated on the rows with one key exactly where its condition pins the key of its table by the rule of what
+/// is supported, whatever rows are in scope. So each scalar subquery that is supported is; and where the rows of the state
+/// are sound, there is one such row at most.
+#[tactic(auto, using(crate::proofs::PinnedLaws::pinned_means, crate::proofs::PinnedLaws::scalar_means))]
+pub fn pinned_key_means()
+    ensures pinned { (columns : List ℕ) (condition : Terms) (env : Environment) → is_some (key_of columns condition env) ≡ pins_key columns condition }
+    ensures scalar { (sums : Bool) (from : FromItem) (key : List ℕ) (selects : Selects) (items condition : Terms) (env : Environment) → is_unsupported sums (Scalar (Select from key selects items condition)) ≡ false → is_some (key_of key condition env) ≡ true }
+    ensures one_row { (s : State) (fences : List Fence) (user : List ℕ) (env : Environment) (from : FromItem) (table : TableDef) (selects : Selects) (items condition : Terms) → RowsAreSound s → table_of s from.table ≡ Some table → pins_key table.key condition ≡ true → IfOk ((ranged_over (Select from table.key selects items condition) (shows fences user) env).in_state s).gives (λ rows. length rows ≤ 1) }
+{}
+
+/// The tables that a statement's subqueries name are found as the state has them. A scalar subquery that was placed over
+/// such tables, and is supported, ranges over one row at most, whatever rows are in scope and whatever is shown of its
+/// table, where the rows of the state are sound.
+pub fn placed_subquery_means()
+    ensures known { (s : State) (steps : List Step) (tables : List InScope) → IfOk ((named steps tables []).in_state s).gives (AreTablesOf s) }
+    ensures one_row { (s : State) (names : Names) (query : Query) (table : TableDef) (sums : Bool) (fences : List Fence) (user : List ℕ) (env : Environment) → RowsAreSound s → AreTablesOf s names.known → definition_of query names ≡ Some table → is_unsupported sums (placed (Scalar query) names) ≡ false → IfOk ((ranged_over (query_placed query names) (shows fences user) env).in_state s).gives (λ rows. length rows ≤ 1) }
 {}

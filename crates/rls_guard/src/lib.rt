@@ -5,6 +5,7 @@
 mod checks;
 mod context;
 mod effect;
+mod equality;
 mod evaluation;
 mod guard;
 mod laws;
@@ -18,7 +19,7 @@ pub use context::{Ctx, Mode};
 pub use effect::Effect;
 pub use evaluation::{value_alone, value_over};
 pub use guard::{PolicyScope, Watch, conditions_of, watches_by};
-pub use laws::standing_means;
+pub use laws::{pinned_key_means, placed_subquery_means, standing_means};
 pub use naming::{Found, named, named_over};
 pub use reply::{Decision, Reply};
 pub use rls_policy::Judgement;

@@ -1,40 +1,16 @@
 -- What a phase begins with, and lists of values that grow.
 use Rattle.std.specs.Prelude.{◌≡◌, ℕ, List, [], ◌∷◌, ◌++◌, Bool, true, false, Option, Some, None, Result, map}
 use Rattle.std.proofs.Common.{ap, sym, ◌∙◌, subst, append_assoc}
-use Rattle.std.proofs.lemmas.Bool.{true≢false}
 use Rattle.std.proofs.lemmas.List.{map-append}
-use Rattle.std.specs.List.Sorted.{IsStrictlySortedBy}
 use Rattle.std.specs.declared.alloc.AllocError.{AllocError}
 use Rattle.rls_value.specs.declared.value.Value.{Value}
 use Rattle.rls_value.specs.declared.object.Object.{Object}
 use Rattle.rls_expr.specs.Terms.{Term}
 use Rattle.rls_catalog.specs.State.{State}
-use Rattle.rls_source.specs.Footprints.{IsInOrder}
-use Rattle.rls_evaluation.specs.declared.fence.Fence.{Fence}
-use Rattle.rls_evaluation.specs.declared.memo.Work.{Work}
 use Rattle.rls_evaluation.specs.Environments.{Environment, over}
 use Rattle.rls_evaluation.specs.Eval.{Shows}
-use Rattle.rls_evaluation.specs.Holding.{Holds, Tells, found_in}
+use Rattle.rls_evaluation.specs.Holding.{Tells}
 use Rattle.rls_judging.specs.Valuing.{values_on}
-
--- ---- the work that a phase begins with
-
-abbrev is_there : {A : Type 0} → Option A → Bool
-is_there (Some a) = true
-is_there None = false
-
-none_in_order : (notes : List Object) → notes ≡ [] → IsInOrder notes
-unfolding IsStrictlySortedBy
-none_in_order notes none = subst IsInOrder (sym none) tt
-
--- where nothing was read or shown, all that was shown is kept
-pub holds_new : (fences : List Fence) (user : List ℕ) (s : State) (work : Work) → work.notes ≡ [] → work.seen.entries ≡ [] → Holds fences user s work
-holds_new fences user s work unread unseen = record {
-  ordered = none_in_order work.notes unread;
-  kept = λ place object rows found.
-      let none : None ≡ Some rows = ap (λ seen. found_in seen place object) (sym unseen) ∙ found in
-      absurd (true≢false (sym (ap is_there none)));
-}
 
 -- ---- loops
 

@@ -4,6 +4,8 @@
 #[cfg(test)]
 mod agreements;
 #[cfg(test)]
+mod equalities;
+#[cfg(test)]
 mod expressions;
 #[cfg(test)]
 mod overlays;

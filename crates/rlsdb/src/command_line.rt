@@ -1,4 +1,4 @@
-//! The command line: `rlsdb run FILE`, its faults and its exit status.
+//! The command line: `rlsdb run FILE`, or `-` for standard input; its faults and its exit status.
 
 use crate::device::{DeviceIn, DeviceOut};
 use crate::fault::RunFault;
@@ -8,6 +8,7 @@ use clap::{Arg, Command};
 use std::alloc::Global;
 use std::convert::AsStr;
 use std::fs::File;
+use std::io::Read;
 use std::{env, io};
 
 // A read or a write fault, or want of memory.
@@ -16,11 +17,16 @@ const FAULT: u8 = 1;
 const USAGE: u8 = 2;
 
 const AFTER_HELP: &str = "\
-A FILE has a command a line: `LABEL: \\connect ROLE` or `LABEL: STATEMENT`.
+A FILE has a command a line: `LABEL: \\connect ROLE` or `LABEL: STATEMENT`. The role `postgres` is there from the start:
+
+    p: \\connect postgres
+    p: CREATE TABLE t (a int)
+    p: SELECT * FROM t
+
 A label is 1 to 63 lower case letters, digits or underscores; up to 64 labels have a session each.
 Empty lines and lines that begin with `--` are skipped; every answer is written as `LABEL: TEXT`.
 
-Exit statuses: 0 done; 1 a read or write fault, or want of memory; 2 a usage fault.";
+Exit statuses: 0 done, refused statements included; 1 a read or write fault, or want of memory; 2 a usage fault.";
 
 /// Runs what the words of the command line ask for, and gives the exit status.
 pub fn run(rt: &HostRuntime) -> u8 {
@@ -31,10 +37,8 @@ pub fn run(rt: &HostRuntime) -> u8 {
         return report(rt, RunFault::NoMemory);
     };
     match file_named(rt.alloc(), words.as_slice()) {
-        Ok(Some(file)) => match run_file(rt, file) {
-            Ok(()) => 0,
-            Err(fault) => report(rt, fault),
-        },
+        Ok(Some("-")) => run_reader(rt, rt.reader()),
+        Ok(Some(file)) => run_file(rt, file),
         Ok(None) => USAGE,
         Err(error) => explain(rt, &error),
     }
@@ -47,7 +51,7 @@ pub fn file_named<'a, T: AsStr>(
 ) -> Result<Option<&'a str>, clap::Error> {
     let file = Arg::new(alloc, "FILE")
         .required(true)
-        .help("The script to run");
+        .help("The script to run, or `-` for standard input");
     let run = Command::new(alloc, "run")
         .about("Runs a script on an empty database and writes each answer under its label")
         .after_help(AFTER_HELP)
@@ -82,9 +86,26 @@ fn report(rt: &HostRuntime, fault: RunFault) -> u8 {
     FAULT
 }
 
-fn run_file(rt: &HostRuntime, file: &str) -> Result<(), RunFault> {
-    let file = File::open(rt, file).map_err(|error| fault_of(&error, RunFault::Read))?;
-    let mut input = DeviceIn::new(rt.alloc(), file).map_err(|_| RunFault::NoMemory)?;
+fn run_file(rt: &HostRuntime, name: &str) -> u8 {
+    match File::open(rt, name) {
+        Ok(file) => run_reader(rt, file),
+        Err(error) if error.kind() == io::ErrorKind::OutOfMemory => report(rt, RunFault::NoMemory),
+        Err(error) => {
+            let _ = eprintln!(rt; "rlsdb: cannot read {name}: {error}");
+            FAULT
+        }
+    }
+}
+
+fn run_reader<R: Read + Drop>(rt: &HostRuntime, reader: R) -> u8 {
+    match run_from(rt, reader) {
+        Ok(()) => 0,
+        Err(fault) => report(rt, fault),
+    }
+}
+
+fn run_from<R: Read + Drop>(rt: &HostRuntime, reader: R) -> Result<(), RunFault> {
+    let mut input = DeviceIn::new(rt.alloc(), reader).map_err(|_| RunFault::NoMemory)?;
     let mut output = DeviceOut::new(rt.alloc(), io::writer(rt)).map_err(|_| RunFault::NoMemory)?;
     let ran = run_script(rt.alloc(), &mut input, &mut output);
     let finished = output.finish();

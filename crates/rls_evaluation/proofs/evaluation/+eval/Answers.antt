@@ -1,4 +1,4 @@
-use Rattle.std.proofs.Common.{rules, arith, ap, sym, subst, ◌∙◌, refl, ◌≡◌, ◌∷◌, ◌++◌, [], ◌||◌, ◌≤◌, drop, false, length, slice_index_or, Ok, List}
+use Rattle.std.proofs.Common.{rules, arith, ap, sym, subst, ◌∙◌, refl, ◌≡◌, ◌∷◌, ◌++◌, [], ◌||◌, true, ◌≤◌, drop, false, length, slice_index_or, Ok, List}
 use Rattle.std.specs.Prelude.{Option, Some, None, IfOk}
 use Rattle.std.proofs.Math.Bool.{or_assoc}
 use Rattle.rls_value.specs.declared.value.Value.{Value}
@@ -18,10 +18,14 @@ use Rattle.rls_evaluation.specs.Environments.{inside, compared, over, number_or_
 use Rattle.rls_evaluation.specs.Gathering.{gathered, kept, with_row}
 use Rattle.rls_evaluation.specs.Eval.{value_of, together, and_value, or_value, or_equal, as_value, negated, among_items, item_equals, item_if, item_of, item_or, meets, or_item, ranged_over, has_row, sum_from}
 use Rattle.rls_evaluation.specs.Showing.{shows, judgements_on, is_allowed, with_judgement}
-use Rattle.rls_evaluation.specs.Scoping.{env_of, held_value, held_now, maybe_held, number_value}
+use Rattle.rls_evaluation.specs.Scoping.{env_of, held_value, held_now, maybe_held, maybe_now, number_value}
 use Rattle.rls_evaluation.specs.Holding.{Holds, Tells, shown_at, object_for}
 use Rattle.rls_evaluation.proofs.Telling.{leads_whole, tells_then, tells_as, tells_same, tells_unread, tells_on, tells_over, tells_item, tells_result}
-use Rattle.rls_evaluation.proofs.LoopLemmas.{and_again, or_again, and_none, or_none, terms_turn, rows_turn, item_again, row_added, judgement_added, sum_told, sum_on}
+use Rattle.rls_evaluation.specs.Alone.{items_seen, items_for, asked_query, with_item, any_equal}
+use Rattle.rls_evaluation.specs.Answering.{FoundAt}
+use Rattle.rls_evaluation.specs.ValueSets.{IsSetOf}
+use Rattle.rls_evaluation.proofs.AnswerLemmas.{holds_answered, comes_found, exists_told, within_told, seen_over, null_told, comes_of}
+use Rattle.rls_evaluation.proofs.LoopLemmas.{and_again, or_again, and_none, or_none, terms_turn, rows_turn, item_again, item_added, row_added, judgement_added, sum_told, sum_on}
 use Rattle.rls_evaluation.proofs.Absorbing.{holds_shown}
 use Rattle.rls_evaluation.proofs.Fencing.{shows_found, shows_none, size_found, condition_at}
 use Rattle.rls_evaluation.proofs.evaluation.+eval.Goals as goal
@@ -236,8 +240,8 @@ seen-returns-in_ok-object-in-Some-clause-tells g t c =
 
 pub shown_once-returns-in_ok-remember-in-None-clause-holds : goal.shown_once-returns-in_ok-remember-in-None-clause-holds
 shown_once-returns-in_ok-remember-in-None-clause-holds g t c =
-    holds_shown c.args.view.fences.now c.args.user.now (g.S.Tables.state c.args.source.now) (g.S.Tables.state c.shown.new.source) c.args.work.now.notes c.shown.new.work (record { notes = c.shown.new.work.notes; seen = c.remember.new.seen }) c.args.view.from c.args.object c.in_ok-copy-in-None.copy
-    (tells_result _ _ _ _ _ c.in_ok-rows-in-None.rows c.in_ok-copy-in-None.copy c.in_ok-rows-in-None.ensures.tells c.in_ok-copy-in-None.ensures) c.in_ok-rows-in-None.ensures.holds refl c.in_ok-remember-in-None.ensures
+    holds_shown c.args.view.fences.now c.args.user.now (g.S.Tables.state c.args.source.now) (g.S.Tables.state c.shown-in-None.new.source) c.args.work.now.notes c.shown-in-None.new.work (record { notes = c.shown-in-None.new.work.notes; seen = c.remember.new.seen; answers = c.shown-in-None.new.work.answers; next = c.shown-in-None.new.work.next }) c.args.view.from c.args.object c.in_ok-copy-in-None.copy
+    (tells_result _ _ _ _ _ c.in_ok-rows-in-None.rows c.in_ok-copy-in-None.copy c.in_ok-rows-in-None.ensures.tells c.in_ok-copy-in-None.ensures) c.in_ok-rows-in-None.ensures.holds refl refl c.in_ok-remember-in-None.ensures
 
 pub sum-returns-in_ok-held-in-len1-up-clause-tells : goal.sum-returns-in_ok-held-in-len1-up-clause-tells
 sum-returns-in_ok-held-in-len1-up-clause-tells g t c =
@@ -251,3 +255,66 @@ sum_from-returns-in-Ok-clause-tells g t c =
     let same : number_value c.in-Ok.so_far ≡ joined (slice_index_or c.args.signs.now 0 Plus) (number_value c.args.first) (held_value c.in_ok-held-in-len1-up-len1-up.held) = search rules in
     sum_on (shows (drop c.args.view.from c.args.view.fences.now) c.args.env.now.user.now) (env_of c.args.env.now) (number_value c.args.first) c.args.signs.now c.args.parts.now c.part-item.result _ _ _ _ _ _ (held_value c.in_ok-held-in-len1-up-len1-up.held) (number_value c.in-Ok.so_far) (held_now c.sum_from.result) some many c.part-item.is
     c.in_ok-held-in-len1-up-len1-up.ensures.tells same c.sum_from.ensures.tells
+
+pub items_over-loop-row-preserved : goal.items_over-loop-row-preserved
+items_over-loop-row-preserved g t c =
+    record {
+      stands = c.in_ok-item.ensures.tells.stands ∙ c.loop-row.invariant.stands;
+      leads = rows_turn (gathered with_item [] (λ row. item_if (meets (maybe_term c.args.query.now.condition) (shows (drop c.args.view.from c.args.view.fences.now) c.args.env.now.user.now) (inside row (env_of c.args.env.now))) (item_of (items_for c.args.has_items (terms_of c.args.query.now.items.items)) (shows (drop c.args.view.from c.args.view.fences.now) c.args.env.now.user.now) (inside row (env_of c.args.env.now)))) c.args.rows.now) (λ rest. c.loop-row.values ++ rest) (λ rest. c.push_item.new.values ++ rest) with_item [] (λ row. item_if (meets (maybe_term c.args.query.now.condition) (shows (drop c.args.view.from c.args.view.fences.now) c.args.env.now.user.now) (inside row (env_of c.args.env.now))) (item_of (items_for c.args.has_items (terms_of c.args.query.now.items.items)) (shows (drop c.args.view.from c.args.view.fences.now) c.args.env.now.user.now) (inside row (env_of c.args.env.now))))
+          c.args.rows.now c.loop-row.row-index c.row-item.result (maybe_held c.in_ok-item.item) _ _ _ _ _ _ c.loop-row-test.true c.row-item.is
+          (λ rest. item_added c.push_item.new.values c.loop-row.values rest c.row-item.result (maybe_held c.in_ok-item.item) c.in_ok-push_item.ensures)
+          c.loop-row.invariant.stands c.loop-row.invariant.leads c.in_ok-item.ensures.tells;
+      holds = c.in_ok-item.ensures.holds;
+    }
+
+pub exists_alone-returns-in-Some-clause-tells : goal.exists_alone-returns-in-Some-clause-tells
+exists_alone-returns-in-Some-clause-tells g t c =
+    exists_told (query_of c.args.query.now) (shows (drop c.args.view.from c.args.view.fences.now) c.args.env.now.user.now) (env_of c.args.env.now) (g.S.Tables.state c.args.source.now) (g.S.Tables.state c.args.source.now) c.args.work.now.notes c.args.work.now.notes c.index.result.now.values c.is_some.result refl
+    (comes_found c.args.view.fences.now c.args.env.now.user.now (env_of c.args.env.now) (g.S.Tables.state c.args.source.now) c.args.work.now c.in-Some.place c.args.view.from false (query_of c.args.query.now) c.index.result.now refl c.requires.alone c.requires.holds
+    (subst (λ answers. FoundAt answers c.in-Some.place c.args.view.from false (query_of c.args.query.now)) c.deref.ensures.value c.in-Some.ensures) c.index.ensures) c.is_some.ensures
+
+pub exists_alone-returns-in_ok-keep_answer-in-None-clause-tells : goal.exists_alone-returns-in_ok-keep_answer-in-None-clause-tells
+exists_alone-returns-in_ok-keep_answer-in-None-clause-tells g t c =
+    exists_told (query_of c.args.query.now) (shows (drop c.args.view.from c.args.view.fences.now) c.args.env.now.user.now) (env_of c.args.env.now) (g.S.Tables.state c.args.source.now) (g.S.Tables.state c.items_alone.new.source) c.args.work.now.notes c.items_alone.new.work.notes c.in_ok-values-in-None.values c.is_some-is.result
+    c.in_ok-values-in-None.ensures.stands c.in_ok-values-in-None.ensures.comes c.is_some-is.ensures
+
+pub exists_alone-returns-in_ok-keep_answer-in-None-clause-holds : goal.exists_alone-returns-in_ok-keep_answer-in-None-clause-holds
+exists_alone-returns-in_ok-keep_answer-in-None-clause-holds g t c =
+    holds_answered c.args.view.fences.now c.args.env.now.user.now (env_of c.args.env.now) (g.S.Tables.state c.args.source.now) (g.S.Tables.state c.items_alone.new.source) c.args.work.now.notes c.items_alone.new.work
+    (record { notes = c.items_alone.new.work.notes; seen = c.items_alone.new.work.seen; answers = c.keep_answer.new.answers; next = c.items_alone.new.work.next }) c.args.view.from false (query_of c.args.query.now) c.in_ok-values-in-None.values refl c.requires.alone
+    c.in_ok-values-in-None.ensures.stands c.in_ok-values-in-None.ensures.comes c.in_ok-values-in-None.ensures.holds refl refl c.in_ok-keep_answer-in-None.ensures
+
+pub is_within_alone-returns-in-Some-clause-tells : goal.is_within_alone-returns-in-Some-clause-tells
+is_within_alone-returns-in-Some-clause-tells g t c =
+    within_told (held_value c.args.value.now) (query_of c.args.query.now) (shows (drop c.args.view.from c.args.view.fences.now) c.args.env.now.user.now) (env_of c.args.env.now) (g.S.Tables.state c.args.source.now) (g.S.Tables.state c.args.source.now) c.args.work.now.notes c.args.work.now.notes c.index.result.now.values c.equals_any.result refl
+    (comes_found c.args.view.fences.now c.args.env.now.user.now (env_of c.args.env.now) (g.S.Tables.state c.args.source.now) c.args.work.now c.in-Some.place c.args.view.from true (query_of c.args.query.now) c.index.result.now refl c.requires.alone c.requires.holds
+    (subst (λ answers. FoundAt answers c.in-Some.place c.args.view.from true (query_of c.args.query.now)) c.deref.ensures.value c.in-Some.ensures) c.index.ensures) c.equals_any.ensures
+
+pub is_within_alone-returns-in_ok-keep_answer-in-None-clause-tells : goal.is_within_alone-returns-in_ok-keep_answer-in-None-clause-tells
+is_within_alone-returns-in_ok-keep_answer-in-None-clause-tells g t c =
+    within_told (held_value c.args.value.now) (query_of c.args.query.now) (shows (drop c.args.view.from c.args.view.fences.now) c.args.env.now.user.now) (env_of c.args.env.now) (g.S.Tables.state c.args.source.now) (g.S.Tables.state c.items_alone.new.source) c.args.work.now.notes c.items_alone.new.work.notes c.in_ok-values-in-None.values (Ok c.in_ok-truth-in-None.truth)
+    c.in_ok-values-in-None.ensures.stands c.in_ok-values-in-None.ensures.comes
+    (subst (λ result. (items : List Value) → IsSetOf c.in_ok-values-in-None.values items → IfOk result (λ truth. truth ≡ any_equal (held_value c.args.value.now) items)) c.in_ok-truth-in-None.was c.equals_any-in-None.ensures)
+
+pub is_within_alone-returns-in_ok-keep_answer-in-None-clause-holds : goal.is_within_alone-returns-in_ok-keep_answer-in-None-clause-holds
+is_within_alone-returns-in_ok-keep_answer-in-None-clause-holds g t c =
+    holds_answered c.args.view.fences.now c.args.env.now.user.now (env_of c.args.env.now) (g.S.Tables.state c.args.source.now) (g.S.Tables.state c.items_alone.new.source) c.args.work.now.notes c.items_alone.new.work
+    (record { notes = c.items_alone.new.work.notes; seen = c.items_alone.new.work.seen; answers = c.keep_answer.new.answers; next = c.items_alone.new.work.next }) c.args.view.from true (query_of c.args.query.now) c.in_ok-values-in-None.values refl c.requires.alone
+    c.in_ok-values-in-None.ensures.stands c.in_ok-values-in-None.ensures.comes c.in_ok-values-in-None.ensures.holds refl refl c.in_ok-keep_answer-in-None.ensures
+
+pub item_or_null-returns-then-has_items-clause-tells : goal.item_or_null-returns-then-has_items-clause-tells
+item_or_null-returns-then-has_items-clause-tells g t c =
+    subst (λ has_items. Tells (item_if (meets (maybe_term c.args.query.now.condition) (shows (drop c.args.view.from c.args.view.fences.now) c.args.env.now.user.now) (env_of c.args.env.now)) (item_of (items_for has_items (terms_of c.args.query.now.items.items)) (shows (drop c.args.view.from c.args.view.fences.now) c.args.env.now.user.now) (env_of c.args.env.now))) (g.S.Tables.state c.args.source.now) (g.S.Tables.state c.item_if.new.source) c.args.work.now.notes c.item_if.new.work.notes (maybe_now c.item_if.result)) (sym c.if-has_items.true) c.item_if.ensures.tells
+
+pub item_or_null-returns-clause-tells : goal.item_or_null-returns-clause-tells
+item_or_null-returns-clause-tells g t c =
+    subst (λ has_items. Tells (item_if (meets (maybe_term c.args.query.now.condition) (shows (drop c.args.view.from c.args.view.fences.now) c.args.env.now.user.now) (env_of c.args.env.now)) (item_of (items_for has_items (terms_of c.args.query.now.items.items)) (shows (drop c.args.view.from c.args.view.fences.now) c.args.env.now.user.now) (env_of c.args.env.now))) (g.S.Tables.state c.args.source.now) (g.S.Tables.state c.meets_condition.new.source) c.args.work.now.notes c.meets_condition.new.work.notes (Ok (maybe_held c.null_if.result))) (sym c.if-has_items.false)
+    (null_told (meets (maybe_term c.args.query.now.condition) (shows (drop c.args.view.from c.args.view.fences.now) c.args.env.now.user.now) (env_of c.args.env.now)) _ _ _ _ c.in_ok-is.is' (maybe_held c.null_if.result) c.in_ok-is.ensures.tells c.null_if.ensures)
+
+pub items_alone-returns-clause-comes : goal.items_alone-returns-clause-comes
+items_alone-returns-clause-comes g t c =
+    comes_of (items_seen (asked_query c.args.has_items (query_of c.args.query.now)) (shows (drop c.args.view.from c.args.view.fences.now) c.args.env.now.user.now) (env_of c.args.env.now)) _ _ _ _ c.in_ok-values.values c.of.result
+    (subst (λ asking. Tells asking (g.S.Tables.state c.args.source.now) (g.S.Tables.state c.items_over.new.source) c.args.work.now.notes c.items_over.new.work.notes (Ok c.in_ok-values.values))
+    (sym (seen_over c.args.has_items c.args.query.now.from c.args.query.now.key.items c.args.query.now.selects (terms_of c.args.query.now.items.items) (maybe_term c.args.query.now.condition) (shows (drop c.args.view.from c.args.view.fences.now) c.args.env.now.user.now) (env_of c.args.env.now)))
+    (tells_over (ranged_over (query_of c.args.query.now) (shows (drop c.args.view.from c.args.view.fences.now) c.args.env.now.user.now) (env_of c.args.env.now)) (λ rows. gathered with_item [] (λ row. item_if (meets (maybe_term c.args.query.now.condition) (shows (drop c.args.view.from c.args.view.fences.now) c.args.env.now.user.now) (inside row (env_of c.args.env.now))) (item_of (items_for c.args.has_items (terms_of c.args.query.now.items.items)) (shows (drop c.args.view.from c.args.view.fences.now) c.args.env.now.user.now) (inside row (env_of c.args.env.now)))) rows)
+    _ _ _ _ _ _ c.in_ok-rows.rows c.as_slice.result.now c.in_ok-values.values c.as_slice.ensures c.in_ok-rows.ensures.tells c.in_ok-values.ensures.tells)) c.of.ensures

@@ -1,4 +1,4 @@
-use Rattle.std.proofs.Common.{◌≡◌, ◌++◌, ◌||◌, ◌+◌, ◌*◌, drop, false, List}
+use Rattle.std.proofs.Common.{◌≡◌, [], ◌++◌, ◌||◌, ◌+◌, ◌*◌, drop, false, List}
 use Rattle.rls_value.specs.declared.value.Value.{Value}
 use Rattle.rls_value.specs.declared.value.Value.TheVariants.{Null}
 use Rattle.rls_value.specs.declared.truth.Truth.{Truth}
@@ -6,6 +6,7 @@ use Rattle.rls_value.specs.declared.truth.Truth.TheVariants.{True, False}
 use Rattle.rls_value.specs.Truths.{conjunction_of, disjunction_of}
 use Rattle.rls_expr.specs.Terms.{maybe_term, terms_of, term_size, terms_size, query_size}
 use Rattle.rls_expr.specs.ExprTerms.{query_of}
+use Rattle.rls_evaluation.specs.Alone.{items_for, with_item}
 use Rattle.rls_evaluation.specs.Environments.{inside}
 use Rattle.rls_evaluation.specs.Gathering.{gathered, kept}
 use Rattle.rls_evaluation.specs.Eval.{together, and_value, or_value, or_equal, meets, item_of, item_if, item_or, or_item}
@@ -61,6 +62,21 @@ decreases-sum_from g l = fences_size (drop l.view.from l.view.fences.now) + 8 * 
 
 abbrev pub decreases-exists : goal.decreases-exists
 decreases-exists g l = fences_size (drop l.view.from l.view.fences.now) + 8 * query_size (query_of l.query.now) + 7
+
+abbrev pub decreases-exists_alone : goal.decreases-exists_alone
+decreases-exists_alone g l = fences_size (drop l.view.from l.view.fences.now) + 8 * query_size (query_of l.query.now) + 6
+
+abbrev pub decreases-is_within_alone : goal.decreases-is_within_alone
+decreases-is_within_alone g l = fences_size (drop l.view.from l.view.fences.now) + 8 * query_size (query_of l.query.now) + 5
+
+abbrev pub decreases-items_alone : goal.decreases-items_alone
+decreases-items_alone g l = fences_size (drop l.view.from l.view.fences.now) + 8 * query_size (query_of l.query.now) + 4
+
+abbrev pub decreases-items_over : goal.decreases-items_over
+decreases-items_over g l = fences_size (drop l.view.from l.view.fences.now) + 8 * query_size (query_of l.query.now) + 2
+
+abbrev pub decreases-item_or_null : goal.decreases-item_or_null
+decreases-item_or_null g l = fences_size (drop l.view.from l.view.fences.now) + 8 * query_size (query_of l.query.now) + 1
 
 abbrev pub decreases-is_met : goal.decreases-is_met
 decreases-is_met g l = fences_size (drop l.view.from l.view.fences.now) + 8 * terms_size (maybe_term l.condition.now) + 2
@@ -199,4 +215,15 @@ invariant-put_judgements-loop-policy g l =
       stands : g.S.Tables.state l.source ≡ now;
       leads : Leads (judgements_on l.conditions sees l.user l.row) (judgements_on (drop l.policy-index l.conditions) sees l.user l.row) (λ rest. l.judgements.items ++ rest) now l.fn.work.notes l.work.notes;
       holds : Holds l.view.fences.now l.user (g.S.Tables.state l.source) l.work;
+    }
+
+abbrev pub invariant-items_over-loop-row : goal.invariant-items_over-loop-row
+invariant-items_over-loop-row g l =
+    let sees = shows (drop l.view.from l.view.fences.now) l.env.user.now in
+    let asked = λ (rows : List (List Value)). gathered with_item [] (λ row. item_if (meets (maybe_term l.query.condition) sees (inside row (env_of l.env))) (item_of (items_for l.has_items (terms_of l.query.items.items)) sees (inside row (env_of l.env)))) rows in
+    let now = g.S.Tables.state l.fn.source in
+    record {
+      stands : g.S.Tables.state l.source ≡ now;
+      leads : Leads (asked l.rows) (asked (drop l.row-index l.rows)) (λ rest. l.values ++ rest) now l.fn.work.notes l.work.notes;
+      holds : Holds l.view.fences.now l.env.user.now (g.S.Tables.state l.source) l.work;
     }

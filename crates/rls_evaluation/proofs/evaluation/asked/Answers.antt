@@ -1,4 +1,4 @@
-use Rattle.std.proofs.Common.{ap, refl, ◌≡◌, rules}
+use Rattle.std.proofs.Common.{refl, ◌≡◌, rules}
 use Rattle.rls_value.specs.declared.object.Object.TheVariants as o
 use Rattle.rls_evaluation.proofs.Absorbing.{holds_noted}
 use Rattle.rls_evaluation.proofs.Telling.{rows_told, key_told, on_ok}
@@ -12,8 +12,8 @@ returns-in_ok-note-in-Rows-clause-tells g c =
 pub returns-in_ok-note-in-Rows-clause-holds : goal.returns-in_ok-note-in-Rows-clause-holds
 returns-in_ok-note-in-Rows-clause-holds g c =
     on_ok c.all_rows.result _
-    (holds_noted c.args.view.fences.now c.args.user.now (g.S.Tables.state c.args.source.now) (g.S.Tables.state c.all_rows.new.self) c.args.work.now (record { notes = c.note.new.self; seen = c.args.work.now.seen }) c.in_ok-copy-in-Rows.field-0
-    c.all_rows.ensures.stands c.in_ok-note-in-Rows.ensures.ok refl c.requires)
+    (holds_noted c.args.view.fences.now c.args.user.now (g.S.Tables.state c.args.source.now) (g.S.Tables.state c.all_rows.new.self) c.args.work.now (record { notes = c.note.new.self; seen = c.args.work.now.seen; answers = c.args.work.now.answers; next = c.args.work.now.next }) c.in_ok-copy-in-Rows.field-0
+    c.all_rows.ensures.stands c.in_ok-note-in-Rows.ensures.ok refl refl c.requires)
 
 pub returns-in_ok-note-in-Key-clause-tells : goal.returns-in_ok-note-in-Key-clause-tells
 returns-in_ok-note-in-Key-clause-tells g c =
@@ -23,5 +23,5 @@ returns-in_ok-note-in-Key-clause-tells g c =
 pub returns-in_ok-note-in-Key-clause-holds : goal.returns-in_ok-note-in-Key-clause-holds
 returns-in_ok-note-in-Key-clause-holds g c =
     on_ok c.rows_with.result _
-    (holds_noted c.args.view.fences.now c.args.user.now (g.S.Tables.state c.args.source.now) (g.S.Tables.state c.rows_with.new.self) c.args.work.now (record { notes = c.note-in-Key.new.self; seen = c.args.work.now.seen }) c.in_ok-copy-in-Key.field-0
-    c.rows_with.ensures.stands c.in_ok-note-in-Key.ensures.ok refl c.requires)
+    (holds_noted c.args.view.fences.now c.args.user.now (g.S.Tables.state c.args.source.now) (g.S.Tables.state c.rows_with.new.self) c.args.work.now (record { notes = c.note-in-Key.new.self; seen = c.args.work.now.seen; answers = c.args.work.now.answers; next = c.args.work.now.next }) c.in_ok-copy-in-Key.field-0
+    c.rows_with.ensures.stands c.in_ok-note-in-Key.ensures.ok refl refl c.requires)

@@ -1,5 +1,5 @@
 use Rattle.std.proofs.Common.{◌≡◌, ◌↔◌, length}
-use Rattle.rls_agreement.proofs.same.are_same.Given as goal
+use Rattle.rls_equality.proofs.same.are_same.Given as goal
 
 -- what is left decides
 abbrev pub invariant-loop-left : goal.invariant-loop-left

@@ -1,7 +1,7 @@
 use Rattle.std.proofs.Common.{sym}
 use Rattle.std.proofs.lemmas.Bool.{true≢false}
-use Rattle.rls_agreement.proofs.TermLists.{none_are_not_some}
-use Rattle.rls_agreement.proofs.term.+comparing.Goals as goal
+use Rattle.rls_equality.proofs.TermLists.{none_are_not_some}
+use Rattle.rls_equality.proofs.term.+comparing.Goals as goal
 
 pub are_same_terms-returns-in-len1-up-right-2 : goal.are_same_terms-returns-in-len1-up-right-2
 are_same_terms-returns-in-len1-up-right-2 t c = (

@@ -26,7 +26,7 @@ impl Same for Expr {
 }
 
 #[cycle(comparing)]
-fn is_same_term(left: &Expr, right: &Expr) -> bool
+pub fn is_same_term(left: &Expr, right: &Expr) -> bool
     ensures { (result ≡ true) ↔ (left.now ≡ right.now) }
 {
     match (left.node(), right.node()) {
@@ -64,7 +64,7 @@ fn is_same_term(left: &Expr, right: &Expr) -> bool
 }
 
 #[cycle(comparing)]
-fn is_same_query(left: &Subquery, right: &Subquery) -> bool
+pub fn is_same_query(left: &Subquery, right: &Subquery) -> bool
     ensures { (result ≡ true) ↔ (query_of left.now ≡ query_of right.now) }
 {
     left.from.is_same(&right.from)

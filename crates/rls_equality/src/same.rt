@@ -3,11 +3,19 @@
 ghost use Rattle.std.specs.Prelude.{◌≡◌, true, ◌↔◌};
 ghost use Rattle.std.specs.Option.{option_copied};
 
+use rls_value::Items;
+
 /// Values that can be told apart.
 pub trait Same {
     /// Whether the two are the same. It takes no memory.
     fn is_same(&self, other: &Self) -> bool
         ensures { (result ≡ true) ↔ (self.now ≡ other.now) };
+}
+
+impl<T: Same> Same for Items<T> {
+    fn is_same(&self, other: &Items<T>) -> bool {
+        are_same(self.as_slice(), other.as_slice())
+    }
 }
 
 /// Whether the two lists have the same elements, in order.

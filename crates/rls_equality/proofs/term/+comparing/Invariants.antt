@@ -1,7 +1,7 @@
 use Rattle.std.proofs.Common.{◌≡◌, ◌↔◌, ◌+◌, ◌*◌, ◌≤◌, length}
 use Rattle.rls_expr.specs.ExprTerms.{query_of}
 use Rattle.rls_expr.specs.Terms.{maybe_term, terms_of, term_size, terms_size, query_size}
-use Rattle.rls_agreement.proofs.term.+comparing.Given as goal
+use Rattle.rls_equality.proofs.term.+comparing.Given as goal
 
 -- what is left decides, and is no larger than all
 abbrev pub invariant-are_same_terms-loop-left : goal.invariant-are_same_terms-loop-left

@@ -1,0 +1,13 @@
+//! Whether two values of the database are the same.
+#![tactic(auto)]
+
+mod change;
+mod kept;
+mod names;
+mod refusal;
+mod same;
+mod statement;
+mod term;
+
+pub use same::{Same, are_both_same, are_same};
+pub use term::{is_same_query, is_same_term};

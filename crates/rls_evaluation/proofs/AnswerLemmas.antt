@@ -1,0 +1,145 @@
+-- What a subquery that names no column further out gave is what it gives for each row.
+use Rattle.std.specs.Prelude.{◌≡◌, refl, ℕ, zero, suc, ◌+◌, ◌<◌, List, [], ◌∷◌, ◌++◌, Bool, true, false, Option, Some, None, Result, Ok, Err, IfOk, drop, length, get_or, if◌then◌else◌}
+use Rattle.std.proofs.Common.{arith, ap, sym, ◌∙◌, subst}
+use Rattle.std.specs.declared.alloc.AllocError.{AllocError}
+use Rattle.rls_value.specs.declared.value.Value.{Value}
+use Rattle.rls_value.specs.declared.value.Value.TheVariants.{Null, Bool as Flag}
+use Rattle.rls_value.specs.declared.truth.Truth.{Truth}
+use Rattle.rls_value.specs.declared.object.Object.{Object}
+use Rattle.rls_expr.specs.ExprTerms.{query_of}
+use Rattle.rls_expr.specs.Terms.{Term, Terms, Query, Select, Exists}
+use Rattle.rls_expr.specs.declared.expr.FromItem.{FromItem}
+use Rattle.rls_expr.specs.declared.expr.Selects.{Selects}
+use Rattle.rls_catalog.specs.State.{State}
+use Rattle.rls_source.specs.Footprints.{with_reads, IsInOrder}
+use Rattle.rls_source.specs.Readings.{Reading}
+use Rattle.rls_source.specs.Askings.{Asking, known, asked_if, followed_by}
+use Rattle.rls_evaluation.specs.declared.fence.Fence.{Fence}
+use Rattle.rls_evaluation.specs.declared.memo.Answer.{Answer}
+use Rattle.rls_evaluation.specs.declared.memo.Work.{Work}
+use Rattle.rls_evaluation.specs.declared.value_set.ValueSet.{ValueSet}
+use Rattle.rls_evaluation.specs.Alone.{is_alone, items_seen, asked_query, items_for, with_item, any_equal, is_some}
+use Rattle.rls_evaluation.specs.Answering.{IsFor, FoundAt, IsOneMore, IsAnswered, AreAnswered, Comes, answer_of}
+use Rattle.rls_evaluation.specs.Environments.{Environment, alone, inside}
+use Rattle.rls_evaluation.specs.Eval.{Shows, value_of, among_items, has_row, ranged_over, item_if, item_of, meets}
+use Rattle.rls_evaluation.specs.Gathering.{gathered}
+use Rattle.rls_evaluation.specs.Showing.{shows}
+use Rattle.rls_evaluation.specs.ValueSets.{IsSetOf}
+use Rattle.rls_evaluation.specs.Holding.{Holds, IsKept, Tells, found_in}
+use Rattle.rls_evaluation.proofs.Absorbing.{noted_absorbed}
+use Rattle.rls_evaluation.proofs.AloneLemmas.{among_items_seen, has_row_seen, alone_same, bare_alone}
+use Rattle.rls_evaluation.proofs.Telling.{tells_same, tells_map, tells_as, tells_then, tells_result}
+
+-- ---- a further answer
+
+one_more : (fact : Answer → Type 0) (old : List Answer) (one : Answer) → ((place : ℕ) (answer : Answer) → place < length old → answer ≡ get_or old place answer → fact answer) → fact one
+    → (place : ℕ) (answer : Answer) → place < length (old ++ one ∷ []) → answer ≡ get_or (old ++ one ∷ []) place answer → fact answer
+one_more fact [] one was here zero answer below is = subst fact (sym is) here
+one_more fact [] one was here (suc place) answer below is = absurd (omega (arith, below))
+one_more fact (x ∷ old) one was here zero answer below is = was zero answer (omega arith) is
+one_more fact (x ∷ old) one was here (suc place) answer below is =
+    one_more fact old one (λ p other low same. was (suc p) other (omega (arith, low)) same) here place answer (omega (arith, below)) is
+
+-- what a subquery comes to in a row's surroundings is what it comes to by itself
+answered_by : (fences : List Fence) (user : List ℕ) (env : Environment) (s : State) (notes : List Object) (answer : Answer) (from : ℕ) (has_items : Bool) (q : Query) (old : List Object) (values : ValueSet)
+    → env.user ≡ user → is_alone q ≡ true → IsFor answer from has_items q → answer.values ≡ values → IsInOrder notes
+    → Comes (items_seen (asked_query has_items q) (shows (drop from fences) user) env) s s old notes values → IsAnswered fences user s notes answer
+answered_by fences user env s notes answer from has_items q old values same is_q for is ordered comes =
+    let reading : (answer_of fences user answer.from answer.has_items (query_of answer.query.value)).in_state s ≡ (items_seen (asked_query has_items q) (shows (drop from fences) user) env).in_state s =
+    (λ i. (answer_of fences user (for.at i) (for.items i) (for.query i)).in_state s)
+    ∙ alone_same (asked_query has_items q) (shows (drop from fences) user) (alone user) env s (bare_alone has_items q is_q) (sym same) in
+    record {
+      items = comes.items;
+      is = ap is_alone for.query ∙ is_q;
+      given = ap (λ r. r.gives) reading ∙ comes.given;
+      noted = ap (λ r. with_reads notes r.reads) reading
+          ∙ ap (λ n. with_reads n ((items_seen (asked_query has_items q) (shows (drop from fences) user) env).in_state s).reads) comes.noted
+          ∙ noted_absorbed old ((items_seen (asked_query has_items q) (shows (drop from fences) user) env).in_state s).reads (subst IsInOrder comes.noted ordered)
+          ∙ sym comes.noted;
+      set = subst (λ v. IsSetOf v comes.items) (sym is) comes.holds;
+    }
+
+-- with what was just given
+pub holds_answered : (fences : List Fence) (user : List ℕ) (env : Environment) (before after : State) (old : List Object) (work new : Work) (from : ℕ) (has_items : Bool) (q : Query) (values : ValueSet)
+    → env.user ≡ user → is_alone q ≡ true → after ≡ before → Comes (items_seen (asked_query has_items q) (shows (drop from fences) user) env) before after old work.notes values
+    → Holds fences user after work → new.notes ≡ work.notes → new.seen.entries ≡ work.seen.entries → IsOneMore work.answers.items new.answers.items from has_items q values
+    → Holds fences user after new
+holds_answered fences user env before after old work new from has_items q values mine is_q same comes holds notes seen more =
+    let here : Comes (items_seen (asked_query has_items q) (shows (drop from fences) user) env) after after old work.notes values =
+    subst (λ s. Comes (items_seen (asked_query has_items q) (shows (drop from fences) user) env) s after old work.notes values) (sym same) comes in
+    let answered : AreAnswered fences user after work.notes new.answers.items =
+    subst (AreAnswered fences user after work.notes) (sym more.more)
+    (one_more (IsAnswered fences user after work.notes) work.answers.items more.answer holds.answered
+    (answered_by fences user env after work.notes more.answer from has_items q old values mine is_q more.is more.gave holds.ordered here)) in
+    record {
+      ordered = subst IsInOrder (sym notes) holds.ordered;
+      kept = λ place object rows found. subst (λ n. IsKept fences user after n place object rows) (sym notes)
+          (holds.kept place object rows (ap (λ entries. found_in entries place object) (sym seen) ∙ found));
+      answered = subst (λ n. AreAnswered fences user after n new.answers.items) (sym notes) answered;
+    }
+
+-- an answer that is found
+pub comes_found : (fences : List Fence) (user : List ℕ) (env : Environment) (s : State) (work : Work) (place from : ℕ) (has_items : Bool) (q : Query) (answer : Answer)
+    → env.user ≡ user → is_alone q ≡ true → Holds fences user s work → FoundAt work.answers.items place from has_items q → answer ≡ get_or work.answers.items place answer
+    → Comes (items_seen (asked_query has_items q) (shows (drop from fences) user) env) s s work.notes work.notes answer.values
+comes_found fences user env s work place from has_items q answer mine is_q holds found is =
+    let was : IsAnswered fences user s work.notes answer = holds.answered place answer found.below is in
+    let for : IsFor answer from has_items q = found.is answer is in
+    let reading : (answer_of fences user answer.from answer.has_items (query_of answer.query.value)).in_state s ≡ (items_seen (asked_query has_items q) (shows (drop from fences) user) env).in_state s =
+    (λ i. (answer_of fences user (for.at i) (for.items i) (for.query i)).in_state s)
+    ∙ alone_same (asked_query has_items q) (shows (drop from fences) user) (alone user) env s (bare_alone has_items q is_q) (sym mine) in
+    record {
+      items = was.items;
+      given = ap (λ r. r.gives) (sym reading) ∙ was.given;
+      noted = sym was.noted ∙ ap (λ r. with_reads work.notes r.reads) reading;
+      holds = was.set;
+    }
+
+-- ---- what is made of it
+
+items_told : (asking : Asking (List Value)) (before after : State) (old new : List Object) (set : ValueSet) → after ≡ before → (comes : Comes asking before after old new set) → Tells asking before after old new (Ok comes.items)
+items_told asking before after old new set same comes = record { given = comes.given; noted = comes.noted; stands = same }
+
+-- EXISTS
+pub exists_told : (q : Query) (sees : Shows) (env : Environment) (before after : State) (old new : List Object) (set : ValueSet) (is : Bool)
+    → after ≡ before → Comes (items_seen (asked_query false q) sees env) before after old new set → ((items : List Value) → IsSetOf set items → is ≡ is_some items)
+    → Tells (value_of (Exists q) sees env) before after old new (Ok (Flag is))
+exists_told q sees env before after old new set is same comes means =
+    let items : Tells (items_seen (asked_query false q) sees env) before after old new (Ok comes.items) = items_told (items_seen (asked_query false q) sees env) before after old new set same comes in
+    tells_as (has_row q sees env) Flag before after old new (is_some comes.items) (Flag is)
+    (tells_same (has_row q sees env) (followed_by (items_seen (asked_query false q) sees env) (λ items. known (Ok (is_some items)))) before after old new (Ok (is_some comes.items)) (has_row_seen q sees env before)
+    (tells_map (items_seen (asked_query false q) sees env) is_some before after old new comes.items items))
+    (ap Flag (means comes.items comes.holds))
+
+-- IN
+pub within_told : (x : Value) (q : Query) (sees : Shows) (env : Environment) (before after : State) (old new : List Object) (set : ValueSet) (result : Result Truth AllocError)
+    → after ≡ before → Comes (items_seen (asked_query true q) sees env) before after old new set → ((items : List Value) → IsSetOf set items → IfOk result (λ truth. truth ≡ any_equal x items))
+    → Tells (among_items x q sees env) before after old new result
+within_told x q sees env before after old new set (Ok truth) same comes means =
+    tells_same (among_items x q sees env) (followed_by (items_seen (asked_query true q) sees env) (λ items. known (Ok (any_equal x items)))) before after old new (Ok truth) (among_items_seen x q sees env before)
+    (tells_as (items_seen (asked_query true q) sees env) (any_equal x) before after old new comes.items truth
+    (items_told (items_seen (asked_query true q) sees env) before after old new set same comes) (means comes.items comes.holds))
+within_told x q sees env before after old new set (Err refused) same comes means = record { given = tt; noted = tt; stands = same }
+
+-- the items of a subquery are those of the rows that it ranges over
+pub seen_over : (has_items : Bool) (from : FromItem) (key : List ℕ) (selects : Selects) (items condition : Terms) (sees : Shows) (env : Environment)
+    → items_seen (asked_query has_items (Select from key selects items condition)) sees env ≡ followed_by (ranged_over (Select from key selects items condition) sees env) (λ rows.
+    gathered with_item [] (λ row. item_if (meets condition sees (inside row env)) (item_of (items_for has_items items) sees (inside row env))) rows)
+seen_over true from key selects items condition sees env = refl
+seen_over false from key selects items condition sees env = refl
+
+-- a null for a row that meets WHERE
+pub null_told : (asking : Asking Bool) (before after : State) (old new : List Object) (is : Bool) (held : Option Value) → Tells asking before after old new (Ok is) → held ≡ (if is then Some Null else None)
+    → Tells (item_if asking (known (Ok Null))) before after old new (Ok held)
+null_told asking before after old new true held told same =
+    tells_result (item_if asking (known (Ok Null))) before after old new (Some Null) held
+    (tells_then asking (λ is. asked_if is (followed_by (known (Ok Null)) (λ v. known (Ok (Some v)))) (known (Ok None))) before after after old new new true (Some Null) told (record { given = refl; noted = refl; stands = refl })) same
+null_told asking before after old new false held told same =
+    tells_result (item_if asking (known (Ok Null))) before after old new None held
+    (tells_then asking (λ is. asked_if is (followed_by (known (Ok Null)) (λ v. known (Ok (Some v)))) (known (Ok None))) before after after old new new false None told (record { given = refl; noted = refl; stands = refl })) same
+
+-- the set of what was told
+pub comes_of : (asking : Asking (List Value)) (before after : State) (old new : List Object) (values : List Value) (result : Result ValueSet AllocError)
+    → Tells asking before after old new (Ok values) → IfOk result (λ set. IsSetOf set values) → IfOk result (λ set. Comes asking before after old new set)
+comes_of asking before after old new values (Ok set) told holds = record { items = values; given = told.given; noted = told.noted; holds = holds }
+comes_of asking before after old new values (Err refused) told holds = tt
