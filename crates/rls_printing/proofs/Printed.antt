@@ -1,0 +1,44 @@
+-- What is on the page at the end, and what it is read as.
+use Rattle.std.proofs.Common.{◌≡◌, Bool, true, false, nat_lt, if◌then◌else◌, List, ◌++◌, Option, Some, None, Result, Ok, Err, String, Global, string_bytes, refl, ap, sym, subst, ◌∙◌}
+use Rattle.std.specs.Str.{chars}
+use Rattle.rls_value.specs.declared.refusal.Limit.{Limit}
+use Rattle.rls_value.specs.declared.refusal.Limit.TheVariants as l
+use Rattle.rls_value.specs.declared.refusal.Refusal.{Refusal}
+use Rattle.rls_value.specs.declared.refusal.Refusal.TheVariants as refusal
+use Rattle.rls_statement.specs.declared.statement.Statement.{Statement}
+use Rattle.rls_text.specs.declared.token.Token.{Token}
+use Rattle.rls_text.specs.Answers.{Answers, first_limit, limited, columns_of}
+use Rattle.rls_text.specs.Grammar.{Spells}
+use Rattle.rls_text.specs.Heights.{height_of}
+use Rattle.rls_text.specs.Nested.{subqueries_of}
+use Rattle.rls_text.specs.Words.{words_of}
+use Rattle.rls_printing.specs.Pieces.{Piece, tokens_of}
+use Rattle.rls_printing.specs.ReadBack.{IsReadAs}
+use Rattle.rls_printing.specs.Sheets.{Sheet, blank, pieces_text, put_all, text_of}
+use Rattle.rls_printing.proofs.Reading.{put_text, words_told}
+
+-- the text of the words that were put on an empty page
+pub text_is : (ps : List Piece) (a b : Sheet) (text : String Global) → a ≡ blank → put_all (Some a) ps ≡ Some b → text_of text ≡ b.0 → chars (string_bytes text) ≡ pieces_text true ps
+unfolding text_of
+text_is ps a b text e h t = t ∙ (put_text ps a b h).text ∙ ap (λ z. z.0 ++ pieces_text z.1 ps) e
+
+-- and its words
+pub words_are : (ps : List Piece) (a b : Sheet) (text : String Global) (tokens : List Token) → a ≡ blank → put_all (Some a) ps ≡ Some b → text_of text ≡ b.0 → tokens_of ps ≡ Some tokens → words_of (string_bytes text) ≡ tokens
+words_are ps a b text tokens e h t k = words_told (string_bytes text) ps tokens (text_is ps a b text e h t) (put_text ps a b h).fit k
+
+limited_read : (x : Statement) → IsReadAs x (limited x)
+limited_read x = go (nat_lt 64 (columns_of x)) (nat_lt 64 (height_of x)) (nat_lt 8 (subqueries_of x))
+  where
+    go : (a b c : Bool) → IsReadAs x (if◌then◌else◌ {A = Result Statement Refusal} a (Err (refusal.Limit l.Columns)) (if◌then◌else◌ {A = Result Statement Refusal} b (Err (refusal.Limit l.Nesting)) (if◌then◌else◌ {A = Result Statement Refusal} c (Err (refusal.Limit l.Subqueries)) (Ok x))))
+    go true b c = tt
+    go false true c = tt
+    go false false true = tt
+    go false false false = refl
+
+-- words that spell a statement are answered with it, or with a limit
+pub spelled_read : (tokens : List Token) (x : Statement) (answer : Result Statement Refusal) → Spells tokens x → Answers tokens answer → IsReadAs x answer
+spelled_read tokens x answer h k = go (first_limit tokens) refl
+  where
+    go : (o : Option Limit) → first_limit tokens ≡ o → IsReadAs x answer
+    go (Some limit) e = subst (λ z. IsReadAs x z) (sym (k.over limit e)) tt
+    go None e = subst (λ z. IsReadAs x z) (sym (k.spelled x e h)) (limited_read x)

@@ -1,0 +1,5 @@
+pub mod Pieces
+pub mod Sheets
+pub mod ExprForms
+pub mod StatementForms
+pub mod ReadBack

@@ -1,0 +1,71 @@
+-- The text of a list of words: one space between two of them, but none behind an open parenthesis and none before a
+-- comma or a closed one.
+use Rattle.std.specs.Prelude.{ℕ, Bool, true, false, ◌&&◌, ◌||◌, if◌then◌else◌, List, [], ◌∷◌, ◌++◌, Option, Some, None}
+use Rattle.std.specs.Prelude.{String}
+use Rattle.std.proofs.Common.{Global}
+use Rattle.std.specs.Str.{chars, is_utf8}
+use Rattle.std.specs.String.{string_bytes}
+use Rattle.rls_printing.specs.declared.page.Page.{Page}
+use Rattle.rls_printing.specs.declared.page.Mark.TheVariants as m
+use Rattle.rls_printing.specs.Pieces.{Piece, Text, Marked, piece_text}
+
+-- the characters of a text
+unfoldable pub text_of : String Global → List ℕ
+text_of text = chars (string_bytes text)
+
+-- what is written: its characters, and whether no space may follow
+abbrev pub Sheet : Type 0
+Sheet = List ℕ × Bool
+
+-- of a page
+abbrev pub sheet_of : Page → Sheet
+sheet_of page = (text_of page.text, page.tight)
+
+-- an empty sheet
+abbrev pub blank : Sheet
+blank = ([], true)
+
+-- an open parenthesis
+abbrev pub opens : Piece → Bool
+opens (Marked m.Open) = true
+opens _ = false
+
+-- a comma, or a closed parenthesis
+abbrev pub closes : Piece → Bool
+closes (Marked m.Close) = true
+closes (Marked m.Comma) = true
+closes _ = false
+
+-- texts are UTF-8
+abbrev pub is_fit : Piece → Bool
+is_fit (Text x) = is_utf8 x
+is_fit _ = true
+
+-- the space before a word, unless there is none
+abbrev pub space : (none : Bool) → List ℕ
+space true = []
+space false = 32 ∷ []
+
+-- with a further word
+unfoldable pub with_piece : Sheet → Piece → Sheet
+with_piece sheet p = ((sheet.0 ++ space (sheet.1 || closes p)) ++ piece_text p, opens p)
+
+-- with a further word, if it is fit
+unfoldable pub put : Option Sheet → Piece → Option Sheet
+put None p = None
+put (Some sheet) p = if is_fit p then Some (with_piece sheet p) else None
+
+-- with further words
+abbrev pub put_all : Option Sheet → List Piece → Option Sheet
+put_all sheet [] = sheet
+put_all sheet (p ∷ ps) = put_all (put sheet p) ps
+
+-- the text of words; `tight` says whether no space may stand before the first
+abbrev pub pieces_text : (tight : Bool) → List Piece → List ℕ
+pieces_text tight [] = []
+pieces_text tight (p ∷ ps) = space (tight || closes p) ++ (piece_text p ++ pieces_text (opens p) ps)
+
+-- all texts are UTF-8
+abbrev pub are_fit : List Piece → Bool
+are_fit [] = true
+are_fit (p ∷ ps) = is_fit p && are_fit ps

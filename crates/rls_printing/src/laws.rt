@@ -1,0 +1,31 @@
+//! Laws of the definitions, each a clause of a function that does nothing.
+
+ghost use Rattle.std.specs.Prelude.{◌≡◌, ℕ, List, Some, true};
+ghost use Rattle.std.specs.Str.{chars};
+ghost use Rattle.rls_expr.specs.Terms.{Term};
+ghost use Rattle.rls_statement.specs.declared.statement.Statement.{Statement};
+ghost use Rattle.rls_text.specs.Grammar as g;
+ghost use Rattle.rls_text.specs.Printing.{IsWritten};
+ghost use Rattle.rls_printing.specs.ExprForms as expr_form;
+ghost use Rattle.rls_text.specs.Words.{words_of};
+ghost use Rattle.rls_text.specs.declared.token.Token.{Token};
+ghost use Rattle.rls_printing.specs.Pieces.{Piece, tokens_of};
+ghost use Rattle.rls_printing.specs.StatementForms as form;
+ghost use Rattle.rls_printing.specs.Sheets.{are_fit, pieces_text};
+
+/// The words of a text of printed words are their tokens.
+#[tactic(auto, using(crate::proofs::Reading::words_told))]
+pub fn printed_words()
+    ensures { (bytes : List ℕ) (pieces : List Piece) (tokens : List Token) → chars bytes ≡ pieces_text true pieces → are_fit pieces ≡ true → tokens_of pieces ≡ Some tokens → words_of bytes ≡ tokens }
+{}
+
+/// What the grammar writes for an expression are the tokens of the words of which it is printed.
+#[tactic(auto, using(crate::proofs::Writing::expr_tells))]
+pub fn written_exprs()
+    ensures { (depth : ℕ) (x : Term) (tokens : List Token) → (g.expr depth).rule.prints.writes x ≡ Some tokens → tokens_of (expr_form.expr x) ≡ Some tokens }
+{}
+
+/// What the grammar writes for a statement are the tokens of the words of which it is printed.
+pub fn written_statements()
+    ensures { (x : Statement) (tokens : List Token) → IsWritten tokens x → tokens_of (form.statement x) ≡ Some tokens }
+{}

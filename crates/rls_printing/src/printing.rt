@@ -1,0 +1,97 @@
+//! Statements, policies and expressions as texts.
+
+ghost use Rattle.std.specs.Prelude.{◌≡◌, ℕ, List, Result, Some, true, IfOk, OnOk};
+ghost use Rattle.std.specs.Str.{chars};
+ghost use Rattle.std.specs.String.{string_bytes};
+ghost use Rattle.rls_value.specs.declared.refusal.Refusal.{Refusal};
+ghost use Rattle.rls_statement.specs.declared.statement.Statement.{Statement};
+ghost use Rattle.rls_statement.specs.declared.statement.Statement.TheVariants as st;
+ghost use Rattle.rls_text.specs.Answers.{Answers};
+ghost use Rattle.rls_text.specs.Grammar as g;
+ghost use Rattle.rls_text.specs.Printing.{IsWritten};
+ghost use Rattle.rls_text.specs.Words.{words_of};
+ghost use Rattle.rls_text.specs.declared.token.Token.{Token};
+ghost use Rattle.rls_printing.specs.ExprForms as expr_form;
+ghost use Rattle.rls_printing.specs.ReadBack.{IsReadAs};
+ghost use Rattle.rls_printing.specs.Sheets.{pieces_text, put_all, sheet_of};
+ghost use Rattle.rls_printing.specs.StatementForms as form;
+
+use crate::expression::put_expr;
+use crate::page::Page;
+use crate::policies::{
+    put_alter_policy, put_drop_policy, put_grant, put_grant_roles, put_policy, put_revoke,
+    put_revoke_roles,
+};
+use crate::statements::{
+    put_alter_role, put_alter_table, put_create_role, put_create_table, put_delete, put_insert,
+    put_select, put_set_role, put_update,
+};
+use rls_expr::{Expr, Policy};
+use rls_statement::Statement;
+use rls_text::written_spells;
+use rls_value::Name;
+use std::alloc::{AllocError, Global};
+
+/// The text of the statement, in its one written form. No words are written for what no text spells, as a subquery whose
+/// key is placed or a table without columns: of such a statement `text` alone says what is printed.
+pub fn print(alloc: Global, statement: &Statement) -> Result<String, AllocError>
+    ensures text { IfOk result (λ text. chars (string_bytes text) ≡ pieces_text true (form.statement statement.now)) }
+
+    // Where words are written for the statement, they are the words of the text.
+    ensures words { IfOk result (λ text. (tokens : List Token) → IsWritten tokens statement.now → words_of (string_bytes text) ≡ tokens) }
+
+    // What `parse` answers the text with is then the statement, or a limit that it passes.
+    ensures read { IfOk result (λ text. (tokens : List Token) (answer : Result Statement Refusal) → IsWritten tokens statement.now → Answers (words_of (string_bytes text)) answer → IsReadAs statement.now answer) }
+{
+    written_spells();
+    let mut page = Page::new(alloc);
+    put_statement(&mut page, statement)?;
+    Ok(page.into_text())
+}
+
+/// The text of the table's policy, as CREATE POLICY.
+pub fn print_policy(alloc: Global, table: &Name, policy: &Policy) -> Result<String, AllocError>
+    ensures text { IfOk result (λ text. chars (string_bytes text) ≡ pieces_text true (form.policy table.now policy.now)) }
+
+    // Where words are written for the statement that creates it, they are the words of the text.
+    ensures words { IfOk result (λ text. (tokens : List Token) → IsWritten tokens (st.CreatePolicy record { table = table.now; policy = policy.now }) → words_of (string_bytes text) ≡ tokens) }
+{
+    let mut page = Page::new(alloc);
+    put_policy(&mut page, table, policy)?;
+    Ok(page.into_text())
+}
+
+/// The text of the expression.
+pub fn print_expr(alloc: Global, expr: &Expr) -> Result<String, AllocError>
+    ensures text { IfOk result (λ text. chars (string_bytes text) ≡ pieces_text true (expr_form.expr expr.now)) }
+
+    // Where words are written for the expression, at whatever depth of parentheses, they are the words of the text.
+    ensures words { IfOk result (λ text. (depth : ℕ) (tokens : List Token) → (g.expr depth).rule.prints.writes expr.now ≡ Some tokens → words_of (string_bytes text) ≡ tokens) }
+{
+    let mut page = Page::new(alloc);
+    put_expr(&mut page, expr)?;
+    Ok(page.into_text())
+}
+
+fn put_statement(page: &mut Page, statement: &Statement) -> Result<(), AllocError>
+    ensures { OnOk result (put_all (Some (sheet_of page.old)) (form.statement statement.now) ≡ Some (sheet_of page.new)) }
+{
+    match statement {
+        Statement::CreateRole(role) => put_create_role(page, role),
+        Statement::AlterRole(role) => put_alter_role(page, role),
+        Statement::CreateTable(table) => put_create_table(page, table),
+        Statement::AlterTable(change) => put_alter_table(page, change),
+        Statement::CreatePolicy(create) => put_policy(page, &create.table, &create.policy),
+        Statement::AlterPolicy(alter) => put_alter_policy(page, alter),
+        Statement::DropPolicy(drop) => put_drop_policy(page, drop),
+        Statement::Grant(grant) => put_grant(page, grant),
+        Statement::GrantRoles(grant) => put_grant_roles(page, grant),
+        Statement::Revoke(revoke) => put_revoke(page, revoke),
+        Statement::RevokeRoles(revoke) => put_revoke_roles(page, revoke),
+        Statement::SetRole(set) => put_set_role(page, set),
+        Statement::Insert(insert) => put_insert(page, insert),
+        Statement::Update(update) => put_update(page, update),
+        Statement::Delete(delete) => put_delete(page, delete),
+        Statement::Select(select) => put_select(page, select),
+    }
+}
