@@ -1,0 +1,5 @@
+pub mod Tables
+pub mod Agreeing
+pub mod Deepening
+pub mod RoomLaws
+pub mod DepthExamples

@@ -1,0 +1,186 @@
+-- The rooms that are read leave out no table that their policies read.
+use Rattle.std.specs.Prelude.{◌≡◌, refl, ℕ, zero, suc, List, [], ◌∷◌, ◌++◌, Bool, true, false, ◌&&◌, ◌||◌, Option, Some, None, Result, Ok, Err, cond, filter, slice_get, is_some, if◌then◌else◌}
+use Rattle.std.specs.List.{AllByRecursion, list_any, flat_map}
+use Rattle.std.proofs.Common.{ap, sym, ◌∙◌, subst}
+use Rattle.std.proofs.lemmas.Bool.{true≢false, or_right}
+use Rattle.rls_value.specs.declared.refusal.Refusal.{Refusal}
+use Rattle.rls_value.specs.declared.verb.Kind.TheVariants as k
+use Rattle.rls_value.specs.Giving.{and_then}
+use Rattle.rls_value.specs.Names.{one_of}
+use Rattle.rls_expr.specs.declared.policy.Policy.{Policy}
+use Rattle.rls_expr.specs.declared.table.TableDef.{TableDef}
+use Rattle.rls_expr.specs.Naming.{names_of, names_all}
+use Rattle.rls_expr.specs.Parts.{has_query, have_query}
+use Rattle.rls_expr.specs.Terms.{Term, Terms, Literal, Column, Place, CurrentUser, Compare, And, Or, Not, IsNull, IsNotNull, Among, NotAmong, Exists, Within as InQuery, NotWithin, Scalar, Sum, End, More}
+use Rattle.rls_catalog.specs.declared.verdict.Side.TheVariants as side
+use Rattle.rls_catalog.specs.Membership.{fresh}
+use Rattle.rls_catalog.specs.Privileges.{includes}
+use Rattle.rls_catalog.specs.State.{State}
+use Rattle.rls_catalog.specs.Verdict.{is_asked, is_for_kind, chosen, exempts}
+use Rattle.rls_catalog.specs.Walks.{Within, one_of-append, among_first}
+use Rattle.rls_source.specs.Asked.{asked_policies, policies_at, table_at}
+use Rattle.rls_source.specs.Askings.{Asking, asked_if, followed_by, known}
+use Rattle.rls_guard.specs.declared.standing.Standing.{Standing}
+use Rattle.rls_guard.specs.Standings.{has_owner}
+use Rattle.rls_recursion.specs.declared.room.Room.{Room}
+use Rattle.rls_expansion.specs.Enough.{collect, collect_end, collect_step, visits}
+use Rattle.rls_expansion.specs.Leading.{named}
+use Rattle.rls_expansion.specs.Policies.{policies_for}
+use Rattle.rls_expansion.specs.Rooms.{reading, absent, room_by, room_in, room_if, room_of, rooms_of}
+use Rattle.rls_expansion.specs.Used.{entered, tables_if, tables_where, tables_by, tables_used, has_query_if, holds_subquery, is_for_check, tables_asked}
+use Rattle.rls_depth.specs.Leading.{using_tables, Leads, RoomsLead}
+use Rattle.rls_depth.proofs.Tables.{within_nothing, within_append, within_all, steps_all}
+
+-- ---- an expression without a subquery names no table
+
+or_off : (a b : Bool) → (a || b) ≡ false → (a ≡ false) × (b ≡ false)
+or_off true b is = absurd (true≢false is)
+or_off false b is = (refl, is)
+
+mutual
+  no_tables : (t : Term) → has_query t ≡ false → Within (entered (names_of t)) []
+  no_tables (Literal v) is = within_nothing []
+  no_tables (Column name) is = within_nothing []
+  no_tables (Place at) is = within_nothing []
+  no_tables CurrentUser is = within_nothing []
+  no_tables (Compare how a b) is = let parts = or_off (has_query a) (has_query b) is in steps_all (names_of a) (names_of b) [] (no_tables a parts.0) (no_tables b parts.1)
+  no_tables (And ts) is = none_have ts is
+  no_tables (Or ts) is = none_have ts is
+  no_tables (Not t) is = no_tables t is
+  no_tables (IsNull t) is = no_tables t is
+  no_tables (IsNotNull t) is = no_tables t is
+  no_tables (Among t ts) is = let parts = or_off (has_query t) (have_query ts) is in steps_all (names_of t) (names_all ts) [] (no_tables t parts.0) (none_have ts parts.1)
+  no_tables (NotAmong t ts) is = let parts = or_off (has_query t) (have_query ts) is in steps_all (names_of t) (names_all ts) [] (no_tables t parts.0) (none_have ts parts.1)
+  no_tables (Exists q) is = absurd (true≢false is)
+  no_tables (InQuery t q) is = absurd (true≢false is)
+  no_tables (NotWithin t q) is = absurd (true≢false is)
+  no_tables (Scalar q) is = absurd (true≢false is)
+  no_tables (Sum signs ts) is = none_have ts is
+
+  none_have : (ts : Terms) → have_query ts ≡ false → Within (entered (names_all ts)) []
+  none_have End is = within_nothing []
+  none_have (More t ts) is = let parts = or_off (has_query t) (have_query ts) is in steps_all (names_of t) (names_all ts) [] (no_tables t parts.0) (none_have ts parts.1)
+
+no_tables_if : (term : Option Term) → has_query_if term ≡ false → Within (tables_if term) []
+no_tables_if None is = within_nothing []
+no_tables_if (Some term) is = no_tables term is
+
+none_read : (policies : List Policy) → list_any holds_subquery policies ≡ false → Within (flat_map using_tables policies) []
+none_read [] is = within_nothing []
+none_read (policy ∷ policies) is =
+    let parts = or_off (holds_subquery policy) (list_any holds_subquery policies) is in
+    within_all (using_tables policy) (flat_map using_tables policies) [] (no_tables_if policy.using (or_off (has_query_if policy.using) (has_query_if policy.check) parts.0).0) (none_read policies parts.1)
+
+-- ---- the tables that policies use are all that those that apply read
+
+behind : (xs ys zs : List (List ℕ)) → Within zs ys → Within zs (xs ++ ys)
+behind xs ys zs within name is = one_of-append xs ys name ∙ or_right (one_of xs name) (one_of ys name) (within name is)
+
+using_in : (suits : Bool) (term : Option Term) (rest : List (List ℕ)) → suits ≡ true → Within (tables_if term) (tables_where ((suits && true) || false) term ++ rest)
+using_in true term rest is = among_first (tables_if term) rest
+using_in false term rest is = absurd (true≢false (sym is))
+
+by_in : (applies : Bool) (policy : Policy) → applies ≡ true → is_for_kind policy.kind k.Select ≡ true → Within (using_tables policy) (if applies then tables_asked reading policy else [])
+by_in true policy is suits = using_in (is_for_kind policy.kind k.Select) policy.using (tables_where (list_any (is_for_check policy) reading) policy.check) suits
+by_in false policy is suits = absurd (true≢false (sym is))
+
+and_first : (a b : Bool) → (a && b) ≡ true → a ≡ true
+and_first true b is = refl
+and_first false b is = is
+
+kept_in : (b : Bool) (policy : Policy) (kept : List Policy) (here more : List (List ℕ)) → (b ≡ true → Within (using_tables policy) here) → Within (flat_map using_tables kept) more
+    → Within (flat_map using_tables (cond b (policy ∷ kept) kept)) (here ++ more)
+kept_in true policy kept here more within further = within_append (using_tables policy) (flat_map using_tables kept) here more (within refl) further
+kept_in false policy kept here more within further = behind here more (flat_map using_tables kept) further
+
+asked_in : (a : Bool) (test : Policy → Bool) (policy : Policy) (kept : List Policy) (here more : List (List ℕ)) → (a ≡ true → test policy ≡ true → Within (using_tables policy) here) → Within (flat_map using_tables (filter test kept)) more
+    → Within (flat_map using_tables (filter test (cond a (policy ∷ kept) kept))) (here ++ more)
+asked_in true test policy kept here more within further = kept_in (test policy) policy (filter test kept) here more (within refl) further
+asked_in false test policy kept here more within further = behind here more (flat_map using_tables (filter test kept)) further
+
+chosen_in : (superuser : Bool) (names : List (List ℕ)) (policies : List Policy) → Within (flat_map using_tables (chosen superuser names k.Select side.Old policies)) (tables_used superuser names reading policies)
+chosen_in superuser names [] = within_nothing []
+chosen_in superuser names (policy ∷ policies) =
+    asked_in (is_asked k.Select side.Old policy) (λ policy. list_any (includes superuser names) policy.to) policy (filter (is_asked k.Select side.Old) policies)
+    (tables_by superuser names reading policy) (tables_used superuser names reading policies)
+    (λ asked applies. by_in (list_any (includes superuser names) policy.to) policy applies (and_first (is_for_kind policy.kind k.Select) (is_some policy.using) asked))
+    (chosen_in superuser names policies)
+
+-- ---- a room
+
+leads_by : (inner : Bool) (read next : List (List ℕ)) → Within read next → (inner ≡ false → Within read []) → Within read (if inner then next else [])
+leads_by true read next within none = within
+leads_by false read next within none = none refl
+
+by_leads : (standing : Standing) (table : List ℕ) (def : TableDef) (policies : Option (List Policy)) → Leads (room_by standing table def policies)
+by_leads standing table def None = within_nothing []
+by_leads standing table def (Some policies) =
+    let applying : List Policy = chosen standing.reach.superuser standing.reach.names k.Select side.Old policies in
+    leads_by (list_any holds_subquery applying) (flat_map using_tables applying) (tables_used standing.reach.superuser standing.reach.names reading policies)
+    (chosen_in standing.reach.superuser standing.reach.names policies) (none_read applying)
+
+abbrev told_or : Room → Result Room Refusal → Room
+told_or other (Ok room) = room
+told_or other (Err refusal) = other
+
+told_leads : (room told : Room) → ◌≡◌ {A = Result Room Refusal} (Ok told) (Ok room) → Leads told → Leads room
+told_leads room told same leads = subst Leads (ap (told_or told) same) leads
+
+exempt_leads : (exempt : Bool) (standing : Standing) (s : State) (table : List ℕ) (def : TableDef) (room : Room)
+    → ((followed_by (asked_if exempt (known (Ok None)) (followed_by (asked_policies table) (λ policies. known (Ok (Some policies))))) (λ policies. known (Ok (room_by standing table def policies)))).in_state s).gives ≡ Ok room
+    → Leads room
+unfolding policies_at
+exempt_leads true standing s table def room told = told_leads room (room_by standing table def None) told (by_leads standing table def None)
+exempt_leads false standing s table def room told = told_leads room (room_by standing table def (Some (policies_at s table))) told (by_leads standing table def (Some (policies_at s table)))
+
+found_leads : (found : Option TableDef) (standing : Standing) (s : State) (table : List ℕ) (room : Room) → ((room_if standing table found).in_state s).gives ≡ Ok room → Leads room
+unfolding room_in policies_for
+found_leads None standing s table room told = told_leads room (absent table) told (within_nothing [])
+found_leads (Some def) standing s table room told = exempt_leads (exempts standing.attributes def (has_owner standing def)) standing s table def room told
+
+room_leads : (standing : Standing) (s : State) (table : List ℕ) (room : Room) → ((room_of standing table).in_state s).gives ≡ Ok room → Leads room
+unfolding room_of
+room_leads standing s table room told = found_leads (table_at s table) standing s table room told
+
+-- ---- all rooms
+
+abbrev list_or : {X : Type 0} → List X → Result (List X) Refusal → List X
+list_or other (Ok xs) = xs
+list_or other (Err refusal) = other
+
+abbrev is_ok : {X : Type 0} → Result X Refusal → Bool
+is_ok (Ok x) = true
+is_ok (Err refusal) = false
+
+further_hold : {X : Type 0} (P : X → Type 0) (rest : Result (List X) Refusal) (x : X) (xs : List X) → P x → ((rs : List X) → rest ≡ Ok rs → AllByRecursion P rs)
+    → and_then rest (λ rest. Ok (x ∷ rest)) ≡ Ok xs → AllByRecursion P xs
+further_hold P (Ok rs) x xs here further is = subst (AllByRecursion P) (ap (list_or (x ∷ rs)) is) (here, further rs refl)
+further_hold P (Err refusal) x xs here further is = absurd (true≢false (sym (ap is_ok is)))
+
+visit_holds : {X : Type 0} (P : X → Type 0) (given : Result X Refusal) (rest : X → Result (List X) Refusal) (xs : List X) → ((x : X) → given ≡ Ok x → P x)
+    → ((x : X) (rs : List X) → rest x ≡ Ok rs → AllByRecursion P rs) → and_then given (λ x. and_then (rest x) (λ rest. Ok (x ∷ rest))) ≡ Ok xs → AllByRecursion P xs
+visit_holds P (Ok x) rest xs here further is = further_hold P (rest x) x xs (here x refl) (further x) is
+visit_holds P (Err refusal) rest xs here further is = absurd (true≢false (sym (ap is_ok is)))
+
+collect_if : {X : Type 0} (P : X → Type 0) (ask : List ℕ → Asking X) (next : X → List (List ℕ)) (s : State) → ((name : List ℕ) (x : X) → ((ask name).in_state s).gives ≡ Ok x → P x)
+    → (found : Option (List ℕ)) (n : ℕ) (names : List (List ℕ)) (i : ℕ) (xs : List X) → slice_get names i ≡ found
+    → ((grown : List (List ℕ)) (rs : List X) → ((collect ask next n grown (suc i)).in_state s).gives ≡ Ok rs → AllByRecursion P rs)
+    → ((collect ask next (suc n) names i).in_state s).gives ≡ Ok xs → AllByRecursion P xs
+collect_if P ask next s each None n names i xs past further is =
+    subst (AllByRecursion P) (ap (list_or []) (sym (ap (λ r. r.gives) (collect_end ask next (suc n) s names i past)) ∙ is)) tt
+collect_if P ask next s each (Some name) n names i xs found further is =
+    visit_holds P ((ask name).in_state s).gives (λ x. ((collect ask next n (names ++ fresh names (next x)) (suc i)).in_state s).gives) xs (each name)
+    (λ x rs given. further (names ++ fresh names (next x)) rs given)
+    (sym (ap (λ r. r.gives) (collect_step ask next n s names i name found)) ∙ is)
+
+collect_holds : {X : Type 0} (P : X → Type 0) (ask : List ℕ → Asking X) (next : X → List (List ℕ)) (s : State) → ((name : List ℕ) (x : X) → ((ask name).in_state s).gives ≡ Ok x → P x)
+    → (n : ℕ) (names : List (List ℕ)) (i : ℕ) (xs : List X) → ((collect ask next n names i).in_state s).gives ≡ Ok xs → AllByRecursion P xs
+collect_holds P ask next s each zero names i xs is = subst (AllByRecursion P) (ap (list_or []) is) tt
+collect_holds P ask next s each (suc n) names i xs is =
+    collect_if P ask next s each (slice_get names i) n names i xs refl (λ grown rs given. collect_holds P ask next s each n grown (suc i) rs given) is
+
+-- the rooms of a state leave out no table
+pub rooms_read : (standing : Standing) (s : State) (tables : List (List ℕ)) (rooms : List Room) → ((rooms_of standing tables).in_state s).gives ≡ Ok rooms → RoomsLead rooms
+unfolding rooms_of
+rooms_read standing s tables rooms is =
+    collect_holds Leads (room_of standing) (λ room. room.next) s (room_leads standing s) (visits named (fresh [] tables) s) (fresh [] tables) 0 rooms is

@@ -1,0 +1,2 @@
+pub mod Deep
+pub mod Leading

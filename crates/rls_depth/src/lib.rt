@@ -1,0 +1,6 @@
+//! What tables show, told by depth, and that the fences of a statement show it.
+#![tactic(auto)]
+
+mod laws;
+
+pub use laws::{rooms_lead, shows_means};
