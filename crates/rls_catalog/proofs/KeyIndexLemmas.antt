@@ -1,25 +1,19 @@
 -- What an index has after a change under one key.
-use Rattle.std.specs.Prelude.{◌≡◌, refl, List, [], ◌∷◌, Option, Some, None, Bool, true, false, ◌||◌, ◌&&◌, cond, is_some, IsSome}
+use Rattle.std.specs.Prelude.{◌≡◌, refl, List, [], Option, Some, None, Bool, true, false, ◌||◌, ◌&&◌, cond, is_some, IsSome}
 use Rattle.std.specs.BTreeMap.{BTreeMap, is_at}
-use Rattle.std.specs.FinMap.{IsAntisymmetric, nat_cmp-IsAntisymmetric, int_cmp-IsAntisymmetric, slice_cmp-IsAntisymmetric}
 use Rattle.std.specs.Map.{lookup, set_value}
 use Rattle.std.specs.Ordering.{eq_by_cmp, is_eq}
 use Rattle.std.specs.declared.cmp.Ordering.{Ordering}
 use Rattle.std.specs.declared.cmp.Ordering.TheVariants.{Less, Equal, Greater}
 use Rattle.std.proofs.Common.{ap, sym, ◌∙◌, subst}
 use Rattle.std.proofs.lemmas.Bool.{true≢false}
-use Rattle.std.proofs.lemmas.Bool.Decides.{Decides-int_eq}
 use Rattle.std.proofs.lemmas.Cmp.{tied_itself, eq_by_cmp_equiv}
 use Rattle.std.proofs.lemmas.Map.{lookup-set_value}
 use Rattle.rls_value.specs.declared.row.RowId.{RowId}
 use Rattle.rls_value.specs.declared.value.Value.{Value}
-use Rattle.rls_value.specs.declared.value.Value.TheVariants as v
 use Rattle.rls_value.specs.Listing.{rows_total, rows_same}
-use Rattle.rls_value.specs.Values.{listed, same_flag}
 use Rattle.rls_catalog.specs.declared.stored.Keyed.{Keyed}
-use Rattle.rls_catalog.specs.State.{id_order, is_same_row, is_same_value}
-use Rattle.rls_catalog.specs.Walks.{bytes_same}
-use Rattle.rls_catalog.specs.SameRows.{same_row}
+use Rattle.rls_catalog.specs.State.{id_order}
 use Rattle.rls_catalog.specs.KeyIndex.{Covers, Grows, Keeps, ids_at, ids_in, is_among, is_empty_key, is_indexed, key_order, knows, stands_at}
 use Rattle.rls_catalog.proofs.Places.{absent_set, id_total, same_id}
 
@@ -192,3 +186,14 @@ pub standing_indexed : (index : List (List Value × BTreeMap RowId (Unit {0}))) 
 standing_indexed index slots key id (Some (Some keyed)) is stands covers = ap (λ k. is_indexed index k id) (same_key key keyed.key stands) ∙ covers id keyed is
 standing_indexed index slots key id (Some None) is stands covers = no stands
 standing_indexed index slots key id None is stands covers = no stands
+
+-- where the row at the number has the key, there is one
+pub standing_found : (key : List Value) (found : Option (Option Keyed)) → stands_at key found ≡ true → is_some found ≡ true
+standing_found key (Some content) stands = refl
+standing_found key None stands = no stands
+
+-- a row with the key of the one that stands at the number may be exchanged for it
+pub covers_like : (index : List (List Value × BTreeMap RowId (Unit {0}))) (slots : List (RowId × Option Keyed)) (id : RowId) (keyed : Keyed)
+    → stands_at keyed.key (lookup (is_at (id_order id)) slots) ≡ true → Covers index slots → Covers index (set_value (is_at (id_order id)) slots (Some keyed))
+covers_like index slots id keyed like covers =
+    covers_set index slots id (Some keyed) (standing_indexed index slots keyed.key id (lookup (is_at (id_order id)) slots) refl like covers) covers

@@ -118,6 +118,24 @@ inserted_back {order = order} total [] k v sorted = ap (λ o. cond (is_eq o) [] 
 inserted_back {order = order} total (e ∷ es) k v sorted =
     back_if total e es k v (order k e.0) refl sorted (inserted_back total es k v (sorted_tail order e.0 (keys_of es) sorted))
 
+-- ---- an entry that is exchanged
+
+exchanged_if : {K X : Type 0} {order : K → K → Ordering} (total : IsTotalOrder order) (e : K × X) (es : List (K × X)) (k : K) (v : X) (o : Ordering) → order k e.0 ≡ o
+    → IsStrictlySortedBy order (keys_of (e ∷ es)) → is_some (cond (is_eq o) (Some e.1) (lookup (is_at (order k)) es)) ≡ true
+    → (is_some (lookup (is_at (order k)) es) ≡ true → set_value (is_at (order k)) es v ≡ insert_entry order es k v)
+    → cond (is_eq o) ((e.0, v) ∷ es) (e ∷ set_value (is_at (order k)) es v) ≡ match_ordering o ((k, v) ∷ e ∷ es) ((e.0, v) ∷ es) (e ∷ insert_entry order es k v)
+exchanged_if {order = order} total e es k v Less is sorted found further =
+    absurd (true≢false (sym found ∙ ap is_some (lookup-none (is_at (order k)) es (none_below_head total k e es sorted is).1)))
+exchanged_if total e es k v Equal is sorted found further = refl
+exchanged_if total e es k v Greater is sorted found further = ap (λ l. e ∷ l) (further found)
+
+-- an entry that is exchanged is one that is put in
+pub exchanged_inserted : {K X : Type 0} {order : K → K → Ordering} (total : IsTotalOrder order) (es : List (K × X)) (k : K) (v : X) → IsStrictlySortedBy order (keys_of es)
+    → is_some (lookup (is_at (order k)) es) ≡ true → set_value (is_at (order k)) es v ≡ insert_entry order es k v
+exchanged_inserted total [] k v sorted found = absurd (true≢false (sym found))
+exchanged_inserted {order = order} total (e ∷ es) k v sorted found =
+    exchanged_if total e es k v (order k e.0) refl sorted found (exchanged_inserted total es k v (sorted_tail order e.0 (keys_of es) sorted))
+
 -- ---- the rows that are present
 
 first_if : (id : RowId) (keyed : Keyed) (other : RowId) (content : Option Keyed) (rows : List (RowId × Keyed)) → id_order id other ≡ Less
@@ -206,3 +224,8 @@ settled_if test id content es false found further = ap (shown id content) (furth
 pub present_settled : (test : RowId → Bool) (es : List (RowId × Option Keyed)) → lookup test es ≡ Some None → present (remove_entry test es) ≡ present es
 present_settled test [] found = refl
 present_settled test (e ∷ es) found = settled_if test e.0 e.1 es (test e.0) found (present_settled test es)
+
+-- a row exchanged for another
+pub present_exchanged : (es : List (RowId × Option Keyed)) (id : RowId) (keyed : Keyed) → IsStrictlySortedBy id_order (keys_of es) → is_some (lookup (is_at (id_order id)) es) ≡ true
+    → present (set_value (is_at (id_order id)) es (Some keyed)) ≡ insert_entry id_order (present es) id keyed
+present_exchanged es id keyed sorted found = ap present (exchanged_inserted id_total es id (Some keyed) sorted found) ∙ present_insert es id keyed sorted

@@ -9,6 +9,7 @@ use Rattle.std.specs.declared.cmp.Ordering.TheVariants.{Less, Equal, Greater}
 use Rattle.std.proofs.Common.{ap, sym, ◌∙◌}
 use Rattle.std.proofs.lemmas.Map.Steps.{set_value_same}
 use Rattle.rls_value.specs.declared.row.RowId.{RowId}
+use Rattle.rls_catalog.specs.declared.slots.Before.{Before}
 use Rattle.rls_catalog.specs.declared.stored.Keyed.{Keyed}
 use Rattle.rls_catalog.specs.declared.undo.RowsUndo.TheVariants as r
 use Rattle.rls_catalog.specs.State.{at, name_order, id_order, or_none}
@@ -85,13 +86,13 @@ first_row_put name id content tables after absent put =
     put ∙ sym (ap (λ o. with_row_in name id content o (rows_listed tables)) (at_rows_listed name tables ∙ ap (option_map present) absent))
 
 -- a row of a table that has places, taken back
-pub place_back : (name : List ℕ) (id : RowId) (before : Option (Option Keyed)) (tables after : List (List ℕ × List (RowId × Option Keyed))) (old rows : List (RowId × Option Keyed))
-    → at name tables ≡ Some old → after ≡ set_value (is_at (name_order name)) tables rows → put_back id_order id before rows ≡ old
+pub place_back : (name : List ℕ) (id : RowId) (before : Before) (tables after : List (List ℕ × List (RowId × Option Keyed))) (old rows : List (RowId × Option Keyed))
+    → at name tables ≡ Some old → after ≡ set_value (is_at (name_order name)) tables rows → put_back id_order id before.content rows ≡ old
     → rows_undone (r.Place name id before) after ≡ tables
 place_back name id before tables after old rows found set back =
-    ap (λ l. row_back name id before (at name l) l) set
-    ∙ ap (λ there. row_back name id before there (set_value (is_at (name_order name)) tables rows)) (set_found (is_at (name_order name)) tables old rows found)
-    ∙ set_twice (is_at (name_order name)) tables rows (put_back id_order id before rows)
+    ap (λ l. row_back name id before.content (at name l) l) set
+    ∙ ap (λ there. row_back name id before.content there (set_value (is_at (name_order name)) tables rows)) (set_found (is_at (name_order name)) tables old rows found)
+    ∙ set_twice (is_at (name_order name)) tables rows (put_back id_order id before.content rows)
     ∙ ap (set_value (is_at (name_order name)) tables) back
     ∙ set_value_same (is_at (name_order name)) tables old found
 

@@ -24,7 +24,7 @@ row_back table id before None tables = tables
 
 -- the rows of all tables before a change of one
 abbrev pub rows_undone : RowsUndo → List (List ℕ × List (RowId × Option Keyed)) → List (List ℕ × List (RowId × Option Keyed))
-rows_undone (r.Place table id before) tables = row_back table id before (at table tables) tables
+rows_undone (r.Place table id before) tables = row_back table id before.content (at table tables) tables
 rows_undone (r.Table table) tables = remove_entry (is_at (name_order table)) tables
 
 -- what was kept before a change

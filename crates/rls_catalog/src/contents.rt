@@ -11,7 +11,7 @@ use crate::entries::{put, put_back};
 use crate::grant::Grant;
 use crate::policy_list::PolicyList;
 use crate::role::{Membership, RoleDef};
-use crate::slots::Slots;
+use crate::slots::{Before, Slots};
 use crate::stored::Keyed;
 use crate::undo::{RowsUndo, Undo};
 use rls_expr::TableDef;
@@ -236,7 +236,9 @@ impl Contents {
         ensures { state_of self.new ≡ state_of self.old }
     {
         if let Undo::Rows(RowsUndo::Place(table, id, before)) = undo {
-            settle_row(&mut self.rows, &table, id, before);
+            if !before.is_settled {
+                settle_row(&mut self.rows, &table, id, before.content);
+            }
         }
     }
 }
@@ -277,7 +279,14 @@ fn put_first_row(
     ensures err { OnErr result (tables.new.entries ≡ tables.old.entries) }
 {
     let Some(_) = &change.after else {
-        return Ok(RowsUndo::Place(table, change.id, None));
+        return Ok(RowsUndo::Place(
+            table,
+            change.id,
+            Before {
+                content: None,
+                is_settled: true,
+            },
+        ));
     };
     let slots = Slots::of_one(alloc, change.id, &change.after)?;
     put(tables, change.table.copy()?, slots)?;
@@ -290,7 +299,7 @@ fn undo_row(tables: &mut BTreeMap<Name, Slots>, undo: RowsUndo)
     match undo {
         RowsUndo::Place(table, id, before) => {
             match tables.get_mut(&table) {
-                Some(slots) => slots.put_back(id, before),
+                Some(slots) => slots.put_back(id, before.content),
                 None => {}
             }
         }

@@ -1,6 +1,6 @@
 //! The rows of one table, by number, in places that may stand empty, with an index by key.
 
-ghost use Rattle.std.specs.Prelude.{◌≡◌, [], None, Some, true, IfOk, OnOk, OnErr, map};
+ghost use Rattle.std.specs.Prelude.{◌≡◌, [], None, Some, true, IfOk, IfErr, OnOk, OnErr, map};
 ghost use Rattle.std.specs.BTreeMap.{IsOrdered, is_at};
 ghost use Rattle.std.specs.Map.{lookup, remove_entry, set_value};
 ghost use Rattle.rls_catalog.specs.Changed.{with_row};
@@ -19,6 +19,15 @@ use std::alloc::{AllocError, Global};
 use std::cmp::min;
 use std::collections::BTreeMap;
 use std::marker::Model;
+use std::mem::replace;
+
+/// What stood at a number before a content was put there; none where there was no place.
+#[derive(Drop)]
+pub(crate) struct Before {
+    pub(crate) content: Option<Option<Keyed>>,
+    /// Neither the place nor the index will have to go: the row has the key of the one that stood there, or none stood there.
+    pub(crate) is_settled: bool,
+}
 
 /// The rows of a table. A row that is taken away leaves its place, so that it can be put back without memory.
 #[derive(Drop)]
@@ -70,9 +79,9 @@ impl Slots {
         alloc: Global,
         id: RowId,
         content: &Option<Keyed>,
-    ) -> Result<Option<Option<Keyed>>, AllocError>
+    ) -> Result<Before, AllocError>
         ensures ok { OnOk result (present self.new ≡ with_row id content.now (present self.old)) }
-        ensures before { IfOk result (λ before. undone.put_back id_order id before self.new ≡ self.old) }
+        ensures before { IfOk result (λ before. undone.put_back id_order id before.content self.new ≡ self.old) }
         ensures err { OnErr result (self.new ≡ self.old) }
     {
         match content {
@@ -80,24 +89,42 @@ impl Slots {
                 let copied = keyed.copy(alloc)?;
                 self.fill(alloc, id, copied)
             }
-            None => Ok(self.empty(id)),
+            None => Ok(Before {
+                content: self.empty(id),
+                is_settled: false,
+            }),
         }
     }
 
-    /// Puts a row at the number, and gives what stood there.
-    fn fill(
-        &mut self,
-        alloc: Global,
-        id: RowId,
-        keyed: Keyed,
-    ) -> Result<Option<Option<Keyed>>, AllocError>
+    /// Puts a row at the number, and gives what stood there. Where that has its key, one look finds the place, and the index
+    /// has it already.
+    fn fill(&mut self, alloc: Global, id: RowId, keyed: Keyed) -> Result<Before, AllocError>
         ensures ok { OnOk result (present self.new ≡ with_row id (Some keyed) (present self.old)) }
-        ensures before { IfOk result (λ before. undone.put_back id_order id before self.new ≡ self.old) }
+        ensures before { IfOk result (λ before. undone.put_back id_order id before.content self.new ≡ self.old) }
         ensures err { OnErr result (self.new ≡ self.old) }
     {
-        add_to_index(&mut self.index, alloc, &self.slots, &keyed.key, id)?;
-        let before = entries::put(&mut self.slots, id, Some(keyed))?;
-        Ok(before)
+        match exchange_like(&mut self.slots, id, keyed) {
+            Ok(content) => Ok(Before {
+                content,
+                is_settled: true,
+            }),
+            Err(keyed) => self.put(alloc, id, keyed),
+        }
+    }
+
+    /// Puts a row at the number, which the index doesn't have there, and gives what stood there.
+    fn put(&mut self, alloc: Global, id: RowId, keyed: Keyed) -> Result<Before, AllocError>
+        ensures ok { OnOk result (present self.new ≡ with_row id (Some keyed) (present self.old)) }
+        ensures before { IfOk result (λ before. undone.put_back id_order id before.content self.new ≡ self.old) }
+        ensures err { OnErr result (self.new ≡ self.old) }
+    {
+        key_index::add(&mut self.index, alloc, &keyed.key, id)?;
+        let content = entries::put(&mut self.slots, id, Some(keyed))?;
+        let is_settled = content.is_none();
+        Ok(Before {
+            content,
+            is_settled,
+        })
     }
 
     /// Empties the place, and gives what stood there.
@@ -126,9 +153,6 @@ impl Slots {
     pub(crate) fn settle(&mut self, id: RowId, before: Option<Option<Keyed>>)
         ensures { present self.new ≡ present self.old }
     {
-        if has_its_key(&self.slots, id, &before) {
-            return;
-        }
         self.close(id);
         if let Some(content) = before {
             self.tidy(id, &content);
@@ -221,34 +245,36 @@ fn is_known(index: &BTreeMap<Row, BTreeMap<RowId, ()>>, id: RowId, content: &Opt
     }
 }
 
-/// Adds the number under the key to the index, unless the row at the number has that key: then it is there.
-#[tactic(auto, using(crate::proofs::KeyIndexLemmas::standing_indexed))]
-fn add_to_index(
-    index: &mut BTreeMap<Row, BTreeMap<RowId, ()>>,
-    alloc: Global,
-    slots: &BTreeMap<RowId, Option<Keyed>>,
-    key: &Row,
+/// Exchanges the row at the number for one that has its key, and gives back what stood there; else the new one is given back.
+fn exchange_like(
+    slots: &mut BTreeMap<RowId, Option<Keyed>>,
     id: RowId,
-) -> Result<(), AllocError>
-    ensures grows { Grows index.old.entries index.new.entries }
-    ensures ok { OnOk result (Covers index.old.entries slots.now.entries → is_indexed index.new.entries key.now id ≡ true) }
+    keyed: Keyed,
+) -> Result<Option<Option<Keyed>>, Keyed>
+    ensures like { OnOk result (stands_at keyed.key (lookup (is_at (id_order id)) slots.old.entries) ≡ true) }
+    ensures entries { OnOk result (slots.new.entries ≡ set_value (is_at (id_order id)) slots.old.entries (Some keyed)) }
+    ensures stood { IfOk result (λ before. before ≡ lookup (is_at (id_order id)) slots.old.entries) }
+    ensures same { IfErr result (λ other. other ≡ keyed) }
+    ensures err { OnErr result (slots.new.entries ≡ slots.old.entries) }
+    ensures ordered { IsOrdered id_order slots.old }
 {
-    if stands(slots, id, key) {
-        Ok(())
+    let Some(place) = slots.get_mut(&id) else {
+        return Err(keyed);
+    };
+    if has_key(place, &keyed.key) {
+        Ok(Some(replace(place, Some(keyed))))
     } else {
-        key_index::add(index, alloc, key, id)
+        Err(keyed)
     }
 }
 
-/// Whether the row at the number has the key of the one that stood there, so that neither the place nor the index has to go.
-fn has_its_key(
-    slots: &BTreeMap<RowId, Option<Keyed>>,
-    id: RowId,
-    before: &Option<Option<Keyed>>,
-) -> bool {
-    match before {
-        Some(Some(keyed)) => stands(slots, id, &keyed.key),
-        Some(None) | None => false,
+/// Whether the content is a row with the key.
+fn has_key(content: &Option<Keyed>, key: &Row) -> bool
+    ensures { result ≡ stands_at key.now (Some content.now) }
+{
+    match content {
+        Some(keyed) => *key == keyed.key,
+        None => false,
     }
 }
 

@@ -3,7 +3,7 @@
 use crate::grant::Grant;
 use crate::policy_list::PolicyList;
 use crate::role::{Membership, RoleDef};
-use crate::stored::Keyed;
+use crate::slots::Before;
 use rls_expr::TableDef;
 use rls_value::{Items, Name, RowId};
 
@@ -22,7 +22,7 @@ pub(crate) enum Undo {
 #[derive(Drop)]
 pub(crate) enum RowsUndo {
     /// What stood at a place of a table's rows. The place may have stood empty.
-    Place(Name, RowId, Option<Option<Keyed>>),
+    Place(Name, RowId, Before),
     /// The table had no places.
     Table(Name),
 }

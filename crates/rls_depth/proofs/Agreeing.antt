@@ -24,7 +24,7 @@ use Rattle.rls_evaluation.specs.Environments.{Environment, inside, over, compare
 use Rattle.rls_evaluation.specs.Eval.{Shows, and_value, or_value, or_equal, or_item, item_or, item_if, value_of, together, sum_of, sum_from, has_row, meets, among_items, first_item, item_of}
 use Rattle.rls_evaluation.specs.Gathering.{gathered, with_row}
 use Rattle.rls_evaluation.specs.Keys.{key_of}
-use Rattle.rls_evaluation.specs.Showing.{asked_for, with_judgement, judgements_on, allows, is_allowed, shown}
+use Rattle.rls_evaluation.specs.Showing.{asked_for, with_judgement, judgements_on, allows, is_allowed, shown, verdict_on}
 use Rattle.rls_expansion.specs.Used.{entered}
 use Rattle.rls_depth.specs.Leading.{condition_tables, guard_tables}
 use Rattle.rls_depth.proofs.Tables.{first_part, last_part, query_table, query_items, query_condition, within_first, within_last}
@@ -152,11 +152,15 @@ judgements_same (condition ∷ conditions) a b tables user row s same is =
     λ i. read_then (value_same condition.1 a b tables (over user row) s same (within_first (condition_tables condition) (flat_map condition_tables conditions) tables is) i)
     (λ v. read_then (judgements_same conditions a b tables user row s same (within_last (condition_tables condition) (flat_map condition_tables conditions) tables is) i) (λ rest. unread (Ok (with_judgement condition v rest))))
 
+-- the same is said of each row
+pub verdict_same : (guard : Guard) (a b : Shows) (tables : List (List ℕ)) (user : List ℕ) (row : List Value) (s : State) → Agree s tables a b → Within (guard_tables guard) tables
+    → (verdict_on guard a user row).in_state s ≡ (verdict_on guard b user row).in_state s
+verdict_same Exempt a b tables user row s same is = refl
+verdict_same (Policies conditions) a b tables user row s same is = λ i. read_then (judgements_same conditions a b tables user row s same is i) (λ judgements. unread (Ok (verdict_of judgements)))
+
 pub allowed_same : (guard : Guard) (a b : Shows) (tables : List (List ℕ)) (user : List ℕ) (row : List Value) (s : State) → Agree s tables a b → Within (guard_tables guard) tables
     → (is_allowed guard a user row).in_state s ≡ (is_allowed guard b user row).in_state s
-allowed_same Exempt a b tables user row s same is = refl
-allowed_same (Policies conditions) a b tables user row s same is =
-    λ i. read_then (read_then (judgements_same conditions a b tables user row s same is i) (λ judgements. unread (Ok (verdict_of judgements)))) (λ verdict. unread (Ok (allows verdict)))
+allowed_same guard a b tables user row s same is = λ i. read_then (verdict_same guard a b tables user row s same is i) (λ verdict. unread (Ok (allows verdict)))
 
 -- the same rows are shown
 pub shown_same : (guard : Guard) (a b : Shows) (tables : List (List ℕ)) (user table : List ℕ) (key : Option (List Value)) (s : State) → Agree s tables a b → Within (guard_tables guard) tables

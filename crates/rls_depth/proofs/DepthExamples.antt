@@ -1,49 +1,96 @@
 -- Worked examples: what a table shows whose policy reads another table with a policy of its own. Each is a theorem that
 -- computes.
-use Rattle.std.specs.Prelude.{◌≡◌, refl, ℕ, pos, List, [], ◌∷◌, true, Option, Some, None, Result, Ok, codes, if◌then◌else◌}
+use Rattle.std.specs.Prelude.{◌≡◌, refl, ℕ, pos, List, [], ◌∷◌, true, false, Option, Some, None, Result, Ok, codes, if◌then◌else◌}
 use Rattle.std.specs.Str.{bytes_eq}
 use Rattle.rls_value.specs.declared.refusal.Refusal.{Refusal}
 use Rattle.rls_value.specs.declared.value.Value.{Value}
 use Rattle.rls_value.specs.declared.value.Value.TheVariants.{Int, Text}
+use Rattle.rls_value.specs.declared.value.ColType.TheVariants as column
+use Rattle.rls_value.specs.declared.verb.Kind.TheVariants as k
 use Rattle.rls_value.specs.declared.verb.PolicyKind.TheVariants as pk
 use Rattle.rls_expr.specs.declared.expr.Category.TheVariants as category
 use Rattle.rls_expr.specs.declared.expr.Comparison.TheVariants.{Equal}
 use Rattle.rls_expr.specs.declared.expr.Selects.TheVariants as selects
 use Rattle.rls_expr.specs.declared.policy.Grantee.TheVariants as g
 use Rattle.rls_expr.specs.declared.policy.Policy.{Policy}
-use Rattle.rls_expr.specs.Terms.{Place, CurrentUser, Compare, Within, End, More, Select}
+use Rattle.rls_expr.specs.declared.table.TableDef.{TableDef}
+use Rattle.rls_expr.specs.Terms.{Column, Place, CurrentUser, Compare, Within, End, More, Select}
+use Rattle.rls_catalog.specs.declared.verdict.Side.TheVariants as side
+use Rattle.rls_catalog.specs.Membership.{nobody}
 use Rattle.rls_catalog.specs.State.{State}
-use Rattle.rls_source.specs.Asked.{rows_at}
+use Rattle.rls_source.specs.Asked.{policies_at, rows_at, table_at}
 use Rattle.rls_evaluation.specs.declared.fence.Guard.{Guard}
-use Rattle.rls_evaluation.specs.declared.fence.Guard.TheVariants.{Policies}
+use Rattle.rls_evaluation.specs.declared.fence.Guard.TheVariants.{Exempt, Policies}
 use Rattle.rls_evaluation.specs.Showing.{shows}
-use Rattle.rls_depth.specs.Deep.{shows_deep}
+use Rattle.rls_guard.specs.declared.standing.Standing.{Standing}
+use Rattle.rls_expansion.specs.Policies.{policies_for}
+use Rattle.rls_expansion.specs.Protecting.{past_policies, protection_of}
+use Rattle.rls_expansion.specs.Rooms.{room_in as room_there, room_of, rooms_of}
+use Rattle.rls_depth.specs.Deep.{shows_deep, state_guard}
 
--- teams with their leads; papers, each of a team
+-- papers, each of a team
+abbrev papers : TableDef
+papers = record {
+  owner = codes "olga";
+  enabled = true;
+  forced = false;
+  columns = record { name = codes "id"; kind = column.BigInt; not_null = false } ∷ record { name = codes "team"; kind = column.BigInt; not_null = false } ∷ [];
+  key = [];
+}
+
+-- teams with their leads
+abbrev teams : TableDef
+teams = record {
+  owner = codes "olga";
+  enabled = true;
+  forced = false;
+  columns = record { name = codes "id"; kind = column.BigInt; not_null = false } ∷ record { name = codes "lead"; kind = column.Text; not_null = false } ∷ [];
+  key = [];
+}
+
+-- a policy of papers: team IN (SELECT id FROM teams)
+abbrev on_papers : Policy
+on_papers = record {
+  name = codes "of_team";
+  permissive = true;
+  kind = pk.All;
+  to = g.Public ∷ [];
+  using = Some (Within (Column (record { qualifier = None; name = codes "team" }))
+      (Select (record { table = codes "teams"; alias = None }) [] selects.Items (More (Column (record { qualifier = None; name = codes "id" })) End) End));
+  check = None;
+}
+
+-- and one of teams: lead = CURRENT_USER
+abbrev on_teams : Policy
+on_teams = record {
+  name = codes "own";
+  permissive = true;
+  kind = pk.All;
+  to = g.Public ∷ [];
+  using = Some (Compare Equal (Column (record { qualifier = None; name = codes "lead" })) CurrentUser);
+  check = None;
+}
+
 abbrev now : State
 now = record {
   roles = [];
   members = [];
-  tables = [];
+  tables = (codes "papers", papers) ∷ (codes "teams", teams) ∷ [];
   grants = [];
-  policies = [];
+  policies = (codes "papers", on_papers ∷ []) ∷ (codes "teams", on_teams ∷ []) ∷ [];
   rows = (codes "papers", (record { txn = 1; n = 1 }, record { key = []; row = Int (pos 1) ∷ Int (pos 10) ∷ [] }) ∷ (record { txn = 1; n = 2 }, record { key = []; row = Int (pos 2) ∷ Int (pos 20) ∷ [] }) ∷ [])
       ∷ (codes "teams", (record { txn = 1; n = 3 }, record { key = []; row = Int (pos 10) ∷ Text (codes "alice") ∷ [] }) ∷ (record { txn = 1; n = 4 }, record { key = []; row = Int (pos 20) ∷ Text (codes "bob") ∷ [] }) ∷ [])
       ∷ [];
 }
 
--- a policy for all, whose condition stands beside it
-abbrev policy : Policy
-policy = record { name = codes "p"; permissive = true; kind = pk.All; to = g.Public ∷ []; using = None; check = None }
-
 -- a team is shown to its lead: lead = CURRENT_USER
 abbrev of_team : Guard
-of_team = Policies ((policy, Compare Equal (Place (record { out = 0; column = 1; kind = category.Text })) CurrentUser) ∷ [])
+of_team = Policies ((on_teams, Compare Equal (Place (record { out = 0; column = 1; kind = category.Text })) CurrentUser) ∷ [])
 
 -- a paper is shown if its team is: team IN (SELECT id FROM teams)
 abbrev of_paper : Guard
 of_paper = Policies ((
-  policy,
+  on_papers,
   Within (Place (record { out = 0; column = 1; kind = category.Number }))
       (Select (record { table = codes "teams"; alias = None }) [] selects.Items (More (Place (record { out = 0; column = 0; kind = category.Number })) End) End),
 ) ∷ [])
@@ -79,3 +126,44 @@ nothing_there = refl
 by_fences : ((shows (record { table = codes "papers"; guard = of_paper } ∷ record { table = codes "teams"; guard = of_team } ∷ []) (codes "alice") (codes "papers") None).in_state now).gives ≡ papers_deep 2
 unfolding rows_at
 by_fences = refl
+
+-- ---- by the state
+
+-- who has the privileges of one role, and no attribute
+abbrev only : List ℕ → Standing
+only role = record { attributes = nobody; reach = record { superuser = false; names = role ∷ [] } }
+
+-- the state gives these guards, the columns being by their places
+stated : state_guard now (only (codes "alice")) (codes "papers") ≡ Some of_paper
+stated = refl
+
+stated_next : state_guard now (only (codes "alice")) (codes "teams") ≡ Some of_team
+stated_next = refl
+
+-- the owner is exempt
+of_owner : state_guard now (only (codes "olga")) (codes "papers") ≡ Some Exempt
+of_owner = refl
+
+none_stated : state_guard now (only (codes "alice")) (codes "offices") ≡ None
+none_stated = refl
+
+-- so the state says that alice sees the paper of her team alone, and olga sees both
+by_state : ((shows_deep 2 (state_guard now (only (codes "alice"))) (codes "alice") (codes "papers") None).in_state now).gives ≡ papers_deep 2
+unfolding rows_at
+by_state = refl
+
+all_shown : ((shows_deep 1 (state_guard now (only (codes "olga"))) (codes "olga") (codes "papers") None).in_state now).gives
+    ≡ Ok ((Int (pos 1) ∷ Int (pos 10) ∷ []) ∷ (Int (pos 2) ∷ Int (pos 20) ∷ []) ∷ [])
+unfolding rows_at
+all_shown = refl
+
+-- what protects alice's SELECT from papers: the one watch of the policy, and the fence of the one table that it leads to
+protects : ((protection_of (only (codes "alice")) (codes "papers") papers k.Select false []).in_state now).gives
+    ≡ Ok (record {
+      old = record { kind = k.Select; side = side.Old; guard = of_paper } ∷ [];
+      new = [];
+      fences = record { table = codes "teams"; guard = of_team } ∷ [];
+      asked = codes "teams" ∷ [];
+    })
+unfolding protection_of policies_for past_policies rooms_of room_of room_there table_at policies_at
+protects = refl

@@ -1,5 +1,11 @@
 pub mod Tables
 pub mod Agreeing
+pub mod Using
 pub mod Deepening
 pub mod RoomLaws
+pub mod Walking
+pub mod Placing
+pub mod Reaching
+pub mod Stating
+pub mod ProtectionLaws
 pub mod DepthExamples

@@ -1,12 +1,11 @@
 -- The rooms that are read leave out no table that their policies read.
-use Rattle.std.specs.Prelude.{◌≡◌, refl, ℕ, zero, suc, List, [], ◌∷◌, ◌++◌, Bool, true, false, ◌&&◌, ◌||◌, Option, Some, None, Result, Ok, Err, cond, filter, slice_get, is_some, if◌then◌else◌}
+use Rattle.std.specs.Prelude.{◌≡◌, refl, ℕ, zero, suc, List, [], ◌∷◌, ◌++◌, Bool, true, false, ◌||◌, Option, Some, None, Result, Ok, Err, slice_get, if◌then◌else◌}
 use Rattle.std.specs.List.{AllByRecursion, list_any, flat_map}
 use Rattle.std.proofs.Common.{ap, sym, ◌∙◌, subst}
-use Rattle.std.proofs.lemmas.Bool.{true≢false, or_right}
+use Rattle.std.proofs.lemmas.Bool.{true≢false}
 use Rattle.rls_value.specs.declared.refusal.Refusal.{Refusal}
 use Rattle.rls_value.specs.declared.verb.Kind.TheVariants as k
 use Rattle.rls_value.specs.Giving.{and_then}
-use Rattle.rls_value.specs.Names.{one_of}
 use Rattle.rls_expr.specs.declared.policy.Policy.{Policy}
 use Rattle.rls_expr.specs.declared.table.TableDef.{TableDef}
 use Rattle.rls_expr.specs.Naming.{names_of, names_all}
@@ -14,10 +13,9 @@ use Rattle.rls_expr.specs.Parts.{has_query, have_query}
 use Rattle.rls_expr.specs.Terms.{Term, Terms, Literal, Column, Place, CurrentUser, Compare, And, Or, Not, IsNull, IsNotNull, Among, NotAmong, Exists, Within as InQuery, NotWithin, Scalar, Sum, End, More}
 use Rattle.rls_catalog.specs.declared.verdict.Side.TheVariants as side
 use Rattle.rls_catalog.specs.Membership.{fresh}
-use Rattle.rls_catalog.specs.Privileges.{includes}
 use Rattle.rls_catalog.specs.State.{State}
-use Rattle.rls_catalog.specs.Verdict.{is_asked, is_for_kind, chosen, exempts}
-use Rattle.rls_catalog.specs.Walks.{Within, one_of-append, among_first}
+use Rattle.rls_catalog.specs.Verdict.{chosen, exempts}
+use Rattle.rls_catalog.specs.Walks.{Within}
 use Rattle.rls_source.specs.Asked.{asked_policies, policies_at, table_at}
 use Rattle.rls_source.specs.Askings.{Asking, asked_if, followed_by, known}
 use Rattle.rls_guard.specs.declared.standing.Standing.{Standing}
@@ -27,9 +25,10 @@ use Rattle.rls_expansion.specs.Enough.{collect, collect_end, collect_step, visit
 use Rattle.rls_expansion.specs.Leading.{named}
 use Rattle.rls_expansion.specs.Policies.{policies_for}
 use Rattle.rls_expansion.specs.Rooms.{reading, absent, room_by, room_in, room_if, room_of, rooms_of}
-use Rattle.rls_expansion.specs.Used.{entered, tables_if, tables_where, tables_by, tables_used, has_query_if, holds_subquery, is_for_check, tables_asked}
+use Rattle.rls_expansion.specs.Used.{entered, tables_if, tables_used, has_query_if, holds_subquery}
 use Rattle.rls_depth.specs.Leading.{using_tables, Leads, RoomsLead}
-use Rattle.rls_depth.proofs.Tables.{within_nothing, within_append, within_all, steps_all}
+use Rattle.rls_depth.proofs.Using.{chosen_used, own_ask}
+use Rattle.rls_depth.proofs.Tables.{within_nothing, within_all, steps_all}
 
 -- ---- an expression without a subquery names no table
 
@@ -73,38 +72,8 @@ none_read (policy ∷ policies) is =
 
 -- ---- the tables that policies use are all that those that apply read
 
-behind : (xs ys zs : List (List ℕ)) → Within zs ys → Within zs (xs ++ ys)
-behind xs ys zs within name is = one_of-append xs ys name ∙ or_right (one_of xs name) (one_of ys name) (within name is)
-
-using_in : (suits : Bool) (term : Option Term) (rest : List (List ℕ)) → suits ≡ true → Within (tables_if term) (tables_where ((suits && true) || false) term ++ rest)
-using_in true term rest is = among_first (tables_if term) rest
-using_in false term rest is = absurd (true≢false (sym is))
-
-by_in : (applies : Bool) (policy : Policy) → applies ≡ true → is_for_kind policy.kind k.Select ≡ true → Within (using_tables policy) (if applies then tables_asked reading policy else [])
-by_in true policy is suits = using_in (is_for_kind policy.kind k.Select) policy.using (tables_where (list_any (is_for_check policy) reading) policy.check) suits
-by_in false policy is suits = absurd (true≢false (sym is))
-
-and_first : (a b : Bool) → (a && b) ≡ true → a ≡ true
-and_first true b is = refl
-and_first false b is = is
-
-kept_in : (b : Bool) (policy : Policy) (kept : List Policy) (here more : List (List ℕ)) → (b ≡ true → Within (using_tables policy) here) → Within (flat_map using_tables kept) more
-    → Within (flat_map using_tables (cond b (policy ∷ kept) kept)) (here ++ more)
-kept_in true policy kept here more within further = within_append (using_tables policy) (flat_map using_tables kept) here more (within refl) further
-kept_in false policy kept here more within further = behind here more (flat_map using_tables kept) further
-
-asked_in : (a : Bool) (test : Policy → Bool) (policy : Policy) (kept : List Policy) (here more : List (List ℕ)) → (a ≡ true → test policy ≡ true → Within (using_tables policy) here) → Within (flat_map using_tables (filter test kept)) more
-    → Within (flat_map using_tables (filter test (cond a (policy ∷ kept) kept))) (here ++ more)
-asked_in true test policy kept here more within further = kept_in (test policy) policy (filter test kept) here more (within refl) further
-asked_in false test policy kept here more within further = behind here more (flat_map using_tables (filter test kept)) further
-
 chosen_in : (superuser : Bool) (names : List (List ℕ)) (policies : List Policy) → Within (flat_map using_tables (chosen superuser names k.Select side.Old policies)) (tables_used superuser names reading policies)
-chosen_in superuser names [] = within_nothing []
-chosen_in superuser names (policy ∷ policies) =
-    asked_in (is_asked k.Select side.Old policy) (λ policy. list_any (includes superuser names) policy.to) policy (filter (is_asked k.Select side.Old) policies)
-    (tables_by superuser names reading policy) (tables_used superuser names reading policies)
-    (λ asked applies. by_in (list_any (includes superuser names) policy.to) policy applies (and_first (is_for_kind policy.kind k.Select) (is_some policy.using) asked))
-    (chosen_in superuser names policies)
+chosen_in superuser names policies = chosen_used superuser names k.Select side.Old reading (λ policy. refl) (own_ask (k.Select, side.Old) []) policies
 
 -- ---- a room
 
@@ -112,7 +81,7 @@ leads_by : (inner : Bool) (read next : List (List ℕ)) → Within read next →
 leads_by true read next within none = within
 leads_by false read next within none = none refl
 
-by_leads : (standing : Standing) (table : List ℕ) (def : TableDef) (policies : Option (List Policy)) → Leads (room_by standing table def policies)
+pub by_leads : (standing : Standing) (table : List ℕ) (def : TableDef) (policies : Option (List Policy)) → Leads (room_by standing table def policies)
 by_leads standing table def None = within_nothing []
 by_leads standing table def (Some policies) =
     let applying : List Policy = chosen standing.reach.superuser standing.reach.names k.Select side.Old policies in

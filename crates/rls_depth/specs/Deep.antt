@@ -1,16 +1,28 @@
 -- What a table shows, told by depth: the rows that its policies allow, whose subqueries see what their tables show, and so
--- on, so many policies deep (PostgreSQL manual, 5.9).
-use Rattle.std.specs.Prelude.{ℕ, zero, suc, List, [], Option, Some, None, Ok}
+-- on, so many policies deep (PostgreSQL manual, 5.9). And who guards a table's rows from a role, as the state has it.
+use Rattle.std.specs.Prelude.{◌≡◌, ℕ, zero, suc, List, [], Option, Some, None, Ok, if◌then◌else◌}
+use Rattle.std.specs.List.{AllByRecursion}
 use Rattle.rls_value.specs.declared.value.Value.{Value}
+use Rattle.rls_value.specs.declared.verb.Kind.{Kind}
+use Rattle.rls_value.specs.declared.verb.Kind.TheVariants as k
+use Rattle.rls_expr.specs.declared.policy.Policy.{Policy}
 use Rattle.rls_expr.specs.declared.table.TableDef.{TableDef}
-use Rattle.rls_expr.specs.Scopes.{InScope, known_table}
+use Rattle.rls_expr.specs.Scopes.{InScope}
+use Rattle.rls_catalog.specs.declared.verdict.Side.{Side}
+use Rattle.rls_catalog.specs.declared.verdict.Side.TheVariants as side
+use Rattle.rls_catalog.specs.State.{State, policies_of, table_of}
+use Rattle.rls_catalog.specs.Verdict.{applying_of, exempts, is_exempt}
 use Rattle.rls_source.specs.Askings.{Asking, known}
 use Rattle.rls_evaluation.specs.declared.fence.Guard.{Guard}
+use Rattle.rls_evaluation.specs.declared.fence.Guard.TheVariants.{Exempt, Policies}
 use Rattle.rls_evaluation.specs.Eval.{Shows}
-use Rattle.rls_evaluation.specs.Showing.{shown}
-use Rattle.rls_recursion.specs.declared.room.Room.{Room}
-use Rattle.rls_recursion.specs.Searching.{room_in}
-use Rattle.rls_expansion.specs.Fences.{known_in, guard_of}
+use Rattle.rls_evaluation.specs.Showing.{shown, verdict_on}
+use Rattle.rls_guard.specs.declared.guard.Watch.{Watch}
+use Rattle.rls_guard.specs.declared.standing.Standing.{Standing}
+use Rattle.rls_guard.specs.Guards.{conditions_of, guard_from}
+use Rattle.rls_guard.specs.Standings.{has_owner}
+
+-- ---- by depth
 
 -- the rows that the guard allows; a table that isn't there shows nothing
 abbrev pub shown_by : Option Guard → Shows → List ℕ → List ℕ → Option (List Value) → Asking (List (List Value))
@@ -22,12 +34,34 @@ abbrev pub shows_deep : ℕ → (List ℕ → Option Guard) → List ℕ → Sho
 shows_deep zero guards user table key = known (Ok [])
 shows_deep (suc n) guards user table key = shown_by (guards table) (shows_deep n guards user) user table key
 
--- who guards the rows of a table, if it is there: the policies for SELECT that apply to the role
-abbrev pub guard_in : List InScope → List ℕ → Option TableDef → Option Room → Option Guard
-guard_in found name (Some table) (Some room) = Some (guard_of found (name, table) room.policies)
-guard_in found name (Some table) None = None
-guard_in found name None room = None
+-- ---- by the state
 
--- the guard of each table, by the rooms
-abbrev pub guards_of : List Room → List ℕ → Option Guard
-guards_of rooms name = guard_in (known_in rooms) name (known_table (known_in rooms) name) (room_in rooms name)
+-- the policies of the table in the state; none counts where row security doesn't apply
+abbrev pub policies_in : State → Standing → List ℕ → TableDef → Option (List Policy)
+policies_in s standing name table = if exempts standing.attributes table (has_owner standing table) then None else Some (policies_of s name)
+
+-- who guards the rows of a table that is there: the policies for SELECT that apply. The subqueries of their conditions are
+-- over the tables of the state
+abbrev pub guard_at : State → Standing → List ℕ → Option TableDef → Option Guard
+guard_at s standing name (Some table) = Some (guard_from standing k.Select side.Old (name, table) s.tables (policies_in s standing name table))
+guard_at s standing name None = None
+
+-- the same of each table
+abbrev pub state_guard : State → Standing → List ℕ → Option Guard
+state_guard s standing name = guard_at s standing name (table_of s name)
+
+-- the same by the role alone, in the words of the rules over a state, of each type of command and of old and new rows: no
+-- policy counts where the role is exempt, and else those that apply to it
+abbrev pub ruled : State → List ℕ → Kind → Side → InScope → Guard
+ruled s role kind which from = if is_exempt s role from.1 then Exempt else Policies (conditions_of kind which from s.tables (applying_of s role from.0 kind which))
+
+-- ---- watches
+
+-- each of the guards says the same of each row, whichever of the two its subqueries see
+abbrev pub JudgeAlike : State → List ℕ → Shows → Shows → List Watch → Type 0
+JudgeAlike s user one other watches =
+    AllByRecursion (λ watch. (row : List Value) → (verdict_on watch.guard one user row).in_state s ≡ (verdict_on watch.guard other user row).in_state s) watches
+
+-- each of the guards shows of the table, seeing the one, what the other shows of it
+abbrev pub ShowAlike : State → List ℕ → List ℕ → Shows → Shows → List Watch → Type 0
+ShowAlike s user table sees other watches = AllByRecursion (λ watch. (key : Option (List Value)) → (shown watch.guard sees user table key).in_state s ≡ (other table key).in_state s) watches

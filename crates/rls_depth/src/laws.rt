@@ -1,25 +1,38 @@
 //! Laws of the definitions, each a clause of a function that does nothing.
 
-ghost use Rattle.std.specs.Prelude.{◌≡◌, ◌≤◌, ℕ, List, Option, Ok, true, length};
+ghost use Rattle.std.specs.Prelude.{◌≡◌, ◌≤◌, ◌++◌, ℕ, suc, List, Bool, Option, Some, Ok, true, length};
+ghost use Rattle.std.specs.Option.{option_map};
 ghost use Rattle.rls_value.specs.declared.value.Value.{Value};
 ghost use Rattle.rls_value.specs.Names.{one_of};
+ghost use Rattle.rls_value.specs.declared.verb.Kind.{Kind};
+ghost use Rattle.rls_value.specs.declared.verb.Kind.TheVariants.{Select};
+ghost use Rattle.rls_expr.specs.declared.table.TableDef.{TableDef};
+ghost use Rattle.rls_expr.specs.Scopes.{InScope};
 ghost use Rattle.rls_expr.specs.Terms.{Term};
-ghost use Rattle.rls_catalog.specs.State.{State};
+ghost use Rattle.rls_catalog.specs.declared.verdict.Side.{Side};
+ghost use Rattle.rls_catalog.specs.declared.verdict.Side.TheVariants.{Old, New};
+ghost use Rattle.rls_catalog.specs.State.{State, table_of};
 ghost use Rattle.rls_catalog.specs.Walks.{Within};
 ghost use Rattle.rls_evaluation.specs.declared.fence.Guard.{Guard};
 ghost use Rattle.rls_evaluation.specs.Environments.{Environment};
 ghost use Rattle.rls_evaluation.specs.Eval.{value_of};
 ghost use Rattle.rls_evaluation.specs.Showing.{shows, is_allowed};
 ghost use Rattle.rls_guard.specs.declared.standing.Standing.{Standing};
+ghost use Rattle.rls_guard.specs.Guards.{guard_from};
+ghost use Rattle.rls_guard.specs.Standings.{standing_in};
 ghost use Rattle.rls_recursion.specs.declared.room.Room.{Room};
 ghost use Rattle.rls_recursion.specs.declared.searching.Reached.{Reached};
 ghost use Rattle.rls_recursion.specs.Searching.{ordered_by};
+ghost use Rattle.rls_expansion.specs.declared.protection.Protection.{Protection};
 ghost use Rattle.rls_expansion.specs.Fences.{known_in, fences_of};
+ghost use Rattle.rls_expansion.specs.Protecting.{judges_new, judges_old, protection_of, watches_if};
 ghost use Rattle.rls_expansion.specs.Rooms.{rooms_of};
 ghost use Rattle.rls_expansion.specs.Used.{tables_of};
-ghost use Rattle.rls_depth.specs.Deep.{shows_deep, guards_of};
-ghost use Rattle.rls_depth.specs.Leading.{RoomsLead, guard_tables};
+ghost use Rattle.rls_depth.specs.Deep.{JudgeAlike, ShowAlike, policies_in, ruled, shows_deep, state_guard};
+ghost use Rattle.rls_depth.specs.Leading.{RoomsLead, guard_tables, guards_of};
 
+use rls_expansion::expression_taken;
+use rls_guard::standing_means;
 use rls_recursion::search_means;
 
 /// The rooms that are read for a statement leave out no table that their policies read.
@@ -37,4 +50,40 @@ pub fn shows_means()
     ensures allowed { (rooms : List Room) (target : List ℕ) (own queries : List (List ℕ)) (reached : Reached) (n : ℕ) (user : List ℕ) (s : State) → RoomsLead rooms → ordered_by rooms target own queries ≡ Ok reached → length reached.fenced ≤ n → (guard : Guard) (row : List Value) → Within (guard_tables guard) reached.fenced → (is_allowed guard (shows (fences_of (known_in rooms) rooms reached.fenced) user) user row).in_state s ≡ (is_allowed guard (shows_deep n (guards_of rooms) user) user row).in_state s }
 {
     search_means()
+}
+
+/// So where the rooms are those of a state: what the fences show is what the state says, and nothing else counts. The tables
+/// asked for have to hold those that the statement begins with.
+pub fn state_means()
+    ensures shows { (standing : Standing) (s : State) (tables : List (List ℕ)) (rooms : List Room) (target : List ℕ) (own queries : List (List ℕ)) (reached : Reached) (n : ℕ) (user : List ℕ) → ((rooms_of standing tables).in_state s).gives ≡ Ok rooms → Within (own ++ queries) tables → ordered_by rooms target own queries ≡ Ok reached → length reached.fenced ≤ n → (table : List ℕ) → one_of reached.fenced table ≡ true → (key : Option (List Value)) → (shows (fences_of (known_in rooms) rooms reached.fenced) user table key).in_state s ≡ (shows_deep n (state_guard s standing) user table key).in_state s }
+    ensures value { (standing : Standing) (s : State) (tables : List (List ℕ)) (rooms : List Room) (target : List ℕ) (own queries : List (List ℕ)) (reached : Reached) (n : ℕ) (user : List ℕ) → ((rooms_of standing tables).in_state s).gives ≡ Ok rooms → Within (own ++ queries) tables → ordered_by rooms target own queries ≡ Ok reached → length reached.fenced ≤ n → (t : Term) (env : Environment) → Within (tables_of t) reached.fenced → (value_of t (shows (fences_of (known_in rooms) rooms reached.fenced) user) env).in_state s ≡ (value_of t (shows_deep n (state_guard s standing) user) env).in_state s }
+    ensures allowed { (standing : Standing) (s : State) (tables : List (List ℕ)) (rooms : List Room) (target : List ℕ) (own queries : List (List ℕ)) (reached : Reached) (n : ℕ) (user : List ℕ) → ((rooms_of standing tables).in_state s).gives ≡ Ok rooms → Within (own ++ queries) tables → ordered_by rooms target own queries ≡ Ok reached → length reached.fenced ≤ n → (guard : Guard) (row : List Value) → Within (guard_tables guard) reached.fenced → (is_allowed guard (shows (fences_of (known_in rooms) rooms reached.fenced) user) user row).in_state s ≡ (is_allowed guard (shows_deep n (state_guard s standing) user) user row).in_state s }
+{
+    search_means()
+}
+
+/// What protects the rows of a statement says what the state says: who watches its rows, what its subqueries and those of
+/// the watches see, as many policies deep as there are fences, or more. So its expressions have the values, and its watches
+/// say of each row, what the state says; and the watches of a SELECT show what its table shows, one policy deeper.
+pub fn protection_means()
+    ensures old { (standing : Standing) (s : State) (name : List ℕ) (table : TableDef) (kind : Kind) (reads : Bool) (queries : List (List ℕ)) (protection : Protection) → ((protection_of standing name table kind reads queries).in_state s).gives ≡ Ok protection → protection.old ≡ watches_if (judges_old kind) standing kind reads (name, table) s.tables (policies_in s standing name table) Old }
+    ensures new { (standing : Standing) (s : State) (name : List ℕ) (table : TableDef) (kind : Kind) (reads : Bool) (queries : List (List ℕ)) (protection : Protection) → ((protection_of standing name table kind reads queries).in_state s).gives ≡ Ok protection → protection.new ≡ watches_if (judges_new kind) standing kind reads (name, table) s.tables (policies_in s standing name table) New }
+    ensures asked { (standing : Standing) (s : State) (name : List ℕ) (table : TableDef) (kind : Kind) (reads : Bool) (queries : List (List ℕ)) (protection : Protection) → ((protection_of standing name table kind reads queries).in_state s).gives ≡ Ok protection → Within queries protection.asked }
+    ensures shows { (standing : Standing) (s : State) (name : List ℕ) (table : TableDef) (kind : Kind) (reads : Bool) (queries : List (List ℕ)) (protection : Protection) (n : ℕ) (user : List ℕ) → ((protection_of standing name table kind reads queries).in_state s).gives ≡ Ok protection → length protection.fences ≤ n → (asked : List ℕ) → one_of protection.asked asked ≡ true → (key : Option (List Value)) → (shows protection.fences user asked key).in_state s ≡ (shows_deep n (state_guard s standing) user asked key).in_state s }
+    ensures value { (standing : Standing) (s : State) (name : List ℕ) (table : TableDef) (kind : Kind) (reads : Bool) (queries : List (List ℕ)) (protection : Protection) (n : ℕ) (user : List ℕ) → ((protection_of standing name table kind reads queries).in_state s).gives ≡ Ok protection → length protection.fences ≤ n → (t : Term) (env : Environment) → Within (tables_of t) protection.asked → (value_of t (shows protection.fences user) env).in_state s ≡ (value_of t (shows_deep n (state_guard s standing) user) env).in_state s }
+    ensures judged_old { (standing : Standing) (s : State) (name : List ℕ) (table : TableDef) (kind : Kind) (reads : Bool) (queries : List (List ℕ)) (protection : Protection) (n : ℕ) (user : List ℕ) → ((protection_of standing name table kind reads queries).in_state s).gives ≡ Ok protection → length protection.fences ≤ n → JudgeAlike s user (shows protection.fences user) (shows_deep n (state_guard s standing) user) protection.old }
+    ensures judged_new { (standing : Standing) (s : State) (name : List ℕ) (table : TableDef) (kind : Kind) (reads : Bool) (queries : List (List ℕ)) (protection : Protection) (n : ℕ) (user : List ℕ) → ((protection_of standing name table kind reads queries).in_state s).gives ≡ Ok protection → length protection.fences ≤ n → JudgeAlike s user (shows protection.fences user) (shows_deep n (state_guard s standing) user) protection.new }
+    ensures target { (standing : Standing) (s : State) (name : List ℕ) (table : TableDef) (reads : Bool) (queries : List (List ℕ)) (protection : Protection) (n : ℕ) (user : List ℕ) → ((protection_of standing name table Select reads queries).in_state s).gives ≡ Ok protection → table_of s name ≡ Some table → length protection.fences ≤ n → ShowAlike s user name (shows protection.fences user) (shows_deep (suc n) (state_guard s standing) user) protection.old }
+{
+    search_means();
+    expression_taken()
+}
+
+/// The guards of a role are those of the rules over a state, by who is exempt from a table's row security, and which policies
+/// apply to the role.
+pub fn role_means()
+    ensures guard { (s : State) (role name : List ℕ) → state_guard s (standing_in s role) name ≡ option_map (λ table. ruled s role Select Old (name, table)) (table_of s name) }
+    ensures watch { (s : State) (role : List ℕ) (kind : Kind) (which : Side) (from : InScope) → guard_from (standing_in s role) kind which from s.tables (policies_in s (standing_in s role) from.0 from.1) ≡ ruled s role kind which from }
+{
+    standing_means()
 }

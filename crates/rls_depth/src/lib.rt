@@ -3,4 +3,4 @@
 
 mod laws;
 
-pub use laws::{rooms_lead, shows_means};
+pub use laws::{protection_means, role_means, rooms_lead, shows_means, state_means};

@@ -1,5 +1,5 @@
 -- What a subquery that names no column further out gave is what it gives for each row.
-use Rattle.std.specs.Prelude.{◌≡◌, refl, ℕ, zero, suc, ◌+◌, ◌<◌, List, [], ◌∷◌, ◌++◌, Bool, true, false, Option, Some, None, Result, Ok, Err, IfOk, drop, length, get_or, if◌then◌else◌}
+use Rattle.std.specs.Prelude.{◌≡◌, refl, ℕ, zero, suc, ◌+◌, ◌<◌, ◌≤◌, List, [], ◌∷◌, ◌++◌, Bool, true, false, Option, Some, None, Result, Ok, Err, IfOk, drop, length, get_or, if◌then◌else◌}
 use Rattle.std.proofs.Common.{arith, ap, sym, ◌∙◌, subst}
 use Rattle.std.specs.declared.alloc.AllocError.{AllocError}
 use Rattle.rls_value.specs.declared.value.Value.{Value}
@@ -7,19 +7,18 @@ use Rattle.rls_value.specs.declared.value.Value.TheVariants.{Null, Bool as Flag}
 use Rattle.rls_value.specs.declared.truth.Truth.{Truth}
 use Rattle.rls_value.specs.declared.object.Object.{Object}
 use Rattle.rls_expr.specs.ExprTerms.{query_of}
-use Rattle.rls_expr.specs.Terms.{Term, Terms, Query, Select, Exists}
+use Rattle.rls_expr.specs.Terms.{Terms, Query, Select, Exists}
 use Rattle.rls_expr.specs.declared.expr.FromItem.{FromItem}
 use Rattle.rls_expr.specs.declared.expr.Selects.{Selects}
 use Rattle.rls_catalog.specs.State.{State}
 use Rattle.rls_source.specs.Footprints.{with_reads, IsInOrder}
-use Rattle.rls_source.specs.Readings.{Reading}
 use Rattle.rls_source.specs.Askings.{Asking, known, asked_if, followed_by}
 use Rattle.rls_evaluation.specs.declared.fence.Fence.{Fence}
 use Rattle.rls_evaluation.specs.declared.memo.Answer.{Answer}
 use Rattle.rls_evaluation.specs.declared.memo.Work.{Work}
 use Rattle.rls_evaluation.specs.declared.value_set.ValueSet.{ValueSet}
 use Rattle.rls_evaluation.specs.Alone.{is_alone, items_seen, asked_query, items_for, with_item, any_equal, is_some}
-use Rattle.rls_evaluation.specs.Answering.{IsFor, FoundAt, IsOneMore, IsAnswered, AreAnswered, Comes, answer_of}
+use Rattle.rls_evaluation.specs.Answering.{IsFor, FoundAt, NoneBelow, IsOneMore, IsAnswered, AreAnswered, Comes, answer_of}
 use Rattle.rls_evaluation.specs.Environments.{Environment, alone, inside}
 use Rattle.rls_evaluation.specs.Eval.{Shows, value_of, among_items, has_row, ranged_over, item_if, item_of, meets}
 use Rattle.rls_evaluation.specs.Gathering.{gathered}
@@ -39,6 +38,24 @@ one_more fact [] one was here (suc place) answer below is = absurd (omega (arith
 one_more fact (x ∷ old) one was here zero answer below is = was zero answer (omega arith) is
 one_more fact (x ∷ old) one was here (suc place) answer below is =
     one_more fact old one (λ p other low same. was (suc p) other (omega (arith, low)) same) here place answer (omega (arith, below)) is
+
+-- ---- that there is none
+
+one_below : (fact : ℕ → Type 0) (n : ℕ) → ((place : ℕ) → place < n → fact place) → fact n → (place : ℕ) → place < n + 1 → fact place
+one_below fact zero before here zero below = here
+one_below fact zero before here (suc place) below = absurd (omega (arith, below))
+one_below fact (suc n) before here zero below = before zero (omega arith)
+one_below fact (suc n) before here (suc place) below = one_below (λ p. fact (suc p)) n (λ p low. before (suc p) (omega (arith, low))) here place (omega (arith, below))
+
+pub none_below_more : (answers : List Answer) (n from : ℕ) (has_items : Bool) (q : Query) (answer : Answer) → answer ≡ get_or answers n answer → (IsFor answer from has_items q → ⊥)
+    → NoneBelow answers n from has_items q → NoneBelow answers (n + 1) from has_items q
+none_below_more answers n from has_items q answer is not none =
+    one_below (λ place. FoundAt answers place from has_items q → ⊥) n none (λ found. not (found.is answer is))
+
+pub none_below_all : (answers : List Answer) (n place from : ℕ) (has_items : Bool) (q : Query) → n ≤ place → NoneBelow answers place from has_items q → NoneBelow answers n from has_items q
+none_below_all answers n place from has_items q few none = λ other below. none other (omega (arith, below, few))
+
+-- ---- what it gave
 
 -- what a subquery comes to in a row's surroundings is what it comes to by itself
 answered_by : (fences : List Fence) (user : List ℕ) (env : Environment) (s : State) (notes : List Object) (answer : Answer) (from : ℕ) (has_items : Bool) (q : Query) (old : List Object) (values : ValueSet)

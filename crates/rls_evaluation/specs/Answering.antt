@@ -26,6 +26,10 @@ pub record FoundAt (answers : List Answer) (place from : ℕ) (has_items : Bool)
   pub below : place < length answers
   pub is : (answer : Answer) → answer ≡ get_or answers place answer → IsFor answer from has_items q
 
+-- there is none at the places below that one
+abbrev pub NoneBelow : List Answer → ℕ → ℕ → Bool → Query → Type 0
+NoneBelow answers n from has_items q = (place : ℕ) → place < n → FoundAt answers place from has_items q → ⊥
+
 -- one more is kept
 pub record IsOneMore (old new : List Answer) (from : ℕ) (has_items : Bool) (q : Query) (values : ValueSet) : Type 0 where
   pub answer : Answer

@@ -1,6 +1,6 @@
 //! What is kept while a statement is evaluated.
 
-ghost use Rattle.std.specs.Prelude.{◌≡◌, ℕ, List, [], Some, true, cond, IfOk, IfSome, OnOk};
+ghost use Rattle.std.specs.Prelude.{◌≡◌, ℕ, List, [], Some, None, true, false, cond, length, IfOk, IfSome, OnOk};
 ghost use Rattle.std.specs.BTreeMap.{is_at};
 ghost use Rattle.std.specs.Map.{lookup};
 ghost use Rattle.rls_value.specs.Objects.{object_order};
@@ -9,7 +9,7 @@ ghost use Rattle.rls_expr.specs.ExprTerms.{query_of};
 ghost use Rattle.rls_catalog.specs.State.{State};
 ghost use Rattle.rls_evaluation.specs.declared.fence.Fence.{Fence};
 ghost use Rattle.rls_evaluation.specs.Holding.{Holds, found_in};
-ghost use Rattle.rls_evaluation.specs.Answering.{IsFor, FoundAt, IsOneMore};
+ghost use Rattle.rls_evaluation.specs.Answering.{IsFor, FoundAt, IsOneMore, NoneBelow};
 
 use crate::value_set::ValueSet;
 use rls_equality::is_same_query;
@@ -162,7 +162,8 @@ pub fn place_of_answer(
     has_items: bool,
     query: &Subquery,
 ) -> Option<usize>
-    ensures { IfSome result (λ place. FoundAt answers.now place from has_items (query_of query.now)) }
+    ensures found { IfSome result (λ place. FoundAt answers.now place from has_items (query_of query.now)) }
+    ensures none { result ≡ None → NoneBelow answers.now (length answers.now) from has_items (query_of query.now) }
 {
     if next < answers.len() && is_for(&answers[next], from, has_items, query) {
         return Some(next);
@@ -178,7 +179,8 @@ pub fn place_of_answer(
 }
 
 fn is_for(answer: &Answer, from: usize, has_items: bool, query: &Subquery) -> bool
-    ensures { result ≡ true → IsFor answer.now from has_items (query_of query.now) }
+    ensures is { result ≡ true → IsFor answer.now from has_items (query_of query.now) }
+    ensures not { result ≡ false → IsFor answer.now from has_items (query_of query.now) → ⊥ }
 {
     answer.from == from && answer.has_items == has_items && is_same_query(&answer.query, query)
 }

@@ -3,3 +3,7 @@ pub mod Reading
 pub mod Writing
 pub mod Stating
 pub mod Printed
+pub mod Spelled
+pub mod SpelledExprs
+pub mod SpelledParts
+pub mod SpelledStatements

@@ -1,5 +1,5 @@
 -- What is on the page at the end, and what it is read as.
-use Rattle.std.proofs.Common.{◌≡◌, Bool, true, false, nat_lt, if◌then◌else◌, List, ◌++◌, Option, Some, None, Result, Ok, Err, String, Global, string_bytes, refl, ap, sym, subst, ◌∙◌}
+use Rattle.std.proofs.Common.{◌≡◌, ℕ, Bool, true, false, nat_lt, if◌then◌else◌, List, ◌++◌, Option, Some, None, Result, Ok, Err, String, Global, string_bytes, refl, ap, sym, subst, ◌∙◌}
 use Rattle.std.specs.Str.{chars}
 use Rattle.rls_value.specs.declared.refusal.Limit.{Limit}
 use Rattle.rls_value.specs.declared.refusal.Limit.TheVariants as l
@@ -8,14 +8,19 @@ use Rattle.rls_value.specs.declared.refusal.Refusal.TheVariants as refusal
 use Rattle.rls_statement.specs.declared.statement.Statement.{Statement}
 use Rattle.rls_text.specs.declared.token.Token.{Token}
 use Rattle.rls_text.specs.Answers.{Answers, first_limit, limited, columns_of}
+use Rattle.rls_expr.specs.Terms.{Term}
+use Rattle.rls_text.specs.Grammar as g
 use Rattle.rls_text.specs.Grammar.{Spells}
-use Rattle.rls_text.specs.Heights.{height_of}
+use Rattle.rls_text.specs.Heights.{height, height_of}
 use Rattle.rls_text.specs.Nested.{subqueries_of}
+use Rattle.rls_text.specs.Printing.{IsWritten}
 use Rattle.rls_text.specs.Words.{words_of}
 use Rattle.rls_printing.specs.Pieces.{Piece, tokens_of}
 use Rattle.rls_printing.specs.ReadBack.{IsReadAs}
 use Rattle.rls_printing.specs.Sheets.{Sheet, blank, pieces_text, put_all, text_of}
 use Rattle.rls_printing.proofs.Reading.{put_text, words_told}
+use Rattle.rls_printing.proofs.SpelledExprs.{expr_written}
+use Rattle.rls_printing.proofs.SpelledStatements.{spelled_written}
 
 -- the text of the words that were put on an empty page
 pub text_is : (ps : List Piece) (a b : Sheet) (text : String Global) → a ≡ blank → put_all (Some a) ps ≡ Some b → text_of text ≡ b.0 → chars (string_bytes text) ≡ pieces_text true ps
@@ -42,3 +47,15 @@ spelled_read tokens x answer h k = go (first_limit tokens) refl
     go : (o : Option Limit) → first_limit tokens ≡ o → IsReadAs x answer
     go (Some limit) e = subst (λ z. IsReadAs x z) (sym (k.over limit e)) tt
     go None e = subst (λ z. IsReadAs x z) (sym (k.spelled x e h)) (limited_read x)
+
+-- where some text spells a statement, the words that are written for it spell it too
+pub spelled_again : (x : Statement) (words tokens : List Token) → ((ts : List Token) → IsWritten ts x → words ≡ ts) → Spells tokens x → Spells words x
+spelled_again x words tokens are h =
+    let y = spelled_written tokens x h in
+    subst (λ z. Spells z x) (sym (are y.tokens y.written)) (record { depth = y.written.depth; spelled = (g.statement y.written.depth).rule.prints.wrote x y.tokens y.written.written })
+
+-- so do those of an expression
+pub expr_again : (x : Term) (words tokens : List Token) (depth : ℕ) → ((d : ℕ) (ts : List Token) → (g.expr d).rule.prints.writes x ≡ Some ts → words ≡ ts) → (g.expr depth).rule.spells tokens x → (g.expr (height x)).rule.spells words x
+expr_again x words tokens depth are h =
+    let y = expr_written depth x tokens h in
+    subst (λ z. (g.expr (height x)).rule.spells z x) (sym (are (height x) y.tokens y.written)) ((g.expr (height x)).rule.prints.wrote x y.tokens y.written)

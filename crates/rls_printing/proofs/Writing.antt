@@ -218,14 +218,14 @@ unfolding g.in_word
 not_in_tells = λ ts e. e
 
 module _ (inner : Cut tree_of expr_heads expr_more false) where
-  abbrev w : Term → Option (List Token)
+  abbrev pub w : Term → Option (List Token)
   w = inner.rule.prints.writes
 
-  abbrev P : Term → Option (List Token)
+  abbrev pub P : Term → Option (List Token)
   P = (g.prim inner).rule.prints.writes
 
   -- what stands alone, without parentheses of an operand
-  abbrev alone : Term → Option (List Token)
+  abbrev pub alone : Term → Option (List Token)
   alone (Literal x) = g.item.prints.writes (Literal x)
   alone (Column x) = g.item.prints.writes (Column x)
   alone CurrentUser = g.item.prints.writes CurrentUser
@@ -234,7 +234,7 @@ module _ (inner : Cut tree_of expr_heads expr_more false) where
   alone _ = None
 
   -- each as it is written at its own level
-  abbrev own : Term → Option (List Token)
+  abbrev pub own : Term → Option (List Token)
   own (Compare how a b) = joined (P a) (joined (g.comparison.prints.writes how) (P b))
   own (And ts) = written_if (λ r. joined (P r.0) (many_writes (g.and_next inner).rule.spells (g.and_next inner).rule.prints r.1)) (back.as_operands ts)
   own (Or ts) = written_if (λ r. joined (P r.0) (many_writes (g.or_next inner).rule.spells (g.or_next inner).rule.prints r.1)) (back.as_operands ts)
@@ -248,12 +248,12 @@ module _ (inner : Cut tree_of expr_heads expr_more false) where
   own (Sum xs ts) = written_if (λ r. joined (P r.0) (many_writes (g.sum_next inner).rule.spells (g.sum_next inner).rule.prints r.1)) (back.as_sum (Sum xs ts))
   own x = alone x
 
-  prim_is : (x : Term) → P x ≡ or_else (alone x) (parens (w x))
+  pub prim_is : (x : Term) → P x ≡ or_else (alone x) (parens (w x))
   unfolding g.prim g.enclosed g.item g.exists g.scalar
   prim_is (Scalar q) = parens_or ((g.scalar inner).rule.prints.writes (Scalar q)) (w (Scalar q))
   prim_is _ = refl
 
-  expr_is : (x : Term) → (g.or inner).rule.prints.writes x ≡ or_else (own x) (parens (w x))
+  pub expr_is : (x : Term) → (g.or inner).rule.prints.writes x ≡ or_else (own x) (parens (w x))
   unfolding g.or g.and g.not_ g.is g.cmp g.memb g.sum g.prim g.enclosed g.item g.exists g.scalar
   expr_is (Scalar q) = parens_or ((g.scalar inner).rule.prints.writes (Scalar q)) (w (Scalar q))
   expr_is _ = refl
@@ -459,12 +459,12 @@ module _ (inner : Cut tree_of expr_heads expr_more false) (ih : (x : Term) → T
 
 -- ---- what is written within fewer parentheses is written within more
 
-there_both : (o u : Option (List Token)) → There o → There u → There (joined o u)
+pub there_both : (o u : Option (List Token)) → There o → There u → There (joined o u)
 there_both None u h k = absurd h
 there_both (Some x) None h k = absurd k
 there_both (Some x) (Some y) h k = tt
 
-there_parts : (o u : Option (List Token)) → There (joined o u) → There o × There u
+pub there_parts : (o u : Option (List Token)) → There (joined o u) → There o × There u
 there_parts None u h = absurd h
 there_parts (Some x) None h = absurd h
 there_parts (Some x) (Some y) h = (tt, tt)

@@ -5,6 +5,8 @@ ghost use Rattle.std.specs.Str.{chars};
 ghost use Rattle.rls_expr.specs.Terms.{Term};
 ghost use Rattle.rls_statement.specs.declared.statement.Statement.{Statement};
 ghost use Rattle.rls_text.specs.Grammar as g;
+ghost use Rattle.rls_text.specs.Grammar.{Spells};
+ghost use Rattle.rls_text.specs.Heights.{height};
 ghost use Rattle.rls_text.specs.Printing.{IsWritten};
 ghost use Rattle.rls_printing.specs.ExprForms as expr_form;
 ghost use Rattle.rls_text.specs.Words.{words_of};
@@ -28,4 +30,14 @@ pub fn written_exprs()
 /// What the grammar writes for a statement are the tokens of the words of which it is printed.
 pub fn written_statements()
     ensures { (x : Statement) (tokens : List Token) → IsWritten tokens x → tokens_of (form.statement x) ≡ Some tokens }
+{}
+
+/// For an expression that some text spells words are written, within as many parentheses as it is high.
+pub fn spelled_exprs()
+    ensures { (depth : ℕ) (x : Term) (tokens : List Token) → (g.expr depth).rule.spells tokens x → (words : List Token) × ((g.expr (height x)).rule.prints.writes x ≡ Some words) }
+{}
+
+/// For each statement that some text spells words are written.
+pub fn spelled_statements()
+    ensures { (tokens : List Token) (x : Statement) → Spells tokens x → (words : List Token) × IsWritten words x }
 {}

@@ -8,6 +8,8 @@ ghost use Rattle.rls_statement.specs.declared.statement.Statement.{Statement};
 ghost use Rattle.rls_statement.specs.declared.statement.Statement.TheVariants as st;
 ghost use Rattle.rls_text.specs.Answers.{Answers};
 ghost use Rattle.rls_text.specs.Grammar as g;
+ghost use Rattle.rls_text.specs.Grammar.{Spells};
+ghost use Rattle.rls_text.specs.Heights.{height};
 ghost use Rattle.rls_text.specs.Printing.{IsWritten};
 ghost use Rattle.rls_text.specs.Words.{words_of};
 ghost use Rattle.rls_text.specs.declared.token.Token.{Token};
@@ -28,22 +30,23 @@ use crate::statements::{
 };
 use rls_expr::{Expr, Policy};
 use rls_statement::Statement;
-use rls_text::written_spells;
 use rls_value::Name;
 use std::alloc::{AllocError, Global};
 
-/// The text of the statement, in its one written form. No words are written for what no text spells, as a subquery whose
-/// key is placed or a table without columns: of such a statement `text` alone says what is printed.
+/// The text of the statement, in its one written form. No text spells some statements, as one with a subquery whose key is
+/// placed, or a table without columns: of such a one `text` alone says what is printed.
 pub fn print(alloc: Global, statement: &Statement) -> Result<String, AllocError>
     ensures text { IfOk result (λ text. chars (string_bytes text) ≡ pieces_text true (form.statement statement.now)) }
 
     // Where words are written for the statement, they are the words of the text.
     ensures words { IfOk result (λ text. (tokens : List Token) → IsWritten tokens statement.now → words_of (string_bytes text) ≡ tokens) }
 
+    // Where some text spells the statement, this text spells it.
+    ensures spelled { IfOk result (λ text. (tokens : List Token) → Spells tokens statement.now → Spells (words_of (string_bytes text)) statement.now) }
+
     // What `parse` answers the text with is then the statement, or a limit that it passes.
-    ensures read { IfOk result (λ text. (tokens : List Token) (answer : Result Statement Refusal) → IsWritten tokens statement.now → Answers (words_of (string_bytes text)) answer → IsReadAs statement.now answer) }
+    ensures read { IfOk result (λ text. (tokens : List Token) (answer : Result Statement Refusal) → Spells tokens statement.now → Answers (words_of (string_bytes text)) answer → IsReadAs statement.now answer) }
 {
-    written_spells();
     let mut page = Page::new(alloc);
     put_statement(&mut page, statement)?;
     Ok(page.into_text())
@@ -55,6 +58,12 @@ pub fn print_policy(alloc: Global, table: &Name, policy: &Policy) -> Result<Stri
 
     // Where words are written for the statement that creates it, they are the words of the text.
     ensures words { IfOk result (λ text. (tokens : List Token) → IsWritten tokens (st.CreatePolicy record { table = table.now; policy = policy.now }) → words_of (string_bytes text) ≡ tokens) }
+
+    // Where some text spells that statement, this text spells it.
+    ensures spelled { IfOk result (λ text. (tokens : List Token) → Spells tokens (st.CreatePolicy record { table = table.now; policy = policy.now }) → Spells (words_of (string_bytes text)) (st.CreatePolicy record { table = table.now; policy = policy.now })) }
+
+    // What `parse` answers the text with is then that statement, or a limit that it passes.
+    ensures read { IfOk result (λ text. (tokens : List Token) (answer : Result Statement Refusal) → Spells tokens (st.CreatePolicy record { table = table.now; policy = policy.now }) → Answers (words_of (string_bytes text)) answer → IsReadAs (st.CreatePolicy record { table = table.now; policy = policy.now }) answer) }
 {
     let mut page = Page::new(alloc);
     put_policy(&mut page, table, policy)?;
@@ -67,6 +76,9 @@ pub fn print_expr(alloc: Global, expr: &Expr) -> Result<String, AllocError>
 
     // Where words are written for the expression, at whatever depth of parentheses, they are the words of the text.
     ensures words { IfOk result (λ text. (depth : ℕ) (tokens : List Token) → (g.expr depth).rule.prints.writes expr.now ≡ Some tokens → words_of (string_bytes text) ≡ tokens) }
+
+    // Where some text spells the expression, this text spells it, within as many parentheses as it is high.
+    ensures spelled { IfOk result (λ text. (depth : ℕ) (tokens : List Token) → (g.expr depth).rule.spells tokens expr.now → (g.expr (height expr.now)).rule.spells (words_of (string_bytes text)) expr.now) }
 {
     let mut page = Page::new(alloc);
     put_expr(&mut page, expr)?;

@@ -12,11 +12,17 @@ mod overlays;
 #[cfg(test)]
 mod policies;
 #[cfg(test)]
+mod printings;
+#[cfg(test)]
 mod privileges;
 #[cfg(test)]
 mod roles;
 #[cfg(test)]
+mod round_trips;
+#[cfg(test)]
 mod sources;
+#[cfg(test)]
+mod standings;
 #[cfg(test)]
 mod states;
 #[cfg(test)]

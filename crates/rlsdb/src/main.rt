@@ -9,7 +9,21 @@ mod script;
 mod stream;
 
 use std::process::ExitCode;
+use std::thread;
+use std::thread::Builder;
 
+/// The stack in bytes on which a script runs. Evaluation goes as deep as policies lead from table to table, and no script of
+/// the size that is read leads deeper than this holds. The system gives it page by page, as it is used.
+const STACK: usize = 1 << 31;
+
+/// Runs the command line on a thread with a large stack or, where the system refuses that, on its own.
 fn main(rt: HostRuntime) -> ExitCode {
-    ExitCode::from(command_line::run(&rt))
+    let status = thread::scope(thread::scope_env(), &rt, |scope| {
+        let thread = Builder::new().stack_size(STACK);
+        match thread.spawn_scoped(scope, || command_line::run(&rt)) {
+            Ok(running) => running.join(&rt),
+            Err(_) => command_line::run(&rt),
+        }
+    });
+    ExitCode::from(status)
 }

@@ -271,7 +271,7 @@ pub exists_alone-returns-in-Some-clause-tells : goal.exists_alone-returns-in-Som
 exists_alone-returns-in-Some-clause-tells g t c =
     exists_told (query_of c.args.query.now) (shows (drop c.args.view.from c.args.view.fences.now) c.args.env.now.user.now) (env_of c.args.env.now) (g.S.Tables.state c.args.source.now) (g.S.Tables.state c.args.source.now) c.args.work.now.notes c.args.work.now.notes c.index.result.now.values c.is_some.result refl
     (comes_found c.args.view.fences.now c.args.env.now.user.now (env_of c.args.env.now) (g.S.Tables.state c.args.source.now) c.args.work.now c.in-Some.place c.args.view.from false (query_of c.args.query.now) c.index.result.now refl c.requires.alone c.requires.holds
-    (subst (λ answers. FoundAt answers c.in-Some.place c.args.view.from false (query_of c.args.query.now)) c.deref.ensures.value c.in-Some.ensures) c.index.ensures) c.is_some.ensures
+    (subst (λ answers. FoundAt answers c.in-Some.place c.args.view.from false (query_of c.args.query.now)) c.deref.ensures.value c.in-Some.ensures.found) c.index.ensures) c.is_some.ensures
 
 pub exists_alone-returns-in_ok-keep_answer-in-None-clause-tells : goal.exists_alone-returns-in_ok-keep_answer-in-None-clause-tells
 exists_alone-returns-in_ok-keep_answer-in-None-clause-tells g t c =
@@ -288,7 +288,7 @@ pub is_within_alone-returns-in-Some-clause-tells : goal.is_within_alone-returns-
 is_within_alone-returns-in-Some-clause-tells g t c =
     within_told (held_value c.args.value.now) (query_of c.args.query.now) (shows (drop c.args.view.from c.args.view.fences.now) c.args.env.now.user.now) (env_of c.args.env.now) (g.S.Tables.state c.args.source.now) (g.S.Tables.state c.args.source.now) c.args.work.now.notes c.args.work.now.notes c.index.result.now.values c.equals_any.result refl
     (comes_found c.args.view.fences.now c.args.env.now.user.now (env_of c.args.env.now) (g.S.Tables.state c.args.source.now) c.args.work.now c.in-Some.place c.args.view.from true (query_of c.args.query.now) c.index.result.now refl c.requires.alone c.requires.holds
-    (subst (λ answers. FoundAt answers c.in-Some.place c.args.view.from true (query_of c.args.query.now)) c.deref.ensures.value c.in-Some.ensures) c.index.ensures) c.equals_any.ensures
+    (subst (λ answers. FoundAt answers c.in-Some.place c.args.view.from true (query_of c.args.query.now)) c.deref.ensures.value c.in-Some.ensures.found) c.index.ensures) c.equals_any.ensures
 
 pub is_within_alone-returns-in_ok-keep_answer-in-None-clause-tells : goal.is_within_alone-returns-in_ok-keep_answer-in-None-clause-tells
 is_within_alone-returns-in_ok-keep_answer-in-None-clause-tells g t c =

@@ -1,12 +1,23 @@
-use Rattle.rls_printing.specs.Sheets.{sheet_of}
-use Rattle.rls_printing.proofs.Printed.{text_is, words_are}
+use Rattle.std.proofs.Common.{◌≡◌, List, string_bytes}
 use Rattle.rls_statement.specs.declared.statement.Statement.TheVariants as st
+use Rattle.rls_text.specs.Printing.{IsWritten}
+use Rattle.rls_text.specs.Words.{words_of}
+use Rattle.rls_text.specs.declared.token.Token.{Token}
+use Rattle.rls_printing.specs.Sheets.{sheet_of}
 use Rattle.rls_printing.specs.StatementForms as form
+use Rattle.rls_printing.proofs.Printed.{text_is, words_are, spelled_again, spelled_read}
 use Rattle.rls_printing.proofs.Stating.{written_told}
 use Rattle.rls_printing.proofs.printing.print_policy.Goals as goal
 
 pub returns : goal.returns
-returns c = record {
-  text = text_is (form.policy c.args.table.now c.args.policy.now) (sheet_of c.new-page.result) (sheet_of c.put_policy.new.page) c.into_text.result c.new-page.ensures c.in_ok-put_policy.ensures c.into_text.ensures;
-  words = λ tokens k. words_are (form.policy c.args.table.now c.args.policy.now) (sheet_of c.new-page.result) (sheet_of c.put_policy.new.page) c.into_text.result tokens c.new-page.ensures c.in_ok-put_policy.ensures c.into_text.ensures (written_told (st.CreatePolicy record { table = c.args.table.now; policy = c.args.policy.now }) tokens k);
-}
+returns c =
+    let x = st.CreatePolicy record { table = c.args.table.now; policy = c.args.policy.now } in
+    let ps = form.policy c.args.table.now c.args.policy.now in
+    let words = words_of (string_bytes c.into_text.result) in
+    let are : (ts : List Token) → IsWritten ts x → words ≡ ts = λ ts k. words_are ps (sheet_of c.new-page.result) (sheet_of c.put_policy.new.page) c.into_text.result ts c.new-page.ensures c.in_ok-put_policy.ensures c.into_text.ensures (written_told x ts k) in
+    record {
+      text = text_is ps (sheet_of c.new-page.result) (sheet_of c.put_policy.new.page) c.into_text.result c.new-page.ensures c.in_ok-put_policy.ensures c.into_text.ensures;
+      words = are;
+      spelled = λ tokens k. spelled_again x words tokens are k;
+      read = λ tokens answer k h. spelled_read words x answer (spelled_again x words tokens are k) h;
+    }

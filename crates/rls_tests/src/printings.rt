@@ -1,0 +1,170 @@
+//! Statements in their one written form.
+
+use rls_printing::{print, print_expr, print_policy};
+use rls_statement::Statement;
+use rls_text::parse;
+use rls_value::Refusal;
+use std::alloc::Global;
+
+/// Statements without an expression, and how they are printed.
+#[test]
+fn prints_statements(rt: HostRuntime) {
+    for (text, want) in [
+        ("create role R", "CREATE ROLE r"),
+        (
+            "create user r with nobypassrls Superuser;",
+            "CREATE ROLE r SUPERUSER LOGIN NOBYPASSRLS",
+        ),
+        ("alter role r with NOLOGIN", "ALTER ROLE r NOLOGIN"),
+        (
+            "CREATE TABLE Policy (Row int primary key not null, b bool, c TEXT not null, d BIGINT)",
+            "CREATE TABLE policy (row INTEGER NOT NULL PRIMARY KEY, b BOOLEAN, c TEXT NOT NULL, d BIGINT)",
+        ),
+        (
+            "CREATE TABLE t(a int,b int,PRIMARY KEY(b,a))",
+            "CREATE TABLE t (a INTEGER, b INTEGER, PRIMARY KEY (b, a))",
+        ),
+        (
+            "alter table t enable row level security",
+            "ALTER TABLE t ENABLE ROW LEVEL SECURITY",
+        ),
+        (
+            "ALTER TABLE t NO FORCE ROW LEVEL SECURITY;",
+            "ALTER TABLE t NO FORCE ROW LEVEL SECURITY",
+        ),
+        ("drop policy p on t", "DROP POLICY p ON t"),
+        (
+            "grant delete, select on table t to a, public with grant option",
+            "GRANT SELECT, DELETE ON t TO a, PUBLIC WITH GRANT OPTION",
+        ),
+        ("grant all privileges on t to a", "GRANT ALL ON t TO a"),
+        (
+            "revoke grant option for update, insert on t from a cascade",
+            "REVOKE GRANT OPTION FOR INSERT, UPDATE ON t FROM a CASCADE",
+        ),
+        (
+            "revoke insert, update, select, delete on t from a restrict",
+            "REVOKE ALL ON t FROM a",
+        ),
+        (
+            "grant a,b to c with set option, admin false",
+            "GRANT a, b TO c WITH ADMIN FALSE, SET TRUE",
+        ),
+        ("grant a to c, d", "GRANT a TO c, d"),
+        (
+            "revoke inherit option for a from b restrict",
+            "REVOKE INHERIT OPTION FOR a FROM b",
+        ),
+        ("revoke admin from b, c", "REVOKE admin FROM b, c"),
+        ("set role Alice", "SET ROLE alice"),
+        ("set role none", "SET ROLE NONE"),
+        ("reset role;", "RESET ROLE"),
+    ] {
+        assert!(rt; is_printed(rt.alloc(), text, want), "{text}");
+    }
+}
+
+/// Statements with expressions, and how they are printed.
+#[test]
+fn prints_expressions(rt: HostRuntime) {
+    for (text, want) in [
+        (
+            "insert into t values (1,- 2),( 'it''s' , null )returning *",
+            "INSERT INTO t VALUES (1, -2), ('it''s', NULL) RETURNING *",
+        ),
+        (
+            "INSERT INTO t (b,a) VALUES (true, 9223372036854775807)",
+            "INSERT INTO t (b, a) VALUES (TRUE, 9223372036854775807)",
+        ),
+        (
+            "update t set a = a- -5, b = 'é' where not not c returning a,b",
+            "UPDATE t SET a = a - -5, b = 'é' WHERE NOT (NOT c) RETURNING a, b",
+        ),
+        (
+            "delete from t where a!=1 and b or(c)",
+            "DELETE FROM t WHERE ((a <> 1) AND b) OR c",
+        ),
+        (
+            "select t.a, -9223372036854775808, current_user from t u where a<=b",
+            "SELECT t.a, -9223372036854775808, CURRENT_USER FROM t AS u WHERE a <= b",
+        ),
+        (
+            "select count ( * ) from t where a not in (1,b+c) and not a in (1)",
+            "SELECT COUNT(*) FROM t WHERE (a NOT IN (1, b + c)) AND (NOT (a IN (1)))",
+        ),
+        (
+            "select * from t where exists(select * from u v where v.a = t.a) and a is not null is null",
+            "SELECT * FROM t WHERE EXISTS (SELECT * FROM u AS v WHERE v.a = t.a) AND ((a IS NOT NULL) IS NULL)",
+        ),
+        (
+            "select a from t where a > (select b from u) or a in (select count(*) from u) or a in ((select b from u))",
+            "SELECT a FROM t WHERE (a > (SELECT b FROM u)) OR (a IN (SELECT COUNT(*) FROM u)) OR (a IN ((SELECT b FROM u)))",
+        ),
+        (
+            "create policy p on t using (a < 'it''s')",
+            "CREATE POLICY p ON t AS PERMISSIVE FOR ALL TO PUBLIC USING (a < 'it''s')",
+        ),
+        (
+            "create policy p on t as restrictive for update to a,public using (true) with check ((select a from u))",
+            "CREATE POLICY p ON t AS RESTRICTIVE FOR UPDATE TO a, PUBLIC USING (TRUE) WITH CHECK ((SELECT a FROM u))",
+        ),
+        (
+            "alter policy p on t with check (a >= 0)",
+            "ALTER POLICY p ON t WITH CHECK (a >= 0)",
+        ),
+        (
+            "alter policy p on t to public using (a)",
+            "ALTER POLICY p ON t TO PUBLIC USING (a)",
+        ),
+    ] {
+        assert!(rt; is_printed(rt.alloc(), text, want), "{text}");
+    }
+}
+
+/// A policy alone, and its expression.
+#[test]
+fn prints_policies(rt: HostRuntime) {
+    let text = "create policy p on t for select using (a = b)";
+    let want = "CREATE POLICY p ON t AS PERMISSIVE FOR SELECT TO PUBLIC USING (a = b)";
+    assert!(rt;
+        are_printed(rt.alloc(), text, want, "a = b").unwrap_or(false),
+        "{text}"
+    );
+}
+
+/// Whether the text's statement is printed so, and what is printed is printed so again.
+fn is_printed(alloc: Global, text: &str, want: &str) -> bool {
+    gives(alloc, text, want) && gives(alloc, want, want)
+}
+
+fn gives(alloc: Global, text: &str, want: &str) -> bool {
+    match parse(alloc, text) {
+        Ok(statement) => {
+            let printed = print(alloc, &statement);
+            drop(statement);
+            match printed {
+                Ok(printed) => printed.as_str() == want,
+                Err(_) => false,
+            }
+        }
+        Err(_) => false,
+    }
+}
+
+fn are_printed(alloc: Global, text: &str, want: &str, using: &str) -> Result<bool, Refusal> {
+    match parse(alloc, text)? {
+        Statement::CreatePolicy(create) => {
+            let policy = print_policy(alloc, &create.table, &create.policy)?;
+            let is = policy.as_str() == want;
+            drop(policy);
+            match &create.policy.using {
+                Some(expr) => {
+                    let expr = print_expr(alloc, expr)?;
+                    Ok(is && expr.as_str() == using)
+                }
+                None => Ok(false),
+            }
+        }
+        _ => Ok(false),
+    }
+}
