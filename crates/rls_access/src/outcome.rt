@@ -30,34 +30,6 @@ impl Outcome {
             Effect::Refused(_, _) => 0,
         }
     }
-
-    /// What the statement comes to, and the role afterwards.
-    pub fn into_parts(self) -> (Effect, Name)
-        ensures effect { result.0 ≡ self.effect }
-        ensures role { result.1 ≡ self.role }
-    {
-        let Outcome {
-            effect,
-            footprint,
-            role,
-        } = self;
-        drop(footprint);
-        (effect, role)
-    }
-
-    /// What it comes to, alone.
-    pub fn into_effect(self) -> Effect
-        ensures { result ≡ self.effect }
-    {
-        let Outcome {
-            effect,
-            footprint,
-            role,
-        } = self;
-        drop(footprint);
-        drop(role);
-        effect
-    }
 }
 
 /// How many of the changes put a row where none was.

@@ -18,7 +18,7 @@ use Rattle.rls_catalog.specs.SoundRows.{CarriesKey, takes_no_null}
 use Rattle.rls_source.specs.Asked.{keyed_at}
 use Rattle.rls_source.specs.Sequences.{each_or_refused}
 use Rattle.rls_guard.specs.declared.reply.Decision.{Decision}
-use Rattle.rls_dml.specs.Writing.{allowed_or_denied, constraints_or_refused, has_doubles, has_values, is_whole, is_written, key_at, keys_of, keys_taken, order_of, rows_or_refused, stays_any, unwritten, value_or_not_null}
+use Rattle.rls_dml.specs.Writing.{constraints_or_refused, first_denial, has_doubles, has_values, is_whole, is_written, key_at, keys_of, keys_taken, order_of, rows_or_refused, stays_any, unless_denied, unwritten, value_or_not_null}
 use Rattle.rls_dml.proofs.WrittenLemmas.{keyed_of}
 
 -- ---- what is passed
@@ -175,7 +175,7 @@ pub rows_passed : (s : State) (name : List ℕ) (columns : List Column) (order :
 unfolding rows_or_refused
 rows_passed s name columns order decisions replaced rows passed =
     constraints_passed s name columns order replaced rows
-    (next_passed (each_or_refused (allowed_or_denied name) decisions) (λ _. ((constraints_or_refused name columns order replaced rows).in_state s).gives) tt passed)
+    (next_passed (unless_denied name (first_denial decisions)) (λ _. ((constraints_or_refused name columns order replaced rows).in_state s).gives) tt passed)
 
 -- ---- each of the rows
 

@@ -1,6 +1,6 @@
 -- The parts of a statement on rows, checked (PostgreSQL manual, 4.1 and 4.2): first the names of all parts, in text order,
 -- then the types of all, then that nothing stands in them that isn't supported.
-use Rattle.std.specs.Prelude.{ℕ, List, [], ◌∷◌, Bool, true, false, Option, Some, None, Result, Ok, Err, if◌then◌else◌, slice_get, map}
+use Rattle.std.specs.Prelude.{ℕ, List, [], Bool, true, false, Option, Some, None, Result, Ok, Err, if◌then◌else◌, slice_get, map}
 use Rattle.std.specs.List.{list_any, list_all}
 use Rattle.std.specs.Option.{option_map}
 use Rattle.rls_value.specs.declared.refusal.Refusal.{Refusal}

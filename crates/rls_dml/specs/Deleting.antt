@@ -45,9 +45,13 @@ abbrev pub removal_or_refused : Removal → Result (Unit {0}) Refusal
 removal_or_refused removal = and_then (fitting_or_fault (where_fits removal.condition && returning_fits removal.returning)) (λ _.
     supported_or_refused (where_unsupported removal.condition || returning_unsupported removal.returning))
 
+-- the parts, if none is refused
+abbrev pub removal_checked : Removal → Result Removal Refusal
+removal_checked removal = and_then (removal_or_refused removal) (λ _. Ok removal)
+
 -- the parts, where those tables were found for subqueries
 abbrev pub removal_in : Delete → InScope → List InScope → Result Removal Refusal
-removal_in delete from found = and_then (removal_or_refused (removal_placed delete (names_over from found))) (λ _. Ok (removal_placed delete (names_over from found)))
+removal_in delete from found = removal_checked (removal_placed delete (names_over from found))
 
 -- the parts of the statement, names before all else; the table's name qualifies its columns
 abbrev pub removal_for : Delete → TableDef → Asking Removal

@@ -21,6 +21,7 @@ use Rattle.rls_catalog.specs.declared.stored.Stored.{Stored}
 use Rattle.rls_guard.specs.declared.reply.Decision.{Decision}
 use Rattle.rls_guard.specs.declared.standing.Standing.{Standing}
 use Rattle.rls_evaluation.specs.Environments.{assigned_value}
+use Rattle.rls_evaluation.specs.Showing.{allows}
 use Rattle.rls_guard.specs.Standings.{privilege_or_denied}
 use Rattle.rls_source.specs.Askings.{Asking, known, asked_if, followed_by}
 use Rattle.rls_source.specs.Asked.{asked_key}
@@ -87,6 +88,16 @@ verdict_or_denied table command (verdict.Restrictive policy) = Err (Denied (why.
 -- what a decision refuses
 abbrev pub allowed_or_denied : List ℕ → Decision → Result (Unit {0}) Refusal
 allowed_or_denied table decision = verdict_or_denied table decision.kind decision.verdict
+
+-- the first decision that denies its row
+abbrev pub first_denial : List Decision → Option Decision
+first_denial [] = None
+first_denial (decision ∷ decisions) = if allows decision.verdict then first_denial decisions else Some decision
+
+-- refused for it, if there is one
+abbrev pub unless_denied : List ℕ → Option Decision → Result (Unit {0}) Refusal
+unless_denied table None = Ok tt
+unless_denied table (Some decision) = allowed_or_denied table decision
 
 -- ---- NOT NULL
 
@@ -163,4 +174,4 @@ constraints_or_refused table columns order replaced rows = followed_by (known (e
 
 -- row security comes first
 unfoldable pub rows_or_refused : List ℕ → List Column → List ℕ → List Decision → List Stored → List Stored → Asking (Unit {0})
-rows_or_refused table columns order decisions replaced rows = followed_by (known (each_or_refused (allowed_or_denied table) decisions)) (λ _. constraints_or_refused table columns order replaced rows)
+rows_or_refused table columns order decisions replaced rows = followed_by (known (unless_denied table (first_denial decisions))) (λ _. constraints_or_refused table columns order replaced rows)

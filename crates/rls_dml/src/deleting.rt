@@ -115,6 +115,13 @@ fn check_removal<'x>(
             known,
         },
     )?;
+    checked(removal)
+}
+
+/// The parts, if none is refused.
+fn checked(removal: Removal) -> Result<Removal, Refusal>
+    ensures { Gives result (spec.removal_checked removal) }
+{
     match require_removal(&removal) {
         Ok(()) => Ok(removal),
         Err(refusal) => {

@@ -1,6 +1,6 @@
 //! New rows: the values that columns are given, and what the rows are refused for.
 
-ghost use Rattle.std.specs.Prelude.{◌≡◌, map, slice_get, slice_set, IfOk};
+ghost use Rattle.std.specs.Prelude.{◌≡◌, map, slice_get, slice_set, Some, None, Ok, IfOk, MatchOption};
 ghost use Rattle.rls_value.specs.Giving.{Gives};
 ghost use Rattle.rls_value.specs.Values.{is_null, value_at};
 ghost use Rattle.rls_evaluation.specs.Scoping.{held_value};
@@ -12,7 +12,7 @@ ghost use Rattle.rls_dml.specs.Writing as spec;
 use crate::keys::require_unique;
 use crate::replaced::Replaced;
 use rls_catalog::{Stored, Verdict};
-use rls_evaluation::Held;
+use rls_evaluation::{Held, allows};
 use rls_expr::{Column, FromTable};
 use rls_guard::{Decision, Standing};
 use rls_source::{Reads, RowSource};
@@ -196,12 +196,27 @@ fn require_constraints<'c, 'x, S: RowSource<'c>>(
 }
 
 fn require_allowed(table: &Name, decisions: &[Decision]) -> Result<(), Refusal>
-    ensures { Gives result (each_or_refused (spec.allowed_or_denied table.now) decisions.now) }
+    ensures refused { Gives result (spec.unless_denied table.now (spec.first_denial decisions.now)) }
+
+    // Where none denies, no memory is wanted.
+    ensures allowed { spec.first_denial decisions.now ≡ None → result ≡ Ok tt }
+{
+    match first_denial(decisions) {
+        None => Ok(()),
+        Some(decision) => require_verdict(table, decision),
+    }
+}
+
+/// The first decision that denies its row, if one does.
+fn first_denial(decisions: &[Decision]) -> Option<&Decision>
+    ensures { MatchOption result (spec.first_denial decisions.now ≡ None) (λ decision. spec.first_denial decisions.now ≡ Some decision.now) }
 {
     for decision in decisions {
-        require_verdict(table, decision)?;
+        if !allows(&decision.verdict) {
+            return Some(decision);
+        }
     }
-    Ok(())
+    None
 }
 
 fn require_verdict(table: &Name, decision: &Decision) -> Result<(), Refusal>

@@ -7,3 +7,5 @@ pub mod Spelled
 pub mod SpelledExprs
 pub mod SpelledParts
 pub mod SpelledStatements
+pub mod FlatItems
+pub mod Shallow

@@ -7,7 +7,7 @@ use Rattle.rls_value.specs.declared.refusal.Refusal.{Refusal}
 use Rattle.rls_value.specs.declared.refusal.Refusal.TheVariants as refusal
 use Rattle.rls_statement.specs.declared.statement.Statement.{Statement}
 use Rattle.rls_text.specs.declared.token.Token.{Token}
-use Rattle.rls_text.specs.Answers.{Answers, first_limit, limited, columns_of}
+use Rattle.rls_text.specs.Answers.{Answers, IsSpelled, first_limit, limited, columns_of}
 use Rattle.rls_expr.specs.Terms.{Term}
 use Rattle.rls_text.specs.Grammar as g
 use Rattle.rls_text.specs.Grammar.{Spells}
@@ -15,12 +15,16 @@ use Rattle.rls_text.specs.Heights.{height, height_of}
 use Rattle.rls_text.specs.Nested.{subqueries_of}
 use Rattle.rls_text.specs.Printing.{IsWritten}
 use Rattle.rls_text.specs.Words.{words_of}
+use Rattle.rls_text.specs.Writes.{some_is}
 use Rattle.rls_printing.specs.Pieces.{Piece, tokens_of}
 use Rattle.rls_printing.specs.ReadBack.{IsReadAs}
-use Rattle.rls_printing.specs.Sheets.{Sheet, blank, pieces_text, put_all, text_of}
-use Rattle.rls_printing.proofs.Reading.{put_text, words_told}
+use Rattle.rls_printing.specs.Sheets.{Sheet, blank, are_fit, pieces_text, put_all, text_of}
+use Rattle.rls_printing.specs.StatementForms as form
+use Rattle.rls_printing.proofs.Reading.{put_text, words_told, fit_tokens}
+use Rattle.rls_printing.proofs.Shallow.{within_words}
 use Rattle.rls_printing.proofs.SpelledExprs.{expr_written}
 use Rattle.rls_printing.proofs.SpelledStatements.{spelled_written}
+use Rattle.rls_printing.proofs.Stating.{written_told}
 
 -- the text of the words that were put on an empty page
 pub text_is : (ps : List Piece) (a b : Sheet) (text : String Global) → a ≡ blank → put_all (Some a) ps ≡ Some b → text_of text ≡ b.0 → chars (string_bytes text) ≡ pieces_text true ps
@@ -30,6 +34,13 @@ text_is ps a b text e h t = t ∙ (put_text ps a b h).text ∙ ap (λ z. z.0 ++ 
 -- and its words
 pub words_are : (ps : List Piece) (a b : Sheet) (text : String Global) (tokens : List Token) → a ≡ blank → put_all (Some a) ps ≡ Some b → text_of text ≡ b.0 → tokens_of ps ≡ Some tokens → words_of (string_bytes text) ≡ tokens
 words_are ps a b text tokens e h t k = words_told (string_bytes text) ps tokens (text_is ps a b text e h t) (put_text ps a b h).fit k
+
+-- which are tokens of what was put
+pub tokens_are : (ps : List Piece) (a b : Sheet) (text : String Global) → a ≡ blank → put_all (Some a) ps ≡ Some b → text_of text ≡ b.0 → tokens_of ps ≡ Some (words_of (string_bytes text))
+tokens_are ps a b text e h t =
+    let fit = (put_text ps a b h).fit in
+    let x = fit_tokens ps fit in
+    x.1 ∙ ap Some (sym (words_told (string_bytes text) ps x.0 (text_is ps a b text e h t) fit x.1))
 
 limited_read : (x : Statement) → IsReadAs x (limited x)
 limited_read x = go (nat_lt 64 (columns_of x)) (nat_lt 64 (height_of x)) (nat_lt 8 (subqueries_of x))
@@ -59,3 +70,11 @@ pub expr_again : (x : Term) (words tokens : List Token) (depth : ℕ) → ((d : 
 expr_again x words tokens depth are h =
     let y = expr_written depth x tokens h in
     subst (λ z. (g.expr (height x)).rule.spells z x) (sym (are (height x) y.tokens y.written)) ((g.expr (height x)).rule.prints.wrote x y.tokens y.written)
+
+-- the tokens of what is printed for a statement that some text spells spell it
+pub tokens_spell : (x : Statement) (original words : List Token) → Spells original x → tokens_of (form.statement x) ≡ Some words → Spells words x
+tokens_spell x original words h e = spelled_again x words original (λ ts k. some_is words ts (sym e ∙ written_told x ts k)) h
+
+-- Where a text within the limits spells a statement, what is printed for it is answered with it.
+pub read_again : (x : Statement) (original words : List Token) (answer : Result Statement Refusal) → IsSpelled original x → Spells words x → are_fit (form.statement x) ≡ true → tokens_of (form.statement x) ≡ Some words → Answers words answer → answer ≡ Ok x
+read_again x original words answer h again fit e k = k.spelled x (within_words x original words h.spelled h.within fit e) again ∙ h.within

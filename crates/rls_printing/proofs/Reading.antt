@@ -10,7 +10,7 @@ use Rattle.std.specs.Fmt.{decimal}
 use Rattle.std.proofs.lemmas.Fmt.{digits_decimal, digits_value-decimal, decimal_nonempty}
 use Rattle.std.proofs.lemmas.Str.Parse.{IsNumeralModel, numerals_by_fold}
 use lib.Utf8.{encodes}
-use Rattle.rls_value.specs.Names.{folded, is_name_text, is_letter, is_letter_or_digit, is_between}
+use Rattle.rls_value.specs.Names.{folded, is_word, is_name_text, is_letter, is_letter_or_digit, is_between}
 use Rattle.rls_text.specs.declared.token.Symbol.TheVariants as s
 use Rattle.rls_text.specs.declared.token.Token.{Token}
 use Rattle.rls_text.specs.declared.token.Token.TheVariants as t
@@ -18,7 +18,7 @@ use Rattle.rls_text.specs.Words.{words_of, words_in, next_word, word_from, word_
 use Rattle.rls_text.specs.Writes.{joined, some_is}
 use Rattle.rls_printing.specs.declared.page.Mark.{Mark}
 use Rattle.rls_printing.specs.declared.page.Mark.TheVariants as m
-use Rattle.rls_printing.specs.Pieces.{Piece, Word, Qualified, Number, Text, Marked, Count, piece_text, piece_tokens, tokens_of, doubled, mark_text, symbol_of}
+use Rattle.rls_printing.specs.Pieces.{Piece, Word, Qualified, Number, Text, Marked, Count, piece_text, piece_tokens, word_token, tokens_of, doubled, mark_text, symbol_of}
 use Rattle.rls_printing.specs.Sheets.{Sheet, space, opens, closes, is_fit, are_fit, pieces_text, put, put_all, with_piece}
 
 -- ---- words with enough turns
@@ -473,6 +473,32 @@ pieces_read (p ∷ ps) ts h f tight = go (piece_tokens p) refl (tokens_of ps) re
 -- The words of a text of printed words are their tokens.
 pub words_told : (bytes : List ℕ) (ps : List Piece) (ts : List Token) → chars bytes ≡ pieces_text true ps → are_fit ps ≡ true → tokens_of ps ≡ Some ts → words_of bytes ≡ ts
 words_told bytes ps ts e f h = rw e (pieces_read ps ts h f true (length (pieces_text true ps)) (omega arith))
+
+-- a word's token
+fit_word : (w : List ℕ) → is_word w ≡ true → word_token w ≡ Some (t.Word (folded w) ∷ [])
+fit_word w f = rw ((and_parts (is_name_text w) (nat_le (length w) 63) f).0) refl
+
+-- what is fit has tokens
+fit_piece : (p : Piece) → is_fit p ≡ true → (ts : List Token) × (piece_tokens p ≡ Some ts)
+fit_piece (Word w) f = (t.Word (folded w) ∷ [], fit_word w f)
+fit_piece (Qualified q n) f = (
+  t.Word (folded q) ∷ t.Symbol s.Dot ∷ t.Word (folded n) ∷ [],
+  let both = and_parts (is_word q) (is_word n) f in rw (fit_word q both.0, fit_word n both.1) refl,
+)
+fit_piece (Number (pos n)) f = (t.Number n ∷ [], rw f refl)
+fit_piece (Number (negsuc n)) f = (t.Symbol s.Minus ∷ t.Number (suc n) ∷ [], rw f refl)
+fit_piece (Text x) f = (t.Text x ∷ [], refl)
+fit_piece (Marked m) f = (t.Symbol (symbol_of m) ∷ [], refl)
+fit_piece Count f = (t.Word (codes "count") ∷ t.Symbol s.LParen ∷ t.Symbol s.Star ∷ t.Symbol s.RParen ∷ [], refl)
+
+-- so have all of them
+pub fit_tokens : (ps : List Piece) → are_fit ps ≡ true → (ts : List Token) × (tokens_of ps ≡ Some ts)
+fit_tokens [] f = ([], refl)
+fit_tokens (p ∷ ps) f =
+    let parts = and_parts (is_fit p) (are_fit ps) f in
+    let first = fit_piece p parts.0 in
+    let others = fit_tokens ps parts.1 in
+    (first.0 ++ others.0, rw (first.1, others.1) refl)
 
 -- ---- what is put on a page
 

@@ -1,6 +1,6 @@
 -- Words that are put one behind another.
-use Rattle.std.proofs.Common.{◌≡◌, ℕ, zero, suc, ◌+◌, ◌<◌, length, drop, take, get_or, ◌-◌, arith, ◌^◌, Bool, true, false, ◌||◌, if◌then◌else◌, List, [], ◌∷◌, ◌++◌, Option, Some, Result, Ok, Err, is_ok, OnOk, string_bytes, String, Global, refl, ap, sym, ◌∙◌, append-nil, eqb-true, nat_eq}
-use Rattle.std.specs.Prelude.{ℤ, codes}
+use Rattle.std.proofs.Common.{◌≡◌, ℕ, zero, suc, ◌+◌, ◌<◌, length, drop, take, get_or, ◌-◌, arith, ◌^◌, Bool, true, false, ◌||◌, if◌then◌else◌, List, [], ◌∷◌, ◌++◌, Option, Some, Result, Ok, Err, is_ok, OnOk, string_bytes, String, Global, refl, ap, sym, ◌∙◌, append-nil, eqb-true, le-leb, nat_eq}
+use Rattle.std.specs.Prelude.{ℤ, pos, negsuc, codes}
 use Rattle.std.specs.Char.{encode_utf8, IsScalar}
 use Rattle.std.specs.Fmt.{signed_decimal}
 use Rattle.std.specs.Str.{chars}
@@ -13,7 +13,7 @@ use Rattle.rls_expr.specs.Terms.{Term, More, terms_of}
 use Rattle.rls_printing.specs.declared.page.Mark.{Mark}
 use Rattle.rls_printing.specs.declared.page.Mark.TheVariants as m
 use Rattle.rls_printing.specs.Pieces.{Piece, piece_text, mark_text, doubled}
-use Rattle.rls_printing.specs.Sheets.{Sheet, put, put_all, with_piece, space, is_fit, opens, closes, text_of}
+use Rattle.rls_printing.specs.Sheets.{Sheet, put, put_all, with_piece, space, is_fit, opens, closes, is_number, text_of}
 
 pub put_both : (sheet : Option Sheet) (ps qs : List Piece) → put_all sheet (ps ++ qs) ≡ put_all (put_all sheet ps) qs
 put_both sheet [] qs = refl
@@ -52,6 +52,10 @@ text_with r old new bs cs h e = on_ok r h (λ k. k ∙ ap (λ z. text_of old ++ 
 
 pub chars_char : (c : ℕ) → IsScalar c → chars (encode_utf8 c) ≡ c ∷ []
 chars_char c h = chars_past_char (encode_utf8 c) [] c (IsUtf8-encode c h) (sym (append-nil (encode_utf8 c))) ∙ ap (λ z. c ∷ z) chars-nil
+
+pub number_fit : (z : ℤ) → mag z < 2 ^ 63 → is_number z ≡ true
+number_fit (pos n) h = le-leb n (2 ^ 63 - 1) (omega (arith, h))
+number_fit (negsuc n) h = le-leb (suc n) (2 ^ 63) (omega (arith, h))
 
 pub chars_signed : (z : ℤ) → mag z < 2 ^ 63 → chars (signed_decimal z) ≡ signed_decimal z
 chars_signed z h = chars-IsAscii (signed_decimal z) (IsAscii-signed z h)

@@ -1,13 +1,14 @@
 -- The text of a list of words: one space between two of them, but none behind an open parenthesis and none before a
 -- comma or a closed one.
-use Rattle.std.specs.Prelude.{ℕ, Bool, true, false, ◌&&◌, ◌||◌, if◌then◌else◌, List, [], ◌∷◌, ◌++◌, Option, Some, None}
+use Rattle.std.specs.Prelude.{ℕ, ◌-◌, ◌^◌, suc, nat_le, ℤ, pos, negsuc, Bool, true, false, ◌&&◌, ◌||◌, if◌then◌else◌, List, [], ◌∷◌, ◌++◌, Option, Some, None}
 use Rattle.std.specs.Prelude.{String}
 use Rattle.std.proofs.Common.{Global}
 use Rattle.std.specs.Str.{chars, is_utf8}
 use Rattle.std.specs.String.{string_bytes}
+use Rattle.rls_value.specs.Names.{is_word}
 use Rattle.rls_printing.specs.declared.page.Page.{Page}
 use Rattle.rls_printing.specs.declared.page.Mark.TheVariants as m
-use Rattle.rls_printing.specs.Pieces.{Piece, Text, Marked, piece_text}
+use Rattle.rls_printing.specs.Pieces.{Piece, Word, Qualified, Number, Text, Marked, piece_text}
 
 -- the characters of a text
 unfoldable pub text_of : String Global → List ℕ
@@ -36,8 +37,16 @@ closes (Marked m.Close) = true
 closes (Marked m.Comma) = true
 closes _ = false
 
--- texts are UTF-8
+-- a number of 64 bits
+abbrev pub is_number : ℤ → Bool
+is_number (pos n) = nat_le n (2 ^ 63 - 1)
+is_number (negsuc n) = nat_le (suc n) (2 ^ 63)
+
+-- words are keywords or names, numbers have 64 bits, texts are UTF-8
 abbrev pub is_fit : Piece → Bool
+is_fit (Word w) = is_word w
+is_fit (Qualified qualifier name) = is_word qualifier && is_word name
+is_fit (Number z) = is_number z
 is_fit (Text x) = is_utf8 x
 is_fit _ = true
 
@@ -65,7 +74,7 @@ abbrev pub pieces_text : (tight : Bool) → List Piece → List ℕ
 pieces_text tight [] = []
 pieces_text tight (p ∷ ps) = space (tight || closes p) ++ (piece_text p ++ pieces_text (opens p) ps)
 
--- all texts are UTF-8
+-- all are fit
 abbrev pub are_fit : List Piece → Bool
 are_fit [] = true
 are_fit (p ∷ ps) = is_fit p && are_fit ps

@@ -1,6 +1,7 @@
 //! Expressions, printed.
 
-ghost use Rattle.std.specs.Prelude.{◌≡◌, ◌∷◌, [], Some, OnOk, MatchOption};
+ghost use Rattle.std.specs.Prelude.{◌≡◌, ◌∷◌, [], true, Some, OnOk, MatchOption};
+ghost use Rattle.rls_value.specs.Names.{is_word};
 ghost use Rattle.rls_expr.specs.ExprTerms.{query_of};
 ghost use Rattle.rls_expr.specs.Terms.{maybe_term, terms_of};
 ghost use Rattle.rls_expr.specs.Terms as t;
@@ -143,6 +144,7 @@ fn put_comparison(
 /// Operands with the word between them.
 #[cycle(printing)]
 fn put_operands(page: &mut Page, word: &str, parts: &[Expr]) -> Result<(), AllocError>
+    requires { is_word word.now ≡ true }
     ensures { OnOk result (put_all (Some (sheet_of page.old)) (form.operands (Word word.now) (terms_of parts.now)) ≡ Some (sheet_of page.new)) }
 {
     match parts {
@@ -156,6 +158,7 @@ fn put_operands(page: &mut Page, word: &str, parts: &[Expr]) -> Result<(), Alloc
 
 #[cycle(printing)]
 fn put_further(page: &mut Page, word: &str, parts: &[Expr]) -> Result<(), AllocError>
+    requires { is_word word.now ≡ true }
     ensures { OnOk result (put_all (Some (sheet_of page.old)) (form.further (Word word.now) (terms_of parts.now)) ≡ Some (sheet_of page.new)) }
 {
     for part in parts {

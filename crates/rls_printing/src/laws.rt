@@ -1,9 +1,11 @@
 //! Laws of the definitions, each a clause of a function that does nothing.
 
-ghost use Rattle.std.specs.Prelude.{◌≡◌, ℕ, List, Some, true};
+ghost use Rattle.std.specs.Prelude.{◌≡◌, ℕ, List, Some, None, Result, Ok, true};
 ghost use Rattle.std.specs.Str.{chars};
 ghost use Rattle.rls_expr.specs.Terms.{Term};
 ghost use Rattle.rls_statement.specs.declared.statement.Statement.{Statement};
+ghost use Rattle.rls_value.specs.declared.refusal.Refusal.{Refusal};
+ghost use Rattle.rls_text.specs.Answers.{Answers, IsSpelled, first_limit, limited};
 ghost use Rattle.rls_text.specs.Grammar as g;
 ghost use Rattle.rls_text.specs.Grammar.{Spells};
 ghost use Rattle.rls_text.specs.Heights.{height};
@@ -40,4 +42,15 @@ pub fn spelled_exprs()
 /// For each statement that some text spells words are written.
 pub fn spelled_statements()
     ensures { (tokens : List Token) (x : Statement) → Spells tokens x → (words : List Token) × IsWritten words x }
+{}
+
+/// The words that are printed for a statement that some text spells pass no limit on words, where the statement is
+/// within the limits on statements.
+pub fn printed_within()
+    ensures { (x : Statement) (original tokens : List Token) → Spells original x → limited x ≡ Ok x → are_fit (form.statement x) ≡ true → tokens_of (form.statement x) ≡ Some tokens → first_limit tokens ≡ None }
+{}
+
+/// Where a text within the limits spells a statement, the words that are printed for it are answered with it.
+pub fn read_again()
+    ensures { (x : Statement) (original words : List Token) (answer : Result Statement Refusal) → IsSpelled original x → are_fit (form.statement x) ≡ true → tokens_of (form.statement x) ≡ Some words → Answers words answer → answer ≡ Ok x }
 {}

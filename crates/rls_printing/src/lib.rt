@@ -10,5 +10,8 @@ mod printing;
 mod statements;
 mod words;
 
-pub use laws::{printed_words, written_exprs, written_statements};
+pub use laws::{
+    printed_within, printed_words, read_again, spelled_exprs, spelled_statements, written_exprs,
+    written_statements,
+};
 pub use printing::{print, print_expr, print_policy};

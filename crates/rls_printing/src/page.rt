@@ -1,9 +1,10 @@
 //! A text that is written word by word.
 
-ghost use Rattle.std.specs.Prelude.{◌≡◌, ◌||◌, ◌++◌, ◌∷◌, Some, OnOk};
+ghost use Rattle.std.specs.Prelude.{◌≡◌, ◌||◌, ◌++◌, ◌∷◌, true, Some, OnOk};
 ghost use Rattle.std.specs.Fmt.{signed_decimal};
 ghost use Rattle.std.specs.List.{flat_map};
 ghost use Rattle.std.specs.Str.{chars};
+ghost use Rattle.rls_value.specs.Names.{is_word};
 ghost use Rattle.rls_printing.specs.Pieces as p;
 ghost use Rattle.rls_printing.specs.Sheets as spec;
 ghost use Rattle.rls_printing.specs.Sheets.{blank, put, sheet_of, text_of};
@@ -48,6 +49,7 @@ impl Page {
 
     /// A keyword or a name.
     pub fn word(&mut self, word: &str) -> Result<(), AllocError>
+        requires { is_word word.now ≡ true }
         ensures { OnOk result (put (Some (sheet_of self.old)) (p.Word word.now) ≡ Some (sheet_of self.new)) }
     {
         space(&mut self.text, self.tight)?;
@@ -58,6 +60,8 @@ impl Page {
 
     /// A name behind what qualifies it.
     pub fn qualified(&mut self, qualifier: &str, name: &str) -> Result<(), AllocError>
+        requires qualifies { is_word qualifier.now ≡ true }
+        requires named { is_word name.now ≡ true }
         ensures { OnOk result (put (Some (sheet_of self.old)) (p.Qualified qualifier.now name.now) ≡ Some (sheet_of self.new)) }
     {
         space(&mut self.text, self.tight)?;

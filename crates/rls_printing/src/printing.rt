@@ -1,12 +1,12 @@
 //! Statements, policies and expressions as texts.
 
-ghost use Rattle.std.specs.Prelude.{◌≡◌, ℕ, List, Result, Some, true, IfOk, OnOk};
+ghost use Rattle.std.specs.Prelude.{◌≡◌, ℕ, List, Result, Ok, Some, true, IfOk, OnOk};
 ghost use Rattle.std.specs.Str.{chars};
 ghost use Rattle.std.specs.String.{string_bytes};
 ghost use Rattle.rls_value.specs.declared.refusal.Refusal.{Refusal};
 ghost use Rattle.rls_statement.specs.declared.statement.Statement.{Statement};
 ghost use Rattle.rls_statement.specs.declared.statement.Statement.TheVariants as st;
-ghost use Rattle.rls_text.specs.Answers.{Answers};
+ghost use Rattle.rls_text.specs.Answers.{Answers, IsSpelled};
 ghost use Rattle.rls_text.specs.Grammar as g;
 ghost use Rattle.rls_text.specs.Grammar.{Spells};
 ghost use Rattle.rls_text.specs.Heights.{height};
@@ -14,6 +14,7 @@ ghost use Rattle.rls_text.specs.Printing.{IsWritten};
 ghost use Rattle.rls_text.specs.Words.{words_of};
 ghost use Rattle.rls_text.specs.declared.token.Token.{Token};
 ghost use Rattle.rls_printing.specs.ExprForms as expr_form;
+ghost use Rattle.rls_printing.specs.Pieces.{tokens_of};
 ghost use Rattle.rls_printing.specs.ReadBack.{IsReadAs};
 ghost use Rattle.rls_printing.specs.Sheets.{pieces_text, put_all, sheet_of};
 ghost use Rattle.rls_printing.specs.StatementForms as form;
@@ -38,6 +39,9 @@ use std::alloc::{AllocError, Global};
 pub fn print(alloc: Global, statement: &Statement) -> Result<String, AllocError>
     ensures text { IfOk result (λ text. chars (string_bytes text) ≡ pieces_text true (form.statement statement.now)) }
 
+    // The words of the text are the tokens of that form.
+    ensures tokens { IfOk result (λ text. tokens_of (form.statement statement.now) ≡ Some (words_of (string_bytes text))) }
+
     // Where words are written for the statement, they are the words of the text.
     ensures words { IfOk result (λ text. (tokens : List Token) → IsWritten tokens statement.now → words_of (string_bytes text) ≡ tokens) }
 
@@ -46,6 +50,9 @@ pub fn print(alloc: Global, statement: &Statement) -> Result<String, AllocError>
 
     // What `parse` answers the text with is then the statement, or a limit that it passes.
     ensures read { IfOk result (λ text. (tokens : List Token) (answer : Result Statement Refusal) → Spells tokens statement.now → Answers (words_of (string_bytes text)) answer → IsReadAs statement.now answer) }
+
+    // Where some text within the limits spells the statement, it is the statement.
+    ensures again { IfOk result (λ text. (tokens : List Token) (answer : Result Statement Refusal) → IsSpelled tokens statement.now → Answers (words_of (string_bytes text)) answer → answer ≡ Ok statement.now) }
 {
     let mut page = Page::new(alloc);
     put_statement(&mut page, statement)?;
@@ -56,6 +63,9 @@ pub fn print(alloc: Global, statement: &Statement) -> Result<String, AllocError>
 pub fn print_policy(alloc: Global, table: &Name, policy: &Policy) -> Result<String, AllocError>
     ensures text { IfOk result (λ text. chars (string_bytes text) ≡ pieces_text true (form.policy table.now policy.now)) }
 
+    // The words of the text are the tokens of that form.
+    ensures tokens { IfOk result (λ text. tokens_of (form.policy table.now policy.now) ≡ Some (words_of (string_bytes text))) }
+
     // Where words are written for the statement that creates it, they are the words of the text.
     ensures words { IfOk result (λ text. (tokens : List Token) → IsWritten tokens (st.CreatePolicy record { table = table.now; policy = policy.now }) → words_of (string_bytes text) ≡ tokens) }
 
@@ -64,6 +74,9 @@ pub fn print_policy(alloc: Global, table: &Name, policy: &Policy) -> Result<Stri
 
     // What `parse` answers the text with is then that statement, or a limit that it passes.
     ensures read { IfOk result (λ text. (tokens : List Token) (answer : Result Statement Refusal) → Spells tokens (st.CreatePolicy record { table = table.now; policy = policy.now }) → Answers (words_of (string_bytes text)) answer → IsReadAs (st.CreatePolicy record { table = table.now; policy = policy.now }) answer) }
+
+    // Where some text within the limits spells that statement, it is that statement.
+    ensures again { IfOk result (λ text. (tokens : List Token) (answer : Result Statement Refusal) → IsSpelled tokens (st.CreatePolicy record { table = table.now; policy = policy.now }) → Answers (words_of (string_bytes text)) answer → answer ≡ Ok (st.CreatePolicy record { table = table.now; policy = policy.now })) }
 {
     let mut page = Page::new(alloc);
     put_policy(&mut page, table, policy)?;
@@ -73,6 +86,9 @@ pub fn print_policy(alloc: Global, table: &Name, policy: &Policy) -> Result<Stri
 /// The text of the expression.
 pub fn print_expr(alloc: Global, expr: &Expr) -> Result<String, AllocError>
     ensures text { IfOk result (λ text. chars (string_bytes text) ≡ pieces_text true (expr_form.expr expr.now)) }
+
+    // The words of the text are the tokens of that form.
+    ensures tokens { IfOk result (λ text. tokens_of (expr_form.expr expr.now) ≡ Some (words_of (string_bytes text))) }
 
     // Where words are written for the expression, at whatever depth of parentheses, they are the words of the text.
     ensures words { IfOk result (λ text. (depth : ℕ) (tokens : List Token) → (g.expr depth).rule.prints.writes expr.now ≡ Some tokens → words_of (string_bytes text) ≡ tokens) }

@@ -1,6 +1,7 @@
 //! SELECT, INSERT, UPDATE, DELETE, roles and tables, printed.
 
-ghost use Rattle.std.specs.Prelude.{◌≡◌, ◌∷◌, ◌++◌, [], codes, Some, OnOk};
+ghost use Rattle.std.specs.Prelude.{◌≡◌, ◌∷◌, ◌++◌, [], codes, true, Some, OnOk};
+ghost use Rattle.rls_value.specs.Names.{is_word};
 ghost use Rattle.rls_printing.specs.ExprForms.{enclosed};
 ghost use Rattle.rls_printing.specs.Pieces.{Word};
 ghost use Rattle.rls_printing.specs.Sheets.{put_all, sheet_of};
@@ -177,6 +178,7 @@ pub fn put_set_role(page: &mut Page, statement: &SetRole) -> Result<(), AllocErr
 }
 
 fn put_role(page: &mut Page, role: &str) -> Result<(), AllocError>
+    requires { is_word role.now ≡ true }
     ensures { OnOk result (put_all (Some (sheet_of page.old)) (Word (codes "SET") ∷ Word (codes "ROLE") ∷ Word role.now ∷ []) ≡ Some (sheet_of page.new)) }
 {
     page.word("SET")?;

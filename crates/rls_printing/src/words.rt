@@ -1,6 +1,7 @@
 //! Small parts of statements, printed.
 
-ghost use Rattle.std.specs.Prelude.{◌≡◌, ◌||◌, Some, OnOk};
+ghost use Rattle.std.specs.Prelude.{◌≡◌, ◌||◌, true, Some, OnOk};
+ghost use Rattle.rls_value.specs.Names.{is_word};
 ghost use Rattle.rls_printing.specs.Sheets.{put, put_all, sheet_of};
 ghost use Rattle.rls_printing.specs.StatementForms as form;
 ghost use Rattle.rls_statement.specs.declared.statement.RowSecurity.TheVariants as change;
@@ -12,6 +13,8 @@ use std::alloc::AllocError;
 
 /// A word, if it is written, and which.
 pub fn put_flag(page: &mut Page, flag: Option<bool>, on: &str, off: &str) -> Result<(), AllocError>
+    requires on { is_word on.now ≡ true }
+    requires off { is_word off.now ≡ true }
     ensures { OnOk result (put_all (Some (sheet_of page.old)) (form.flag flag on.now off.now) ≡ Some (sheet_of page.new)) }
 {
     match flag {
@@ -119,6 +122,7 @@ fn put_privilege_if(
     before: bool,
     word: &str,
 ) -> Result<(), AllocError>
+    requires { is_word word.now ≡ true }
     ensures { OnOk result (put_all (Some (sheet_of page.old)) (form.privilege_if there before word.now) ≡ Some (sheet_of page.new)) }
 {
     if there {
@@ -203,6 +207,7 @@ fn put_option_if(
     before: bool,
     word: &str,
 ) -> Result<(), AllocError>
+    requires { is_word word.now ≡ true }
     ensures { OnOk result (put_all (Some (sheet_of page.old)) (form.option_if option before word.now) ≡ Some (sheet_of page.new)) }
 {
     match option {

@@ -27,6 +27,11 @@ abbrev pub Gives : {A : Type 0} → Result (A × Bor (List Token)) Fault → Out
 Gives (Ok x) read = read ≡ Some (x.0, x.1.now)
 Gives (Err fault) read = Fails fault read
 
+-- the same of a call that takes no memory
+abbrev pub Has : {A : Type 0} → Option (A × Bor (List Token)) → Outcome A → Type 0
+Has (Some x) read = read ≡ Some (x.0, x.1.now)
+Has None read = read ≡ None
+
 -- the token that is looked for is there or not
 abbrev pub Finds : Option (Bor (List Token)) → Outcome (Unit {0}) → Type 0
 Finds (Some rest) read = read ≡ Some (tt, rest.now)

@@ -3,7 +3,7 @@
 ghost use Rattle.std.specs.Prelude.{◌≡◌, [], ◌∷◌, length};
 ghost use Rattle.rls_expr.specs.Terms as term;
 ghost use Rattle.rls_text.specs.FirstSets.{constant_heads, literal_heads, item_heads};
-ghost use Rattle.rls_text.specs.Gives.{Gives, with_front};
+ghost use Rattle.rls_text.specs.Gives.{Gives, Has, with_front};
 ghost use Rattle.rls_text.specs.Heads.{sees, Sign};
 ghost use Rattle.rls_text.specs.Parses.{read_many, read_mapped};
 ghost use Rattle.rls_text.specs.Rule.{with_comma};
@@ -184,26 +184,32 @@ fn literal(tokens: &[Token]) -> Result<(Value, &[Token]), Fault>
     ensures { Gives result (g.literal.parses.read tokens.now) }
 {
     if starts_constant(tokens) {
-        constant(tokens)
+        match constant(tokens) {
+            Some(read) => Ok(read),
+            None => Err(Fault::Syntax),
+        }
     } else if let [Token::Text(_), ..] = tokens {
         text(tokens)
     } else {
-        number(tokens)
+        match number(tokens) {
+            Some(read) => Ok(read),
+            None => Err(Fault::Syntax),
+        }
     }
 }
 
 #[tactic(auto, unfolding(crate::specs::Grammar::constant))]
-fn constant(tokens: &[Token]) -> Result<(Value, &[Token]), Fault>
-    ensures { Gives result (g.constant.parses.read tokens.now) }
+fn constant(tokens: &[Token]) -> Option<(Value, &[Token])>
+    ensures { Has result (g.constant.parses.read tokens.now) }
 {
     if let Some(rest) = word(tokens, b"true") {
-        Ok((Value::Bool(true), rest))
+        Some((Value::Bool(true), rest))
     } else if let Some(rest) = word(tokens, b"false") {
-        Ok((Value::Bool(false), rest))
+        Some((Value::Bool(false), rest))
     } else if let Some(rest) = word(tokens, b"null") {
-        Ok((Value::Null, rest))
+        Some((Value::Null, rest))
     } else {
-        Err(Fault::Syntax)
+        None
     }
 }
 
@@ -221,39 +227,39 @@ fn text(tokens: &[Token]) -> Result<(Value, &[Token]), Fault>
 }
 
 #[tactic(auto, unfolding(crate::specs::Grammar::number))]
-fn number(tokens: &[Token]) -> Result<(Value, &[Token]), Fault>
-    ensures { Gives result (g.number.parses.read tokens.now) }
+fn number(tokens: &[Token]) -> Option<(Value, &[Token])>
+    ensures { Has result (g.number.parses.read tokens.now) }
 {
     match symbol(tokens, Symbol::Minus) {
         Some(rest) => match digits(rest) {
-            Ok((digits, rest)) => {
+            Some((digits, rest)) => {
                 if digits <= 1 << 63 {
-                    Ok((Value::Int((0 - i128::from(digits)) as i64), rest))
+                    Some((Value::Int((0 - i128::from(digits)) as i64), rest))
                 } else {
-                    Err(Fault::Syntax)
+                    None
                 }
             }
-            Err(fault) => Err(fault),
+            None => None,
         },
         None => match digits(tokens) {
-            Ok((digits, rest)) => {
+            Some((digits, rest)) => {
                 if digits < 1 << 63 {
-                    Ok((Value::Int(digits as i64), rest))
+                    Some((Value::Int(digits as i64), rest))
                 } else {
-                    Err(Fault::Syntax)
+                    None
                 }
             }
-            Err(fault) => Err(fault),
+            None => None,
         },
     }
 }
 
 #[tactic(auto, unfolding(crate::specs::Grammar::digits))]
-fn digits(tokens: &[Token]) -> Result<(u64, &[Token]), Fault>
-    ensures { Gives result (g.digits.parses.read tokens.now) }
+fn digits(tokens: &[Token]) -> Option<(u64, &[Token])>
+    ensures { Has result (g.digits.parses.read tokens.now) }
 {
     match tokens {
-        [Token::Number(number), rest @ ..] => Ok((*number, rest)),
-        _ => Err(Fault::Syntax),
+        [Token::Number(number), rest @ ..] => Some((*number, rest)),
+        _ => None,
     }
 }

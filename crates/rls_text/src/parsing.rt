@@ -1,6 +1,6 @@
 //! A statement from a text.
 
-ghost use Rattle.std.specs.Prelude.{◌≡◌, ◌≤◌, IfOk};
+ghost use Rattle.std.specs.Prelude.{◌≡◌, ◌≤◌, None, IfOk};
 ghost use Rattle.rls_text.specs.Gives.{Gives, GivesWhole, whole_of, answer_of, within_limits};
 ghost use Rattle.rls_text.specs.Grammar as g;
 ghost use Rattle.rls_text.specs.Words.{words_of};
@@ -87,9 +87,10 @@ fn column_count(statement: &Statement) -> usize
     }
 }
 
-/// The statement that takes up all of the tokens.
+/// The statement that takes up all of the tokens, which pass no limit on words.
 #[tactic(auto, unfolding(crate::specs::Gives::whole_of))]
 fn whole(alloc: Global, tokens: &[Token]) -> Result<Draft, Fault>
+    requires { spec.first_limit tokens.now ≡ None }
     ensures { GivesWhole result (whole_of tokens.now) }
 {
     match statement(alloc, tokens.len() + 1, tokens) {

@@ -1,12 +1,9 @@
 -- Names (PostgreSQL manual, 4.1.1, without quoted names): a letter or `_`, then letters, digits and `_`,
 -- folded to lower case, at most 63 bytes, no reserved word.
-use Rattle.std.specs.Prelude.{ℕ, Bool, true, false, ◌&&◌, ◌||◌, not, nat_le, nat_eq, List, [], ◌∷◌, map, codes}
+use Rattle.std.specs.Prelude.{◌≡◌, ℕ, Bool, true, false, ◌&&◌, ◌||◌, not, nat_le, nat_eq, List, [], ◌∷◌, map, length, codes}
 use Rattle.std.specs.List.{list_all}
 use Rattle.std.specs.Char.{to_ascii_lowercase}
 use Rattle.std.specs.Str.{bytes_eq}
-use Rattle.rls_value.specs.declared.refusal.Refusal.{Refusal}
-use Rattle.rls_value.specs.declared.refusal.Refusal.TheVariants.{NoMemory, Syntax, Limit}
-use Rattle.rls_value.specs.declared.refusal.Limit.TheVariants as limit
 
 -- in lower case
 abbrev pub folded : List ℕ → List ℕ
@@ -42,12 +39,15 @@ reserved = one_of (codes "all" ∷ codes "and" ∷ codes "as" ∷ codes "check" 
 abbrev pub spells_name : List ℕ → Bool
 spells_name text = is_name_text text && not (reserved (folded text))
 
--- what a text may be refused with where a name is wanted
-abbrev pub RefusesName : Refusal → Type 0
-RefusesName NoMemory = Unit {0}
-RefusesName Syntax = Unit {0}
-RefusesName (Limit limit.Name) = Unit {0}
-RefusesName _ = ⊥
+-- a name's text of at most 63 bytes: a name, or a keyword
+abbrev pub is_word : List ℕ → Bool
+is_word text = is_name_text text && nat_le (length text) 63
+
+-- What each name is.
+pub record IsName (name : List ℕ) : Type 0 where
+  pub lower : folded name ≡ name
+  pub word : is_word name ≡ true
+  pub free : reserved name ≡ false
 
 -- the role of the opening state
 abbrev pub postgres : List ℕ

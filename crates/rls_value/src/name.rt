@@ -1,12 +1,12 @@
 //! Names of roles, tables, columns and policies.
 
-ghost use Rattle.std.specs.Prelude.{◌≡◌, ◌<◌, ◌↔◌, ◌||◌, true, false, map, length, IfOk, IfErr, IsErrOf};
+ghost use Rattle.std.specs.Prelude.{◌≡◌, ◌<◌, ◌↔◌, true, false, map, length, IfOk, IfErr, IsErrOf};
 ghost use Rattle.std.specs.Str.{bytes_eq};
 ghost use Rattle.std.specs.List.{list_all};
 ghost use Rattle.std.specs.Cmp.Lexicographic.{slice_cmp};
 ghost use Rattle.std.specs.Ordering.{nat_cmp, as_partial_cmp};
 ghost use Rattle.rls_value.specs.Names as spec;
-ghost use Rattle.rls_value.specs.Names.{folded, spells_name, is_name_text, one_of, reserved, RefusesName};
+ghost use Rattle.rls_value.specs.Names.{folded, spells_name, is_name_text, one_of, reserved, IsName};
 
 use crate::refusal::{Limit, Refusal};
 use std::alloc::{AllocError, Global};
@@ -28,13 +28,18 @@ pub struct Name {
 impl Model for Name {
     ghost use Rattle.std.specs.Prelude.{List, ℕ};
     ghost use Rattle.std.specs.Arc.{arc_str_bytes};
+    ghost use Rattle.rls_value.specs.Names.{IsName};
 
     ghost Value = { List ℕ };
 
     ghost view = { λ name. arc_str_bytes name.letters };
+
+    ghost invariant = { λ name. IsName (arc_str_bytes name.letters) };
 }
 
 impl Name {
+    ghost use Rattle.rls_value.specs.NameRefusals.{RefusesName};
+
     /// The name that the text spells, folded to lower case. `Limit` where it is over `MAX_NAME` bytes,
     /// whatever they are; `Syntax` where it is no name, as a reserved word.
     pub fn new(alloc: Global, text: &str) -> Result<Name, Refusal>
@@ -68,8 +73,10 @@ impl Name {
         })
     }
 
+    /// Its letters: a name in lower case, and no reserved word.
     pub fn as_str(&self) -> &str
-        ensures { result.now ≡ self.now }
+        ensures text { result.now ≡ self.now }
+        ensures name { IsName result.now }
     {
         self.letters.as_str()
     }

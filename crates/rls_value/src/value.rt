@@ -6,7 +6,7 @@ ghost use Rattle.std.specs.List.{flat_map};
 ghost use Rattle.std.specs.Str.{chars};
 ghost use Rattle.std.specs.Cmp.{IsTotalOrder};
 ghost use Rattle.rls_value.specs.Values as spec;
-ghost use Rattle.rls_value.specs.Values.{listed, fits_type, equal_values, less_values, truth_in, value_of_truth};
+ghost use Rattle.rls_value.specs.Values.{listed, fits_type, equal_values, less_values, truth_in};
 
 use crate::text::Text;
 use crate::truth::Truth;
@@ -37,16 +37,6 @@ pub enum ColType {
 }
 
 impl Value {
-    pub fn from_truth(truth: Truth) -> Value
-        ensures { result ≡ value_of_truth truth }
-    {
-        match truth {
-            Truth::True => Value::Bool(true),
-            Truth::False => Value::Bool(false),
-            Truth::Unknown => Value::Null,
-        }
-    }
-
     /// The truth value of a boolean: unknown for null. What is no boolean is false; no checked expression asks that.
     pub fn truth(&self) -> Truth
         ensures { result ≡ truth_in self.now }

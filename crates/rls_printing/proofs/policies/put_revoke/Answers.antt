@@ -13,6 +13,6 @@ returns c =
     c.in_ok-put_option_only.ensures (put_on (Some (sheet_of c.put_option_only.new.page)) (form.privileges c.args.statement.now.privileges) (Word (codes "ON") ∷ (Word c.args.statement.now.table ∷ (Word (codes "FROM") ∷ ((form.listed form.grantee c.args.statement.now.from) ++ (form.cascade c.args.statement.now.cascade))))) (Some (sheet_of c.put_privileges.new.page)) (Some (sheet_of c.put_cascade.new.page)) c.put_cascade.result
     c.in_ok-put_privileges.ensures (put_one (Some (sheet_of c.put_privileges.new.page)) (Word (codes "ON")) (Word c.args.statement.now.table ∷ (Word (codes "FROM") ∷ ((form.listed form.grantee c.args.statement.now.from) ++ (form.cascade c.args.statement.now.cascade)))) (Some (sheet_of c.word-2.new.self)) (Some (sheet_of c.put_cascade.new.page)) c.put_cascade.result
     c.in_ok-word-2.ensures (put_one (Some (sheet_of c.word-2.new.self)) (Word c.args.statement.now.table) (Word (codes "FROM") ∷ ((form.listed form.grantee c.args.statement.now.from) ++ (form.cascade c.args.statement.now.cascade))) (Some (sheet_of c.word-3.new.self)) (Some (sheet_of c.put_cascade.new.page)) c.put_cascade.result
-    (ap (λ z. put (Some (sheet_of c.word-2.new.self)) z) (ap Word (sym c.as_str.ensures)) ∙ c.in_ok-word-3.ensures) (put_one (Some (sheet_of c.word-3.new.self)) (Word (codes "FROM")) ((form.listed form.grantee c.args.statement.now.from) ++ (form.cascade c.args.statement.now.cascade)) (Some (sheet_of c.word-4.new.self)) (Some (sheet_of c.put_cascade.new.page)) c.put_cascade.result
+    (ap (λ z. put (Some (sheet_of c.word-2.new.self)) z) (ap Word (sym c.as_str.ensures.text)) ∙ c.in_ok-word-3.ensures) (put_one (Some (sheet_of c.word-3.new.self)) (Word (codes "FROM")) ((form.listed form.grantee c.args.statement.now.from) ++ (form.cascade c.args.statement.now.cascade)) (Some (sheet_of c.word-4.new.self)) (Some (sheet_of c.put_cascade.new.page)) c.put_cascade.result
     c.in_ok-word-4.ensures (put_on (Some (sheet_of c.word-4.new.self)) (form.listed form.grantee c.args.statement.now.from) (form.cascade c.args.statement.now.cascade) (Some (sheet_of c.put_grantees.new.page)) (Some (sheet_of c.put_cascade.new.page)) c.put_cascade.result
     ((ap (λ z. put_all (Some (sheet_of c.word-4.new.self)) (form.listed form.grantee z)) (sym c.as_slice.ensures)) ∙ c.in_ok-put_grantees.ensures) c.put_cascade.ensures))))))

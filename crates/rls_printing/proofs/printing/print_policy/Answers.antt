@@ -5,7 +5,8 @@ use Rattle.rls_text.specs.Words.{words_of}
 use Rattle.rls_text.specs.declared.token.Token.{Token}
 use Rattle.rls_printing.specs.Sheets.{sheet_of}
 use Rattle.rls_printing.specs.StatementForms as form
-use Rattle.rls_printing.proofs.Printed.{text_is, words_are, spelled_again, spelled_read}
+use Rattle.rls_printing.proofs.Printed.{text_is, words_are, tokens_are, spelled_again, spelled_read, read_again}
+use Rattle.rls_printing.proofs.Reading.{put_text}
 use Rattle.rls_printing.proofs.Stating.{written_told}
 use Rattle.rls_printing.proofs.printing.print_policy.Goals as goal
 
@@ -15,9 +16,13 @@ returns c =
     let ps = form.policy c.args.table.now c.args.policy.now in
     let words = words_of (string_bytes c.into_text.result) in
     let are : (ts : List Token) → IsWritten ts x → words ≡ ts = λ ts k. words_are ps (sheet_of c.new-page.result) (sheet_of c.put_policy.new.page) c.into_text.result ts c.new-page.ensures c.in_ok-put_policy.ensures c.into_text.ensures (written_told x ts k) in
+    let told = tokens_are ps (sheet_of c.new-page.result) (sheet_of c.put_policy.new.page) c.into_text.result c.new-page.ensures c.in_ok-put_policy.ensures c.into_text.ensures in
+    let fit = (put_text ps (sheet_of c.new-page.result) (sheet_of c.put_policy.new.page) c.in_ok-put_policy.ensures).fit in
     record {
       text = text_is ps (sheet_of c.new-page.result) (sheet_of c.put_policy.new.page) c.into_text.result c.new-page.ensures c.in_ok-put_policy.ensures c.into_text.ensures;
+      tokens = told;
       words = are;
       spelled = λ tokens k. spelled_again x words tokens are k;
       read = λ tokens answer k h. spelled_read words x answer (spelled_again x words tokens are k) h;
+      again = λ tokens answer k h. read_again x tokens words answer k (spelled_again x words tokens are k.spelled) fit told h;
     }
