@@ -5,4 +5,6 @@ pub mod AloneLemmas
 pub mod AnswerLemmas
 pub mod Fencing
 pub mod LoopLemmas
+pub mod NotedLemmas
+pub mod PlainLemmas
 pub mod ValueSetLemmas

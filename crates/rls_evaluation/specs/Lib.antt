@@ -7,6 +7,7 @@ pub mod Depths
 pub mod Showing
 pub mod Sizes
 pub mod Scoping
+pub mod Plain
 pub mod Wides
 pub mod ValueSets
 pub mod Answering

@@ -24,6 +24,7 @@ use crate::fence::{Guard, View, allows, is_exempt, place_of};
 use crate::held::{Held, compare, equals, held_number, held_of, held_truth, joined};
 use crate::keys::{has_null, key_of};
 use crate::memo::{Rows, Work, found, keep_answer, place_of_answer, remember};
+use crate::plain::plain_condition;
 use crate::scope::{Env, Scoped, column_value};
 use crate::tables::Tables;
 use crate::value_set::ValueSet;
@@ -69,6 +70,26 @@ pub fn eval<'a, 'c, S: Tables>(
         }
         Node::Scalar(query) => scalar(alloc, source, work, view, query, env),
         Node::Sum(signs, parts) => sum(alloc, source, work, view, signs, parts, env),
+    }
+}
+
+/// The value of a condition, or of what it is made of by AND and OR: most compare what stands in a row already.
+#[cycle(eval)]
+fn condition_value<'a, 'c, S: Tables>(
+    alloc: Global,
+    source: &mut S,
+    work: &mut Work,
+    view: View<'a, 'c>,
+    condition: &'a Expr,
+    env: &Env<'a>,
+) -> Result<Held<'a>, AllocError>
+    requires { Holds view.fences.now env.now.user.now (S.state source.old) work.old }
+    ensures tells { Tells (value_of condition.now (shows (drop view.entry.from view.entry.fences.now) env.now.user.now) (env_of env.now)) (S.state source.old) (S.state source.new) work.old.notes work.new.notes (held_now result) }
+    ensures holds { OnOk result (Holds view.entry.fences.now env.now.user.now (S.state source.new) work.new) }
+{
+    match plain_condition(condition, env) {
+        Some(truth) => Ok(held_truth(truth)),
+        None => eval(alloc, source, work, view, condition, env),
     }
 }
 
@@ -127,7 +148,7 @@ fn all_of<'a, 'c, S: Tables>(
 {
     let mut so_far = Truth::True;
     for part in parts {
-        let held = eval(alloc, source, work, view, part, env)?;
+        let held = condition_value(alloc, source, work, view, part, env)?;
         so_far = so_far.and(held.truth());
     }
     Ok(so_far)
@@ -167,7 +188,7 @@ fn any_of<'a, 'c, S: Tables>(
 {
     let mut so_far = Truth::False;
     for part in parts {
-        let held = eval(alloc, source, work, view, part, env)?;
+        let held = condition_value(alloc, source, work, view, part, env)?;
         so_far = so_far.or(held.truth());
     }
     Ok(so_far)
@@ -760,7 +781,7 @@ pub fn meets_condition<'a, 'c, S: Tables>(
     match condition {
         None => Ok(true),
         Some(condition) => {
-            let held = eval(alloc, source, work, view, condition, env)?;
+            let held = condition_value(alloc, source, work, view, condition, env)?;
             Ok(held.truth().is_true())
         }
     }
@@ -1013,7 +1034,7 @@ fn put_judgements<'a, 'c, S: Tables>(
     };
     judgements.clear();
     for (policy, condition) in conditions {
-        let held = eval(alloc, source, work, view, condition, &env)?;
+        let held = condition_value(alloc, source, work, view, condition, &env)?;
         judgements.push((Loan::new(policy.get()), held.truth()))?;
     }
     Ok(())

@@ -11,10 +11,10 @@ ghost use Rattle.rls_evaluation.specs.declared.fence.Fence.{Fence};
 ghost use Rattle.rls_evaluation.specs.Holding.{Holds, found_in};
 ghost use Rattle.rls_evaluation.specs.Answering.{IsFor, FoundAt, IsOneMore, NoneBelow};
 
+use crate::noted::Noted;
 use crate::value_set::ValueSet;
 use rls_equality::is_same_query;
 use rls_expr::Subquery;
-use rls_source::Footprint;
 use rls_value::{Object, Row};
 use std::alloc::{AllocError, Global};
 use std::collections::BTreeMap;
@@ -82,7 +82,7 @@ pub struct Answer {
 /// The notes of what was read, what was shown of each object, and what subqueries gave.
 #[derive(Drop)]
 pub struct Work {
-    pub notes: Footprint,
+    pub notes: Noted,
     pub seen: BTreeMap<Object, Seen>,
     pub answers: Vec<Answer>,
     /// Where an answer is sought first: expressions are evaluated again and again in the same order.
@@ -98,7 +98,7 @@ impl Work {
         ensures holds { (fences : List Fence) (user : List ℕ) (s : State) → Holds fences user s result }
     {
         Work {
-            notes: Footprint::new(alloc),
+            notes: Noted::new(alloc),
             seen: BTreeMap::new(alloc),
             answers: Vec::new(alloc),
             next: 0,
@@ -106,7 +106,7 @@ impl Work {
     }
 
     /// What was read; no memory is needed.
-    pub fn into_notes(self) -> Footprint
+    pub fn into_notes(self) -> Noted
         ensures { result ≡ self.notes }
     {
         let Work {

@@ -266,7 +266,10 @@ fn set_column(alloc: Global, depth: usize, tokens: &[Token]) -> Result<(SetColum
 {
     match name(alloc, tokens) {
         Ok((column, rest)) => match set_value(alloc, depth, rest) {
-            Ok(((value, depth), rest)) => Ok(((Setting { column, value }, depth), rest)),
+            Ok(((value, depth), rest)) => {
+                let value = value.into_expr();
+                Ok(((Setting { column, value }, depth), rest))
+            }
             Err(fault) => {
                 drop(column);
                 Err(fault)

@@ -17,8 +17,8 @@ use crate::selected::{from_table, items_and_depth};
 use crate::token::{Symbol, Token};
 use crate::tree::{
     Choices, Operands, SelectParts, Summed, TableAndAlias, Tree, Tuple, among_of, and_of,
-    compare_of, exists_of, not_of, null_test_of, or_of, scalar_of, sum_of, with_operand, with_part,
-    with_summand,
+    compare_of, exists_of, leaf_of, not_of, null_test_of, or_of, scalar_of, sum_of, with_operand,
+    with_part, with_summand,
 };
 use rls_expr::{Comparison, Sign};
 use rls_value::Items;
@@ -45,7 +45,10 @@ fn or(alloc: Global, depth: usize, tokens: &[Token]) -> Result<(Tree, &[Token]),
     match and(alloc, depth, tokens) {
         Ok(((first, height), rest)) => {
             match or_more(alloc, depth, Operands::One(first, height), rest) {
-                Ok((operands, rest)) => Ok((or_of(operands), rest)),
+                Ok((operands, rest)) => match or_of(alloc, operands) {
+                    Ok(tree) => Ok((tree, rest)),
+                    Err(_) => Err(Fault::NoMemory),
+                },
                 Err(fault) => Err(fault),
             }
         }
@@ -105,7 +108,10 @@ fn and(alloc: Global, depth: usize, tokens: &[Token]) -> Result<(Tree, &[Token])
     match not(alloc, depth, tokens) {
         Ok(((first, height), rest)) => {
             match and_more(alloc, depth, Operands::One(first, height), rest) {
-                Ok((operands, rest)) => Ok((and_of(operands), rest)),
+                Ok((operands, rest)) => match and_of(alloc, operands) {
+                    Ok(tree) => Ok((tree, rest)),
+                    Err(_) => Err(Fault::NoMemory),
+                },
                 Err(fault) => Err(fault),
             }
         }
@@ -323,7 +329,7 @@ fn parts(alloc: Global, depth: usize, tokens: &[Token]) -> Result<(Tuple, &[Toke
     ensures { Gives result ((g.parts (g.expr depth)).read tokens.now) }
 {
     match expr(alloc, depth, tokens) {
-        Ok(((first, height), rest)) => match only(alloc, first) {
+        Ok(((first, height), rest)) => match only(alloc, first.into_expr()) {
             Ok(all) => more_parts(alloc, depth, (all, height), rest),
             Err(_) => Err(Fault::NoMemory),
         },
@@ -384,7 +390,10 @@ fn sum(alloc: Global, depth: usize, tokens: &[Token]) -> Result<(Tree, &[Token])
         Ok(((first, height), rest)) => {
             let first = (Operands::One(first, height), Items::new(alloc));
             match sum_more(alloc, depth, first, rest) {
-                Ok((sum, rest)) => Ok((sum_of(sum), rest)),
+                Ok((sum, rest)) => match sum_of(alloc, sum) {
+                    Ok(tree) => Ok((tree, rest)),
+                    Err(_) => Err(Fault::NoMemory),
+                },
                 Err(fault) => Err(fault),
             }
         }
@@ -616,7 +625,10 @@ fn item_leaf(alloc: Global, tokens: &[Token]) -> Result<(Tree, &[Token]), Fault>
     ensures { Gives result (read_mapped spec.leaf g.item.parses.read tokens.now) }
 {
     match item(alloc, tokens) {
-        Ok((item, rest)) => Ok(((item, 1), rest)),
+        Ok((item, rest)) => match leaf_of(alloc, item) {
+            Ok(leaf) => Ok((leaf, rest)),
+            Err(_) => Err(Fault::NoMemory),
+        },
         Err(fault) => Err(fault),
     }
 }

@@ -20,6 +20,7 @@ mod revoking;
 mod selected;
 mod selecting;
 mod subqueries;
+mod subtree;
 mod tables;
 mod token;
 mod tree;

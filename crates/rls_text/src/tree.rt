@@ -2,12 +2,13 @@
 
 ghost use Rattle.std.specs.Prelude.{◌≡◌, [], ◌∷◌, ◌++◌, IfOk};
 ghost use Rattle.rls_expr.specs.Terms as term;
-ghost use Rattle.rls_expr.specs.ExprTerms.{query_of};
+ghost use Rattle.rls_expr.specs.ExprTerms.{query_of, term_of};
 ghost use Rattle.rls_text.specs.declared.tree.Choices.TheVariants.{Listed, Queried};
 ghost use Rattle.rls_text.specs.Trees as spec;
 ghost use Rattle.rls_text.specs.Values as values;
 
-use rls_expr::{Comparison, Expr, FromItem, Node, Selects, Sign, Subquery, boxed, boxed_query};
+use crate::subtree::Subtree;
+use rls_expr::{Comparison, Expr, FromItem, Node, Selects, Sign, Subquery, boxed_query};
 use rls_statement::{Selected, Setting, Statement};
 use rls_value::{Items, Name, Value};
 use std::alloc::{AllocError, Global};
@@ -16,19 +17,39 @@ use std::alloc::{AllocError, Global};
 pub const MAX_DEPTH: u32 = 64;
 
 /// An expression with its depth. One that is over the limit is cut: a null stands for it, with a depth above the limit.
-pub type Tree = (Expr, u32);
+pub type Tree = (Subtree, u32);
 
 /// The operands of one node, as they come, with the depth of the deepest.
 #[derive(Drop)]
 pub enum Operands {
-    One(Expr, u32),
+    One(Subtree, u32),
     Several(Items<Expr>, u32),
 }
 
-pub fn cut() -> Tree
-    ensures { result ≡ spec.cut }
+/// A node of this depth.
+fn node_of(alloc: Global, node: Node, depth: u32) -> Result<Tree, AllocError>
+    ensures { IfOk result (λ tree. tree ≡ (term_of node, depth)) }
 {
-    (Expr::new(Node::Literal(Value::Null)), MAX_DEPTH + 1)
+    match Subtree::new(alloc, Expr::new(node)) {
+        Ok(node) => Ok((node, depth)),
+        Err(refused) => Err(refused),
+    }
+}
+
+/// An expression without operands.
+pub fn leaf_of(alloc: Global, leaf: Expr) -> Result<Tree, AllocError>
+    ensures { IfOk result (λ tree. tree ≡ spec.leaf leaf) }
+{
+    match Subtree::new(alloc, leaf) {
+        Ok(leaf) => Ok((leaf, 1)),
+        Err(refused) => Err(refused),
+    }
+}
+
+fn cut(alloc: Global) -> Result<Tree, AllocError>
+    ensures { IfOk result (λ tree. tree ≡ spec.cut) }
+{
+    node_of(alloc, Node::Literal(Value::Null), MAX_DEPTH + 1)
 }
 
 pub fn not_of(alloc: Global, operand: Tree) -> Result<Tree, AllocError>
@@ -36,13 +57,10 @@ pub fn not_of(alloc: Global, operand: Tree) -> Result<Tree, AllocError>
 {
     let (operand, depth) = operand;
     if depth < MAX_DEPTH {
-        match boxed(alloc, operand) {
-            Ok(operand) => Ok((Expr::new(Node::Not(operand)), depth + 1)),
-            Err(refused) => Err(refused),
-        }
+        node_of(alloc, Node::Not(operand.into_box()), depth + 1)
     } else {
         drop(operand);
-        Ok(cut())
+        cut(alloc)
     }
 }
 
@@ -53,16 +71,14 @@ pub fn null_test_of(alloc: Global, tested: Tree, negated: Option<()>) -> Result<
 {
     let (tested, depth) = tested;
     if depth < MAX_DEPTH {
-        match boxed(alloc, tested) {
-            Ok(tested) => match negated {
-                None => Ok((Expr::new(Node::IsNull(tested)), depth + 1)),
-                Some(()) => Ok((Expr::new(Node::IsNotNull(tested)), depth + 1)),
-            },
-            Err(refused) => Err(refused),
+        let tested = tested.into_box();
+        match negated {
+            None => node_of(alloc, Node::IsNull(tested), depth + 1),
+            Some(()) => node_of(alloc, Node::IsNotNull(tested), depth + 1),
         }
     } else {
         drop(tested);
-        Ok(cut())
+        cut(alloc)
     }
 }
 
@@ -78,32 +94,12 @@ pub fn compare_of(
     let (right, other) = right;
     let depth = depth.max(other);
     if depth < MAX_DEPTH {
-        match compared(alloc, how, left, right) {
-            Ok(expr) => Ok((expr, depth + 1)),
-            Err(refused) => Err(refused),
-        }
+        let node = Node::Compare(how, left.into_box(), right.into_box());
+        node_of(alloc, node, depth + 1)
     } else {
         drop(left);
         drop(right);
-        Ok(cut())
-    }
-}
-
-fn compared(alloc: Global, how: Comparison, left: Expr, right: Expr) -> Result<Expr, AllocError>
-    ensures { IfOk result (λ expr. expr ≡ term.Compare how left right) }
-{
-    match boxed(alloc, left) {
-        Ok(left) => match boxed(alloc, right) {
-            Ok(right) => Ok(Expr::new(Node::Compare(how, left, right))),
-            Err(refused) => {
-                drop(left);
-                Err(refused)
-            }
-        },
-        Err(refused) => {
-            drop(right);
-            Err(refused)
-        }
+        cut(alloc)
     }
 }
 
@@ -118,13 +114,13 @@ pub fn with_operand(
     let (operand, other) = operand;
     match operands {
         Operands::One(first, depth) => {
-            match pair(alloc, first, operand) {
+            match pair(alloc, first.into_expr(), operand.into_expr()) {
                 Ok(all) => Ok(Operands::Several(all, depth.max(other))),
                 Err(refused) => Err(refused),
             }
         }
         Operands::Several(all, depth) => {
-            match with_one_more(all, operand) {
+            match with_one_more(all, operand.into_expr()) {
                 Ok(all) => Ok(Operands::Several(all, depth.max(other))),
                 Err(refused) => Err(refused),
             }
@@ -158,32 +154,34 @@ fn with_one_more(all: Items<Expr>, next: Expr) -> Result<Items<Expr>, AllocError
 }
 
 /// One operand alone makes no node.
-pub fn and_of(operands: Operands) -> Tree
-    ensures { result ≡ spec.and_of operands }
+pub fn and_of(alloc: Global, operands: Operands) -> Result<Tree, AllocError>
+    ensures { IfOk result (λ tree. tree ≡ spec.and_of operands) }
 {
     match operands {
-        Operands::One(only, depth) => (only, depth),
+        Operands::One(only, depth) => Ok((only, depth)),
         Operands::Several(all, depth) => {
             if depth < MAX_DEPTH {
-                (Expr::new(Node::And(all.into_vec())), depth + 1)
+                node_of(alloc, Node::And(all.into_vec()), depth + 1)
             } else {
-                cut()
+                drop(all);
+                cut(alloc)
             }
         }
     }
 }
 
 /// One operand alone makes no node.
-pub fn or_of(operands: Operands) -> Tree
-    ensures { result ≡ spec.or_of operands }
+pub fn or_of(alloc: Global, operands: Operands) -> Result<Tree, AllocError>
+    ensures { IfOk result (λ tree. tree ≡ spec.or_of operands) }
 {
     match operands {
-        Operands::One(only, depth) => (only, depth),
+        Operands::One(only, depth) => Ok((only, depth)),
         Operands::Several(all, depth) => {
             if depth < MAX_DEPTH {
-                (Expr::new(Node::Or(all.into_vec())), depth + 1)
+                node_of(alloc, Node::Or(all.into_vec()), depth + 1)
             } else {
-                cut()
+                drop(all);
+                cut(alloc)
             }
         }
     }
@@ -228,20 +226,23 @@ fn with_sign(signs: Items<Sign>, sign: Sign) -> Result<Items<Sign>, AllocError>
 }
 
 /// One part alone makes no node.
-pub fn sum_of(sum: Summed) -> Tree
-    ensures { result ≡ spec.sum_of sum }
+pub fn sum_of(alloc: Global, sum: Summed) -> Result<Tree, AllocError>
+    ensures { IfOk result (λ tree. tree ≡ spec.sum_of sum) }
 {
     let (parts, signs) = sum;
     match parts {
-        Operands::One(only, depth) => (only, depth),
+        Operands::One(only, depth) => {
+            drop(signs);
+            Ok((only, depth))
+        }
         Operands::Several(all, depth) => {
             if depth < MAX_DEPTH {
-                (
-                    Expr::new(Node::Sum(signs.into_vec(), all.into_vec())),
-                    depth + 1,
-                )
+                let node = Node::Sum(signs.into_vec(), all.into_vec());
+                node_of(alloc, node, depth + 1)
             } else {
-                cut()
+                drop(all);
+                drop(signs);
+                cut(alloc)
             }
         }
     }
@@ -268,7 +269,7 @@ pub fn with_part(tuple: Tuple, part: Tree) -> Result<Tuple, AllocError>
 {
     let (mut all, depth) = tuple;
     let (part, other) = part;
-    all.push(part)?;
+    all.push(part.into_expr())?;
     Ok((all, depth.max(other)))
 }
 
@@ -366,12 +367,12 @@ pub fn exists_of(alloc: Global, select: SelectParts) -> Result<Tree, AllocError>
     let depth = one_deeper(depth);
     if depth < MAX_DEPTH {
         match subquery(alloc, select) {
-            Ok(query) => Ok((Expr::new(Node::Exists(query)), depth + 1)),
+            Ok(query) => node_of(alloc, Node::Exists(query), depth + 1),
             Err(refused) => Err(refused),
         }
     } else {
         drop(select);
-        Ok(cut())
+        cut(alloc)
     }
 }
 
@@ -383,12 +384,12 @@ pub fn scalar_of(alloc: Global, select: SelectParts) -> Result<Tree, AllocError>
     let (select, depth) = parted_select(select);
     if depth < MAX_DEPTH {
         match subquery(alloc, select) {
-            Ok(query) => Ok((Expr::new(Node::Scalar(query)), depth + 1)),
+            Ok(query) => node_of(alloc, Node::Scalar(query), depth + 1),
             Err(refused) => Err(refused),
         }
     } else {
         drop(select);
-        Ok(cut())
+        cut(alloc)
     }
 }
 
@@ -421,23 +422,16 @@ fn listed_of(
     let (list, other) = list;
     let depth = depth.max(other);
     if depth < MAX_DEPTH {
-        match boxed(alloc, left) {
-            Ok(left) => {
-                let list = list.into_vec();
-                match negated {
-                    None => Ok((Expr::new(Node::Among(left, list)), depth + 1)),
-                    Some(()) => Ok((Expr::new(Node::NotAmong(left, list)), depth + 1)),
-                }
-            }
-            Err(refused) => {
-                drop(list);
-                Err(refused)
-            }
+        let left = left.into_box();
+        let list = list.into_vec();
+        match negated {
+            None => node_of(alloc, Node::Among(left, list), depth + 1),
+            Some(()) => node_of(alloc, Node::NotAmong(left, list), depth + 1),
         }
     } else {
         drop(left);
         drop(list);
-        Ok(cut())
+        cut(alloc)
     }
 }
 
@@ -454,41 +448,23 @@ fn queried_of(
     let (select, other) = parted_select(select);
     let depth = depth.max(one_deeper(other));
     if depth < MAX_DEPTH {
-        match sides(alloc, left, select) {
-            Ok((left, query)) => match negated {
-                None => Ok((Expr::new(Node::Within(left, query)), depth + 1)),
-                Some(()) => Ok((Expr::new(Node::NotWithin(left, query)), depth + 1)),
-            },
-            Err(refused) => Err(refused),
+        match subquery(alloc, select) {
+            Ok(query) => {
+                let left = left.into_box();
+                match negated {
+                    None => node_of(alloc, Node::Within(left, query), depth + 1),
+                    Some(()) => node_of(alloc, Node::NotWithin(left, query), depth + 1),
+                }
+            }
+            Err(refused) => {
+                drop(left);
+                Err(refused)
+            }
         }
     } else {
         drop(left);
         drop(select);
-        Ok(cut())
-    }
-}
-
-/// The sides of `IN` on the heap.
-fn sides(
-    alloc: Global,
-    left: Expr,
-    select: PlainSelect,
-) -> Result<(Box<Expr>, Box<Subquery>), AllocError>
-    ensures left { IfOk result (λ sides. sides.0.value ≡ left) }
-    ensures query { IfOk result (λ sides. query_of sides.1.value ≡ values.query_of select) }
-{
-    match subquery(alloc, select) {
-        Ok(query) => match boxed(alloc, left) {
-            Ok(left) => Ok((left, query)),
-            Err(refused) => {
-                drop(query);
-                Err(refused)
-            }
-        },
-        Err(refused) => {
-            drop(left);
-            Err(refused)
-        }
+        cut(alloc)
     }
 }
 
@@ -497,7 +473,7 @@ pub fn parted(tree: Option<Tree>) -> (Option<Expr>, u32)
     ensures { result ≡ spec.parted tree }
 {
     match tree {
-        Some((expr, depth)) => (Some(expr), depth),
+        Some((expr, depth)) => (Some(expr.into_expr()), depth),
         None => (None, 0),
     }
 }

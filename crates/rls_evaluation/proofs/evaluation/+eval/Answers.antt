@@ -34,8 +34,8 @@ pub all_of-loop-part-init : goal.all_of-loop-part-init
 all_of-loop-part-init g t c =
     record { stands = refl; leads = leads_whole (together and_value True (terms_of c.args.parts.now) (shows (drop c.args.view.from c.args.view.fences.now) c.args.env.now.user.now) (env_of c.args.env.now)) (conjunction_of True) _ _ and_none; holds = c.requires }
 
-pub all_of-eval-requires : goal.all_of-eval-requires
-all_of-eval-requires g t c κs within = (omega (arith, size_at _ _ _ c.loop-part-test.true c.part-item.is), search rules)
+pub all_of-condition_value-requires : goal.all_of-condition_value-requires
+all_of-condition_value-requires g t c κs within = (omega (arith, size_at _ _ _ c.loop-part-test.true c.part-item.is), search rules)
 
 pub all_of-loop-part-preserved : goal.all_of-loop-part-preserved
 all_of-loop-part-preserved g t c =
@@ -51,8 +51,8 @@ pub any_of-loop-part-init : goal.any_of-loop-part-init
 any_of-loop-part-init g t c =
     record { stands = refl; leads = leads_whole (together or_value False (terms_of c.args.parts.now) (shows (drop c.args.view.from c.args.view.fences.now) c.args.env.now.user.now) (env_of c.args.env.now)) (disjunction_of False) _ _ or_none; holds = c.requires }
 
-pub any_of-eval-requires : goal.any_of-eval-requires
-any_of-eval-requires g t c κs within = (omega (arith, size_at _ _ _ c.loop-part-test.true c.part-item.is), search rules)
+pub any_of-condition_value-requires : goal.any_of-condition_value-requires
+any_of-condition_value-requires g t c κs within = (omega (arith, size_at _ _ _ c.loop-part-test.true c.part-item.is), search rules)
 
 pub any_of-loop-part-preserved : goal.any_of-loop-part-preserved
 any_of-loop-part-preserved g t c =
@@ -208,8 +208,8 @@ kept_rows-loop-row-preserved g t c =
       holds = c.in_ok-is.ensures.holds;
     }
 
-pub put_judgements-eval-requires : goal.put_judgements-eval-requires
-put_judgements-eval-requires g t c κs within = (omega (arith, condition_at _ _ _ c.loop-policy-test.true c.loop-policy-item.is), search rules)
+pub put_judgements-condition_value-requires : goal.put_judgements-condition_value-requires
+put_judgements-condition_value-requires g t c κs within = (omega (arith, condition_at _ _ _ c.loop-policy-test.true c.loop-policy-item.is), search rules)
 
 pub put_judgements-loop-policy-preserved : goal.put_judgements-loop-policy-preserved
 put_judgements-loop-policy-preserved g t c =

@@ -21,20 +21,23 @@ use Rattle.rls_evaluation.proofs.evaluation.+eval.Given as goal
 abbrev pub decreases-eval : goal.decreases-eval
 decreases-eval g l = fences_size (drop l.view.from l.view.fences.now) + 8 * term_size l.expr.now
 
+abbrev pub decreases-condition_value : goal.decreases-condition_value
+decreases-condition_value g l = fences_size (drop l.view.from l.view.fences.now) + 8 * term_size l.condition.now + 1
+
 abbrev pub decreases-comparison : goal.decreases-comparison
 decreases-comparison g l = fences_size (drop l.view.from l.view.fences.now) + 8 * (term_size l.left.now + term_size l.right.now) + 1
 
 abbrev pub decreases-conjunction : goal.decreases-conjunction
-decreases-conjunction g l = fences_size (drop l.view.from l.view.fences.now) + 8 * terms_size (terms_of l.parts.now) + 2
+decreases-conjunction g l = fences_size (drop l.view.from l.view.fences.now) + 8 * terms_size (terms_of l.parts.now) + 3
 
 abbrev pub decreases-all_of : goal.decreases-all_of
-decreases-all_of g l = fences_size (drop l.view.from l.view.fences.now) + 8 * terms_size (terms_of l.parts.now) + 1
+decreases-all_of g l = fences_size (drop l.view.from l.view.fences.now) + 8 * terms_size (terms_of l.parts.now) + 2
 
 abbrev pub decreases-disjunction : goal.decreases-disjunction
-decreases-disjunction g l = fences_size (drop l.view.from l.view.fences.now) + 8 * terms_size (terms_of l.parts.now) + 2
+decreases-disjunction g l = fences_size (drop l.view.from l.view.fences.now) + 8 * terms_size (terms_of l.parts.now) + 3
 
 abbrev pub decreases-any_of : goal.decreases-any_of
-decreases-any_of g l = fences_size (drop l.view.from l.view.fences.now) + 8 * terms_size (terms_of l.parts.now) + 1
+decreases-any_of g l = fences_size (drop l.view.from l.view.fences.now) + 8 * terms_size (terms_of l.parts.now) + 2
 
 abbrev pub decreases-negation : goal.decreases-negation
 decreases-negation g l = fences_size (drop l.view.from l.view.fences.now) + 8 * term_size l.operand.now + 1
@@ -79,7 +82,7 @@ abbrev pub decreases-item_or_null : goal.decreases-item_or_null
 decreases-item_or_null g l = fences_size (drop l.view.from l.view.fences.now) + 8 * query_size (query_of l.query.now) + 1
 
 abbrev pub decreases-is_met : goal.decreases-is_met
-decreases-is_met g l = fences_size (drop l.view.from l.view.fences.now) + 8 * terms_size (maybe_term l.condition.now) + 2
+decreases-is_met g l = fences_size (drop l.view.from l.view.fences.now) + 8 * terms_size (maybe_term l.condition.now) + 3
 
 abbrev pub decreases-within : goal.decreases-within
 decreases-within g l = fences_size (drop l.view.from l.view.fences.now) + 8 * (term_size l.operand.now + query_size (query_of l.query.now)) + 7
@@ -106,7 +109,7 @@ abbrev pub decreases-item : goal.decreases-item
 decreases-item g l = fences_size (drop l.view.from l.view.fences.now) + 8 * terms_size (terms_of l.items.now) + 1
 
 abbrev pub decreases-meets_condition : goal.decreases-meets_condition
-decreases-meets_condition g l = fences_size (drop l.view.from l.view.fences.now) + 8 * terms_size (maybe_term l.condition.now) + 1
+decreases-meets_condition g l = fences_size (drop l.view.from l.view.fences.now) + 8 * terms_size (maybe_term l.condition.now) + 2
 
 abbrev pub decreases-rows_for : goal.decreases-rows_for
 decreases-rows_for g l = fences_size (drop l.view.from l.view.fences.now) + 8 * query_size (query_of l.query.now)
@@ -121,16 +124,16 @@ abbrev pub decreases-shown : goal.decreases-shown
 decreases-shown g l = fences_size (drop l.view.from l.view.fences.now) + 5
 
 abbrev pub decreases-kept_rows : goal.decreases-kept_rows
-decreases-kept_rows g l = fences_size (drop l.view.from l.view.fences.now) + 8 * guard_size l.guard.now + 4
+decreases-kept_rows g l = fences_size (drop l.view.from l.view.fences.now) + 8 * guard_size l.guard.now + 5
 
 abbrev pub decreases-is_allowed : goal.decreases-is_allowed
-decreases-is_allowed g l = fences_size (drop l.view.from l.view.fences.now) + 8 * guard_size l.guard.now + 3
+decreases-is_allowed g l = fences_size (drop l.view.from l.view.fences.now) + 8 * guard_size l.guard.now + 4
 
 abbrev pub decreases-verdict_on : goal.decreases-verdict_on
-decreases-verdict_on g l = fences_size (drop l.view.from l.view.fences.now) + 8 * guard_size l.guard.now + 2
+decreases-verdict_on g l = fences_size (drop l.view.from l.view.fences.now) + 8 * guard_size l.guard.now + 3
 
 abbrev pub decreases-put_judgements : goal.decreases-put_judgements
-decreases-put_judgements g l = fences_size (drop l.view.from l.view.fences.now) + 8 * conditions_size l.conditions.now + 1
+decreases-put_judgements g l = fences_size (drop l.view.from l.view.fences.now) + 8 * conditions_size l.conditions.now + 2
 
 -- the source stands as it did, what is left leads to the whole, and what was shown is kept
 abbrev pub invariant-all_of-loop-part : goal.invariant-all_of-loop-part
