@@ -8,3 +8,4 @@ pub mod LoopLemmas
 pub mod NotedLemmas
 pub mod PlainLemmas
 pub mod ValueSetLemmas
+pub mod DecidingLemmas

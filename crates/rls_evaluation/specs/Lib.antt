@@ -5,6 +5,7 @@ pub mod Eval
 pub mod Alone
 pub mod Depths
 pub mod Showing
+pub mod Deciding
 pub mod Sizes
 pub mod Scoping
 pub mod Plain

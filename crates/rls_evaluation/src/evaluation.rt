@@ -20,6 +20,7 @@ ghost use Rattle.rls_evaluation.specs.Scoping.{env_of, held_value, held_now, may
 ghost use Rattle.rls_evaluation.specs.Holding.{Holds, Tells, shown_at, object_for, asked_of, is_key, put_in};
 
 use crate::alone::is_alone;
+use crate::deciding::deciding_on;
 use crate::fence::{Guard, View, allows, is_exempt, place_of};
 use crate::held::{Held, compare, equals, held_number, held_of, held_truth, joined};
 use crate::keys::{has_null, key_of};
@@ -977,7 +978,8 @@ fn is_allowed<'a, 'c, S: Tables>(
     Ok(allows(&verdict))
 }
 
-/// What the guard says of the row, with the buffer for what its policies say, whose memory serves the next row.
+/// What the guard says of the row, with the buffer for what its policies say, whose memory serves the next row; where each
+/// condition is told where it stands the buffer isn't used.
 #[cycle(eval)]
 pub fn verdict_on<'a, 'c, S: Tables>(
     alloc: Global,
@@ -996,6 +998,9 @@ pub fn verdict_on<'a, 'c, S: Tables>(
     match guard {
         Guard::Exempt => Ok(Verdict::Exempt),
         Guard::Policies(conditions) => {
+            if let Some(deciding) = deciding_on(conditions.as_slice(), user, row) {
+                return deciding.verdict();
+            }
             put_judgements(
                 alloc,
                 source,

@@ -2,6 +2,7 @@
 #![tactic(auto)]
 
 mod alone;
+mod deciding;
 mod evaluation;
 mod fence;
 mod held;

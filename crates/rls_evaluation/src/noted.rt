@@ -1,11 +1,12 @@
 //! What was read, noted as it comes.
 
-ghost use Rattle.std.specs.Prelude.{◌≡◌, [], IfOk, OnErr, OnOk};
-ghost use Rattle.rls_source.specs.Footprints.{with_object};
+ghost use Rattle.std.specs.Prelude.{◌≡◌, [], ◌∷◌, true, IfOk, OnErr, OnOk};
+ghost use Rattle.rls_source.specs.Footprints.{IsInOrder, with_object};
 
 use rls_source::{Footprint, Reads};
-use rls_value::Object;
+use rls_value::{Object, cmp_objects};
 use std::alloc::{AllocError, Global};
+use std::cmp::Ordering;
 use std::marker::Model;
 
 /// The objects that were read, seen as a set: each once, in order. They are put in order once, at the end: where they come
@@ -46,11 +47,43 @@ impl Noted {
         self.reads.note(object)
     }
 
-    /// The objects as a set.
-    pub fn into_footprint(self, alloc: Global) -> Result<Footprint, AllocError>
-        ensures { IfOk result (λ footprint. footprint ≡ self) }
+    /// The objects as a list, each once, in order; where they came so, those that were noted themselves.
+    pub fn into_objects(self, alloc: Global) -> Result<Vec<Object>, AllocError>
+        ensures { IfOk result (λ objects. objects.items ≡ self) }
     {
         let Noted { reads } = self;
-        Footprint::from_reads(alloc, reads)
+        if ascend(reads.as_slice()) {
+            return Ok(reads.into_vec());
+        }
+        let footprint = Footprint::from_reads(alloc, reads)?;
+        let objects = footprint.to_vec(alloc);
+        drop(footprint);
+        objects
+    }
+}
+
+/// Whether they stand in order, each once.
+fn ascend(mut objects: &[Object]) -> bool
+    ensures { result ≡ true → IsInOrder objects.entry.now }
+{
+    while let [object, others @ ..] = objects {
+        if !is_below_first(object, others) {
+            return false;
+        }
+        objects = others;
+    }
+    true
+}
+
+/// Whether the object comes before the first of the others, if there is one.
+fn is_below_first(object: &Object, others: &[Object]) -> bool
+    ensures { result ≡ true → IsInOrder others.now → IsInOrder (object.now ∷ others.now) }
+{
+    match others {
+        [] => true,
+        [next, ..] => match cmp_objects(object, next) {
+            Ordering::Less => true,
+            Ordering::Equal | Ordering::Greater => false,
+        },
     }
 }

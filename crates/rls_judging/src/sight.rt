@@ -27,9 +27,7 @@ pub(crate) fn mark_all<'c, S: RowSource<'c>>(
     ensures read { OnOk result (source.new ≡ S.after source.old work.notes) }
     ensures state { S.state source.new ≡ S.state source.old }
 {
-    let seen = work.into_notes().into_footprint(alloc)?;
-    let objects = seen.to_vec(alloc)?;
-    drop(seen);
+    let objects = work.into_notes().into_objects(alloc)?;
     source.mark(alloc, &objects)?;
     notes.note_all(objects)
 }
