@@ -11,7 +11,8 @@ use Rattle.std.proofs.lemmas.Bool.{true≢false}
 use Rattle.std.proofs.lemmas.Cmp.{tied_itself}
 use Rattle.rls_value.specs.declared.object.Object.{Object}
 use Rattle.rls_value.specs.Objects.{object_order}
-use Rattle.rls_value.specs.ObjectOrder.{objects_total, objects_same}
+use Rattle.rls_value.specs.ObjectOrder.{objects_total}
+use Rattle.rls_value.proofs.ObjectOrderLaws.{objects_same}
 use Rattle.rls_source.specs.Footprints.{with_object, with_reads, footprint_of, is_object, is_among, IsInOrder}
 
 -- ---- the same objects
