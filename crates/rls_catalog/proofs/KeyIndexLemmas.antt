@@ -11,7 +11,8 @@ use Rattle.std.proofs.lemmas.Cmp.{tied_itself, eq_by_cmp_equiv}
 use Rattle.std.proofs.lemmas.Map.{lookup-set_value}
 use Rattle.rls_value.specs.declared.row.RowId.{RowId}
 use Rattle.rls_value.specs.declared.value.Value.{Value}
-use Rattle.rls_value.specs.Listing.{rows_total, rows_same}
+use Rattle.rls_value.specs.Listing.{rows_total}
+use Rattle.rls_value.proofs.ListingLaws.{rows_same}
 use Rattle.rls_catalog.specs.declared.stored.Keyed.{Keyed}
 use Rattle.rls_catalog.specs.State.{id_order}
 use Rattle.rls_catalog.specs.KeyIndex.{Covers, Grows, Keeps, ids_at, ids_in, is_among, is_empty_key, is_indexed, key_order, knows, stands_at}

@@ -18,7 +18,8 @@ use Rattle.rls_value.specs.declared.row.RowId.{RowId}
 use Rattle.rls_value.specs.declared.value.Value.{Value}
 use Rattle.rls_value.specs.declared.object.Object.{Object}
 use Rattle.rls_value.specs.declared.object.Object.TheVariants as o
-use Rattle.rls_value.specs.Listing.{rows_total, rows_same}
+use Rattle.rls_value.specs.Listing.{rows_total}
+use Rattle.rls_value.proofs.ListingLaws.{rows_same}
 use Rattle.rls_value.specs.Objects.{object_order}
 use Rattle.rls_value.specs.Values.{listed}
 use Rattle.rls_catalog.specs.declared.stored.Keyed.{Keyed}

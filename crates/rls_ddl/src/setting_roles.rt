@@ -51,7 +51,7 @@ fn set_role<'c, S: RowSource<'c>>(
 }
 
 /// Whether the login may set the role. It reads the login and, unless that is a superuser, each role that it reaches.
-#[tactic(auto, unfolding(crate::specs::SettingRoles::may_set, crate::specs::SettingRoles::may_set_reads), using(rls_role::specs::Steps::can_set_walked, rls_role::specs::Steps::can_set_reads_walked))]
+#[tactic(auto, unfolding(crate::specs::SettingRoles::may_set, crate::specs::SettingRoles::may_set_reads), using(rls_role::proofs::StepLaws::can_set_walked, rls_role::proofs::StepLaws::can_set_reads_walked))]
 fn may_set<'c, S: RowSource<'c>>(
     alloc: Global,
     source: &mut S,

@@ -13,7 +13,8 @@ use Rattle.std.proofs.lemmas.List.Sorted.{sum_by-IsPermutation}
 use Rattle.std.proofs.lemmas.List.Sums.{sum_by-cons}
 use Rattle.rls_value.specs.declared.value.Value.{Value}
 use Rattle.rls_value.specs.Values.{listed}
-use Rattle.rls_value.specs.Listing.{rows_total, rows_same}
+use Rattle.rls_value.specs.Listing.{rows_total}
+use Rattle.rls_value.proofs.ListingLaws.{rows_same}
 use Rattle.rls_dml.specs.Listings.{put_listed, listing}
 
 -- ---- lists that rise

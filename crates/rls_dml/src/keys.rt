@@ -57,7 +57,7 @@ fn is_key_at(key: &[Value], places: &[usize], row: &Row) -> bool
 }
 
 /// Whether the row has the value at the place; it has a null where there is no such place.
-#[tactic(auto, using(rls_value::specs::Listing::values_same))]
+#[tactic(auto, using(rls_value::proofs::ListingLaws::values_same))]
 fn is_value_at(value: &Value, row: &Row, place: usize) -> bool
     ensures { IsTrue result → value.now ≡ value_at row.now place }
 {

@@ -13,7 +13,8 @@ use Rattle.rls_value.specs.Objects.{object_order}
 use Rattle.rls_value.specs.ObjectOrder.{objects_total}
 use Rattle.rls_catalog.specs.State.{State}
 use Rattle.rls_source.specs.Footprints.{with_object, with_reads, is_object, is_among, IsInOrder}
-use Rattle.rls_source.specs.FootprintLaws.{is_object_same, among_with_object, among_with_reads, with_object_in_order}
+use Rattle.rls_source.specs.FootprintLaws.{is_object_same, among_with_object, among_with_reads}
+use Rattle.rls_source.proofs.FootprintOrderLaws.{with_object_in_order}
 use Rattle.rls_evaluation.specs.declared.fence.Fence.{Fence}
 use Rattle.rls_expr.specs.ExprTerms.{query_of}
 use Rattle.rls_evaluation.specs.declared.memo.Answer.{Answer}

@@ -1,2 +1,3 @@
 pub mod PlacingLemmas
 pub mod TypingLemmas
+pub mod TermSizes

@@ -6,7 +6,6 @@ pub mod Tables
 pub mod Scopes
 pub mod Naming
 pub mod Typing
-pub mod TermSizes
 pub mod Placing
 pub mod Parts
 pub mod Pinning

@@ -10,7 +10,8 @@ use Rattle.rls_catalog.specs.GrantOptions.{GoesBack, HasDependents, LeftAfterRev
 use Rattle.rls_catalog.specs.Privileges.{Options}
 use Rattle.rls_catalog.specs.Revoking.{has_dependents_is, left_by_is}
 use Rattle.rls_grant.specs.Granting.{goes_back}
-use Rattle.rls_grant.specs.Holders.{holders_of, holders_are}
+use Rattle.rls_grant.specs.Holders.{holders_of}
+use Rattle.rls_grant.proofs.HolderLaws.{holders_are}
 use Rattle.rls_grant.specs.Revoking.{stays}
 
 no_test : (b : Bool) {P : Type 0} → (P → b ≡ true) → not b ≡ true → P → ⊥

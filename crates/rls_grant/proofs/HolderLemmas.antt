@@ -8,7 +8,8 @@ use Rattle.rls_catalog.specs.declared.grant.Grant.{Grant}
 use Rattle.rls_catalog.specs.State.{name_order}
 use Rattle.rls_role.specs.declared.reach.Reach.{Reach}
 use Rattle.rls_grant.specs.Grantors.{grantor_by}
-use Rattle.rls_grant.specs.Holders.{holders_of, holders_are}
+use Rattle.rls_grant.specs.Holders.{holders_of}
+use Rattle.rls_grant.proofs.HolderLaws.{holders_are}
 use Rattle.rls_grant.specs.Optioned.{AreHolders}
 use Rattle.rls_grant.specs.Revoking.{left_or_refused}
 

@@ -3,3 +3,6 @@ pub mod HandedLemmas
 pub mod HolderLemmas
 pub mod GrantLaws
 pub mod GrantorLaws
+pub mod ConsideredLaws
+pub mod HolderLaws
+pub mod OptionedLaws

@@ -13,7 +13,7 @@ ghost use Rattle.rls_grant.specs.Holders.{holders_of};
 
 /// Who grants, told by whose privileges a role has, is what the rule over a state says; and those that it is chosen among
 /// are the least set of the holders of the grant option.
-#[tactic(auto, using(crate::proofs::GrantorLaws::grantor_means, crate::specs::Holders::holders_are))]
+#[tactic(auto, using(crate::proofs::GrantorLaws::grantor_means, crate::proofs::HolderLaws::holders_are))]
 pub fn grantor_means()
     ensures grantor { (s : State) (role owner : List ℕ) (holders : List (List ℕ)) → grantor_by (reach_in s role) role owner (one_of holders) ≡ grantor_of s role owner holders }
     ensures holders { (owner : List ℕ) (grants : List Grant) (privilege : Privilege) → AreOptions owner grants privilege (holders_of owner grants privilege) }

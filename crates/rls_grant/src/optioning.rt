@@ -30,7 +30,7 @@ use std::collections::{BTreeMap, BTreeSet};
 /// The roles that hold the grant option for the privilege on the table: the least set that has the owner, and
 /// each grantee of a grant with option whose grantor is in it (PostgreSQL manual, GRANT); none where there is no such
 /// table. It reads the table and its grants; in every state that agrees on them the same roles hold it.
-#[tactic(auto, using(crate::specs::Optioned::option_frame))]
+#[tactic(auto, using(crate::proofs::OptionedLaws::option_frame))]
 pub fn option<'c, S: RowSource<'c>>(
     alloc: Global,
     source: &mut S,
@@ -63,7 +63,7 @@ fn holders_on(
 }
 
 /// Who holds it by these grants: the owner, and each grantee of a grant with option whose grantor holds it.
-#[tactic(auto, using(crate::specs::Considered::considered_all))]
+#[tactic(auto, using(crate::proofs::ConsideredLaws::considered_all))]
 pub fn options(
     alloc: Global,
     owner: &Name,
@@ -77,7 +77,7 @@ pub fn options(
 }
 
 /// Who would hold it without the grantee's own grant options.
-#[tactic(auto, using(crate::specs::Considered::considered_without))]
+#[tactic(auto, using(crate::proofs::ConsideredLaws::considered_without))]
 pub(crate) fn options_without(
     alloc: Global,
     owner: &Name,

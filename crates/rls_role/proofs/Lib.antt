@@ -1,3 +1,4 @@
 pub mod SeenNames
 pub mod Visits
 pub mod MembershipLaws
+pub mod StepLaws

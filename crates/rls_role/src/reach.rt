@@ -47,7 +47,7 @@ impl Reach {
 }
 
 /// Whose privileges the role has. It reads the role and, unless that is a superuser, each role that it reaches.
-#[tactic(auto, using(crate::specs::Steps::walked_inherit))]
+#[tactic(auto, using(crate::proofs::StepLaws::walked_inherit))]
 pub fn reach_of<'c, S: RowSource<'c>>(
     alloc: Global,
     source: &mut S,
@@ -121,7 +121,7 @@ pub fn has<'c, S: RowSource<'c>>(
 
 /// Whether the login may set the role: it is a superuser, or reaches it over memberships whose SET option is true
 /// (PostgreSQL manual, SET ROLE). In every state that agrees on what is read the answer is the same.
-#[tactic(auto, using(rls_catalog::specs::Reaching::can_set_is, rls_catalog::specs::PathFrames::can_set_frame, crate::specs::Steps::can_set_walked, crate::specs::Steps::can_set_reads_walked))]
+#[tactic(auto, using(rls_catalog::specs::Reaching::can_set_is, rls_catalog::specs::PathFrames::can_set_frame, crate::proofs::StepLaws::can_set_walked, crate::proofs::StepLaws::can_set_reads_walked))]
 pub fn can_set<'c, S: RowSource<'c>>(
     alloc: Global,
     source: &mut S,

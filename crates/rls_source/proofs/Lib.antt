@@ -1,2 +1,3 @@
 pub mod FootprintExamples
 pub mod EachLemmas
+pub mod FootprintOrderLaws

@@ -92,7 +92,7 @@ impl Footprint {
         self.objects.iter()
     }
 
-    #[tactic(auto, using(crate::specs::FootprintLaws::footprint_ordered))]
+    #[tactic(auto, using(crate::proofs::FootprintOrderLaws::footprint_ordered))]
     pub fn copy(&self, alloc: Global) -> Result<Footprint, AllocError>
         ensures { IfOk result (λ footprint. footprint ≡ self.now) }
     {

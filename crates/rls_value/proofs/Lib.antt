@@ -1,1 +1,3 @@
 mod NameLemmas
+pub mod ListingLaws
+pub mod ObjectOrderLaws

@@ -1,17 +1,15 @@
 -- The listing order is a total order: it compares kinds, and values of one kind by a total order.
-use Rattle.std.specs.Prelude.{◌≡◌, ℕ, ℤ, pos, List, [], ◌∷◌, Bool, true, false}
-use Rattle.std.proofs.Common.{refl, sym, subst, ap}
+use Rattle.std.specs.Prelude.{◌≡◌, ℕ, ℤ, pos, List, [], true, false}
+use Rattle.std.proofs.Common.{refl, sym, subst}
 use Rattle.std.specs.Cmp.{IsTotalOrder}
-use Rattle.std.specs.FinMap.{IsAntisymmetric, nat_cmp-IsAntisymmetric, int_cmp-IsAntisymmetric, slice_cmp-IsAntisymmetric}
-use Rattle.std.proofs.lemmas.Bool.{true≢false}
 use Rattle.std.proofs.lemmas.Cmp.{on_total, then_total, lists_total, nat_cmp_total, int_cmp_total, nat_list_cmp_total}
 use Rattle.std.specs.Cmp.Lexicographic.{slice_cmp}
-use Rattle.std.specs.Ordering.{int_cmp, is_eq, nat_cmp, on, then_cmp, ordering_then}
+use Rattle.std.specs.Ordering.{int_cmp, nat_cmp, on, then_cmp, ordering_then}
 use Rattle.std.specs.declared.cmp.Ordering.{Ordering}
 use Rattle.std.specs.declared.cmp.Ordering.TheVariants.{Less, Equal, Greater}
 use Rattle.rls_value.specs.declared.value.Value.{Value}
 use Rattle.rls_value.specs.declared.value.Value.TheVariants.{Null, Int, Text, Bool as Flag}
-use Rattle.rls_value.specs.Values.{listed, rank_of, flag_order}
+use Rattle.rls_value.specs.Values.{listed, rank_of}
 
 -- the number, or 0
 abbrev pub number_in : Value → ℤ
@@ -75,37 +73,3 @@ listed_total = subst IsTotalOrder (λ i. λ x y. sym (listed_ordered x y) i) ord
 -- so is that of rows
 pub rows_total : IsTotalOrder (slice_cmp listed)
 rows_total = lists_total listed_total
-
--- ---- what ties is the same
-
-never_greater : {A : Type 0} → Greater ≡ Equal → A
-never_greater tie = absurd (true≢false (sym (ap is_eq tie)))
-
-never_less : {A : Type 0} → Less ≡ Equal → A
-never_less tie = absurd (true≢false (sym (ap is_eq tie)))
-
--- values that tie are the same
-pub values_same : IsAntisymmetric listed
-values_same (Int a) (Int b) tie = ap Int (int_cmp-IsAntisymmetric a b tie)
-values_same (Text a) (Text b) tie = ap Text (slice_cmp-IsAntisymmetric nat_cmp-IsAntisymmetric a b tie)
-values_same (Flag true) (Flag true) tie = refl
-values_same (Flag true) (Flag false) tie = never_greater tie
-values_same (Flag false) (Flag true) tie = never_less tie
-values_same (Flag false) (Flag false) tie = refl
-values_same Null Null tie = refl
-values_same Null (Int b) tie = never_greater tie
-values_same Null (Text b) tie = never_greater tie
-values_same Null (Flag b) tie = never_greater tie
-values_same (Int a) Null tie = never_less tie
-values_same (Int a) (Text b) tie = never_less tie
-values_same (Int a) (Flag b) tie = never_less tie
-values_same (Text a) Null tie = never_less tie
-values_same (Text a) (Int b) tie = never_greater tie
-values_same (Text a) (Flag b) tie = never_less tie
-values_same (Flag a) Null tie = never_less tie
-values_same (Flag a) (Int b) tie = never_greater tie
-values_same (Flag a) (Text b) tie = never_greater tie
-
--- rows that tie are the same
-pub rows_same : IsAntisymmetric (slice_cmp listed)
-rows_same = slice_cmp-IsAntisymmetric values_same

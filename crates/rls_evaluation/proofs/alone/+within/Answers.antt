@@ -1,5 +1,5 @@
 use Rattle.std.proofs.Common.{rules, arith}
-use Rattle.rls_expr.specs.TermSizes.{size_at}
+use Rattle.rls_expr.proofs.TermSizes.{size_at}
 use Rattle.rls_evaluation.proofs.alone.+within.Goals as goal
 
 pub stay_within-stays_within-requires : goal.stay_within-stays_within-requires

@@ -11,7 +11,7 @@ use Rattle.rls_expr.specs.declared.expr.Sign.TheVariants.{Plus}
 use Rattle.rls_expr.specs.Terms as terms
 use Rattle.rls_expr.specs.Terms.{maybe_term, terms_of}
 use Rattle.rls_expr.specs.ExprTerms.{query_of}
-use Rattle.rls_expr.specs.TermSizes.{size_at}
+use Rattle.rls_expr.proofs.TermSizes.{size_at}
 use Rattle.rls_source.specs.Readings.{unread}
 use Rattle.rls_source.specs.Askings.{Asking, known, followed_by}
 use Rattle.rls_evaluation.specs.Environments.{inside, compared, over, number_or_null, joined}

@@ -1,5 +1,5 @@
 use Rattle.std.proofs.Common.{rules, arith}
-use Rattle.rls_expr.specs.TermSizes.{size_at}
+use Rattle.rls_expr.proofs.TermSizes.{size_at}
 use Rattle.rls_expr.proofs.expr.+copying.Goals as goal
 
 pub copy_parts-copy-requires : goal.copy_parts-copy-requires

@@ -1,5 +1,5 @@
 use Rattle.std.proofs.Common.{rules, arith}
-use Rattle.rls_expr.specs.TermSizes.{size_at}
+use Rattle.rls_expr.proofs.TermSizes.{size_at}
 use Rattle.rls_expr.proofs.names.+names.Goals as goal
 
 pub put_all_names-put_names-requires : goal.put_all_names-put_names-requires

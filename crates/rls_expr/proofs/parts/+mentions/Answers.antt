@@ -1,5 +1,5 @@
 use Rattle.std.proofs.Common.{rules, arith}
-use Rattle.rls_expr.specs.TermSizes.{size_at}
+use Rattle.rls_expr.proofs.TermSizes.{size_at}
 use Rattle.rls_expr.proofs.parts.+mentions.Goals as goal
 
 pub some_mentions-is_mentioned-requires : goal.some_mentions-is_mentioned-requires

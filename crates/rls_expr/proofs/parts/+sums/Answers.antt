@@ -1,5 +1,5 @@
 use Rattle.std.proofs.Common.{rules, arith}
-use Rattle.rls_expr.specs.TermSizes.{size_at}
+use Rattle.rls_expr.proofs.TermSizes.{size_at}
 use Rattle.rls_expr.proofs.parts.+sums.Goals as goal
 
 pub have_sum-has_sum-requires : goal.have_sum-has_sum-requires

@@ -1,6 +1,6 @@
 use Rattle.std.proofs.Common.{rules, arith, ◌∙◌}
 use Rattle.rls_expr.specs.Placing.{names_in}
-use Rattle.rls_expr.specs.TermSizes.{size_at}
+use Rattle.rls_expr.proofs.TermSizes.{size_at}
 use Rattle.rls_expr.proofs.PlacingLemmas.{placed_turn, placed_end}
 use Rattle.rls_expr.proofs.placing.+placing.Goals as goal
 

@@ -1,5 +1,5 @@
 use Rattle.std.proofs.Common.{rules, arith}
-use Rattle.rls_expr.specs.TermSizes.{size_at}
+use Rattle.rls_expr.proofs.TermSizes.{size_at}
 use Rattle.rls_guard.specs.Envs.{env_of, held_value}
 use Rattle.rls_guard.proofs.EvaluationLemmas.{all_step, any_step, among_step}
 use Rattle.rls_guard.proofs.evaluation.+eval.Goals as goal

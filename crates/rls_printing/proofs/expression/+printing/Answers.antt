@@ -2,7 +2,7 @@ use Rattle.std.proofs.Common.{rules, arith, ap, sym, ◌∙◌, ◌+◌, ◌++�
 use Rattle.std.specs.Prelude.{codes}
 use Rattle.rls_expr.specs.ExprTerms.{query_of}
 use Rattle.rls_expr.specs.Terms.{More, maybe_term, terms_of}
-use Rattle.rls_expr.specs.TermSizes.{size_at}
+use Rattle.rls_expr.proofs.TermSizes.{size_at}
 use Rattle.rls_printing.specs.declared.page.Mark.TheVariants as m
 use Rattle.rls_printing.specs.ExprForms.{expr, operands, further, sum, summands, list, more, query, where_, bare_if, stands_alone, enclosed, comparison, sign, selected, from_}
 use Rattle.rls_printing.specs.Pieces.{Word, Marked}

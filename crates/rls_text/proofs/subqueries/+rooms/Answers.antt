@@ -1,5 +1,5 @@
 use Rattle.std.proofs.Common.{rules, arith}
-use Rattle.rls_expr.specs.TermSizes.{size_at}
+use Rattle.rls_expr.proofs.TermSizes.{size_at}
 use Rattle.rls_text.proofs.subqueries.+rooms.Goals as goal
 
 pub parts_fit-fits-requires : goal.parts_fit-fits-requires

@@ -1,6 +1,6 @@
 use Rattle.std.proofs.Common.{sym, subst, ◌∙◌}
 use Rattle.rls_source.specs.Footprints.{IsInOrder}
-use Rattle.rls_source.specs.FootprintLaws.{footprint_ordered}
+use Rattle.rls_source.proofs.FootprintOrderLaws.{footprint_ordered}
 use Rattle.rls_evaluation.proofs.noted.Noted.into_objects.Goals as goal
 
 pub returns-then-ascend : goal.returns-then-ascend
