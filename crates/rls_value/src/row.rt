@@ -152,12 +152,14 @@ impl Eq for Row {
 }
 
 /// The order in which rows are listed: by their values, left to right; where none differ the shorter comes first.
+#[inline]
 pub fn cmp_rows(left: &Row, right: &Row) -> Ordering
     ensures { result ≡ slice_cmp listed left.now right.now }
 {
     cmp_lists(left.as_slice(), right.as_slice())
 }
 
+#[inline]
 fn cmp_lists(mut left: &[Value], mut right: &[Value]) -> Ordering
     ensures { result ≡ slice_cmp listed left.entry.now right.entry.now }
 {

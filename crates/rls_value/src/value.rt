@@ -94,6 +94,7 @@ impl Value {
 
 /// The order in which rows are listed: null last, false before true, numbers by size, texts by bytes.
 /// Between values of different types, which no column has, numbers come first, then texts, then booleans.
+#[inline(always)]
 #[tactic(auto, using(crate::specs::Listing::listed_total))]
 pub fn cmp_values(left: &Value, right: &Value) -> Ordering
     ensures order { result ≡ listed left.now right.now }
