@@ -32,11 +32,11 @@ use Rattle.rls_catalog.specs.State.{State, role_of, rows_of, AgreesAt, AgreesOn}
 use Rattle.rls_catalog.specs.Changed.{opening, changed_all}
 use Rattle.rls_catalog.specs.Membership.{reached_of, has_privileges_of}
 use Rattle.rls_catalog.specs.Paths.{can_set, is_member, may_grant, closes_circle}
-use Rattle.rls_catalog.specs.Walks.{bytes_same}
-use Rattle.rls_catalog.specs.Inheriting.{or_either}
+use Rattle.rls_catalog.proofs.Walks.{bytes_same}
+use Rattle.rls_catalog.proofs.Inheriting.{or_either}
 use Rattle.rls_catalog.specs.Privileges.{holds, optioned_by, Options, Owner, AreOptions}
 use Rattle.rls_catalog.specs.GrantOptions.{LeftAfterRevoke, HasDependents, left_by, without_grant, without_option, grantor_of}
-use Rattle.rls_catalog.specs.Revoking.{options_only, left_by_is, has_dependents_is}
+use Rattle.rls_catalog.proofs.Revoking.{options_only, left_by_is, has_dependents_is}
 use Rattle.rls_catalog.specs.Verdict.{is_exempt, expression_of, applying_of, verdict_of}
 
 -- ---- a company: alice is a member of staff and of chief, a superuser; staff is a member of board WITH INHERIT FALSE;

@@ -17,9 +17,9 @@ use Rattle.rls_expr.specs.declared.policy.Policy.{Policy}
 use Rattle.rls_catalog.specs.declared.verdict.Verdict.{Verdict}
 use Rattle.rls_catalog.specs.declared.verdict.Verdict.TheVariants as v
 use Rattle.rls_catalog.specs.State.{State, name_order}
-use Rattle.rls_catalog.specs.Walks.{bytes_same, bytes_own}
+use Rattle.rls_catalog.proofs.Walks.{bytes_same, bytes_own}
 use Rattle.rls_catalog.specs.Membership.{Inherits, Itself, Through, attributes_of, inherited_by, reached_of, has_privileges_of}
-use Rattle.rls_catalog.specs.Inheriting.{or_either, met_is_inherited, inherited_is_met}
+use Rattle.rls_catalog.proofs.Inheriting.{or_either, met_is_inherited, inherited_is_met}
 use Rattle.rls_catalog.specs.Verdict.{is_such, names_where, lesser, least, verdict_by, verdict_of}
 
 -- ---- whose privileges a role has

@@ -21,7 +21,7 @@ use Rattle.rls_catalog.specs.State.{id_order, is_same_row, stored_of, with_key}
 use Rattle.rls_catalog.specs.Kept.{present, shown}
 use Rattle.rls_catalog.specs.KeyIndex.{Covers, ids_at, is_among, is_empty_key, is_indexed, picked, with_key_at}
 use Rattle.rls_catalog.proofs.Places.{id_total, same_id, below_all}
-use Rattle.rls_catalog.specs.SameRows.{same_row}
+use Rattle.rls_catalog.proofs.SameRows.{same_row}
 use Rattle.rls_catalog.proofs.KeyIndexLemmas.{same_number, own_number}
 
 no : {A : Type 0} → false ≡ true → A

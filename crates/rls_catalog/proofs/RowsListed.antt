@@ -13,7 +13,8 @@ use Rattle.rls_catalog.specs.declared.slots.Before.{Before}
 use Rattle.rls_catalog.specs.declared.stored.Keyed.{Keyed}
 use Rattle.rls_catalog.specs.declared.undo.RowsUndo.TheVariants as r
 use Rattle.rls_catalog.specs.State.{at, name_order, id_order, or_none}
-use Rattle.rls_catalog.specs.InOrder.{Ascend, rows_ascend}
+use Rattle.rls_catalog.specs.InOrder.{Ascend}
+use Rattle.rls_catalog.proofs.InOrderLaws.{rows_ascend}
 use Rattle.rls_catalog.specs.Kept.{present, rows_listed}
 use Rattle.rls_catalog.specs.Changed.{with_row, with_first_row, with_row_in}
 use Rattle.rls_catalog.specs.Undone.{put_back, row_back, rows_undone}

@@ -1,16 +1,14 @@
 -- Which policies apply to a role on a table, the whole rule (PostgreSQL manual, 5.9 and CREATE POLICY): none where row
 -- security doesn't apply to the role, else those for the type of command that are TO it, with the expression asked for.
-use Rattle.std.specs.Prelude.{◌≡◌, refl, ℕ, List, [], ◌∷◌, ◌++◌, Option, Some, None, Bool, true, false, if◌then◌else◌}
-use Rattle.std.proofs.Common.{ap, sym, ◌∙◌}
+use Rattle.std.specs.Prelude.{ℕ, List, [], ◌∷◌, ◌++◌, Option, Some, None, if◌then◌else◌}
 use Rattle.rls_value.specs.declared.verb.Kind.{Kind}
 use Rattle.rls_value.specs.declared.object.Object.{Object}
 use Rattle.rls_value.specs.declared.object.Object.TheVariants as o
 use Rattle.rls_expr.specs.declared.table.TableDef.{TableDef}
 use Rattle.rls_expr.specs.declared.policy.Policy.{Policy}
 use Rattle.rls_catalog.specs.declared.verdict.Side.{Side}
-use Rattle.rls_catalog.specs.State.{State, table_of, AgreesOn, agrees-append}
+use Rattle.rls_catalog.specs.State.{State, table_of}
 use Rattle.rls_catalog.specs.Verdict.{is_exempt, exempt_reads, applying_of, applying_reads}
-use Rattle.rls_catalog.specs.Frames.{exempt_frame, applying_frame}
 
 -- on a table of that definition; there are none where there is no table
 abbrev pub applying_on : Option TableDef → State → List ℕ → List ℕ → Kind → Side → List Policy
@@ -29,25 +27,3 @@ applying_on_reads (Some def) s role table kind which = exempt_reads s role def +
 -- what it reads to tell them: the table, who is exempt, and the policies where the role isn't
 abbrev pub applying_to_reads : State → List ℕ → List ℕ → Kind → Side → List Object
 applying_to_reads s role table kind which = o.Table table ∷ applying_on_reads (table_of s table) s role table kind which
-
-unless_exempt : (exempt : Bool) (s other : State) (role table : List ℕ) (kind : Kind) (which : Side)
-    → AgreesOn s other (if exempt then [] else applying_reads s role table kind which)
-    → (if exempt then [] else applying_of other role table kind which) ≡ (if exempt then [] else applying_of s role table kind which)
-unless_exempt true s other role table kind which agrees = refl
-unless_exempt false s other role table kind which agrees = applying_frame s other role table kind which agrees
-
-on_frame : (found : Option TableDef) (s other : State) (role table : List ℕ) (kind : Kind) (which : Side)
-    → AgreesOn s other (applying_on_reads found s role table kind which)
-    → applying_on found other role table kind which ≡ applying_on found s role table kind which
-on_frame None s other role table kind which agrees = refl
-on_frame (Some def) s other role table kind which agrees =
-    let parts = agrees-append s other (exempt_reads s role def) (if is_exempt s role def then [] else applying_reads s role table kind which) agrees in
-    ap (λ exempt. if exempt then [] else applying_of other role table kind which) (exempt_frame s other role def parts.0)
-    ∙ unless_exempt (is_exempt s role def) s other role table kind which parts.1
-
--- states that agree on what is read have the same policies apply
-pub applying_to_frame : (s other : State) (role table : List ℕ) (kind : Kind) (which : Side) → AgreesOn s other (applying_to_reads s role table kind which)
-    → applying_to other role table kind which ≡ applying_to s role table kind which
-applying_to_frame s other role table kind which agrees =
-    ap (λ found. applying_on found other role table kind which) (sym agrees.0)
-    ∙ on_frame (table_of s table) s other role table kind which agrees.1

@@ -60,6 +60,10 @@ walk (suc n) s names next = visited (λ grown. walk n s grown (suc next)) s name
 abbrev pub granted_roles : State → List (List ℕ)
 granted_roles s = flat_map (λ entry. map (λ m. m.role) entry.1) s.members
 
+-- each of the names is among the others
+abbrev pub Within : List (List ℕ) → List (List ℕ) → Type 0
+Within names others = (name : List ℕ) → one_of names name ≡ true → one_of others name ≡ true
+
 -- the role and those whose privileges it inherits, each once
 unfoldable pub reached_of : State → List ℕ → List (List ℕ)
 reached_of s role = walk (suc (length (granted_roles s))) s (role ∷ []) 0

@@ -9,9 +9,8 @@ use Rattle.rls_value.specs.Values.{is_null, value_at}
 use Rattle.rls_expr.specs.declared.table.Column.{Column}
 use Rattle.rls_expr.specs.declared.table.TableDef.{TableDef}
 use Rattle.rls_catalog.specs.declared.stored.Keyed.{Keyed}
-use Rattle.rls_catalog.specs.State.{State, id_order, table_of}
+use Rattle.rls_catalog.specs.State.{State, id_order, table_of, entries_of}
 use Rattle.rls_catalog.specs.InOrder.{Ascend}
-use Rattle.rls_catalog.specs.RowsChanged.{entries_of}
 
 -- whether a column is there that takes no null
 abbrev pub takes_no_null : Option Column → Bool

@@ -1,10 +1,10 @@
 -- A state: what each object of the database has as its content. Each field lists keys with contents, and the
 -- first entry of a key counts.
-use Rattle.std.specs.Prelude.{◌≡◌, ℕ, ◌&&◌, List, [], ◌∷◌, ◌++◌, Option, Some, None, Bool, true, false, filter, map}
+use Rattle.std.specs.Prelude.{◌≡◌, ℕ, ◌&&◌, List, [], ◌∷◌, Option, Some, None, Bool, true, false, filter, map}
 use Rattle.std.specs.BTreeMap.{is_at}
 use Rattle.std.specs.Map.{lookup}
 use Rattle.std.specs.Ordering.{nat_cmp, int_eq, ordering_then}
-use Rattle.std.specs.Cmp.Lexicographic.{slice_cmp, pointwise}
+use Rattle.std.specs.Cmp.Lexicographic.{slice_cmp}
 use Rattle.std.specs.declared.cmp.Ordering.{Ordering}
 use Rattle.std.specs.Str.{bytes_eq}
 use Rattle.rls_value.specs.declared.row.RowId.{RowId}
@@ -79,6 +79,10 @@ policies_of s table = or_none (at table s.policies)
 abbrev pub rows_of : State → List ℕ → List Stored
 rows_of s table = map stored_of (or_none (at table s.rows))
 
+-- the rows of the table, by number
+abbrev pub entries_of : State → List ℕ → List (RowId × Keyed)
+entries_of s table = or_none (at table s.rows)
+
 -- the same value, null being equal to itself
 abbrev pub is_same_value : Value → Value → Bool
 is_same_value v.Null v.Null = true
@@ -124,11 +128,3 @@ AgreesAt s other (o.RowOf table id) = row_of s table id ≡ row_of other table i
 abbrev pub AgreesOn : State → State → List Object → Type 0
 AgreesOn s other [] = Unit {0}
 AgreesOn s other (object ∷ objects) = AgreesAt s other object × AgreesOn s other objects
-
--- agreement on two lists is agreement on each
-pub agrees-append : (s other : State) (objects more : List Object)
-    → AgreesOn s other (objects ++ more)
-    → AgreesOn s other objects × AgreesOn s other more
-agrees-append s other [] more agrees = (tt, agrees)
-agrees-append s other (object ∷ objects) more agrees =
-    ((agrees.0, (agrees-append s other objects more agrees.1).0), (agrees-append s other objects more agrees.1).1)

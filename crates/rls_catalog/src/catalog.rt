@@ -83,7 +83,7 @@ impl Catalog {
     }
 
     /// The policies of the table, in byte order of their names.
-    #[tactic(auto, using(crate::specs::PolicyListLaws::none_in_order))]
+    #[tactic(auto, using(crate::proofs::PolicyListLaws::none_in_order))]
     pub fn policies(&self, table: &Name) -> &[Policy]
         ensures policies { result.now ≡ policies_of self.now table.now }
         ensures ordered { InNameOrder result.now }

@@ -35,7 +35,7 @@ impl Model for PolicyList {
 }
 
 impl PolicyList {
-    #[tactic(auto, using(crate::specs::PolicyListLaws::none_in_order))]
+    #[tactic(auto, using(crate::proofs::PolicyListLaws::none_in_order))]
     pub fn new(alloc: Global) -> PolicyList
         ensures { result ≡ [] }
     {

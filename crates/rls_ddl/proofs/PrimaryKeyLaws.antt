@@ -14,7 +14,7 @@ use Rattle.rls_value.specs.declared.refusal.Refusal.{Refusal}
 use Rattle.rls_value.specs.declared.refusal.Refusal.TheVariants.{Undefined}
 use Rattle.rls_value.specs.declared.refusal.NameKind.TheVariants as named
 use Rattle.rls_catalog.specs.SoundRows.{takes_no_null}
-use Rattle.rls_catalog.specs.Walks.{bytes_own, bytes_same}
+use Rattle.rls_catalog.proofs.Walks.{bytes_own, bytes_same}
 use Rattle.rls_source.specs.Named.{found_or}
 use Rattle.rls_source.specs.Sequences.{each_of}
 use Rattle.rls_statement.specs.declared.statement.MarkedColumn.{MarkedColumn}

@@ -17,11 +17,10 @@ use Rattle.rls_catalog.specs.declared.change.Change.TheVariants as c
 use Rattle.rls_catalog.specs.declared.grant.Grant.{Grant}
 use Rattle.rls_catalog.specs.declared.stored.Keyed.{Keyed}
 use Rattle.rls_catalog.specs.Changed.{changed, changed_all}
-use Rattle.rls_catalog.specs.Contents.{is_name, same_name, table_of_changed}
-use Rattle.rls_catalog.specs.InOrder.{none_ascend}
-use Rattle.rls_catalog.specs.RowsChanged.{entries_of}
+use Rattle.rls_catalog.proofs.ContentsLaws.{is_name, same_name, table_of_changed}
+use Rattle.rls_catalog.proofs.InOrderLaws.{none_ascend}
+use Rattle.rls_catalog.specs.State.{entries_of, State, table_of}
 use Rattle.rls_catalog.specs.SoundRows.{AreSound, AreSoundIn, CarriesKey, RowsAreSound, takes_no_null}
-use Rattle.rls_catalog.specs.State.{State, table_of}
 use Rattle.rls_source.specs.Asked.{asked_grants, table_at}
 use Rattle.rls_source.specs.Askings.{Asking, known}
 use Rattle.rls_source.specs.Named.{found_or}

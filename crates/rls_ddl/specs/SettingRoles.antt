@@ -8,9 +8,9 @@ use Rattle.rls_value.specs.declared.refusal.Refusal.TheVariants.{Denied}
 use Rattle.rls_value.specs.declared.refusal.Why.TheVariants as why
 use Rattle.rls_catalog.specs.State.{State, AgreesOn}
 use Rattle.rls_catalog.specs.Membership.{attributes_of, walk_reads}
-use Rattle.rls_catalog.specs.Frames.{attributes_frame}
+use Rattle.rls_catalog.proofs.Frames.{attributes_frame}
 use Rattle.rls_catalog.specs.Paths.{has_set, path_reads, can_set, can_set_reads}
-use Rattle.rls_catalog.specs.PathFrames.{path_frame, can_set_frame}
+use Rattle.rls_catalog.proofs.PathFrames.{path_frame, can_set_frame}
 use Rattle.rls_statement.specs.declared.statement.SetRole.{SetRole}
 use Rattle.rls_statement.specs.declared.statement.SetRole.TheVariants as set
 use Rattle.rls_guard.specs.declared.context.Ctx.{Ctx}

@@ -11,7 +11,7 @@ ghost use Rattle.rls_ddl.specs.AlteringPolicies.{with_altered};
 ghost use Rattle.rls_ddl.specs.CreatingTables.{key_or_undefined, table_with};
 
 /// Where the policies of a table stand in byte order of their names, each name once, they do so after each statement.
-#[tactic(auto, using(rls_catalog::specs::PolicyListLaws::created_in_order, crate::proofs::PolicyOrderLaws::altered_in_order, rls_catalog::specs::PolicyListLaws::dropped_in_order))]
+#[tactic(auto, using(rls_catalog::proofs::PolicyListLaws::created_in_order, crate::proofs::PolicyOrderLaws::altered_in_order, rls_catalog::proofs::PolicyListLaws::dropped_in_order))]
 pub fn policies_in_order()
     ensures created { (policies : List Policy) (policy : Policy) → has_policy policies policy.name ≡ false → InNameOrder policies → InNameOrder (with_policy policies policy) }
     ensures altered { (policies : List Policy) (alter : AlterPolicy) → InNameOrder policies → InNameOrder (with_altered alter policies) }

@@ -15,7 +15,7 @@ use Rattle.rls_expr.specs.Naming.{names_of, query_names, names_all}
 use Rattle.rls_expr.specs.Terms.{Term, Terms, Query, Literal, Column, Place, CurrentUser, Compare, And, Or, Not, IsNull, IsNotNull, Among, NotAmong, Exists, Within as InQuery, NotWithin, Scalar, Sum, End, More, Select}
 use Rattle.rls_catalog.specs.State.{State}
 use Rattle.rls_catalog.specs.Verdict.{verdict_of}
-use Rattle.rls_catalog.specs.Walks.{Within}
+use Rattle.rls_catalog.specs.Membership.{Within}
 use Rattle.rls_source.specs.Readings.{Reading, unread, read_then}
 use Rattle.rls_source.specs.Askings.{Asking, followed_by}
 use Rattle.rls_evaluation.specs.declared.fence.Guard.{Guard}

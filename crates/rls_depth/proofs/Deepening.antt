@@ -13,7 +13,8 @@ use Rattle.rls_expr.specs.Placing.{placed}
 use Rattle.rls_expr.specs.Scopes.{InScope, known_table}
 use Rattle.rls_expr.specs.Terms.{Term}
 use Rattle.rls_catalog.specs.State.{State}
-use Rattle.rls_catalog.specs.Walks.{Within, bytes_own}
+use Rattle.rls_catalog.proofs.Walks.{bytes_own}
+use Rattle.rls_catalog.specs.Membership.{Within}
 use Rattle.rls_source.specs.Readings.{unread}
 use Rattle.rls_evaluation.specs.declared.fence.Fence.{Fence}
 use Rattle.rls_evaluation.specs.Eval.{Shows}

@@ -16,7 +16,8 @@ use Rattle.rls_expr.specs.Terms.{Term, Terms, Query, Literal, Column, Place, Cur
 use Rattle.rls_catalog.specs.declared.verdict.Side.{Side}
 use Rattle.rls_catalog.specs.State.{State, at, table_of}
 use Rattle.rls_catalog.specs.Verdict.{expression_of}
-use Rattle.rls_catalog.specs.Walks.{Within, bytes_same, bytes_own}
+use Rattle.rls_catalog.proofs.Walks.{bytes_same, bytes_own}
+use Rattle.rls_catalog.specs.Membership.{Within}
 use Rattle.rls_guard.specs.Guards.{with_condition, conditions_of}
 use Rattle.rls_expansion.specs.Used.{entered, tables_if}
 use Rattle.rls_depth.proofs.Using.{expression_tables}

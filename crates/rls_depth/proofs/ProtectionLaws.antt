@@ -15,7 +15,7 @@ use Rattle.rls_catalog.specs.declared.verdict.Side.{Side}
 use Rattle.rls_catalog.specs.declared.verdict.Side.TheVariants as side
 use Rattle.rls_catalog.specs.State.{State, policies_of, table_of}
 use Rattle.rls_catalog.specs.Verdict.{chosen, exempts, expression_of}
-use Rattle.rls_catalog.specs.Walks.{Within}
+use Rattle.rls_catalog.specs.Membership.{Within}
 use Rattle.rls_source.specs.Asked.{asked_policies, policies_at}
 use Rattle.rls_source.specs.Askings.{asked_if, followed_by, known}
 use Rattle.rls_evaluation.specs.Eval.{Shows}

@@ -6,7 +6,8 @@ use Rattle.std.proofs.Common.{ap, sym, subst}
 use Rattle.std.proofs.lemmas.Bool.{true≢false, or_left}
 use Rattle.rls_value.specs.declared.refusal.Refusal.{Refusal}
 use Rattle.rls_value.specs.Names.{one_of}
-use Rattle.rls_catalog.specs.Walks.{Within, bytes_own}
+use Rattle.rls_catalog.proofs.Walks.{bytes_own}
+use Rattle.rls_catalog.specs.Membership.{Within}
 use Rattle.rls_recursion.specs.declared.room.Room.{Room}
 use Rattle.rls_recursion.specs.declared.progress.Progress.{Progress}
 use Rattle.rls_recursion.specs.declared.searching.Reached.{Reached}

@@ -12,10 +12,9 @@ use Rattle.rls_expr.specs.Naming.{names_of, names_all}
 use Rattle.rls_expr.specs.Parts.{has_query, have_query}
 use Rattle.rls_expr.specs.Terms.{Term, Terms, Literal, Column, Place, CurrentUser, Compare, And, Or, Not, IsNull, IsNotNull, Among, NotAmong, Exists, Within as InQuery, NotWithin, Scalar, Sum, End, More}
 use Rattle.rls_catalog.specs.declared.verdict.Side.TheVariants as side
-use Rattle.rls_catalog.specs.Membership.{fresh}
+use Rattle.rls_catalog.specs.Membership.{fresh, Within}
 use Rattle.rls_catalog.specs.State.{State}
 use Rattle.rls_catalog.specs.Verdict.{chosen, exempts}
-use Rattle.rls_catalog.specs.Walks.{Within}
 use Rattle.rls_source.specs.Asked.{asked_policies, policies_at, table_at}
 use Rattle.rls_source.specs.Askings.{Asking, asked_if, followed_by, known}
 use Rattle.rls_guard.specs.declared.standing.Standing.{Standing}

@@ -9,7 +9,7 @@ use Rattle.rls_expr.specs.Scopes.{InScope, known_table}
 use Rattle.rls_catalog.specs.declared.verdict.Side.TheVariants as side
 use Rattle.rls_catalog.specs.State.{State, table_of}
 use Rattle.rls_catalog.specs.Verdict.{chosen}
-use Rattle.rls_catalog.specs.Walks.{Within}
+use Rattle.rls_catalog.specs.Membership.{Within}
 use Rattle.rls_evaluation.specs.declared.fence.Guard.TheVariants.{Policies}
 use Rattle.rls_evaluation.specs.Showing.{shows}
 use Rattle.rls_guard.specs.declared.standing.Standing.{Standing}

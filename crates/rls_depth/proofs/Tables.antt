@@ -16,7 +16,8 @@ use Rattle.rls_expr.specs.Naming.{Step, Look, Enter, Leave, names_of, query_name
 use Rattle.rls_expr.specs.Placing.{Names, inside, column_placed, columns_from, items_of, definition_of, placed, query_over, placed_all}
 use Rattle.rls_expr.specs.Scopes.{Unknown, place_in}
 use Rattle.rls_expr.specs.Terms.{Term, Terms, Query, Literal, Column, Place, CurrentUser, Compare, And, Or, Not, IsNull, IsNotNull, Among, NotAmong, Exists, Within as InQuery, NotWithin, Scalar, Sum, End, More, Select, qualifier_of, terms_of}
-use Rattle.rls_catalog.specs.Walks.{Within, one_of-append}
+use Rattle.rls_catalog.proofs.Walks.{one_of-append}
+use Rattle.rls_catalog.specs.Membership.{Within}
 use Rattle.rls_expansion.specs.Used.{entered, tables_of}
 
 -- ---- names among names

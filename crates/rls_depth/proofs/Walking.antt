@@ -13,10 +13,10 @@ use Rattle.rls_value.specs.Names.{one_of}
 use Rattle.rls_expr.specs.declared.policy.Policy.{Policy}
 use Rattle.rls_expr.specs.declared.table.TableDef.{TableDef}
 use Rattle.rls_expr.specs.Scopes.{InScope, known_table}
-use Rattle.rls_catalog.specs.Membership.{fresh}
+use Rattle.rls_catalog.specs.Membership.{fresh, Within}
 use Rattle.rls_catalog.specs.State.{State, table_of, policies_of}
 use Rattle.rls_catalog.specs.Verdict.{exempts}
-use Rattle.rls_catalog.specs.Walks.{Within, left, left_all, fresh_few, one_of_last, among_first, bytes_same, reads_all}
+use Rattle.rls_catalog.proofs.Walks.{left, left_all, fresh_few, one_of_last, among_first, bytes_same, reads_all}
 use Rattle.rls_source.specs.Asked.{asked_policies, policies_at, table_at}
 use Rattle.rls_source.specs.Askings.{asked_if, followed_by, known}
 use Rattle.rls_guard.specs.declared.standing.Standing.{Standing}

@@ -5,7 +5,7 @@ use Rattle.rls_expr.specs.declared.policy.Policy.{Policy}
 use Rattle.rls_expr.specs.declared.table.TableDef.{TableDef}
 use Rattle.rls_expr.specs.Scopes.{InScope, known_table}
 use Rattle.rls_expr.specs.Terms.{Term}
-use Rattle.rls_catalog.specs.Walks.{Within}
+use Rattle.rls_catalog.specs.Membership.{Within}
 use Rattle.rls_evaluation.specs.declared.fence.Guard.{Guard}
 use Rattle.rls_evaluation.specs.declared.fence.Guard.TheVariants.{Exempt, Policies}
 use Rattle.rls_recursion.specs.declared.room.Room.{Room}

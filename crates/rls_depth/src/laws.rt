@@ -12,7 +12,7 @@ ghost use Rattle.rls_expr.specs.Terms.{Term};
 ghost use Rattle.rls_catalog.specs.declared.verdict.Side.{Side};
 ghost use Rattle.rls_catalog.specs.declared.verdict.Side.TheVariants.{Old, New};
 ghost use Rattle.rls_catalog.specs.State.{State, table_of};
-ghost use Rattle.rls_catalog.specs.Walks.{Within};
+ghost use Rattle.rls_catalog.specs.Membership.{Within};
 ghost use Rattle.rls_evaluation.specs.declared.fence.Guard.{Guard};
 ghost use Rattle.rls_evaluation.specs.Environments.{Environment};
 ghost use Rattle.rls_evaluation.specs.Eval.{value_of};

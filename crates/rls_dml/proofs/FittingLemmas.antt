@@ -27,12 +27,12 @@ use Rattle.rls_catalog.specs.declared.change.Change.TheVariants as c
 use Rattle.rls_catalog.specs.declared.change.RowChange.{RowChange}
 use Rattle.rls_catalog.specs.declared.stored.Keyed.{Keyed}
 use Rattle.rls_catalog.specs.declared.stored.Stored.{Stored}
-use Rattle.rls_catalog.specs.State.{State, id_order, is_same_id, is_same_row, stored_of, rows_of}
+use Rattle.rls_catalog.specs.State.{State, id_order, is_same_id, is_same_row, stored_of, rows_of, entries_of}
 use Rattle.rls_catalog.specs.Bases.{Row, FitsAll, row_at}
 use Rattle.rls_catalog.specs.Changed.{changed, with_row}
-use Rattle.rls_catalog.specs.Contents.{is_name}
+use Rattle.rls_catalog.proofs.ContentsLaws.{is_name}
 use Rattle.rls_catalog.specs.InOrder.{Ascend, RowsInOrder}
-use Rattle.rls_catalog.specs.RowsChanged.{entries_of, entries_of_changed, same_id, equal_if}
+use Rattle.rls_catalog.proofs.RowsChanged.{entries_of_changed, same_id, equal_if}
 use Rattle.rls_statement.specs.declared.statement.Insert.{Insert}
 use Rattle.rls_statement.specs.declared.statement.Selected.{Selected}
 use Rattle.rls_statement.specs.declared.changing.Update.{Update}

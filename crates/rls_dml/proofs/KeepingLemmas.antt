@@ -15,10 +15,9 @@ use Rattle.rls_value.specs.Giving.{and_then}
 use Rattle.rls_expr.specs.declared.table.TableDef.{TableDef}
 use Rattle.rls_catalog.specs.declared.change.Change.{Change}
 use Rattle.rls_catalog.specs.declared.stored.Stored.{Stored}
-use Rattle.rls_catalog.specs.State.{State, is_same_id, table_of}
+use Rattle.rls_catalog.specs.State.{State, is_same_id, table_of, entries_of}
 use Rattle.rls_catalog.specs.Changed.{changed_all}
 use Rattle.rls_catalog.specs.InOrder.{RowsInOrder}
-use Rattle.rls_catalog.specs.RowsChanged.{entries_of}
 use Rattle.rls_catalog.specs.SoundRows.{AreSound, RowsAreSound}
 use Rattle.rls_statement.specs.declared.changing.Delete.{Delete}
 use Rattle.rls_statement.specs.declared.changing.Update.{Update}

@@ -22,7 +22,7 @@ use Rattle.rls_expr.specs.Pinning.{is_column, is_known, or_else, pin_among, pin_
 use Rattle.rls_expr.specs.Terms.{Term, Terms, Literal, Place, CurrentUser, Compare, And, End, More, maybe_term}
 use Rattle.rls_catalog.specs.declared.stored.Stored.{Stored}
 use Rattle.rls_catalog.specs.State.{State, is_same_id, is_same_row, is_same_value, rows_of}
-use Rattle.rls_catalog.specs.Walks.{bytes_own, bytes_same}
+use Rattle.rls_catalog.proofs.Walks.{bytes_own, bytes_same}
 use Rattle.rls_source.specs.Asked.{rows_at, keyed_at, asked_key}
 use Rattle.rls_source.specs.Askings.{asked_if, known, followed_by}
 use Rattle.rls_evaluation.specs.Environments.{over, row_at}

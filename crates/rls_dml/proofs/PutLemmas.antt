@@ -18,7 +18,7 @@ use Rattle.rls_value.specs.declared.row.RowId.{RowId}
 use Rattle.rls_catalog.specs.declared.stored.Keyed.{Keyed}
 use Rattle.rls_catalog.specs.State.{id_order, is_same_id}
 use Rattle.rls_catalog.specs.InOrder.{Ascend}
-use Rattle.rls_catalog.specs.RowsChanged.{same_id, equal_if}
+use Rattle.rls_catalog.proofs.RowsChanged.{same_id, equal_if}
 use Rattle.rls_catalog.specs.SoundRows.{StandsAt}
 
 -- numbers are in a total order

@@ -13,11 +13,12 @@ use Rattle.rls_catalog.specs.declared.change.Change.TheVariants as c
 use Rattle.rls_catalog.specs.declared.change.RowChange.{RowChange}
 use Rattle.rls_catalog.specs.declared.stored.Keyed.{Keyed}
 use Rattle.rls_catalog.specs.declared.stored.Stored.{Stored}
-use Rattle.rls_catalog.specs.State.{State, id_order, rows_of, table_of}
+use Rattle.rls_catalog.specs.State.{State, id_order, rows_of, table_of, entries_of}
 use Rattle.rls_catalog.specs.Changed.{changed, changed_all, with_row}
-use Rattle.rls_catalog.specs.Contents.{is_name, same_name}
-use Rattle.rls_catalog.specs.RowsChanged.{entries_of, entries_of_changed}
-use Rattle.rls_catalog.specs.InOrder.{Ascend, RowsInOrder, none_ascend}
+use Rattle.rls_catalog.proofs.ContentsLaws.{is_name, same_name}
+use Rattle.rls_catalog.proofs.RowsChanged.{entries_of_changed}
+use Rattle.rls_catalog.specs.InOrder.{Ascend, RowsInOrder}
+use Rattle.rls_catalog.proofs.InOrderLaws.{none_ascend}
 use Rattle.rls_catalog.specs.SoundRows.{AreSound, AreSoundIn, RowsAreSound, StandsAt}
 use Rattle.rls_dml.specs.Deleting.{deleted_row}
 use Rattle.rls_dml.specs.Inserting.{inserted_row}

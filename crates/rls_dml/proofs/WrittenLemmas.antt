@@ -23,7 +23,7 @@ use Rattle.rls_catalog.specs.declared.stored.Keyed.{Keyed}
 use Rattle.rls_catalog.specs.declared.stored.Stored.{Stored}
 use Rattle.rls_catalog.specs.State.{id_order, is_same_id, is_same_row, is_same_value, stored_of, with_key}
 use Rattle.rls_catalog.specs.InOrder.{Ascend}
-use Rattle.rls_catalog.specs.Walks.{bytes_own}
+use Rattle.rls_catalog.proofs.Walks.{bytes_own}
 use Rattle.rls_catalog.specs.SoundRows.{AreSound, CarriesKey, StandsAt}
 use Rattle.rls_dml.specs.Numbers.{has_number}
 use Rattle.rls_dml.specs.Writing.{is_among, is_whole, has_doubles, keys_of, stays_any}

@@ -9,7 +9,8 @@ use Rattle.rls_expr.specs.declared.policy.Policy.{Policy}
 use Rattle.rls_expr.specs.Terms.{Term}
 use Rattle.rls_catalog.specs.State.{State, at, name_order, or_none, policies_of}
 use Rattle.rls_catalog.specs.Privileges.{includes}
-use Rattle.rls_catalog.specs.Walks.{Within, one_of-append, among_first}
+use Rattle.rls_catalog.proofs.Walks.{one_of-append, among_first}
+use Rattle.rls_catalog.specs.Membership.{Within}
 use Rattle.rls_expansion.specs.Used.{Ask, is_for_using, is_for_check, tables_if, tables_where, tables_asked, tables_by, tables_used}
 
 -- the tables in both expressions of a policy

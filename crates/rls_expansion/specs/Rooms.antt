@@ -7,10 +7,9 @@ use Rattle.rls_value.specs.declared.verb.Kind.TheVariants as k
 use Rattle.rls_expr.specs.declared.table.TableDef.{TableDef}
 use Rattle.rls_expr.specs.declared.policy.Policy.{Policy}
 use Rattle.rls_catalog.specs.declared.verdict.Side.TheVariants as side
-use Rattle.rls_catalog.specs.Membership.{fresh}
+use Rattle.rls_catalog.specs.Membership.{fresh, Within}
 use Rattle.rls_catalog.specs.State.{State}
 use Rattle.rls_catalog.specs.Verdict.{chosen, exempts}
-use Rattle.rls_catalog.specs.Walks.{Within}
 use Rattle.rls_source.specs.Asked.{asked_policies, asked_table, policies_at, table_at}
 use Rattle.rls_source.specs.Askings.{Asking, asked_if, followed_by, known}
 use Rattle.rls_guard.specs.declared.standing.Standing.{Standing}

@@ -8,7 +8,7 @@ use Rattle.rls_value.specs.declared.verb.Privilege.{Privilege}
 use Rattle.rls_catalog.specs.declared.grant.Grant.{Grant}
 use Rattle.rls_catalog.specs.GrantOptions.{GoesBack, HasDependents, LeftAfterRevoke, without_options_of}
 use Rattle.rls_catalog.specs.Privileges.{Options}
-use Rattle.rls_catalog.specs.Revoking.{has_dependents_is, left_by_is}
+use Rattle.rls_catalog.proofs.Revoking.{has_dependents_is, left_by_is}
 use Rattle.rls_grant.specs.Granting.{goes_back}
 use Rattle.rls_grant.specs.Holders.{holders_of}
 use Rattle.rls_grant.proofs.HolderLaws.{holders_are}

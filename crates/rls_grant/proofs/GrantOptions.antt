@@ -7,13 +7,13 @@ use Rattle.std.proofs.lemmas.Bool.{true≢false, or_left}
 use Rattle.rls_value.specs.Names.{one_of}
 use Rattle.rls_value.specs.declared.verb.Privilege.{Privilege}
 use Rattle.rls_catalog.specs.declared.grant.Grant.{Grant}
-use Rattle.rls_catalog.specs.Membership.{fresh}
+use Rattle.rls_catalog.specs.Membership.{fresh, Within}
 use Rattle.rls_catalog.specs.Privileges.{optioned_by, Options, Owner, Granted}
-use Rattle.rls_catalog.specs.Walks.{Within, one_of-append, among_first, bytes_same, bytes_own, reads_all}
+use Rattle.rls_catalog.proofs.Walks.{one_of-append, among_first, bytes_same, bytes_own, reads_all}
 use Rattle.rls_catalog.specs.State.{name_order}
 use Rattle.rls_role.specs.Seen.{IsSetOf}
 use Rattle.rls_grant.specs.Optioned.{AreHolders}
-use Rattle.rls_catalog.specs.Inheriting.{or_either, among_got, fresh_within, fresh_all, take_on}
+use Rattle.rls_catalog.proofs.Inheriting.{or_either, among_got, fresh_within, fresh_all, take_on}
 
 -- each of the names holds the option
 abbrev pub Sound : List ℕ → List Grant → Privilege → List (List ℕ) → Type 0

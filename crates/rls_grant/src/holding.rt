@@ -15,7 +15,7 @@ use std::alloc::{AllocError, Global};
 /// Whether the role holds the privilege on the table: it is a superuser, or there is a grant of it to PUBLIC or to a
 /// role whose privileges it has. It reads the role and, unless that is a superuser, each role that it reaches, and the
 /// grants on the table; in every state that agrees on them the answer is the same.
-#[tactic(auto, using(rls_catalog::specs::Frames::holds_frame))]
+#[tactic(auto, using(rls_catalog::proofs::Frames::holds_frame))]
 pub fn holds<'c, S: RowSource<'c>>(
     alloc: Global,
     source: &mut S,

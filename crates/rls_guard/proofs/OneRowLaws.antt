@@ -23,10 +23,9 @@ use Rattle.rls_expr.specs.Terms.{Terms, End, More, Select}
 use Rattle.rls_catalog.specs.declared.stored.Keyed.{Keyed}
 use Rattle.rls_catalog.specs.declared.stored.Stored.{Stored}
 use Rattle.rls_catalog.specs.InOrder.{Ascend}
-use Rattle.rls_catalog.specs.RowsChanged.{entries_of}
-use Rattle.rls_catalog.specs.SameRows.{same_row}
+use Rattle.rls_catalog.specs.State.{entries_of, State, id_order, is_same_id, is_same_row, rows_with_key, stored_of, table_of, with_key}
+use Rattle.rls_catalog.proofs.SameRows.{same_row}
 use Rattle.rls_catalog.specs.SoundRows.{AreSound, AreSoundIn, KeysAreUnique, RowsAreSound, StandsAt}
-use Rattle.rls_catalog.specs.State.{State, id_order, is_same_id, is_same_row, rows_with_key, stored_of, table_of, with_key}
 use Rattle.rls_source.specs.Asked.{asked_key, keyed_at}
 use Rattle.rls_source.specs.Askings.{Asking, asked_if, followed_by, known}
 use Rattle.rls_evaluation.specs.declared.fence.Fence.{Fence}

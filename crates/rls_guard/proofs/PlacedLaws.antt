@@ -14,7 +14,7 @@ use Rattle.rls_expr.specs.Scopes.{InScope, known_table, place_in}
 use Rattle.rls_expr.specs.Terms.{Query, Scalar, Select, qualifier_of}
 use Rattle.rls_catalog.specs.SoundRows.{RowsAreSound}
 use Rattle.rls_catalog.specs.State.{State, table_of}
-use Rattle.rls_catalog.specs.Walks.{bytes_same}
+use Rattle.rls_catalog.proofs.Walks.{bytes_same}
 use Rattle.rls_source.specs.Asked.{table_at}
 use Rattle.rls_source.specs.Named.{found_or, table_or_undefined}
 use Rattle.rls_evaluation.specs.declared.fence.Fence.{Fence}

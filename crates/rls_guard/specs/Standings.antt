@@ -12,7 +12,7 @@ use Rattle.rls_expr.specs.declared.table.TableDef.{TableDef}
 use Rattle.rls_catalog.specs.declared.grant.Grant.{Grant}
 use Rattle.rls_catalog.specs.State.{State}
 use Rattle.rls_catalog.specs.Membership.{attributes_of, walked_by, reach_reads}
-use Rattle.rls_catalog.specs.Frames.{attributes_frame, walked_frame, reach_reads_frame}
+use Rattle.rls_catalog.proofs.Frames.{attributes_frame, walked_frame, reach_reads_frame}
 use Rattle.rls_catalog.specs.Privileges.{includes, is_same_privilege}
 use Rattle.rls_guard.specs.declared.standing.Standing.{Standing}
 use Rattle.rls_source.specs.Askings.{Asking, IsFramed, known, asked_if, followed_by}

@@ -16,12 +16,12 @@ use Rattle.rls_catalog.specs.declared.stored.Stored.{Stored}
 use Rattle.rls_catalog.specs.declared.change.Change.{Change}
 use Rattle.rls_catalog.specs.declared.change.Change.TheVariants as c
 use Rattle.rls_catalog.specs.declared.change.RowChange.{RowChange}
-use Rattle.rls_catalog.specs.State.{State, name_order, at, or_none, role_of, members_of, table_of, grants_of, policies_of, rows_of, rows_with_key, with_key, stored_of}
+use Rattle.rls_catalog.specs.State.{State, name_order, at, or_none, role_of, members_of, table_of, grants_of, policies_of, rows_of, rows_with_key, with_key, stored_of, entries_of}
 use Rattle.rls_catalog.specs.Changed.{changed, changed_all, with_row}
 use Rattle.rls_catalog.specs.Kept.{Kept}
-use Rattle.rls_catalog.specs.Contents.{is_name, same_name, at_put, role_of_changed, members_of_changed, table_of_changed, grants_of_changed, policies_of_changed}
+use Rattle.rls_catalog.proofs.ContentsLaws.{is_name, same_name, at_put, role_of_changed, members_of_changed, table_of_changed, grants_of_changed, policies_of_changed}
 use Rattle.rls_catalog.specs.InOrder.{RowsInOrder}
-use Rattle.rls_catalog.specs.RowsChanged.{entries_of, entries_of_changed}
+use Rattle.rls_catalog.proofs.RowsChanged.{entries_of_changed}
 use Rattle.rls_overlay.specs.Written.{with_own, with_own_in, with_own_row, with_change, with_changes, unwritten, written, rows_written, over, list_over}
 use Rattle.rls_overlay.specs.Indexed.{own_with_key, not_written}
 use Rattle.rls_overlay.specs.Merged.{merged}

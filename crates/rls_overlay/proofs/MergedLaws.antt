@@ -8,7 +8,7 @@ use Rattle.rls_value.specs.declared.row.RowId.{RowId}
 use Rattle.rls_catalog.specs.declared.stored.Keyed.{Keyed}
 use Rattle.rls_catalog.specs.declared.stored.Stored.{Stored}
 use Rattle.rls_catalog.specs.State.{id_order}
-use Rattle.rls_catalog.specs.RowsChanged.{same_id}
+use Rattle.rls_catalog.proofs.RowsChanged.{same_id}
 use Rattle.rls_overlay.specs.Written.{with_own}
 use Rattle.rls_overlay.specs.Merged.{own_row, merged}
 use Rattle.rls_overlay.proofs.StoredRows.{Above, Ascending, with_stored, id_total, turned, behind, over_all, own_above, with_front, with_first, with_beside, above_own}

@@ -16,7 +16,7 @@ use Rattle.rls_catalog.specs.declared.stored.Stored.{Stored}
 use Rattle.rls_catalog.specs.State.{id_order, stored_of}
 use Rattle.rls_catalog.specs.Changed.{with_row}
 use Rattle.rls_catalog.specs.InOrder.{Ascend}
-use Rattle.rls_catalog.specs.RowsChanged.{same_id}
+use Rattle.rls_catalog.proofs.RowsChanged.{same_id}
 use Rattle.rls_overlay.specs.Merged.{own_row}
 
 pub id_total : IsTotalOrder id_order

@@ -89,7 +89,7 @@ fn is_to(policy: &Policy, reach: &Reach) -> bool
 /// expression asked for; in byte order of their names (PostgreSQL manual, CREATE POLICY). It reads the table, what tells
 /// whether the role is exempt and, unless it is, the policies and, unless all that it asks are TO PUBLIC, each role that
 /// the role reaches; in every state that agrees on them the answer is the same.
-#[tactic(auto, using(rls_catalog::specs::Applying::applying_to_frame))]
+#[tactic(auto, using(rls_catalog::proofs::ApplyingLaws::applying_to_frame))]
 pub fn applying<'c, S: RowSource<'c>>(
     alloc: Global,
     source: &mut S,

@@ -22,7 +22,7 @@ pub fn exempt(role: &RoleDef, table: &TableDef, has_owner: bool) -> bool
 
 /// Whether the role is exempt on the table. It reads nothing where row security is off, the role alone where that is
 /// SUPERUSER or BYPASSRLS or the table under FORCE, and else each role that it reaches; in every state that agrees on that the answer is the same.
-#[tactic(auto, using(rls_catalog::specs::Frames::exempt_frame))]
+#[tactic(auto, using(rls_catalog::proofs::Frames::exempt_frame))]
 pub fn is_exempt<'c, S: RowSource<'c>>(
     alloc: Global,
     source: &mut S,

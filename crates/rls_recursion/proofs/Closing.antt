@@ -4,7 +4,8 @@ use Rattle.std.specs.Str.{bytes_eq}
 use Rattle.std.proofs.Common.{ap, sym, ◌∙◌, subst}
 use Rattle.std.proofs.lemmas.Bool.{true≢false, or_left, or_right}
 use Rattle.rls_value.specs.Names.{one_of}
-use Rattle.rls_catalog.specs.Walks.{Within, bytes_same, bytes_own}
+use Rattle.rls_catalog.proofs.Walks.{bytes_same, bytes_own}
+use Rattle.rls_catalog.specs.Membership.{Within}
 use Rattle.rls_recursion.specs.declared.room.Room.{Room}
 use Rattle.rls_recursion.specs.declared.progress.Progress.{Progress}
 use Rattle.rls_recursion.specs.Searching.{inner_of, next_of, or_next, first_closed, closes, put_listed, put_done, Found, Fits, Loops, Deep, found_then, visit_all, visit, InOrder}

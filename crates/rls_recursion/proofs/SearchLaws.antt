@@ -4,7 +4,7 @@ use Rattle.std.proofs.Common.{arith, ap, sym, ◌∙◌, subst}
 use Rattle.std.proofs.lemmas.Bool.{true≢false}
 use Rattle.rls_value.specs.declared.refusal.Refusal.{Refusal}
 use Rattle.rls_value.specs.declared.refusal.Refusal.TheVariants.{Recursion}
-use Rattle.rls_catalog.specs.Walks.{Within}
+use Rattle.rls_catalog.specs.Membership.{Within}
 use Rattle.rls_recursion.specs.declared.room.Room.{Room}
 use Rattle.rls_recursion.specs.declared.progress.Progress.{Progress}
 use Rattle.rls_recursion.specs.declared.searching.Reached.{Reached}

@@ -6,7 +6,7 @@ use Rattle.std.specs.Str.{bytes_eq}
 use Rattle.rls_value.specs.Names.{one_of}
 use Rattle.rls_value.specs.declared.refusal.Refusal.{Refusal}
 use Rattle.rls_value.specs.declared.refusal.Refusal.TheVariants.{Recursion}
-use Rattle.rls_catalog.specs.Walks.{Within}
+use Rattle.rls_catalog.specs.Membership.{Within}
 use Rattle.rls_recursion.specs.declared.room.Room.{Room}
 use Rattle.rls_recursion.specs.declared.progress.Progress.{Progress}
 use Rattle.rls_recursion.specs.declared.searching.Reached.{Reached}

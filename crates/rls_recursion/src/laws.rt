@@ -2,7 +2,7 @@
 
 ghost use Rattle.std.specs.Prelude.{◌≡◌, ◌↔◌, ◌<◌, ℕ, List, Some, Ok, Err, length};
 ghost use Rattle.rls_value.specs.declared.refusal.Refusal.TheVariants.{Recursion};
-ghost use Rattle.rls_catalog.specs.Walks.{Within};
+ghost use Rattle.rls_catalog.specs.Membership.{Within};
 ghost use Rattle.rls_recursion.specs.declared.room.Room.{Room};
 ghost use Rattle.rls_recursion.specs.declared.searching.Reached.{Reached};
 ghost use Rattle.rls_recursion.specs.Searching.{AsksEach, InOrder, first_closing, ordered_by};

@@ -19,7 +19,7 @@ use Rattle.rls_catalog.specs.declared.change.Change.TheVariants as change
 use Rattle.rls_catalog.specs.State.{State, AgreesOn, name_order, members_of}
 use Rattle.rls_catalog.specs.Membership.{fresh, walk_reads}
 use Rattle.rls_catalog.specs.Paths.{granted_where, held_if, is_any, reached_where}
-use Rattle.rls_catalog.specs.PathFrames.{path_frame}
+use Rattle.rls_catalog.proofs.PathFrames.{path_frame}
 use Rattle.rls_role.specs.declared.holding.Held.{Held}
 use Rattle.rls_role.specs.Holdings.{with_held, held_agrees, has_admin, managed_by}
 use Rattle.rls_statement.specs.declared.statement.MembershipOptions.{MembershipOptions}

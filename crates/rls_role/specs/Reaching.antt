@@ -3,7 +3,7 @@ use Rattle.std.specs.Prelude.{ℕ, List, Ok}
 use Rattle.rls_value.specs.declared.object.Object.{Object}
 use Rattle.rls_catalog.specs.State.{State}
 use Rattle.rls_catalog.specs.Membership.{attributes_of, walked_by, reach_reads}
-use Rattle.rls_catalog.specs.Frames.{attributes_frame, walked_frame, reach_reads_frame}
+use Rattle.rls_catalog.proofs.Frames.{attributes_frame, walked_frame, reach_reads_frame}
 use Rattle.rls_source.specs.Askings.{Asking, IsFramed}
 use Rattle.rls_role.specs.declared.reach.Reach.{Reach}
 

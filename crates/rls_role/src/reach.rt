@@ -100,7 +100,7 @@ fn walked<'c, S: RowSource<'c>>(
 
 /// Whether the role has the privileges of the other: it is a superuser itself, or reaches it over memberships whose
 /// INHERIT option is true (PostgreSQL manual, 22.3). In every state that agrees on what is read the answer is the same.
-#[tactic(auto, using(rls_catalog::specs::HasPrivileges::has_privileges_means, rls_catalog::specs::Frames::has_frame))]
+#[tactic(auto, using(rls_catalog::proofs::HasPrivilegesLaws::has_privileges_means, rls_catalog::proofs::Frames::has_frame))]
 pub fn has<'c, S: RowSource<'c>>(
     alloc: Global,
     source: &mut S,
@@ -121,7 +121,7 @@ pub fn has<'c, S: RowSource<'c>>(
 
 /// Whether the login may set the role: it is a superuser, or reaches it over memberships whose SET option is true
 /// (PostgreSQL manual, SET ROLE). In every state that agrees on what is read the answer is the same.
-#[tactic(auto, using(rls_catalog::specs::Reaching::can_set_is, rls_catalog::specs::PathFrames::can_set_frame, crate::proofs::StepLaws::can_set_walked, crate::proofs::StepLaws::can_set_reads_walked))]
+#[tactic(auto, using(rls_catalog::proofs::Reaching::can_set_is, rls_catalog::proofs::PathFrames::can_set_frame, crate::proofs::StepLaws::can_set_walked, crate::proofs::StepLaws::can_set_reads_walked))]
 pub fn can_set<'c, S: RowSource<'c>>(
     alloc: Global,
     source: &mut S,

@@ -4,7 +4,7 @@ use Rattle.std.proofs.Common.{ap, sym, subst, ◌∙◌}
 use Rattle.std.proofs.lemmas.Bool.{true≢false, or_left, or_right}
 use Rattle.rls_value.specs.declared.object.Object.{Object}
 use Rattle.rls_catalog.specs.State.{State, AgreesAt, AgreesOn}
-use Rattle.rls_catalog.specs.Inheriting.{or_either}
+use Rattle.rls_catalog.proofs.Inheriting.{or_either}
 use Rattle.rls_source.specs.Footprints.{footprint_of, is_object, is_among}
 use Rattle.rls_source.specs.FootprintLaws.{is_object_same, among_footprint}
 use Rattle.rls_source.specs.Readings.{Reading}

@@ -8,7 +8,7 @@ ghost use Rattle.rls_catalog.specs.State.{State, AgreesAt};
 ghost use Rattle.rls_catalog.specs.declared.change.Change.{Change};
 
 /// A change that names rightly what stood at its place leaves the content of every object that it doesn't cover.
-#[tactic(auto, using(rls_catalog::specs::Covering::uncovered_agrees))]
+#[tactic(auto, using(rls_catalog::proofs::Covering::uncovered_agrees))]
 pub fn uncovered_stays()
     ensures { (s : State) (change : Change) (object : Object) → Fits s change → covers object change ≡ false → AgreesAt s (changed s change) object }
 {}

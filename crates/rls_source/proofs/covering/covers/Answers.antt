@@ -1,5 +1,5 @@
 use Rattle.std.proofs.Common.{◌∙◌}
-use Rattle.rls_catalog.specs.Writes.{covered_writes}
+use Rattle.rls_catalog.proofs.WritesLaws.{covered_writes}
 use Rattle.rls_source.proofs.covering.covers.Goals as goal
 
 pub returns : goal.returns

@@ -1,6 +1,6 @@
 use Rattle.std.proofs.Common.{sym, subst, ◌∙◌, ap}
 use Rattle.rls_catalog.specs.PolicyLists.{InNameOrder, with_replaced}
-use Rattle.rls_catalog.specs.PolicyListLaws.{replaced_in_order, replaced_at}
+use Rattle.rls_catalog.proofs.PolicyListLaws.{replaced_in_order, replaced_at}
 use Rattle.rls_catalog.proofs.policy_list.PolicyList.replaced.Goals as goal
 
 pub invariant_of-result : goal.invariant_of-result

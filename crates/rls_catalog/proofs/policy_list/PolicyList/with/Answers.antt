@@ -1,6 +1,6 @@
 use Rattle.std.proofs.Common.{◌≡◌, sym, subst, false}
 use Rattle.rls_catalog.specs.PolicyLists.{has_policy}
-use Rattle.rls_catalog.specs.PolicyListLaws.{created_in_order}
+use Rattle.rls_catalog.proofs.PolicyListLaws.{created_in_order}
 use Rattle.rls_catalog.proofs.policy_list.PolicyList.with.Goals as goal
 
 pub invariant_of-result : goal.invariant_of-result

@@ -1,4 +1,4 @@
-use Rattle.rls_catalog.specs.PolicyListLaws.{dropped_in_order}
+use Rattle.rls_catalog.proofs.PolicyListLaws.{dropped_in_order}
 use Rattle.rls_catalog.proofs.policy_list.PolicyList.without.Goals as goal
 
 pub invariant_of-result : goal.invariant_of-result

@@ -2,10 +2,9 @@
 use Rattle.std.specs.Prelude.{◌≡◌, refl, ℕ, zero, suc, ◌+◌, ◌≤◌, List, [], ◌∷◌, ◌++◌, Option, Some, None, Bool, true, false, ◌||◌, if◌then◌else◌, cond, map, filter, length, take, slice_get}
 use Rattle.std.specs.List.{flat_map}
 use Rattle.std.specs.Str.{bytes_eq}
-use Rattle.std.specs.Map.{lookup}
 use Rattle.std.specs.BTreeMap.{is_at}
 use Rattle.std.proofs.Common.{arith, sym, ap, ◌∙◌, subst, append-nil, append_assoc}
-use Rattle.std.proofs.Math.Bool.{or-false, or_assoc}
+use Rattle.std.proofs.Math.Bool.{or_assoc}
 use Rattle.std.proofs.lemmas.Bool.{true≢false, or_left, or_right}
 use Rattle.std.proofs.lemmas.List.{length-append}
 use Rattle.std.proofs.lemmas.Option.{slice_get_past, slice_get_within}
@@ -15,11 +14,7 @@ use Rattle.rls_value.specs.declared.object.Object.{Object}
 use Rattle.rls_catalog.specs.declared.role.RoleDef.{RoleDef}
 use Rattle.rls_catalog.specs.declared.role.Membership.{Membership}
 use Rattle.rls_catalog.specs.State.{State, at, name_order, or_none, role_of, members_of}
-use Rattle.rls_catalog.specs.Membership.{granted_inherited, inherited_if, inherited_by, fresh, visited, walk, granted_roles, reached_of, visit_reads, walk_reads}
-
--- each of the names is among the others
-abbrev pub Within : List (List ℕ) → List (List ℕ) → Type 0
-Within names others = (name : List ℕ) → one_of names name ≡ true → one_of others name ≡ true
+use Rattle.rls_catalog.specs.Membership.{granted_inherited, inherited_if, inherited_by, fresh, visited, walk, granted_roles, reached_of, visit_reads, walk_reads, Within}
 
 pub one_of-append : (xs ys : List (List ℕ)) (name : List ℕ) → one_of (xs ++ ys) name ≡ (one_of xs name || one_of ys name)
 one_of-append [] ys name = refl

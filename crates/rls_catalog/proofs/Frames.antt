@@ -1,5 +1,5 @@
 -- States that agree on what is read give the same: whose privileges a role has, which it holds, which policies apply.
-use Rattle.std.specs.Prelude.{◌≡◌, refl, ℕ, zero, suc, ◌+◌, ◌≤◌, List, [], ◌∷◌, ◌++◌, Option, Some, None, Bool, true, false, ◌||◌, ◌&&◌, not, cond, if◌then◌else◌, length, filter, map, slice_get}
+use Rattle.std.specs.Prelude.{◌≡◌, refl, ℕ, zero, suc, ◌+◌, ◌≤◌, List, [], ◌∷◌, ◌++◌, Option, Some, None, Bool, true, false, ◌||◌, ◌&&◌, not, cond, if◌then◌else◌, length, filter, slice_get}
 use Rattle.std.specs.List.{list_any, list_all}
 use Rattle.std.specs.Str.{bytes_eq}
 use Rattle.std.proofs.Common.{arith, sym, ap, ◌∙◌, subst}
@@ -7,20 +7,19 @@ use Rattle.std.proofs.lemmas.Bool.{true≢false}
 use Rattle.rls_value.specs.Names.{one_of}
 use Rattle.rls_value.specs.declared.verb.Privilege.{Privilege}
 use Rattle.rls_value.specs.declared.verb.Kind.{Kind}
-use Rattle.rls_value.specs.declared.object.Object.{Object}
 use Rattle.rls_value.specs.declared.object.Object.TheVariants as o
 use Rattle.rls_expr.specs.declared.table.TableDef.{TableDef}
-use Rattle.rls_catalog.specs.declared.role.RoleDef.{RoleDef}
 use Rattle.rls_expr.specs.declared.policy.Grantee.{Grantee}
 use Rattle.rls_expr.specs.declared.policy.Grantee.TheVariants.{Public, Role}
 use Rattle.rls_expr.specs.declared.policy.Policy.{Policy}
 use Rattle.rls_catalog.specs.declared.verdict.Side.{Side}
-use Rattle.rls_catalog.specs.State.{State, role_of, members_of, grants_of, policies_of, AgreesOn, agrees-append}
+use Rattle.rls_catalog.specs.State.{State, role_of, grants_of, policies_of, AgreesOn}
+use Rattle.rls_catalog.proofs.StateLaws.{agrees-append}
 use Rattle.rls_catalog.specs.Membership.{attributes_in, attributes_of, inherited_if, inherited_by, fresh, walk, granted_roles, reached_of, walk_reads, walked_by, has_privileges_of, reach_reads}
 use Rattle.rls_catalog.specs.Privileges.{includes, concerns, is_same_privilege, holds, holds_reads}
-use Rattle.rls_catalog.specs.Verdict.{asked_of, is_asked, is_everyone, is_to, is_to_everyone, applying_of, applying_reads, exempts, is_exempt, exempt_reads}
-use Rattle.rls_catalog.specs.Walks.{Within, bytes_same, left, left_all, among_first, walk_step, walk_end, walk_finished}
-use Rattle.rls_catalog.specs.Inheriting.{or_either, among_got, walk_keeps}
+use Rattle.rls_catalog.specs.Verdict.{asked_of, is_asked, is_everyone, is_to, is_to_everyone, applying_of, applying_reads, is_exempt, exempt_reads}
+use Rattle.rls_catalog.proofs.Walks.{bytes_same, left_all, walk_step, walk_end, walk_finished}
+use Rattle.rls_catalog.proofs.Inheriting.{or_either, among_got, walk_keeps}
 
 -- the two states let each of the names inherit the same
 abbrev pub InheritSame : State → State → List (List ℕ) → Type 0

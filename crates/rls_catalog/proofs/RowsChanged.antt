@@ -15,14 +15,10 @@ use Rattle.rls_catalog.specs.declared.stored.Keyed.{Keyed}
 use Rattle.rls_catalog.specs.declared.stored.Stored.{Stored}
 use Rattle.rls_catalog.specs.declared.change.Change.TheVariants as c
 use Rattle.rls_catalog.specs.declared.change.RowChange.{RowChange}
-use Rattle.rls_catalog.specs.State.{State, id_order, name_order, at, or_none, stored_of, rows_of}
+use Rattle.rls_catalog.specs.State.{State, id_order, name_order, at, or_none, stored_of, rows_of, entries_of}
 use Rattle.rls_catalog.specs.Changed.{changed, with_row, with_row_in}
-use Rattle.rls_catalog.specs.Contents.{is_name, same_name, at_put}
+use Rattle.rls_catalog.proofs.ContentsLaws.{is_name, same_name, at_put}
 use Rattle.rls_catalog.specs.Bases.{Fits}
-
--- the rows of the table, by number
-abbrev pub entries_of : State → List ℕ → List (RowId × Keyed)
-entries_of s table = or_none (at table s.rows)
 
 put_in_if : (b : Bool) (id : RowId) (content : Option Keyed) (rows : List (RowId × Keyed)) (found : Option (List (RowId × Keyed))) → (b ≡ true → found ≡ Some rows)
     → or_none (cond b (Some (with_row id content rows)) found) ≡ cond b (with_row id content (or_none found)) (or_none found)

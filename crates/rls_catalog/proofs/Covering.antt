@@ -18,11 +18,11 @@ use Rattle.rls_catalog.specs.declared.stored.Keyed.{Keyed}
 use Rattle.rls_catalog.specs.declared.change.Change.{Change}
 use Rattle.rls_catalog.specs.declared.change.Change.TheVariants as c
 use Rattle.rls_catalog.specs.declared.change.RowChange.{RowChange}
-use Rattle.rls_catalog.specs.State.{State, id_order, stored_of, role_of, members_of, table_of, grants_of, policies_of, rows_of, is_same_row, is_same_id, AgreesAt}
+use Rattle.rls_catalog.specs.State.{State, id_order, stored_of, role_of, members_of, table_of, grants_of, policies_of, rows_of, is_same_row, is_same_id, AgreesAt, entries_of}
 use Rattle.rls_catalog.specs.Changed.{changed, changed_all, with_row}
-use Rattle.rls_catalog.specs.Contents.{is_name, role_of_changed, members_of_changed, table_of_changed, grants_of_changed, policies_of_changed}
+use Rattle.rls_catalog.proofs.ContentsLaws.{is_name, role_of_changed, members_of_changed, table_of_changed, grants_of_changed, policies_of_changed}
 use Rattle.rls_catalog.specs.Bases.{has_key, is_number, covers, Fits, FitsAll, covers_any}
-use Rattle.rls_catalog.specs.RowsChanged.{entries_of, entries_of_changed, passes, same_id, equal_if, rows_kept}
+use Rattle.rls_catalog.proofs.RowsChanged.{entries_of_changed, passes, same_id, equal_if, rows_kept}
 
 neither_left : (a b : Bool) → (a || b) ≡ false → a ≡ false
 neither_left true b is = is

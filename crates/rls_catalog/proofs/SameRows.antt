@@ -7,7 +7,7 @@ use Rattle.rls_value.specs.declared.value.Value.{Value}
 use Rattle.rls_value.specs.declared.value.Value.TheVariants as v
 use Rattle.rls_value.specs.Values.{same_flag}
 use Rattle.rls_catalog.specs.State.{is_same_row, is_same_value}
-use Rattle.rls_catalog.specs.Walks.{bytes_same, bytes_own}
+use Rattle.rls_catalog.proofs.Walks.{bytes_same, bytes_own}
 
 no : {A : Type 0} → false ≡ true → A
 no is = absurd (true≢false (sym is))

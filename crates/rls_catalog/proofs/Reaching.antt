@@ -9,10 +9,10 @@ use Rattle.rls_value.specs.Names.{one_of}
 use Rattle.rls_catalog.specs.declared.role.RoleDef.{RoleDef}
 use Rattle.rls_catalog.specs.declared.role.Membership.{Membership}
 use Rattle.rls_catalog.specs.State.{State, at, name_order, or_none, role_of, members_of}
-use Rattle.rls_catalog.specs.Membership.{granted_inherited, inherited_if, inherited_by, attributes_of, Inherits, reached_of, walked_by}
+use Rattle.rls_catalog.specs.Membership.{granted_inherited, inherited_if, inherited_by, attributes_of, Inherits, reached_of}
 use Rattle.rls_catalog.specs.Membership as inherits
-use Rattle.rls_catalog.specs.Walks.{bytes_same, bytes_own}
-use Rattle.rls_catalog.specs.Inheriting.{or_either, met_is_inherited, inherited_is_met}
+use Rattle.rls_catalog.proofs.Walks.{bytes_same, bytes_own}
+use Rattle.rls_catalog.proofs.Inheriting.{or_either, met_is_inherited, inherited_is_met}
 use Rattle.rls_catalog.specs.Paths.{held_if, held_by, granted_where, Reaches, Itself, Through, has_set, is_any, MaySet, IsMember, holds_admin, MayGrant, marked, inheriting, reached_where, can_set, is_member, may_grant, closes_circle}
 
 -- ---- the marked state

@@ -10,8 +10,8 @@ use Rattle.rls_value.specs.Names.{one_of}
 use Rattle.rls_value.specs.declared.verb.Privilege.{Privilege}
 use Rattle.rls_catalog.specs.declared.grant.Grant.{Grant}
 use Rattle.rls_catalog.specs.Privileges.{is_same_privilege, roles_in, is_option_by, optioned_by, Options, Owner, Granted, AreOptions}
-use Rattle.rls_catalog.specs.Walks.{one_of-append, bytes_same}
-use Rattle.rls_catalog.specs.Inheriting.{or_either}
+use Rattle.rls_catalog.proofs.Walks.{one_of-append, bytes_same}
+use Rattle.rls_catalog.proofs.Inheriting.{or_either}
 use Rattle.rls_catalog.specs.GrantOptions.{MayStay, LeftBy, End, Kept, Removed, LeftAfterRevoke, HasDependents, may_stay, left_by, has_dependents}
 
 -- a fact of the owner that each grant with option hands on is one of all that hold the grant option

@@ -6,9 +6,9 @@ use Rattle.rls_value.specs.Names.{one_of}
 use Rattle.rls_catalog.specs.declared.role.Membership.{Membership}
 use Rattle.rls_catalog.specs.State.{State, AgreesOn}
 use Rattle.rls_catalog.specs.Membership.{attributes_of, walk_reads}
-use Rattle.rls_catalog.specs.Frames.{reached_frame, attributes_frame}
+use Rattle.rls_catalog.proofs.Frames.{reached_frame, attributes_frame}
 use Rattle.rls_catalog.specs.Paths.{has_set, is_any, marked, inheriting, reached_where, can_set, path_reads, can_set_reads, circle_reads}
-use Rattle.rls_catalog.specs.Reaching.{marked_members}
+use Rattle.rls_catalog.proofs.Reaching.{marked_members}
 
 marked_agrees : (test : Membership → Bool) (s other : State) (names : List (List ℕ)) → AgreesOn s other (walk_reads names) → AgreesOn (inheriting test s) (inheriting test other) (walk_reads names)
 marked_agrees test s other [] agrees = tt
