@@ -9,7 +9,7 @@ use Rattle.std.proofs.Common.{subst, sym}
 use Rattle.rls_value.specs.declared.row.RowId.{RowId}
 use Rattle.rls_catalog.specs.declared.stored.Keyed.{Keyed}
 use Rattle.rls_catalog.specs.State.{id_order, or_none}
-use Rattle.rls_catalog.specs.Kept.{present, shown}
+use Rattle.rls_catalog.specs.Kept.{Placed, present, shown, standing}
 use Rattle.rls_catalog.specs.InOrder.{Ascend}
 
 abbrev Above : {X : Type 0} → RowId → List (RowId × X) → Type 0
@@ -34,8 +34,8 @@ unfolding IsStrictlySortedBy
 present_ascend [] ascend = tt
 present_ascend (slot ∷ slots) ascend = ascend_shown slot.0 slot.1 (present slots) (above_present slot.0 slots ascend.0) (present_ascend slots ascend.1)
 
-abbrev AscendIn : Option (List (RowId × Option Keyed)) → Type 0
-AscendIn (Some slots) = Ascend slots
+abbrev AscendIn : Option Placed → Type 0
+AscendIn (Some placed) = Ascend placed.places
 AscendIn None = Unit {0}
 
 -- no rows ascend
@@ -43,10 +43,10 @@ pub none_ascend : Ascend {X = Keyed} []
 unfolding IsStrictlySortedBy
 none_ascend = tt
 
-listed_ascend : (found : Option (List (RowId × Option Keyed))) → AscendIn found → Ascend (or_none (option_map present found))
-listed_ascend (Some slots) ascend = present_ascend slots ascend
+listed_ascend : (found : Option Placed) → AscendIn found → Ascend (or_none (option_map standing found))
+listed_ascend (Some placed) ascend = present_ascend placed.places ascend
 listed_ascend None ascend = none_ascend
 
 -- so do the rows of a table that a state lists
-pub rows_ascend : (listed : Option (List (RowId × Keyed))) (found : Option (List (RowId × Option Keyed))) → listed ≡ option_map present found → AscendIn found → Ascend (or_none listed)
+pub rows_ascend : (listed : Option (List (RowId × Keyed))) (found : Option Placed) → listed ≡ option_map standing found → AscendIn found → Ascend (or_none listed)
 rows_ascend listed found is ascend = subst (λ o. Ascend (or_none o)) (sym is) (listed_ascend found ascend)

@@ -1,5 +1,5 @@
 -- What an index has after a change under one key.
-use Rattle.std.specs.Prelude.{◌≡◌, refl, List, [], Option, Some, None, Bool, true, false, ◌||◌, ◌&&◌, cond, is_some, IsSome}
+use Rattle.std.specs.Prelude.{◌≡◌, refl, List, [], ◌∷◌, ◌++◌, reverse, Option, Some, None, Bool, true, false, ◌||◌, ◌&&◌, cond, is_some, IsSome}
 use Rattle.std.specs.BTreeMap.{BTreeMap, is_at}
 use Rattle.std.specs.Map.{lookup, set_value}
 use Rattle.std.specs.Ordering.{eq_by_cmp, is_eq}
@@ -8,6 +8,7 @@ use Rattle.std.specs.declared.cmp.Ordering.TheVariants.{Less, Equal, Greater}
 use Rattle.std.proofs.Common.{ap, sym, ◌∙◌, subst}
 use Rattle.std.proofs.lemmas.Bool.{true≢false}
 use Rattle.std.proofs.lemmas.Cmp.{tied_itself, eq_by_cmp_equiv}
+use Rattle.std.proofs.lemmas.List.{reverse-append}
 use Rattle.std.proofs.lemmas.Map.{lookup-set_value}
 use Rattle.rls_value.specs.declared.row.RowId.{RowId}
 use Rattle.rls_value.specs.declared.value.Value.{Value}
@@ -15,7 +16,10 @@ use Rattle.rls_value.specs.Listing.{rows_total}
 use Rattle.rls_value.proofs.ListingLaws.{rows_same}
 use Rattle.rls_catalog.specs.declared.stored.Keyed.{Keyed}
 use Rattle.rls_catalog.specs.State.{id_order}
-use Rattle.rls_catalog.specs.KeyIndex.{Covers, Grows, Keeps, ids_at, ids_in, is_among, is_empty_key, is_indexed, key_order, knows, stands_at}
+use Rattle.rls_catalog.specs.declared.undo.Before.{Before}
+use Rattle.rls_catalog.specs.Kept.{Placed}
+use Rattle.rls_catalog.specs.Undone.{before_last, place_back}
+use Rattle.rls_catalog.specs.KeyIndex.{CoveredThroughout, Covers, Grows, Keeps, ids_at, ids_in, is_among, is_empty_key, is_indexed, key_order, knows, stands_at}
 use Rattle.rls_catalog.proofs.Places.{absent_set, id_total, same_id}
 
 -- ---- keys that tie are the same
@@ -198,3 +202,55 @@ pub covers_like : (index : List (List Value × BTreeMap RowId (Unit {0}))) (slot
     → stands_at keyed.key (lookup (is_at (id_order id)) slots) ≡ true → Covers index slots → Covers index (set_value (is_at (id_order id)) slots (Some keyed))
 covers_like index slots id keyed like covers =
     covers_set index slots id (Some keyed) (standing_indexed index slots keyed.key id (lookup (is_at (id_order id)) slots) refl like covers) covers
+
+-- ---- an index that covers the rows throughout the past
+
+pub covered_now : (index : List (List Value × BTreeMap RowId (Unit {0}))) (slots : List (RowId × Option Keyed)) (past : List Before) → CoveredThroughout index slots past → Covers index slots
+covered_now index slots [] covered = covered
+covered_now index slots (before ∷ past) covered = covered.0
+
+-- where the index has grown
+pub covered_grown : (index other : List (List Value × BTreeMap RowId (Unit {0}))) (slots : List (RowId × Option Keyed)) (past : List Before) → Grows index other
+    → CoveredThroughout index slots past → CoveredThroughout other slots past
+covered_grown index other slots [] grows covered = covers_grown index other slots grows covered
+covered_grown index other slots (before ∷ past) grows covered =
+    (covers_grown index other slots grows covered.0, covered_grown index other (place_back before slots) past grows covered.1)
+
+-- where all is as it was, but the index has grown
+pub covered_kept : (index other : List (List Value × BTreeMap RowId (Unit {0}))) (slots after : List (RowId × Option Keyed)) (past log : List Before) → log ≡ past → after ≡ slots → Grows index other
+    → CoveredThroughout index slots (reverse past) → CoveredThroughout other after (reverse log)
+covered_kept index other slots after past log same kept grows covered =
+    subst (λ list. CoveredThroughout other after (reverse list)) (sym same) (subst (λ places. CoveredThroughout other places (reverse past)) (sym kept) (covered_grown index other slots (reverse past) grows covered))
+
+-- what came last stands first
+pub reverse_more : (past : List Before) (before : Before) → reverse (past ++ before ∷ []) ≡ before ∷ reverse past
+reverse_more past before = reverse-append past (before ∷ [])
+
+-- after one change more, which can be taken back
+pub covered_more : (index other : List (List Value × BTreeMap RowId (Unit {0}))) (slots after : List (RowId × Option Keyed)) (past log : List Before) (before : Before) → log ≡ past ++ before ∷ []
+    → Grows index other → (Covers index slots → Covers other after) → place_back before after ≡ slots
+    → CoveredThroughout index slots (reverse past) → CoveredThroughout other after (reverse log)
+covered_more index other slots after past log before more grows came back covered =
+    subst (CoveredThroughout other after) (sym (ap reverse more ∙ reverse_more past before))
+    (came (covered_now index slots (reverse past) covered), subst (λ places. CoveredThroughout other places (reverse past)) (sym back) (covered_grown index other slots (reverse past) grows covered))
+
+-- after the last change is taken back
+pub covered_back : (index : List (List Value × BTreeMap RowId (Unit {0}))) (slots : List (RowId × Option Keyed)) (past log : List Before) (before : Before) → log ≡ past ++ before ∷ []
+    → CoveredThroughout index slots (reverse log) → CoveredThroughout index (place_back before slots) (reverse past)
+covered_back index slots past log before more covered =
+    (subst (CoveredThroughout index slots) (ap reverse more ∙ reverse_more past before) covered).1
+
+-- taking the last of the past back
+pub last_taken : (slots : List (RowId × Option Keyed)) (past log : List Before) (before : Before) → log ≡ past ++ before ∷ []
+    → before_last slots (reverse log) ≡ record { places = place_back before slots; past = reverse past }
+last_taken slots past log before more = ap (before_last slots) (ap reverse more ∙ reverse_more past before)
+
+abbrev is_empty_past : List Before → Bool
+is_empty_past [] = true
+is_empty_past (before ∷ past) = false
+
+-- where nothing can be taken back, the rows that stand are all that the index needs
+pub covered_settled : (index other : List (List Value × BTreeMap RowId (Unit {0}))) (slots after : List (RowId × Option Keyed)) (past : List Before) → past ≡ []
+    → (Covers index slots → Covers other after) → CoveredThroughout index slots past → CoveredThroughout other after past
+covered_settled index other slots after [] none kept covered = kept covered
+covered_settled index other slots after (before ∷ past) none kept covered = no (ap is_empty_past none)

@@ -15,16 +15,19 @@ use Rattle.rls_catalog.specs.contracts.role.Membership as membership
 use Rattle.rls_catalog.specs.contracts.grant.Grant as grant
 use Rattle.rls_expr.specs.contracts.policy.Policy as policy
 use Rattle.rls_catalog.specs.contracts.stored.Keyed as keyed
+use Rattle.rls_catalog.specs.declared.undo.Before.{Before}
+use Rattle.rls_catalog.specs.contracts.undo.Before as before
 use Rattle.rls_catalog.specs.StateCode.{under_names}
-use Rattle.rls_catalog.specs.Kept.{Kept}
+use Rattle.rls_catalog.specs.Kept.{Kept, Placed}
 
 -- what it consists of
 abbrev pub Parts : Type 0
-Parts = List (List ℕ × RoleDef) × (List (List ℕ × List Membership) × (List (List ℕ × TableDef) × (List (List ℕ × List Grant) × (List (List ℕ × List Policy) × List (List ℕ × List (RowId × Option Keyed))))))
+Parts = List (List ℕ × RoleDef) × (List (List ℕ × List Membership) × (List (List ℕ × TableDef) × (List (List ℕ × List Grant) × (List (List ℕ × List Policy) × List (List ℕ × Placed)))))
 
--- the code of the places of rows
-abbrev pub slots_code : Coded (List (RowId × Option Keyed))
-slots_code = coded_list (coded× id.the_row.coded (coded_option keyed.the_row.coded))
+-- the code of the places of rows and of what stood there before
+abbrev pub slots_code : Coded Placed
+slots_code =
+    code_by (List (RowId × Option Keyed) × List Before) (coded× (coded_list (coded× id.the_row.coded (coded_option keyed.the_row.coded))) (coded_list before.the_row.coded)) (λ placed. (placed.places, placed.past)) (λ p. record { places = p.0; past = p.1 }) (λ _. refl)
 
 -- the code of what is kept, part by part
 abbrev pub parts_code : Coded Parts

@@ -9,7 +9,9 @@ use Rattle.rls_value.specs.declared.value.Value.{Value}
 use Rattle.rls_value.specs.Values.{listed}
 use Rattle.rls_catalog.specs.declared.stored.Keyed.{Keyed}
 use Rattle.rls_catalog.specs.declared.stored.Stored.{Stored}
+use Rattle.rls_catalog.specs.declared.undo.Before.{Before}
 use Rattle.rls_catalog.specs.State.{id_order, is_same_row, stored_of}
+use Rattle.rls_catalog.specs.Undone.{place_back}
 
 -- keys are ordered as rows are listed
 abbrev pub key_order : List Value → List Value → Ordering
@@ -40,6 +42,11 @@ is_indexed index key id = is_empty_key key || is_among (ids_at index key) id
 -- the index has each row that is there
 abbrev pub Covers : List (List Value × BTreeMap RowId (Unit {0})) → List (RowId × Option Keyed) → Type 0
 Covers index slots = (id : RowId) (keyed : Keyed) → lookup (is_at (id_order id)) slots ≡ Some (Some keyed) → is_indexed index keyed.key id ≡ true
+
+-- the index has each row that is there, and each that will be there after each step of taking the past back, the last change first
+abbrev pub CoveredThroughout : List (List Value × BTreeMap RowId (Unit {0})) → List (RowId × Option Keyed) → List Before → Type 0
+CoveredThroughout index slots [] = Covers index slots
+CoveredThroughout index slots (before ∷ past) = Covers index slots × CoveredThroughout index (place_back before slots) past
 
 -- another index has what the first one has
 abbrev pub Grows : List (List Value × BTreeMap RowId (Unit {0})) → List (List Value × BTreeMap RowId (Unit {0})) → Type 0

@@ -5,26 +5,40 @@ use Rattle.std.specs.Map.{set_value, remove_entry}
 use Rattle.std.specs.declared.cmp.Ordering.{Ordering}
 use Rattle.rls_value.specs.declared.row.RowId.{RowId}
 use Rattle.rls_catalog.specs.declared.stored.Keyed.{Keyed}
+use Rattle.rls_catalog.specs.declared.undo.Before.{Before}
 use Rattle.rls_catalog.specs.declared.undo.Undo.{Undo}
 use Rattle.rls_catalog.specs.declared.undo.Undo.TheVariants as u
 use Rattle.rls_catalog.specs.declared.undo.RowsUndo.{RowsUndo}
 use Rattle.rls_catalog.specs.declared.undo.RowsUndo.TheVariants as r
 use Rattle.rls_catalog.specs.State.{name_order, id_order, at}
-use Rattle.rls_catalog.specs.Kept.{Kept}
+use Rattle.rls_catalog.specs.Kept.{Kept, Placed}
 
 -- entries with what stood at the key before; none stood where there was no entry
 abbrev pub put_back : {K X : Type 0} → (K → K → Ordering) → K → Option X → List (K × X) → List (K × X)
 put_back order key (Some before) entries = set_value (is_at (order key)) entries before
 put_back order key None entries = remove_entry (is_at (order key)) entries
 
--- the rows of all tables, with what stood at a place of one of them before
-abbrev pub row_back : List ℕ → RowId → Option (Option Keyed) → Option (List (RowId × Option Keyed)) → List (List ℕ × List (RowId × Option Keyed)) → List (List ℕ × List (RowId × Option Keyed))
-row_back table id before (Some slots) tables = set_value (is_at (name_order table)) tables (put_back id_order id before slots)
-row_back table id before None tables = tables
+-- the places with what stood at one of them before
+abbrev pub place_back : Before → List (RowId × Option Keyed) → List (RowId × Option Keyed)
+place_back before places = put_back id_order before.id before.content places
+
+-- the places before the last change of the past
+abbrev pub before_last : List (RowId × Option Keyed) → List Before → Placed
+before_last places [] = record { places = places; past = [] }
+before_last places (before ∷ past) = record { places = place_back before places; past = past }
+
+-- the rows of a table before the last change
+abbrev pub taken_back : Placed → Placed
+taken_back placed = before_last placed.places placed.past
+
+-- the rows of all tables before the last change of one that has places
+abbrev pub row_back : List ℕ → Option Placed → List (List ℕ × Placed) → List (List ℕ × Placed)
+row_back table (Some placed) tables = set_value (is_at (name_order table)) tables (taken_back placed)
+row_back table None tables = tables
 
 -- the rows of all tables before a change of one
-abbrev pub rows_undone : RowsUndo → List (List ℕ × List (RowId × Option Keyed)) → List (List ℕ × List (RowId × Option Keyed))
-rows_undone (r.Place table id before) tables = row_back table id before.content (at table tables) tables
+abbrev pub rows_undone : RowsUndo → List (List ℕ × Placed) → List (List ℕ × Placed)
+rows_undone (r.Place table is_first) tables = row_back table (at table tables) tables
 rows_undone (r.Table table) tables = remove_entry (is_at (name_order table)) tables
 
 -- what was kept before a change

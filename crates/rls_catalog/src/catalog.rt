@@ -136,7 +136,7 @@ impl Catalog {
         let mut log = Vec::new(alloc);
         match contents.put_all(alloc, delta.as_slice(), &mut log) {
             Ok(()) => {
-                contents.settle_all(log);
+                contents.settle_all(alloc, log);
                 Ok(())
             }
             Err(refused) => {

@@ -11,11 +11,10 @@ use crate::entries::{put, put_back};
 use crate::grant::Grant;
 use crate::policy_list::PolicyList;
 use crate::role::{Membership, RoleDef};
-use crate::slots::{Before, Slots};
-use crate::stored::Keyed;
+use crate::slots::Slots;
 use crate::undo::{RowsUndo, Undo};
 use rls_expr::TableDef;
-use rls_value::{Items, Name, RowId};
+use rls_value::{Items, Name};
 use std::alloc::{AllocError, Global};
 use std::collections::BTreeMap;
 use std::marker::Model;
@@ -96,11 +95,11 @@ impl Contents {
     }
 
     /// Lets go what would take the changes back.
-    pub(crate) fn settle_all(&mut self, log: Vec<Undo>)
+    pub(crate) fn settle_all(&mut self, alloc: Global, log: Vec<Undo>)
         ensures { state_of self.new ≡ state_of self.old }
     {
         for undo in log {
-            self.settle(undo);
+            self.settle(alloc, undo);
         }
     }
 
@@ -231,13 +230,13 @@ impl Contents {
         }
     }
 
-    /// Lets go what would take the change back.
-    fn settle(&mut self, undo: Undo)
+    /// Lets go what would take the change back. A table's first change settles all of its rows.
+    fn settle(&mut self, alloc: Global, undo: Undo)
         ensures { state_of self.new ≡ state_of self.old }
     {
-        if let Undo::Rows(RowsUndo::Place(table, id, before)) = undo {
-            if !before.is_settled {
-                settle_row(&mut self.rows, &table, id, before.content);
+        if let Undo::Rows(RowsUndo::Place(table, is_first)) = undo {
+            if is_first {
+                settle_rows(&mut self.rows, alloc, &table);
             }
         }
     }
@@ -255,7 +254,7 @@ fn put_row(
     let table = change.table.copy()?;
     match tables.get_mut(&change.table) {
         Some(slots) => match slots.set(alloc, change.id, &change.after) {
-            Ok(before) => Ok(RowsUndo::Place(table, change.id, before)),
+            Ok(is_first) => Ok(RowsUndo::Place(table, is_first)),
             Err(refused) => Err(refused),
         },
         None => match put_first_row(tables, alloc, table, change) {
@@ -279,14 +278,7 @@ fn put_first_row(
     ensures err { OnErr result (tables.new.entries ≡ tables.old.entries) }
 {
     let Some(_) = &change.after else {
-        return Ok(RowsUndo::Place(
-            table,
-            change.id,
-            Before {
-                content: None,
-                is_settled: true,
-            },
-        ));
+        return Ok(RowsUndo::Place(table, false));
     };
     let slots = Slots::of_one(alloc, change.id, &change.after)?;
     put(tables, change.table.copy()?, slots)?;
@@ -297,9 +289,9 @@ fn undo_row(tables: &mut BTreeMap<Name, Slots>, undo: RowsUndo)
     ensures { tables.new.entries ≡ rows_undone undo tables.old.entries }
 {
     match undo {
-        RowsUndo::Place(table, id, before) => {
+        RowsUndo::Place(table, _) => {
             match tables.get_mut(&table) {
-                Some(slots) => slots.put_back(id, before.content),
+                Some(slots) => slots.put_back(),
                 None => {}
             }
         }
@@ -309,16 +301,11 @@ fn undo_row(tables: &mut BTreeMap<Name, Slots>, undo: RowsUndo)
     }
 }
 
-fn settle_row(
-    tables: &mut BTreeMap<Name, Slots>,
-    table: &Name,
-    id: RowId,
-    before: Option<Option<Keyed>>,
-)
+fn settle_rows(tables: &mut BTreeMap<Name, Slots>, alloc: Global, table: &Name)
     ensures { rows_listed tables.new.entries ≡ rows_listed tables.old.entries }
 {
     match tables.get_mut(table) {
-        Some(slots) => slots.settle(id, before),
+        Some(slots) => slots.settle(alloc),
         None => {}
     }
 }

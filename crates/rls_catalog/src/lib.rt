@@ -8,6 +8,7 @@ mod entries;
 mod grant;
 mod key_index;
 mod lent;
+mod placing;
 mod policy_list;
 mod role;
 mod same;

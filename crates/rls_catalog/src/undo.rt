@@ -3,9 +3,18 @@
 use crate::grant::Grant;
 use crate::policy_list::PolicyList;
 use crate::role::{Membership, RoleDef};
-use crate::slots::Before;
+use crate::stored::Keyed;
 use rls_expr::TableDef;
 use rls_value::{Items, Name, RowId};
+
+/// What stood at a number before a content was put there; none where there was no place.
+#[derive(Drop)]
+pub(crate) struct Before {
+    pub(crate) id: RowId,
+    pub(crate) content: Option<Option<Keyed>>,
+    /// Neither the place nor the index will have to go: the row has the key of the one that stood there, or none stood there.
+    pub(crate) is_settled: bool,
+}
 
 /// What stood where a change was put on; none where nothing stood.
 #[derive(Drop)]
@@ -21,8 +30,8 @@ pub(crate) enum Undo {
 /// The same of the rows.
 #[derive(Drop)]
 pub(crate) enum RowsUndo {
-    /// What stood at a place of a table's rows. The place may have stood empty.
-    Place(Name, RowId, Before),
+    /// The table's rows know what stood at the place; whether this is the only change of theirs that can be taken back.
+    Place(Name, bool),
     /// The table had no places.
     Table(Name),
 }

@@ -8,7 +8,7 @@ use Rattle.rls_catalog.specs.Kept.{rows_listed}
 use Rattle.rls_catalog.specs.Changed.{with_first_row}
 use Rattle.rls_catalog.specs.Undone.{rows_undone}
 use Rattle.rls_catalog.specs.declared.undo.RowsUndo.TheVariants as r
-use Rattle.rls_catalog.proofs.RowsListed.{row_put, first_row_put, place_back}
+use Rattle.rls_catalog.proofs.RowsListed.{row_put, first_row_put, table_back}
 use Rattle.rls_catalog.proofs.contents.put_row.Goals as goal
 
 pub returns-in-Ok-clause-ok : goal.returns-in-Ok-clause-ok
@@ -20,8 +20,8 @@ returns-in-Ok-clause-ok c =
 pub returns-in-Ok-clause-undo : goal.returns-in-Ok-clause-undo
 returns-in-Ok-clause-undo c =
     let found : at c.args.change.now.table c.args.tables.now.entries ≡ Some c.in-Some.slots.now = sym c.get_mut.ensures.value ∙ ap option_copied_mut c.in-Some.is in
-    ap (λ table. rows_undone (r.Place table c.args.change.now.id c.in-Ok.before) (c.get_mut.follows.lender c.set.new.self).entries) c.in_ok-table.ensures
-    ∙ place_back c.args.change.now.table c.args.change.now.id c.in-Ok.before c.args.tables.now.entries (c.get_mut.follows.lender c.set.new.self).entries c.in-Some.slots.now c.set.new.self found
+    ap (λ table. rows_undone (r.Place table c.in-Ok.is_first) (c.get_mut.follows.lender c.set.new.self).entries) c.in_ok-table.ensures
+    ∙ table_back c.args.change.now.table c.in-Ok.is_first c.args.tables.now.entries (c.get_mut.follows.lender c.set.new.self).entries c.in-Some.slots.now c.set.new.self found
     (c.get_mut.follows.holds c.set.new.self).0 c.in-Ok.ensures.before
 
 pub returns-in-Err-clause-err : goal.returns-in-Err-clause-err

@@ -3,7 +3,7 @@ use Rattle.std.specs.Option.{option_copied_mut}
 use Rattle.rls_catalog.specs.State.{at}
 use Rattle.rls_catalog.specs.Kept.{rows_listed}
 use Rattle.rls_catalog.proofs.RowsListed.{rows_listed_stays}
-use Rattle.rls_catalog.proofs.contents.settle_row.Goals as goal
+use Rattle.rls_catalog.proofs.contents.settle_rows.Goals as goal
 
 pub returns-in-Some : goal.returns-in-Some
 returns-in-Some c =

@@ -4,7 +4,7 @@ use Rattle.std.specs.Map.{lookup}
 use Rattle.std.specs.Option.{option_copied_mut}
 use Rattle.std.proofs.lemmas.Map.Steps.{set_value_same}
 use Rattle.rls_catalog.specs.State.{id_order}
-use Rattle.rls_catalog.proofs.slots.exchange_like.Goals as goal
+use Rattle.rls_catalog.proofs.placing.exchange_like.Goals as goal
 
 pub returns-else-has_key-clause-err : goal.returns-else-has_key-clause-err
 returns-else-has_key-clause-err c =
