@@ -18,7 +18,7 @@ use Rattle.rls_catalog.specs.declared.change.Change.TheVariants as c
 use Rattle.rls_catalog.specs.declared.change.RowChange.{RowChange}
 use Rattle.rls_catalog.specs.State.{State, name_order, at, or_none, role_of, members_of, table_of, grants_of, policies_of, rows_of, rows_with_key, with_key, stored_of, entries_of}
 use Rattle.rls_catalog.specs.Changed.{changed, changed_all, with_row}
-use Rattle.rls_catalog.specs.Kept.{Kept}
+use Rattle.rls_overlay.specs.Written.{Own}
 use Rattle.rls_catalog.proofs.ContentsLaws.{is_name, same_name, at_put, role_of_changed, members_of_changed, table_of_changed, grants_of_changed, policies_of_changed}
 use Rattle.rls_catalog.specs.InOrder.{RowsInOrder}
 use Rattle.rls_catalog.proofs.RowsChanged.{entries_of_changed}
@@ -51,7 +51,7 @@ put_list_over q name xs own now found is =
 
 -- ---- roles
 
-role_put : (s : State) (k : Kept) (change : Change) (q : List ℕ) (found : Option RoleDef) → role_of s q ≡ over (at q k.roles) found → role_of (changed s change) q ≡ over (at q (with_change k change).roles) found
+role_put : (s : State) (k : Own) (change : Change) (q : List ℕ) (found : Option RoleDef) → role_of s q ≡ over (at q k.roles) found → role_of (changed s change) q ≡ over (at q (with_change k change).roles) found
 role_put s k (c.Role name def) q found is = role_of_changed s name def q ∙ put_over q name def k.roles (role_of s q) found is
 role_put s k (c.Members name content) q found is = is
 role_put s k (c.Table name def) q found is = is
@@ -59,7 +59,7 @@ role_put s k (c.Grants name content) q found is = is
 role_put s k (c.Policies name content) q found is = is
 role_put s k (c.Row change) q found is = is
 
-role_puts : (s : State) (k : Kept) (changes : List Change) (q : List ℕ) (found : Option RoleDef) → role_of s q ≡ over (at q k.roles) found → role_of (changed_all s changes) q ≡ over (at q (with_changes k changes).roles) found
+role_puts : (s : State) (k : Own) (changes : List Change) (q : List ℕ) (found : Option RoleDef) → role_of s q ≡ over (at q k.roles) found → role_of (changed_all s changes) q ≡ over (at q (with_changes k changes).roles) found
 role_puts s k [] q found is = is
 role_puts s k (change ∷ more) q found is = role_puts (changed s change) (with_change k change) more q found (role_put s k change q found is)
 
@@ -69,7 +69,7 @@ role_behind s changes q = role_puts s unwritten changes q (role_of s q) refl
 
 -- ---- memberships
 
-members_put : (s : State) (k : Kept) (change : Change) (q : List ℕ) (found : List Membership) → members_of s q ≡ list_over (at q k.members) found → members_of (changed s change) q ≡ list_over (at q (with_change k change).members) found
+members_put : (s : State) (k : Own) (change : Change) (q : List ℕ) (found : List Membership) → members_of s q ≡ list_over (at q k.members) found → members_of (changed s change) q ≡ list_over (at q (with_change k change).members) found
 members_put s k (c.Role name def) q found is = is
 members_put s k (c.Members name content) q found is = members_of_changed s name content q ∙ put_list_over q name content k.members (members_of s q) found is
 members_put s k (c.Table name def) q found is = is
@@ -77,7 +77,7 @@ members_put s k (c.Grants name content) q found is = is
 members_put s k (c.Policies name content) q found is = is
 members_put s k (c.Row change) q found is = is
 
-members_puts : (s : State) (k : Kept) (changes : List Change) (q : List ℕ) (found : List Membership) → members_of s q ≡ list_over (at q k.members) found → members_of (changed_all s changes) q ≡ list_over (at q (with_changes k changes).members) found
+members_puts : (s : State) (k : Own) (changes : List Change) (q : List ℕ) (found : List Membership) → members_of s q ≡ list_over (at q k.members) found → members_of (changed_all s changes) q ≡ list_over (at q (with_changes k changes).members) found
 members_puts s k [] q found is = is
 members_puts s k (change ∷ more) q found is = members_puts (changed s change) (with_change k change) more q found (members_put s k change q found is)
 
@@ -87,7 +87,7 @@ members_behind s changes q = members_puts s unwritten changes q (members_of s q)
 
 -- ---- tables
 
-table_put : (s : State) (k : Kept) (change : Change) (q : List ℕ) (found : Option TableDef) → table_of s q ≡ over (at q k.tables) found → table_of (changed s change) q ≡ over (at q (with_change k change).tables) found
+table_put : (s : State) (k : Own) (change : Change) (q : List ℕ) (found : Option TableDef) → table_of s q ≡ over (at q k.tables) found → table_of (changed s change) q ≡ over (at q (with_change k change).tables) found
 table_put s k (c.Role name def) q found is = is
 table_put s k (c.Members name content) q found is = is
 table_put s k (c.Table name def) q found is = table_of_changed s name def q ∙ put_over q name def k.tables (table_of s q) found is
@@ -95,7 +95,7 @@ table_put s k (c.Grants name content) q found is = is
 table_put s k (c.Policies name content) q found is = is
 table_put s k (c.Row change) q found is = is
 
-table_puts : (s : State) (k : Kept) (changes : List Change) (q : List ℕ) (found : Option TableDef) → table_of s q ≡ over (at q k.tables) found → table_of (changed_all s changes) q ≡ over (at q (with_changes k changes).tables) found
+table_puts : (s : State) (k : Own) (changes : List Change) (q : List ℕ) (found : Option TableDef) → table_of s q ≡ over (at q k.tables) found → table_of (changed_all s changes) q ≡ over (at q (with_changes k changes).tables) found
 table_puts s k [] q found is = is
 table_puts s k (change ∷ more) q found is = table_puts (changed s change) (with_change k change) more q found (table_put s k change q found is)
 
@@ -105,7 +105,7 @@ table_behind s changes q = table_puts s unwritten changes q (table_of s q) refl
 
 -- ---- grants
 
-grants_put : (s : State) (k : Kept) (change : Change) (q : List ℕ) (found : List Grant) → grants_of s q ≡ list_over (at q k.grants) found → grants_of (changed s change) q ≡ list_over (at q (with_change k change).grants) found
+grants_put : (s : State) (k : Own) (change : Change) (q : List ℕ) (found : List Grant) → grants_of s q ≡ list_over (at q k.grants) found → grants_of (changed s change) q ≡ list_over (at q (with_change k change).grants) found
 grants_put s k (c.Role name def) q found is = is
 grants_put s k (c.Members name content) q found is = is
 grants_put s k (c.Table name def) q found is = is
@@ -113,7 +113,7 @@ grants_put s k (c.Grants name content) q found is = grants_of_changed s name con
 grants_put s k (c.Policies name content) q found is = is
 grants_put s k (c.Row change) q found is = is
 
-grants_puts : (s : State) (k : Kept) (changes : List Change) (q : List ℕ) (found : List Grant) → grants_of s q ≡ list_over (at q k.grants) found → grants_of (changed_all s changes) q ≡ list_over (at q (with_changes k changes).grants) found
+grants_puts : (s : State) (k : Own) (changes : List Change) (q : List ℕ) (found : List Grant) → grants_of s q ≡ list_over (at q k.grants) found → grants_of (changed_all s changes) q ≡ list_over (at q (with_changes k changes).grants) found
 grants_puts s k [] q found is = is
 grants_puts s k (change ∷ more) q found is = grants_puts (changed s change) (with_change k change) more q found (grants_put s k change q found is)
 
@@ -123,7 +123,7 @@ grants_behind s changes q = grants_puts s unwritten changes q (grants_of s q) re
 
 -- ---- policies
 
-policies_put : (s : State) (k : Kept) (change : Change) (q : List ℕ) (found : List Policy) → policies_of s q ≡ list_over (at q k.policies) found → policies_of (changed s change) q ≡ list_over (at q (with_change k change).policies) found
+policies_put : (s : State) (k : Own) (change : Change) (q : List ℕ) (found : List Policy) → policies_of s q ≡ list_over (at q k.policies) found → policies_of (changed s change) q ≡ list_over (at q (with_change k change).policies) found
 policies_put s k (c.Role name def) q found is = is
 policies_put s k (c.Members name content) q found is = is
 policies_put s k (c.Table name def) q found is = is
@@ -131,7 +131,7 @@ policies_put s k (c.Grants name content) q found is = is
 policies_put s k (c.Policies name content) q found is = policies_of_changed s name content q ∙ put_list_over q name content k.policies (policies_of s q) found is
 policies_put s k (c.Row change) q found is = is
 
-policies_puts : (s : State) (k : Kept) (changes : List Change) (q : List ℕ) (found : List Policy) → policies_of s q ≡ list_over (at q k.policies) found → policies_of (changed_all s changes) q ≡ list_over (at q (with_changes k changes).policies) found
+policies_puts : (s : State) (k : Own) (changes : List Change) (q : List ℕ) (found : List Policy) → policies_of s q ≡ list_over (at q k.policies) found → policies_of (changed_all s changes) q ≡ list_over (at q (with_changes k changes).policies) found
 policies_puts s k [] q found is = is
 policies_puts s k (change ∷ more) q found is = policies_puts (changed s change) (with_change k change) more q found (policies_put s k change q found is)
 
@@ -201,7 +201,7 @@ behind_if true id content rows own found in_order behind = record {
 }
 behind_if false id content rows own found in_order behind = behind
 
-rows_put : (s : State) (k : Kept) (change : Change) (q : List ℕ) (found : List Stored) → Ascending found → Behind (rows_of s q) (or_none (at q k.rows)) found
+rows_put : (s : State) (k : Own) (change : Change) (q : List ℕ) (found : List Stored) → Ascending found → Behind (rows_of s q) (or_none (at q k.rows)) found
     → Behind (rows_of (changed s change) q) (or_none (at q (with_change k change).rows)) found
 rows_put s k (c.Role name def) q found in_order behind = behind
 rows_put s k (c.Members name content) q found in_order behind = behind
@@ -213,7 +213,7 @@ rows_put s k (c.Row change) q found in_order behind =
     (subst (λ own. Behind (cond (is_name q change.table) (with_stored change.id change.after (rows_of s q)) (rows_of s q)) own found) (sym (own_of_row change k.rows q))
     (behind_if (is_name q change.table) change.id change.after (rows_of s q) (or_none (at q k.rows)) found in_order behind))
 
-rows_puts : (s : State) (k : Kept) (changes : List Change) (q : List ℕ) (found : List Stored) → Ascending found → Behind (rows_of s q) (or_none (at q k.rows)) found
+rows_puts : (s : State) (k : Own) (changes : List Change) (q : List ℕ) (found : List Stored) → Ascending found → Behind (rows_of s q) (or_none (at q k.rows)) found
     → Behind (rows_of (changed_all s changes) q) (or_none (at q (with_changes k changes).rows)) found
 rows_puts s k [] q found in_order behind = behind
 rows_puts s k (change ∷ more) q found in_order behind = rows_puts (changed s change) (with_change k change) more q found in_order (rows_put s k change q found in_order behind)

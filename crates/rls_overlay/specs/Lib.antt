@@ -1,4 +1,5 @@
 pub mod Written
+pub mod WrittenCode
 pub mod Merged
 pub mod Indexed
 pub use Rattle.rls_catalog.specs.State

@@ -3,12 +3,25 @@ use Rattle.std.specs.Prelude.{ℕ, List, [], ◌∷◌, Option, Some, None}
 use Rattle.std.specs.BTreeMap.{is_at, insert_entry}
 use Rattle.std.specs.Map.{set_value}
 use Rattle.rls_value.specs.declared.row.RowId.{RowId}
+use Rattle.rls_expr.specs.declared.table.TableDef.{TableDef}
+use Rattle.rls_expr.specs.declared.policy.Policy.{Policy}
+use Rattle.rls_catalog.specs.declared.role.RoleDef.{RoleDef}
+use Rattle.rls_catalog.specs.declared.role.Membership.{Membership}
+use Rattle.rls_catalog.specs.declared.grant.Grant.{Grant}
 use Rattle.rls_catalog.specs.declared.stored.Keyed.{Keyed}
 use Rattle.rls_catalog.specs.declared.change.Change.{Change}
 use Rattle.rls_catalog.specs.declared.change.Change.TheVariants as c
 use Rattle.rls_catalog.specs.declared.change.RowChange.{RowChange}
 use Rattle.rls_catalog.specs.State.{name_order, id_order, at, or_none}
-use Rattle.rls_catalog.specs.Kept.{Kept}
+
+-- the last content of each object that was written
+pub record Own : Type 0 where
+  pub roles : List (List ℕ × RoleDef)
+  pub members : List (List ℕ × List Membership)
+  pub tables : List (List ℕ × TableDef)
+  pub grants : List (List ℕ × List Grant)
+  pub policies : List (List ℕ × List Policy)
+  pub rows : List (List ℕ × List (RowId × Option Keyed))
 
 -- the rows written, with that content at the number
 abbrev pub with_own : RowId → Option Keyed → List (RowId × Option Keyed) → List (RowId × Option Keyed)
@@ -24,7 +37,7 @@ abbrev pub with_own_row : List (List ℕ × List (RowId × Option Keyed)) → Ro
 with_own_row tables change = with_own_in change (at change.table tables) tables
 
 -- what was written, and one change more
-abbrev pub with_change : Kept → Change → Kept
+abbrev pub with_change : Own → Change → Own
 with_change k (c.Role name def) = record k { roles = insert_entry name_order k.roles name def }
 with_change k (c.Members name content) = record k { members = insert_entry name_order k.members name content }
 with_change k (c.Table name def) = record k { tables = insert_entry name_order k.tables name def }
@@ -33,16 +46,16 @@ with_change k (c.Policies name content) = record k { policies = insert_entry nam
 with_change k (c.Row change) = record k { rows = with_own_row k.rows change }
 
 -- what was written, and changes one after another
-abbrev pub with_changes : Kept → List Change → Kept
+abbrev pub with_changes : Own → List Change → Own
 with_changes k [] = k
 with_changes k (change ∷ more) = with_changes (with_change k change) more
 
 -- nothing
-abbrev pub unwritten : Kept
+abbrev pub unwritten : Own
 unwritten = record { roles = []; members = []; tables = []; grants = []; policies = []; rows = [] }
 
 -- what the changes wrote
-abbrev pub written : List Change → Kept
+abbrev pub written : List Change → Own
 written changes = with_changes unwritten changes
 
 -- the rows that the changes wrote in the table

@@ -28,12 +28,12 @@ impl<'c> Model for OwnRows<'c> {
     ghost use Rattle.std.specs.Prelude.{◌≡◌, List, Option, true};
     ghost use Rattle.rls_value.specs.declared.row.RowId.{RowId as Number};
     ghost use Rattle.rls_catalog.specs.declared.stored.Keyed.{Keyed as Content};
-    ghost use Rattle.rls_catalog.specs.KeptCode.{slots_code};
+    ghost use Rattle.rls_overlay.specs.WrittenCode.{own_rows_code};
     ghost use Rattle.rls_overlay.specs.Indexed.{Indexes};
 
     ghost Value = { List (Number × Option Content) };
 
-    ghost coded = { slots_code };
+    ghost coded = { own_rows_code };
 
     ghost view = { λ it. it.rows.entries };
 

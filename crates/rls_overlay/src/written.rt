@@ -17,7 +17,7 @@ use std::alloc::{AllocError, Global};
 use std::collections::BTreeMap;
 use std::marker::Model;
 
-/// The last content of each object that was written, found in logarithmic time; seen as `Kept`.
+/// The last content of each object that was written, found in logarithmic time; seen as `Own`.
 #[derive(Drop)]
 pub(crate) struct Written<'c> {
     roles: BTreeMap<Name, Loan<'c, RoleDef>>,
@@ -29,12 +29,12 @@ pub(crate) struct Written<'c> {
 }
 
 impl<'c> Model for Written<'c> {
-    ghost use Rattle.rls_catalog.specs.Kept.{Kept};
-    ghost use Rattle.rls_catalog.specs.KeptCode.{kept_code};
+    ghost use Rattle.rls_overlay.specs.Written.{Own};
+    ghost use Rattle.rls_overlay.specs.WrittenCode.{own_code};
 
-    ghost Value = { Kept };
+    ghost Value = { Own };
 
-    ghost coded = { kept_code };
+    ghost coded = { own_code };
 
     ghost view = { λ w. record { roles = w.roles.entries; members = w.members.entries; tables = w.tables.entries; grants = w.grants.entries; policies = w.policies.entries; rows = w.rows.entries } };
 }

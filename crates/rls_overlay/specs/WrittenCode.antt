@@ -1,0 +1,37 @@
+-- The code of what was written, by which proofs tell it apart.
+use Rattle.std.specs.Prelude.{ℕ, List, Option, refl}
+use Rattle.std.specs.Coded.{Coded, code_by, coded×, coded_list, coded_option}
+use Rattle.rls_value.specs.declared.row.RowId.{RowId}
+use Rattle.rls_value.specs.contracts.row.RowId as id
+use Rattle.rls_expr.specs.declared.table.TableDef.{TableDef}
+use Rattle.rls_expr.specs.contracts.table.TableDef as table
+use Rattle.rls_expr.specs.declared.policy.Policy.{Policy}
+use Rattle.rls_expr.specs.contracts.policy.Policy as policy
+use Rattle.rls_catalog.specs.declared.role.RoleDef.{RoleDef}
+use Rattle.rls_catalog.specs.declared.role.Membership.{Membership}
+use Rattle.rls_catalog.specs.declared.grant.Grant.{Grant}
+use Rattle.rls_catalog.specs.declared.stored.Keyed.{Keyed}
+use Rattle.rls_catalog.specs.contracts.role.RoleDef as role
+use Rattle.rls_catalog.specs.contracts.role.Membership as membership
+use Rattle.rls_catalog.specs.contracts.grant.Grant as grant
+use Rattle.rls_catalog.specs.contracts.stored.Keyed as keyed
+use Rattle.rls_catalog.specs.StateCode.{under_names}
+use Rattle.rls_overlay.specs.Written.{Own}
+
+-- what it consists of
+abbrev pub Parts : Type 0
+Parts = List (List ℕ × RoleDef) × (List (List ℕ × List Membership) × (List (List ℕ × TableDef) × (List (List ℕ × List Grant) × (List (List ℕ × List Policy) × List (List ℕ × List (RowId × Option Keyed))))))
+
+-- the code of the rows that were written in a table
+abbrev pub own_rows_code : Coded (List (RowId × Option Keyed))
+own_rows_code = coded_list (coded× id.the_row.coded (coded_option keyed.the_row.coded))
+
+-- the code of what was written, part by part
+abbrev pub parts_code : Coded Parts
+parts_code =
+    coded× (under_names role.the_row.coded) (coded× (under_names (coded_list membership.the_row.coded)) (coded× (under_names table.the_row.coded) (coded× (under_names (coded_list grant.the_row.coded)) (coded× (under_names (coded_list policy.the_row.coded)) (under_names own_rows_code)))))
+
+-- the code of what was written
+abbrev pub own_code : Coded Own
+own_code =
+    code_by Parts parts_code (λ k. (k.roles, (k.members, (k.tables, (k.grants, (k.policies, k.rows)))))) (λ p. record { roles = p.0; members = p.1.0; tables = p.1.1.0; grants = p.1.1.1.0; policies = p.1.1.1.1.0; rows = p.1.1.1.1.1 }) (λ _. refl)
