@@ -1,5 +1,5 @@
 -- Values: comparison with null, the listing order, the range of a column's type.
-use Rattle.std.specs.Prelude.{ℕ, ℤ, pos, negsuc, ◌-◌, ◌^◌, nat_eq, List, [], ◌∷◌, ◌++◌, codes, Bool, true, false, ◌&&◌, ◌||◌, not, if◌then◌else◌, slice_get, unwrap_or, encode_utf8}
+use Rattle.std.specs.Prelude.{ℕ, pos, negsuc, ◌-◌, ◌^◌, nat_eq, List, [], ◌∷◌, ◌++◌, codes, Bool, true, false, ◌&&◌, not, if◌then◌else◌, slice_get, unwrap_or, encode_utf8}
 use Rattle.std.specs.Str.{bytes_eq, chars}
 use Rattle.std.specs.List.{flat_map}
 use Rattle.std.specs.Fmt.{signed_decimal}

@@ -152,14 +152,17 @@ impl Eq for Row {
 }
 
 /// The order in which rows are listed: by their values, left to right; where none differ the shorter comes first.
+/// Keys of one number, which indexes compare most, are told at once.
 #[inline]
 pub fn cmp_rows(left: &Row, right: &Row) -> Ordering
     ensures { result ≡ slice_cmp listed left.now right.now }
 {
-    cmp_lists(left.as_slice(), right.as_slice())
+    match (left.as_slice(), right.as_slice()) {
+        ([Value::Int(left)], [Value::Int(right)]) => left.cmp(right),
+        (left, right) => cmp_lists(left, right),
+    }
 }
 
-#[inline]
 fn cmp_lists(mut left: &[Value], mut right: &[Value]) -> Ordering
     ensures { result ≡ slice_cmp listed left.entry.now right.entry.now }
 {
