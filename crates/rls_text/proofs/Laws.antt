@@ -11,7 +11,8 @@ use Rattle.rls_text.specs.Nested.{subqueries_of}
 use Rattle.rls_text.specs.Writes.{some_is}
 use Rattle.rls_text.specs.Cut.{Cut}
 use Rattle.rls_text.specs.Cut as cut
-use Rattle.rls_text.specs.Cutting.{tree_of, draft_of, draft_low, draft_high}
+use Rattle.rls_text.specs.Cutting.{tree_of, draft_of}
+use Rattle.rls_text.proofs.CuttingLaws.{draft_low, draft_high}
 use Rattle.rls_statement.specs.declared.statement.Statement.TheVariants as st
 use Rattle.rls_text.specs.FirstSets.{expr_heads, expr_more}
 use Rattle.rls_text.specs.Grammar as g

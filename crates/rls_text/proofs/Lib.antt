@@ -1,3 +1,4 @@
+pub mod CuttingLaws
 pub mod Loops
 pub mod Rooms
 pub mod Wording

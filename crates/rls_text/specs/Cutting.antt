@@ -1,6 +1,6 @@
 -- What is kept of an expression: the expression with its height, or what stands for one that is too high; and that the
 -- builders of trees keep it so.
-use Rattle.std.specs.Prelude.{◌≡◌, ℕ, zero, suc, ◌+◌, ◌≤◌, ◌<◌, max, nat_lt, nat_eq, Bool, true, false, ◌&&◌, if◌then◌else◌, List, [], ◌∷◌, ◌++◌, length, map, Option, Some, None, is_some, refl}
+use Rattle.std.specs.Prelude.{◌≡◌, ℕ, zero, suc, ◌+◌, ◌≤◌, ◌<◌, max, nat_lt, nat_eq, Bool, true, false, ◌&&◌, List, [], ◌∷◌, ◌++◌, length, map, Option, Some, None, is_some, refl, if◌then◌else◌}
 use Rattle.std.proofs.Common.{arith, inl, inr, sym, ap, ◌∙◌, append_assoc}
 use Rattle.std.proofs.lemmas.Bool.{ltb-true, ltb-false, lt-ltb, le-ltb}
 use Rattle.rls_expr.specs.declared.expr.Comparison.{Comparison}
@@ -16,7 +16,7 @@ use Rattle.rls_text.specs.declared.tree.Operands.TheVariants.{One, Several}
 use Rattle.rls_text.specs.declared.tree.Choices.{Choices}
 use Rattle.rls_text.specs.declared.tree.Choices.TheVariants.{Listed, Queried}
 use Rattle.rls_text.specs.Cut.{of_some}
-use Rattle.rls_text.specs.Heights.{height, heights, query_height, height_if, highest, set_values, height_of}
+use Rattle.rls_text.specs.Heights.{height, heights, query_height, height_if, set_values}
 use Rattle.rls_text.specs.Lang.{put_in}
 use Rattle.rls_text.specs.Trees.{Tree, SelectParts, parted_select, query_of, one_deeper, select_depth, Tuple, Tuples, Draft, cut, above, null_test_of, with_operand, operands, with_summand, summed, among_of, with_part, tuple_of, with_tuple, tuples_of, SetColumn, SetColumns, with_set_column, set_columns_of, parted, deeper}
 use Rattle.rls_text.specs.Trees as t
@@ -151,30 +151,6 @@ terms_high (x ∷ xs) h = go (nat_lt 64 (tree_of x).1) refl (terms_high xs)
     go false e again =
         let low : (tree_of x).1 ≤ 64 = ltb-false 64 (tree_of x).1 e in
         let k = again (omega (arith, h, low)) in omega (arith, k)
-
-pub tuples_low : (xs : List (List Term)) → deepest_tuple xs ≤ 64 → (map terms_kept xs ≡ xs) × (deepest_tuple xs ≡ highest xs)
-tuples_low [] h = (refl, refl)
-tuples_low (x ∷ xs) h =
-    let first = terms_low x (omega (arith, h)) in
-    let more = tuples_low xs (omega (arith, h)) in
-    (rw (first.0, more.0) refl, rw (first.1, more.1) refl)
-
-pub tuples_high : (xs : List (List Term)) → 64 < deepest_tuple xs → 64 < highest xs
-tuples_high [] h = absurd (omega (arith, h))
-tuples_high (x ∷ xs) h = go (nat_lt 64 (deepest x)) refl (tuples_high xs)
-  where
-    go : (b : Bool) → nat_lt 64 (deepest x) ≡ b → (64 < deepest_tuple xs → 64 < highest xs) → 64 < highest (x ∷ xs)
-    go true e again = let k = terms_high x (ltb-true 64 (deepest x) e) in omega (arith, k)
-    go false e again =
-        let low : deepest x ≤ 64 = ltb-false 64 (deepest x) e in
-        let k = again (omega (arith, h, low)) in omega (arith, k)
-
-pub settings_low : (xs : List Setting) → deepest (set_values xs) ≤ 64 → settings_kept xs ≡ xs
-settings_low [] h = refl
-settings_low (x ∷ xs) h =
-    let first = tree_low x.value (omega (arith, h)) in
-    let more = settings_low xs (omega (arith, h)) in
-    rw (first.0, more) refl
 
 pub if_low : (o : Option Term) → (parted (of_some tree_of o)).1 ≤ 64 → ((parted (of_some tree_of o)).0 ≡ o) × ((parted (of_some tree_of o)).1 ≡ height_if o)
 if_low None h = (refl, refl)
@@ -458,76 +434,3 @@ is_policy_kept r = rw (there_kept r.1.1.0, there_kept r.1.1.1) refl
 
 pub is_change_kept : (r : values.PolicyChange Term) → values.is_change (change_kept r) ≡ values.is_change r
 is_change_kept r = rw (there_kept r.1.0, there_kept r.1.1) refl
-
--- ---- a statement that isn't too high is kept as it is
-
-pub draft_low : (x : Statement) → (draft_of x).1 ≤ 64 → ((draft_of x).0 ≡ x) × ((draft_of x).1 ≡ height_of x)
-draft_low (st.Select x) h = let k = if_low x.condition h in (ap (λ z. st.Select record { items = x.items; table = x.table; alias = x.alias; condition = z }) k.0, k.1)
-draft_low (st.Insert x) h = let k = tuples_low x.tuples h in (ap (λ z. st.Insert record x { tuples = z }) k.0, k.1)
-draft_low (st.Update x) h =
-    let k = settings_low x.settings (omega (arith, h)) in
-    let s = terms_low (set_values x.settings) (omega (arith, h)) in
-    let j = if_low x.condition (omega (arith, h)) in (
-      ap (λ z. st.Update record x { settings = z; condition = (parted (of_some tree_of x.condition)).0 }) k ∙ ap (λ z. st.Update record x { condition = z }) j.0,
-      rw (s.1, j.1) refl,
-    )
-draft_low (st.Delete x) h = let k = if_low x.condition h in (ap (λ z. st.Delete record x { condition = z }) k.0, k.1)
-draft_low (st.CreatePolicy x) h =
-    let k = if_low x.policy.using (omega (arith, h)) in
-    let j = if_low x.policy.check (omega (arith, h)) in (
-      ap (λ z. st.CreatePolicy record { table = x.table; policy = record x.policy { using = z; check = (parted (of_some tree_of x.policy.check)).0 } }) k.0
-          ∙ ap (λ z. st.CreatePolicy record { table = x.table; policy = record x.policy { check = z } }) j.0,
-      rw (k.1, j.1) refl,
-    )
-draft_low (st.AlterPolicy x) h =
-    let k = if_low x.using (omega (arith, h)) in
-    let j = if_low x.check (omega (arith, h)) in (
-      ap (λ z. st.AlterPolicy record x { using = z; check = (parted (of_some tree_of x.check)).0 }) k.0 ∙ ap (λ z. st.AlterPolicy record x { check = z }) j.0,
-      rw (k.1, j.1) refl,
-    )
-draft_low (st.DropPolicy x) h = (refl, refl)
-draft_low (st.CreateRole x) h = (refl, refl)
-draft_low (st.CreateTable x) h = (refl, refl)
-draft_low (st.AlterTable x) h = (refl, refl)
-draft_low (st.Grant x) h = (refl, refl)
-draft_low (st.AlterRole x) h = (refl, refl)
-draft_low (st.GrantRoles x) h = (refl, refl)
-draft_low (st.Revoke x) h = (refl, refl)
-draft_low (st.RevokeRoles x) h = (refl, refl)
-draft_low (st.SetRole x) h = (refl, refl)
-
-either_high : (using check : Option Term) → 64 < deeper (conditions_kept (using, check)) → 64 < max (height_if using) (height_if check)
-either_high using check h = go (nat_lt 64 (parted (of_some tree_of using)).1) refl
-  where
-    go : (b : Bool) → nat_lt 64 (parted (of_some tree_of using)).1 ≡ b → 64 < max (height_if using) (height_if check)
-    go true p = let k = if_high using (ltb-true 64 (parted (of_some tree_of using)).1 p) in omega (arith, k)
-    go false p =
-        let low : (parted (of_some tree_of using)).1 ≤ 64 = ltb-false 64 (parted (of_some tree_of using)).1 p in
-        let k = if_high check (omega (arith, h, low)) in omega (arith, k)
-
-update_high : (settings : List Setting) (condition : Option Term) → 64 < max (deepest (set_values settings)) (parted (of_some tree_of condition)).1 → 64 < max (heights (terms_of (set_values settings))) (height_if condition)
-update_high settings condition h = go (nat_lt 64 (deepest (set_values settings))) refl
-  where
-    go : (b : Bool) → nat_lt 64 (deepest (set_values settings)) ≡ b → 64 < max (heights (terms_of (set_values settings))) (height_if condition)
-    go true p = let k = terms_high (set_values settings) (ltb-true 64 (deepest (set_values settings)) p) in omega (arith, k)
-    go false p =
-        let low : deepest (set_values settings) ≤ 64 = ltb-false 64 (deepest (set_values settings)) p in
-        let k = if_high condition (omega (arith, h, low)) in omega (arith, k)
-
-pub draft_high : (x : Statement) → 64 < (draft_of x).1 → 64 < height_of x
-draft_high (st.Select x) h = if_high x.condition h
-draft_high (st.Insert x) h = tuples_high x.tuples h
-draft_high (st.Update x) h = update_high x.settings x.condition h
-draft_high (st.Delete x) h = if_high x.condition h
-draft_high (st.CreatePolicy x) h = either_high x.policy.using x.policy.check h
-draft_high (st.AlterPolicy x) h = either_high x.using x.check h
-draft_high (st.DropPolicy x) h = absurd (omega (arith, h))
-draft_high (st.CreateRole x) h = absurd (omega (arith, h))
-draft_high (st.CreateTable x) h = absurd (omega (arith, h))
-draft_high (st.AlterTable x) h = absurd (omega (arith, h))
-draft_high (st.Grant x) h = absurd (omega (arith, h))
-draft_high (st.AlterRole x) h = absurd (omega (arith, h))
-draft_high (st.GrantRoles x) h = absurd (omega (arith, h))
-draft_high (st.Revoke x) h = absurd (omega (arith, h))
-draft_high (st.RevokeRoles x) h = absurd (omega (arith, h))
-draft_high (st.SetRole x) h = absurd (omega (arith, h))
