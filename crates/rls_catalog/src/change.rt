@@ -106,6 +106,15 @@ impl Delta {
         }
     }
 
+    /// No changes, with room for this many.
+    pub fn with_capacity(alloc: Global, capacity: usize) -> Result<Delta, AllocError>
+        ensures { IfOk result (λ delta. delta ≡ []) }
+    {
+        Ok(Delta {
+            changes: Vec::with_capacity(alloc, capacity)?,
+        })
+    }
+
     pub fn push(&mut self, change: Change) -> Result<(), AllocError>
         ensures ok { OnOk result (self.new ≡ self.old ++ change ∷ []) }
         ensures err { OnErr result (self.new ≡ self.old) }

@@ -90,7 +90,7 @@ pub fn require_unique<'c, S: RowSource<'c>>(
 fn whole_keys(alloc: Global, rows: &[Stored]) -> Result<Vec<Row>, AllocError>
     ensures { IfOk result (λ keys. keys.items ≡ spec.keys_of rows.now) }
 {
-    let mut keys = Vec::new(alloc);
+    let mut keys = Vec::with_capacity(alloc, rows.len())?;
     for stored in rows {
         if is_whole(stored.key.as_slice()) {
             keys.push(stored.key.copy(alloc)?)?;

@@ -246,7 +246,7 @@ fn rows_with<'c>(
 ) -> Result<Items<Stored>, Refusal>
     ensures { Gives result (each_with (spec.updated_row table.now places.now) (map (λ hit. hit.now) hits.now) (map values_held values.now)) }
 {
-    let mut rows = Items::new(alloc);
+    let mut rows = Items::with_capacity(alloc, hits.len())?;
     let mut left = values;
     for hit in hits {
         let row = updated_row(alloc, table, places, hit, first_of(left))?;
@@ -416,7 +416,7 @@ fn changes_of<'c>(
 ) -> Result<Delta, AllocError>
     ensures { IfOk result (λ delta. delta ≡ spec.changed_rows name.now (map (λ hit. hit.now) hits.entry.now) new.items) }
 {
-    let mut delta = Delta::new(alloc);
+    let mut delta = Delta::with_capacity(alloc, hits.len())?;
     for row in new {
         match hits {
             [old, others @ ..] => {

@@ -10,14 +10,22 @@ use Rattle.rls_value.specs.Values.{truth_in, value_of_truth}
 use Rattle.rls_expr.specs.declared.policy.Policy.{Policy}
 use Rattle.rls_expr.specs.Terms.{Term}
 use Rattle.rls_catalog.specs.State.{State}
+use Rattle.rls_catalog.specs.declared.verdict.Verdict.{Verdict}
 use Rattle.rls_catalog.specs.Verdict.{is_such, names_where, lesser, least, verdict_by}
 use Rattle.rls_source.specs.Readings.{unread, read_then}
+use Rattle.rls_source.specs.Askings.{Asking, known, followed_by}
 use Rattle.rls_evaluation.specs.Environments.{over}
 use Rattle.rls_evaluation.specs.Eval.{Shows, value_of}
 use Rattle.rls_evaluation.specs.Plain.{IsPlainly}
 use Rattle.rls_evaluation.specs.Showing.{judgements_on}
-use Rattle.rls_evaluation.specs.Deciding.{named_if, verdict_beside}
+use Rattle.rls_evaluation.specs.Deciding.{named_if}
 use Rattle.rls_evaluation.proofs.Telling.{drop_at}
+
+-- what these policies say of the row together with the least names of others
+abbrev pub verdict_beside : Option (List ℕ) → Option (List ℕ) → List (Policy × Term) → Shows → List ℕ → List Value → Asking Verdict
+verdict_beside passing failing conditions sees user row =
+    followed_by (judgements_on conditions sees user row)
+    (λ judgements. known (Ok (verdict_by (least passing (names_where true true judgements)) (least failing (names_where false false judgements)))))
 
 least_if : (is : Bool) (best : Option (List ℕ)) (judgement : Policy × Truth) (others : List (Policy × Truth))
     → least best (map (λ j. j.0.name) (if is then judgement ∷ others else others)) ≡ least (if is then Some (lesser best judgement.0.name) else best) (map (λ j. j.0.name) others)

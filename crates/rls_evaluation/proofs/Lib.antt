@@ -4,6 +4,7 @@ pub mod Absorbing
 pub mod AloneLemmas
 pub mod AnswerLemmas
 pub mod Fencing
+pub mod Exempting
 pub mod LoopLemmas
 pub mod NotedLemmas
 pub mod PlainLemmas

@@ -106,7 +106,8 @@ fn judge_all<'a, 'c, T: Tables>(
     requires { Holds sight.fences.now sight.role.now (T.state tables.old) work.old }
     ensures { Tells (spec.judged_all sight.entry.watches.now sight.entry.fences.now sight.entry.role.now condition.now candidates.now) (T.state tables.old) (T.state tables.new) work.old.notes work.new.notes (judged_now result) }
 {
-    let mut decisions = Vec::with_capacity(alloc, candidates.len())?;
+    let most = candidates.len().saturating_mul(sight.watches.len());
+    let mut decisions = Vec::with_capacity(alloc, most)?;
     let mut hits = Vec::new(alloc);
     let mut judgements = Vec::new(alloc);
     for stored in candidates {
@@ -257,7 +258,8 @@ fn judge_new<'a, 'c, T: Tables>(
     requires { Holds sight.fences.now sight.role.now (T.state tables.old) work.old }
     ensures { Tells (spec.judged_new sight.entry.watches.now sight.entry.fences.now sight.entry.role.now rows.now) (T.state tables.old) (T.state tables.new) work.old.notes work.new.notes (items_now result) }
 {
-    let mut decisions = Vec::with_capacity(alloc, rows.len())?;
+    let most = rows.len().saturating_mul(sight.watches.len());
+    let mut decisions = Vec::with_capacity(alloc, most)?;
     let mut judgements = Vec::new(alloc);
     for stored in rows {
         judge(

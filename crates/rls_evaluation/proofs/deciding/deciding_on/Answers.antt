@@ -2,8 +2,8 @@ use Rattle.std.proofs.Common.{ap, sym, ◌∙◌, ◌+◌, true, false, drop}
 use Rattle.std.specs.Prelude.{refl}
 use Rattle.std.proofs.lemmas.List.{drop_all}
 use Rattle.std.specs.Option.{option_copied}
-use Rattle.rls_evaluation.specs.Deciding.{named_if, verdict_beside}
-use Rattle.rls_evaluation.proofs.DecidingLemmas.{policy_told}
+use Rattle.rls_evaluation.specs.Deciding.{named_if}
+use Rattle.rls_evaluation.proofs.DecidingLemmas.{policy_told, verdict_beside}
 use Rattle.rls_evaluation.proofs.deciding.deciding_on.Goals as goal
 
 pub loop-policy-init : goal.loop-policy-init

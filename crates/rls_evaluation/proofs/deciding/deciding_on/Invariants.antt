@@ -3,7 +3,7 @@ use Rattle.std.specs.Prelude.{None}
 use Rattle.std.specs.Option.{option_copied}
 use Rattle.rls_catalog.specs.State.{State}
 use Rattle.rls_evaluation.specs.Eval.{Shows}
-use Rattle.rls_evaluation.specs.Deciding.{verdict_beside}
+use Rattle.rls_evaluation.proofs.DecidingLemmas.{verdict_beside}
 use Rattle.rls_evaluation.proofs.deciding.deciding_on.Given as goal
 
 -- what is left decides with those so far

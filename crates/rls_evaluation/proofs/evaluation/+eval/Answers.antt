@@ -1,4 +1,4 @@
-use Rattle.std.proofs.Common.{rules, arith, ap, sym, subst, ◌∙◌, refl, ◌≡◌, ◌∷◌, ◌++◌, [], ◌||◌, true, ◌≤◌, drop, false, length, slice_index_or, Ok, List}
+use Rattle.std.proofs.Common.{rules, arith, ap, sym, subst, ◌∙◌, ◌+◌, refl, ◌≡◌, ◌∷◌, ◌++◌, [], ◌||◌, true, ◌≤◌, drop, false, length, slice_index_or, Ok, List}
 use Rattle.std.specs.Prelude.{Option, Some, None, IfOk}
 use Rattle.std.proofs.Math.Bool.{or_assoc}
 use Rattle.rls_value.specs.declared.value.Value.{Value}
@@ -17,16 +17,17 @@ use Rattle.rls_source.specs.Askings.{Asking, known, followed_by}
 use Rattle.rls_evaluation.specs.Environments.{inside, compared, over, number_or_null, joined}
 use Rattle.rls_evaluation.specs.Gathering.{gathered, kept, with_row}
 use Rattle.rls_evaluation.specs.Eval.{value_of, together, and_value, or_value, or_equal, as_value, negated, among_items, item_equals, item_if, item_of, item_or, meets, or_item, ranged_over, has_row, sum_from}
-use Rattle.rls_evaluation.specs.Showing.{shows, judgements_on, is_allowed, with_judgement}
+use Rattle.rls_evaluation.specs.Showing.{shows, judgements_on, is_allowed, is_exempt, with_judgement}
 use Rattle.rls_evaluation.specs.Scoping.{env_of, held_value, held_now, maybe_held, maybe_now, number_value}
 use Rattle.rls_evaluation.specs.Holding.{Holds, Tells, shown_at, object_for}
-use Rattle.rls_evaluation.proofs.Telling.{leads_whole, tells_then, tells_as, tells_same, tells_unread, tells_on, tells_over, tells_item, tells_result}
+use Rattle.rls_evaluation.proofs.Telling.{leads_whole, tells_then, tells_as, tells_same, tells_unread, tells_on, tells_over, tells_item, tells_result, drop_at}
 use Rattle.rls_evaluation.specs.Alone.{items_seen, items_for, asked_query, with_item, any_equal}
 use Rattle.rls_evaluation.specs.Answering.{FoundAt}
 use Rattle.rls_evaluation.specs.ValueSets.{IsSetOf}
 use Rattle.rls_evaluation.proofs.AnswerLemmas.{holds_answered, comes_found, exists_told, within_told, seen_over, null_told, comes_of}
 use Rattle.rls_evaluation.proofs.LoopLemmas.{and_again, or_again, and_none, or_none, terms_turn, rows_turn, item_again, item_added, row_added, judgement_added, sum_told, sum_on}
 use Rattle.rls_evaluation.proofs.Absorbing.{holds_shown}
+use Rattle.rls_evaluation.proofs.Exempting.{given_as, tells_exempt}
 use Rattle.rls_evaluation.proofs.Fencing.{shows_found, shows_none, size_found, condition_at}
 use Rattle.rls_evaluation.proofs.evaluation.+eval.Goals as goal
 
@@ -318,3 +319,11 @@ items_alone-returns-clause-comes g t c =
     (sym (seen_over c.args.has_items c.args.query.now.from c.args.query.now.key.items c.args.query.now.selects (terms_of c.args.query.now.items.items) (maybe_term c.args.query.now.condition) (shows (drop c.args.view.from c.args.view.fences.now) c.args.env.now.user.now) (env_of c.args.env.now)))
     (tells_over (ranged_over (query_of c.args.query.now) (shows (drop c.args.view.from c.args.view.fences.now) c.args.env.now.user.now) (env_of c.args.env.now)) (λ rows. gathered with_item [] (λ row. item_if (meets (maybe_term c.args.query.now.condition) (shows (drop c.args.view.from c.args.view.fences.now) c.args.env.now.user.now) (inside row (env_of c.args.env.now))) (item_of (items_for c.args.has_items (terms_of c.args.query.now.items.items)) (shows (drop c.args.view.from c.args.view.fences.now) c.args.env.now.user.now) (inside row (env_of c.args.env.now)))) rows)
     _ _ _ _ _ _ c.in_ok-rows.rows c.as_slice.result.now c.in_ok-values.values c.as_slice.ensures c.in_ok-rows.ensures.tells c.in_ok-values.ensures.tells)) c.of.ensures
+
+pub shown-returns-then-is_exempt-clause-tells : goal.shown-returns-then-is_exempt-clause-tells
+shown-returns-then-is_exempt-clause-tells g t c =
+    tells_exempt c.args.view.fences.now (drop (c.args.view.from + 1) c.args.view.fences.now) c.index-view-view.result c.args.user.now c.args.view.from c.args.object.now
+    _ _ _ _ c.in_ok-rows.rows c.new-then-is_exempt.result
+    (drop_at c.args.view.fences.now c.args.view.from c.index-view-view.result (omega (arith, c.if-view.false)) c.index-view-view.is)
+    (ap (λ fence. is_exempt fence.guard) c.index-view-view.is ∙ sym c.is_exempt.ensures ∙ c.if-is_exempt.true) c.in_ok-rows.ensures.tells
+    (given_as c.new-then-is_exempt.result _ _ c.new-then-is_exempt.ensures c.into_vec.ensures)
