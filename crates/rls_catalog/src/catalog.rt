@@ -34,6 +34,10 @@ impl Model for Catalog {
     ghost use Rattle.rls_catalog.specs.Kept.{state_of};
 
     ghost view = { λ c. state_of c.contents };
+
+    ghost use Rattle.rls_catalog.specs.Settled.{AllSettled};
+
+    ghost invariant = { λ c. AllSettled c.contents.rows };
 }
 
 impl Catalog {
@@ -141,7 +145,6 @@ impl Catalog {
             }
             Err(refused) => {
                 contents.undo_all(log);
-                contents.tidy_all(delta.as_slice());
                 Err(refused)
             }
         }
