@@ -1,14 +1,13 @@
 -- What an index has after a change under one key.
-use Rattle.std.specs.Prelude.{◌≡◌, refl, List, [], ◌∷◌, ◌++◌, reverse, Option, Some, None, Bool, true, false, ◌||◌, ◌&&◌, cond, is_some, IsSome}
+use Rattle.std.specs.Prelude.{◌≡◌, refl, List, [], Option, Some, None, Bool, true, false, not, ◌||◌, ◌&&◌, cond, is_some, IsSome}
 use Rattle.std.specs.BTreeMap.{BTreeMap, is_at}
 use Rattle.std.specs.Map.{lookup, set_value}
-use Rattle.std.specs.Ordering.{eq_by_cmp, is_eq}
+use Rattle.std.specs.Ordering.{eq_by_cmp, is_eq, ordering_reverse}
 use Rattle.std.specs.declared.cmp.Ordering.{Ordering}
 use Rattle.std.specs.declared.cmp.Ordering.TheVariants.{Less, Equal, Greater}
 use Rattle.std.proofs.Common.{ap, sym, ◌∙◌, subst}
 use Rattle.std.proofs.lemmas.Bool.{true≢false}
 use Rattle.std.proofs.lemmas.Cmp.{tied_itself, eq_by_cmp_equiv}
-use Rattle.std.proofs.lemmas.List.{reverse-append}
 use Rattle.std.proofs.lemmas.Map.{lookup-set_value}
 use Rattle.rls_value.specs.declared.row.RowId.{RowId}
 use Rattle.rls_value.specs.declared.value.Value.{Value}
@@ -16,10 +15,7 @@ use Rattle.rls_value.specs.Listing.{rows_total}
 use Rattle.rls_value.proofs.ListingLaws.{rows_same}
 use Rattle.rls_catalog.specs.declared.stored.Keyed.{Keyed}
 use Rattle.rls_catalog.specs.State.{id_order}
-use Rattle.rls_catalog.specs.declared.undo.Before.{Before}
-use Rattle.rls_catalog.specs.Kept.{Placed}
-use Rattle.rls_catalog.specs.Undone.{before_last, place_back}
-use Rattle.rls_catalog.specs.KeyIndex.{CoveredThroughout, Covers, Grows, Keeps, ids_at, ids_in, is_among, is_empty_key, is_indexed, key_order, knows, stands_at}
+use Rattle.rls_catalog.specs.KeyIndex.{Covers, IsProper, IsWith, IsWithout, has, ids_at, ids_in, is_among, is_empty_key, is_entry, is_indexed, key_order, knows, stands_at}
 use Rattle.rls_catalog.proofs.Places.{absent_set, id_total, same_id}
 
 -- ---- keys that tie are the same
@@ -41,76 +37,142 @@ same_number id other is = same_id id other (is_tie (id_order id other) is)
 pub own_number : (id : RowId) → is_at (id_order id) id ≡ true
 own_number id = ap is_eq (tied_itself id_total id)
 
-both : (a b : Bool) → (a && b) ≡ true → (a ≡ true) × (b ≡ true)
-both true b is = (refl, is)
-both false b is = absurd (true≢false (sym is))
+turned : (o : Ordering) → is_eq (ordering_reverse o) ≡ is_eq o
+turned Less = refl
+turned Equal = refl
+turned Greater = refl
+
+-- keys are compared either way
+pub key_turned : (key other : List Value) → is_at (key_order key) other ≡ is_at (key_order other) key
+key_turned key other = ap is_eq (rows_total.antisymm key other) ∙ turned (key_order other key)
 
 pub no : {A : Type 0} → false ≡ true → A
 no is = absurd (true≢false (sym is))
 
--- ---- an index after a change under one key
+pub number_turned : (id other : RowId) → is_at (id_order id) other ≡ is_at (id_order other) id
+number_turned id other = ap is_eq (id_total.antisymm id other) ∙ turned (id_order other id)
 
-or_more : (a b c : Bool) → (b ≡ true → c ≡ true) → (a || b) ≡ true → (a || c) ≡ true
+-- ---- tests
+
+pub or_left : (a b : Bool) → a ≡ true → (a || b) ≡ true
+or_left true b is = refl
+or_left false b is = no is
+
+pub or_right : (a b : Bool) → b ≡ true → (a || b) ≡ true
+or_right true b is = refl
+or_right false b is = is
+
+pub or_more : (a b c : Bool) → (b ≡ true → c ≡ true) → (a || b) ≡ true → (a || c) ≡ true
 or_more true b c more is = refl
 or_more false b c more is = more is
 
-or_right : (a b : Bool) → b ≡ true → (a || b) ≡ true
-or_right true b is = refl
-or_right false b is = is
+pub or_none : (a : Bool) → (a || false) ≡ a
+or_none true = refl
+or_none false = refl
+
+pub and_true : (a : Bool) → (a && true) ≡ a
+and_true true = refl
+and_true false = refl
+
+pub and_false : (a : Bool) → (a && false) ≡ false
+and_false true = refl
+and_false false = refl
+
+pub and_first : (a b : Bool) → (a && b) ≡ true → a ≡ true
+and_first true b is = refl
+and_first false b is = is
+
+pub and_second : (a b : Bool) → (a && b) ≡ true → b ≡ true
+and_second true b is = is
+and_second false b is = no is
+
+-- what isn't false is true
+pub not_false : (a : Bool) → not a ≡ false → a ≡ true
+not_false true is = refl
+not_false false is = sym is
+
+-- ---- an index after a change under one key
 
 -- the index has these numbers under the key, and is else as it was
 abbrev pub IsPut : List Value → Option (BTreeMap RowId (Unit {0})) → List (List Value × BTreeMap RowId (Unit {0})) → List (List Value × BTreeMap RowId (Unit {0})) → Type 0
 IsPut key ids old new = (k : List Value) → lookup (is_at (key_order k)) new ≡ cond (is_at (key_order key) k) ids (lookup (is_at (key_order k)) old)
 
-put_if : (b : Bool) (key k : List Value) (i : RowId) (ids : Option (BTreeMap RowId (Unit {0}))) (old new : List (List Value × BTreeMap RowId (Unit {0}))) → is_at (key_order key) k ≡ b
+with_if : (b told : Bool) (key k : List Value) (id i : RowId) (ids : Option (BTreeMap RowId (Unit {0}))) (old new : List (List Value × BTreeMap RowId (Unit {0}))) → is_at (key_order key) k ≡ b
     → lookup (is_at (key_order k)) new ≡ cond b ids (lookup (is_at (key_order k)) old)
-    → (is_at (key_order key) k ≡ true → is_among (ids_at old key) i ≡ true → is_among (ids_in ids) i ≡ true)
-    → is_among (ids_at old k) i ≡ true → is_among (ids_at new k) i ≡ true
-put_if true key k i ids old new is put more there =
-    ap (λ found. is_among (ids_in found) i) put ∙ more is (ap (λ name. is_among (ids_at old name) i) (same_key key k is) ∙ there)
-put_if false key k i ids old new is put more there = ap (λ found. is_among (ids_in found) i) put ∙ there
+    → is_among (ids_in ids) i ≡ (told && is_at (id_order id) i || is_among (ids_at old key) i)
+    → has new k i ≡ (told && (b && is_at (id_order id) i) || has old k i)
+with_if true told key k id i ids old new is put among =
+    ap (λ found. is_among (ids_in found) i) put ∙ among ∙ ap (λ name. told && is_at (id_order id) i || has old name i) (same_key key k is)
+with_if false told key k id i ids old new is put among =
+    ap (λ found. is_among (ids_in found) i) put ∙ sym (ap (λ b. b || has old k i) (and_false told))
 
-pub grown : (key : List Value) (ids : Option (BTreeMap RowId (Unit {0}))) (old new : List (List Value × BTreeMap RowId (Unit {0}))) → IsPut key ids old new
-    → ((i : RowId) → is_among (ids_at old key) i ≡ true → is_among (ids_in ids) i ≡ true) → Grows old new
-grown key ids old new put more = λ k i. or_more (is_empty_key k) (is_among (ids_at old k) i) (is_among (ids_at new k) i)
-    (put_if (is_at (key_order key) k) key k i ids old new refl (put k) (λ _. more i))
+-- a number came to those of the key, or was there
+pub put_with : (told : Bool) (key : List Value) (id : RowId) (ids : Option (BTreeMap RowId (Unit {0}))) (old new : List (List Value × BTreeMap RowId (Unit {0}))) → IsPut key ids old new
+    → ((i : RowId) → is_among (ids_in ids) i ≡ (told && is_at (id_order id) i || is_among (ids_at old key) i)) → IsWith told key id old new
+put_with told key id ids old new put among = λ k i. with_if (is_at (key_order key) k) told key k id i ids old new refl (put k) (among i)
 
-and_left : (a b : Bool) → a ≡ true → (a && b) ≡ false → b ≡ false
-and_left true b is none = none
-and_left false b is none = absurd (true≢false (sym is))
+without_if : (b : Bool) (key k : List Value) (id i : RowId) (ids : Option (BTreeMap RowId (Unit {0}))) (old new : List (List Value × BTreeMap RowId (Unit {0}))) → is_at (key_order key) k ≡ b
+    → lookup (is_at (key_order k)) new ≡ cond b ids (lookup (is_at (key_order k)) old)
+    → is_among (ids_in ids) i ≡ (not (is_at (id_order id) i) && is_among (ids_at old key) i)
+    → has new k i ≡ (not (b && is_at (id_order id) i) && has old k i)
+without_if true key k id i ids old new is put among =
+    ap (λ found. is_among (ids_in found) i) put ∙ among ∙ ap (λ name. not (is_at (id_order id) i) && has old name i) (same_key key k is)
+without_if false key k id i ids old new is put among = ap (λ found. is_among (ids_in found) i) put
 
-pub shrunk : (key : List Value) (id : RowId) (ids : Option (BTreeMap RowId (Unit {0}))) (old new : List (List Value × BTreeMap RowId (Unit {0}))) → IsPut key ids old new
-    → ((i : RowId) → is_at (id_order id) i ≡ false → is_among (ids_at old key) i ≡ true → is_among (ids_in ids) i ≡ true) → Keeps key id old new
-shrunk key id ids old new put more = λ k i other. or_more (is_empty_key k) (is_among (ids_at old k) i) (is_among (ids_at new k) i)
-    (put_if (is_at (key_order key) k) key k i ids old new refl (put k) (λ is. more i (and_left (is_at (key_order key) k) (is_at (id_order id) i) is other)))
+-- a number left those of the key, or wasn't there
+pub put_without : (key : List Value) (id : RowId) (ids : Option (BTreeMap RowId (Unit {0}))) (old new : List (List Value × BTreeMap RowId (Unit {0}))) → IsPut key ids old new
+    → ((i : RowId) → is_among (ids_in ids) i ≡ (not (is_at (id_order id) i) && is_among (ids_at old key) i)) → IsWithout key id old new
+put_without key id ids old new put among = λ k i. without_if (is_at (key_order key) k) key k id i ids old new refl (put k) (among i)
 
--- what the index has there now
-pub put_there : (key : List Value) (ids : Option (BTreeMap RowId (Unit {0}))) (old new : List (List Value × BTreeMap RowId (Unit {0}))) → IsPut key ids old new → ids_at new key ≡ ids_in ids
-put_there key ids old new put = ap ids_in (put key ∙ ap (λ b. cond b ids (lookup (is_at (key_order key)) old)) (own_key key))
+absent_if : (b c : Bool) (key k : List Value) (i : RowId) (old : List (List Value × BTreeMap RowId (Unit {0}))) → is_at (key_order key) k ≡ b → lookup (is_at (key_order key)) old ≡ None
+    → has old k i ≡ (not (b && c) && has old k i)
+absent_if true true key k i old is none = ap (λ name. has old name i) (sym (same_key key k is)) ∙ ap (λ found. is_among (ids_in found) i) none
+absent_if true false key k i old is none = refl
+absent_if false c key k i old is none = refl
 
-pub put_indexed : (key : List Value) (id : RowId) (ids : Option (BTreeMap RowId (Unit {0}))) (old new : List (List Value × BTreeMap RowId (Unit {0}))) → IsPut key ids old new
-    → is_among (ids_in ids) id ≡ true → is_indexed new key id ≡ true
-put_indexed key id ids old new put there = or_right (is_empty_key key) (is_among (ids_at new key) id) (ap (λ l. is_among l id) (put_there key ids old new put) ∙ there)
+-- where the key isn't there
+pub absent_without : (key : List Value) (id : RowId) (old : List (List Value × BTreeMap RowId (Unit {0}))) → lookup (is_at (key_order key)) old ≡ None → IsWithout key id old old
+absent_without key id old none = λ k i. absent_if (is_at (key_order key) k) (is_at (id_order id) i) key k i old refl none
+
+bare_if : (b : Bool) (key k : List Value) (i : RowId) (old new : List (List Value × BTreeMap RowId (Unit {0}))) → is_at (key_order key) k ≡ b
+    → lookup (is_at (key_order k)) new ≡ cond b None (lookup (is_at (key_order k)) old) → ids_at old key ≡ [] → has new k i ≡ has old k i
+bare_if true key k i old new is put bare =
+    ap (λ found. is_among (ids_in found) i) put ∙ sym (ap (λ ids. is_among ids i) bare) ∙ ap (λ name. has old name i) (same_key key k is)
+bare_if false key k i old new is put bare = ap (λ found. is_among (ids_in found) i) put
+
+-- a key that had no numbers went
+pub bare_went : (key : List Value) (old new : List (List Value × BTreeMap RowId (Unit {0}))) → IsPut key None old new → ids_at old key ≡ [] → (k : List Value) (i : RowId) → has new k i ≡ has old k i
+bare_went key old new put bare k i = bare_if (is_at (key_order key) k) key k i old new refl (put k) bare
+
+-- ---- an index without empty keys, and without keys that have no numbers
+
+-- an index that has nothing
+pub no_entries_proper : IsProper []
+no_entries_proper key = refl
+
+-- ---- a number that came
+
+now_if : (empty told had own : Bool) → told ≡ not (empty || had) → own ≡ true → (empty || (told && own || had)) ≡ true
+now_if true told had own is one = refl
+now_if false told true own is one = or_right (told && own) true refl
+now_if false told false own is one = or_none (told && own) ∙ ap (λ b. b && own) is ∙ one
+
+-- what came is there
+pub now_indexed : (told : Bool) (key : List Value) (id : RowId) (index other : List (List Value × BTreeMap RowId (Unit {0}))) → IsWith told key id index other → told ≡ not (is_indexed index key id) → is_indexed other key id ≡ true
+now_indexed told key id index other came added =
+    ap (λ b. is_empty_key key || b) (came key id)
+    ∙ now_if (is_empty_key key) told (has index key id) (is_entry key id key id) added (ap (λ b. b && is_at (id_order id) id) (own_key key) ∙ own_number id)
 
 -- ---- an index that covers the rows
 
--- where no row came
-pub covers_fewer : (index : List (List Value × BTreeMap RowId (Unit {0}))) (slots after : List (RowId × Option Keyed))
-    → ((id : RowId) (keyed : Keyed) → lookup (is_at (id_order id)) after ≡ Some (Some keyed) → lookup (is_at (id_order id)) slots ≡ Some (Some keyed))
-    → Covers index slots → Covers index after
-covers_fewer index slots after fewer covers = λ id keyed found. covers id keyed (fewer id keyed found)
-
--- where the index has grown
-pub covers_grown : (index other : List (List Value × BTreeMap RowId (Unit {0}))) (slots : List (RowId × Option Keyed)) → Grows index other → Covers index slots → Covers other slots
-covers_grown index other slots grows covers = λ id keyed found. grows keyed.key id (covers id keyed found)
+-- where a number came
+pub covers_with : (told : Bool) (key : List Value) (id : RowId) (index other : List (List Value × BTreeMap RowId (Unit {0}))) (slots : List (RowId × Option Keyed)) → IsWith told key id index other → Covers index slots → Covers other slots
+covers_with told key id index other slots came covers = λ i keyed found.
+    or_more (is_empty_key keyed.key) (has index keyed.key i) (has other keyed.key i) (λ there. came keyed.key i ∙ or_right (told && is_entry key id keyed.key i) (has index keyed.key i) there) (covers i keyed found)
 
 abbrev row_in : Option (Option Keyed) → Option Keyed
 row_in (Some content) = content
 row_in None = None
-
-abbrev key_in : Option Keyed → List Value
-key_in (Some keyed) = keyed.key
-key_in None = []
 
 came_if : (b : Bool) (index : List (List Value × BTreeMap RowId (Unit {0}))) (slots : List (RowId × Option Keyed)) (id other : RowId) (content : Option Keyed) (keyed : Keyed) → is_at (id_order id) other ≡ b
     → (content ≡ Some keyed → is_indexed index keyed.key id ≡ true) → Covers index slots
@@ -125,65 +187,31 @@ pub covers_came : (index : List (List Value × BTreeMap RowId (Unit {0}))) (slot
 covers_came index slots after id content put here covers =
     λ other keyed found. came_if (is_at (id_order id) other) index slots id other content keyed refl (here keyed) covers (sym (put other) ∙ found)
 
-and_true : (a : Bool) → a ≡ false → (a && true) ≡ false
-and_true true none = none
-and_true false none = refl
-
-and_false : (a : Bool) → (a && false) ≡ false
-and_false true = refl
-and_false false = refl
-
-went_if : (b : Bool) (key : List Value) (slots : List (RowId × Option Keyed)) (id other : RowId) (keyed : Keyed) → is_at (id_order id) other ≡ b
-    → stands_at key (lookup (is_at (id_order id)) slots) ≡ false → lookup (is_at (id_order other)) slots ≡ Some (Some keyed) → (is_at (key_order key) keyed.key && b) ≡ false
-went_if true key slots id other keyed is gone found =
-    and_true (is_at (key_order key) keyed.key)
-    (sym (ap (stands_at key) (ap (λ number. lookup (is_at (id_order number)) slots) (same_number id other is) ∙ found)) ∙ gone)
-went_if false key slots id other keyed is gone found = and_false (is_at (key_order key) keyed.key)
-
--- where the index has lost the number under a key that the row there doesn't have
-pub covers_went : (index other : List (List Value × BTreeMap RowId (Unit {0}))) (slots : List (RowId × Option Keyed)) (key : List Value) (id : RowId)
-    → Keeps key id index other → stands_at key (lookup (is_at (id_order id)) slots) ≡ false → Covers index slots → Covers other slots
-covers_went index other slots key id keeps gone covers =
-    λ number keyed found. keeps keyed.key number (went_if (is_at (id_order id) number) key slots id number keyed refl gone found) (covers number keyed found)
-
--- ---- numbers of one key
-
-pub still : (b : Bool) (found : Option (Unit {0})) → is_some found ≡ true → is_some (cond b (Some tt) found) ≡ true
-still true found there = refl
-still false found there = there
-
--- there is none among no numbers
-pub none_among : {A : Type 0} (ids : List (RowId × Unit {0})) (id : RowId) → ids ≡ [] → is_among ids id ≡ true → A
-none_among ids id none there = no (ap (λ l. is_among l id) (sym none) ∙ there)
-
 -- ---- rows put in, taken away and exchanged
 
 one_number : (id : RowId) (x y : RowId) → is_at (id_order id) x ≡ true → is_at (id_order id) y ≡ eq_by_cmp id_order x y
 one_number id x y is = ap is_eq (id_total.congr id x y (is_tie (id_order id x) is))
+
+found_some : {A : Type 0} (found : Option A) → is_some found ≡ true → IsSome found
+found_some (Some x) is = refl
+found_some None is = no is
+
+-- a place that is there, and exchanged
+pub set_at : (slots : List (RowId × Option Keyed)) (id : RowId) (content : Option Keyed) → is_some (lookup (is_at (id_order id)) slots) ≡ true → (other : RowId)
+    → lookup (is_at (id_order other)) (set_value (is_at (id_order id)) slots content) ≡ cond (is_at (id_order id) other) (Some content) (lookup (is_at (id_order other)) slots)
+set_at slots id content found other = lookup-set_value (eq_by_cmp_equiv id_total) (is_at (id_order id)) (one_number id) other content slots (found_some (lookup (is_at (id_order id)) slots) found)
 
 set_if : (index : List (List Value × BTreeMap RowId (Unit {0}))) (slots : List (RowId × Option Keyed)) (id : RowId) (content : Option Keyed) (found : Option (Option Keyed)) → lookup (is_at (id_order id)) slots ≡ found
     → knows index id content ≡ true → Covers index slots → Covers index (set_value (is_at (id_order id)) slots content)
 set_if index slots id content None none known covers = subst (Covers index) (sym (absent_set (is_at (id_order id)) slots content none)) covers
 set_if index slots id content (Some old) found known covers =
     covers_came index slots (set_value (is_at (id_order id)) slots content) id content
-    (λ other. lookup-set_value (eq_by_cmp_equiv id_total) (is_at (id_order id)) (one_number id) other content slots (subst IsSome (sym found) refl))
+    (set_at slots id content (ap is_some found))
     (λ keyed is. ap (knows index id) (sym is) ∙ known) covers
 
 pub covers_set : (index : List (List Value × BTreeMap RowId (Unit {0}))) (slots : List (RowId × Option Keyed)) (id : RowId) (content : Option Keyed)
     → knows index id content ≡ true → Covers index slots → Covers index (set_value (is_at (id_order id)) slots content)
 covers_set index slots id content = set_if index slots id content (lookup (is_at (id_order id)) slots) refl
-
-fewer_if : (b : Bool) (found : Option (Option Keyed)) (keyed : Keyed) → cond b None found ≡ Some (Some keyed) → found ≡ Some (Some keyed)
-fewer_if true found keyed is = no (ap is_some is)
-fewer_if false found keyed is = is
-
-pub covers_taken : (index : List (List Value × BTreeMap RowId (Unit {0}))) (slots after : List (RowId × Option Keyed)) (id : RowId)
-    → ((other : RowId) → lookup (is_at (id_order other)) after ≡ cond (is_at (id_order id) other) None (lookup (is_at (id_order other)) slots)) → Covers index slots → Covers index after
-covers_taken index slots after id taken =
-    covers_fewer index slots after (λ other keyed found. fewer_if (is_at (id_order id) other) (lookup (is_at (id_order other)) slots) keyed (sym (taken other) ∙ found))
-
-pub covers_none : (index : List (List Value × BTreeMap RowId (Unit {0}))) (slots : List (RowId × Option Keyed)) → slots ≡ [] → Covers index slots
-covers_none index slots none = λ id keyed found. no (ap is_some (ap (lookup (is_at (id_order id))) (sym none) ∙ found))
 
 -- the row of a place that has the key is indexed under it
 pub standing_indexed : (index : List (List Value × BTreeMap RowId (Unit {0}))) (slots : List (RowId × Option Keyed)) (key : List Value) (id : RowId) (found : Option (Option Keyed))
@@ -202,55 +230,3 @@ pub covers_like : (index : List (List Value × BTreeMap RowId (Unit {0}))) (slot
     → stands_at keyed.key (lookup (is_at (id_order id)) slots) ≡ true → Covers index slots → Covers index (set_value (is_at (id_order id)) slots (Some keyed))
 covers_like index slots id keyed like covers =
     covers_set index slots id (Some keyed) (standing_indexed index slots keyed.key id (lookup (is_at (id_order id)) slots) refl like covers) covers
-
--- ---- an index that covers the rows throughout the past
-
-pub covered_now : (index : List (List Value × BTreeMap RowId (Unit {0}))) (slots : List (RowId × Option Keyed)) (past : List Before) → CoveredThroughout index slots past → Covers index slots
-covered_now index slots [] covered = covered
-covered_now index slots (before ∷ past) covered = covered.0
-
--- where the index has grown
-pub covered_grown : (index other : List (List Value × BTreeMap RowId (Unit {0}))) (slots : List (RowId × Option Keyed)) (past : List Before) → Grows index other
-    → CoveredThroughout index slots past → CoveredThroughout other slots past
-covered_grown index other slots [] grows covered = covers_grown index other slots grows covered
-covered_grown index other slots (before ∷ past) grows covered =
-    (covers_grown index other slots grows covered.0, covered_grown index other (place_back before slots) past grows covered.1)
-
--- where all is as it was, but the index has grown
-pub covered_kept : (index other : List (List Value × BTreeMap RowId (Unit {0}))) (slots after : List (RowId × Option Keyed)) (past log : List Before) → log ≡ past → after ≡ slots → Grows index other
-    → CoveredThroughout index slots (reverse past) → CoveredThroughout other after (reverse log)
-covered_kept index other slots after past log same kept grows covered =
-    subst (λ list. CoveredThroughout other after (reverse list)) (sym same) (subst (λ places. CoveredThroughout other places (reverse past)) (sym kept) (covered_grown index other slots (reverse past) grows covered))
-
--- what came last stands first
-pub reverse_more : (past : List Before) (before : Before) → reverse (past ++ before ∷ []) ≡ before ∷ reverse past
-reverse_more past before = reverse-append past (before ∷ [])
-
--- after one change more, which can be taken back
-pub covered_more : (index other : List (List Value × BTreeMap RowId (Unit {0}))) (slots after : List (RowId × Option Keyed)) (past log : List Before) (before : Before) → log ≡ past ++ before ∷ []
-    → Grows index other → (Covers index slots → Covers other after) → place_back before after ≡ slots
-    → CoveredThroughout index slots (reverse past) → CoveredThroughout other after (reverse log)
-covered_more index other slots after past log before more grows came back covered =
-    subst (CoveredThroughout other after) (sym (ap reverse more ∙ reverse_more past before))
-    (came (covered_now index slots (reverse past) covered), subst (λ places. CoveredThroughout other places (reverse past)) (sym back) (covered_grown index other slots (reverse past) grows covered))
-
--- after the last change is taken back
-pub covered_back : (index : List (List Value × BTreeMap RowId (Unit {0}))) (slots : List (RowId × Option Keyed)) (past log : List Before) (before : Before) → log ≡ past ++ before ∷ []
-    → CoveredThroughout index slots (reverse log) → CoveredThroughout index (place_back before slots) (reverse past)
-covered_back index slots past log before more covered =
-    (subst (CoveredThroughout index slots) (ap reverse more ∙ reverse_more past before) covered).1
-
--- taking the last of the past back
-pub last_taken : (slots : List (RowId × Option Keyed)) (past log : List Before) (before : Before) → log ≡ past ++ before ∷ []
-    → before_last slots (reverse log) ≡ record { places = place_back before slots; past = reverse past }
-last_taken slots past log before more = ap (before_last slots) (ap reverse more ∙ reverse_more past before)
-
-abbrev is_empty_past : List Before → Bool
-is_empty_past [] = true
-is_empty_past (before ∷ past) = false
-
--- where nothing can be taken back, the rows that stand are all that the index needs
-pub covered_settled : (index other : List (List Value × BTreeMap RowId (Unit {0}))) (slots after : List (RowId × Option Keyed)) (past : List Before) → past ≡ []
-    → (Covers index slots → Covers other after) → CoveredThroughout index slots past → CoveredThroughout other after past
-covered_settled index other slots after [] none kept covered = kept covered
-covered_settled index other slots after (before ∷ past) none kept covered = no (ap is_empty_past none)

@@ -18,6 +18,8 @@ pub mod RowsListed
 pub mod Deltas
 pub mod Places
 pub mod KeyIndexLemmas
+pub mod TidyLemmas
+pub mod SettledLemmas
 pub mod Picking
 pub mod Examples
 pub mod CoveringExamples

@@ -11,7 +11,7 @@ use Rattle.std.proofs.lemmas.Map.Steps.{set_value_same}
 use Rattle.rls_value.specs.declared.row.RowId.{RowId}
 use Rattle.rls_catalog.specs.declared.stored.Keyed.{Keyed}
 use Rattle.rls_catalog.specs.declared.undo.RowsUndo.TheVariants as r
-use Rattle.rls_catalog.specs.State.{at, name_order, id_order, or_none}
+use Rattle.rls_catalog.specs.State.{at, name_order, or_none}
 use Rattle.rls_catalog.specs.InOrder.{Ascend}
 use Rattle.rls_catalog.proofs.InOrderLaws.{rows_ascend}
 use Rattle.rls_catalog.specs.Kept.{Placed, standing, rows_listed}

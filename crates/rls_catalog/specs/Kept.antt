@@ -1,5 +1,5 @@
 -- What a catalogue keeps, the state that it stands for, and what takes a change back.
-use Rattle.std.specs.Prelude.{ℕ, List, [], ◌∷◌, Option, Some, None, map}
+use Rattle.std.specs.Prelude.{ℕ, List, [], ◌∷◌, Option, Some, None, Bool, true, false, map}
 use Rattle.rls_value.specs.declared.row.RowId.{RowId}
 use Rattle.rls_expr.specs.declared.table.TableDef.{TableDef}
 use Rattle.rls_catalog.specs.declared.role.RoleDef.{RoleDef}
@@ -33,6 +33,15 @@ shown id None rows = rows
 abbrev pub present : List (RowId × Option Keyed) → List (RowId × Keyed)
 present [] = []
 present (slot ∷ slots) = shown slot.0 slot.1 (present slots)
+
+-- whether there is nothing that can be taken back
+abbrev pub is_past_none : List Before → Bool
+is_past_none [] = true
+is_past_none (before ∷ past) = false
+
+-- whether nothing of a table can be taken back
+abbrev pub is_settled : Placed → Bool
+is_settled placed = is_past_none placed.past
 
 -- the rows that stand in a table
 abbrev pub standing : Placed → List (RowId × Keyed)

@@ -1,5 +1,5 @@
--- An index of the rows of a table by their keys, which may name more than there is.
-use Rattle.std.specs.Prelude.{◌≡◌, List, [], ◌∷◌, ◌++◌, Option, Some, None, Bool, true, false, ◌||◌, ◌&&◌, is_some, filter}
+-- An index of the rows of a table by their keys.
+use Rattle.std.specs.Prelude.{◌≡◌, List, [], ◌∷◌, ◌++◌, Option, Some, None, Bool, true, false, not, ◌||◌, ◌&&◌, is_some, filter}
 use Rattle.std.specs.BTreeMap.{BTreeMap, is_at}
 use Rattle.std.specs.Cmp.Lexicographic.{slice_cmp}
 use Rattle.std.specs.Map.{lookup}
@@ -9,9 +9,7 @@ use Rattle.rls_value.specs.declared.value.Value.{Value}
 use Rattle.rls_value.specs.Values.{listed}
 use Rattle.rls_catalog.specs.declared.stored.Keyed.{Keyed}
 use Rattle.rls_catalog.specs.declared.stored.Stored.{Stored}
-use Rattle.rls_catalog.specs.declared.undo.Before.{Before}
 use Rattle.rls_catalog.specs.State.{id_order, is_same_row, stored_of}
-use Rattle.rls_catalog.specs.Undone.{place_back}
 
 -- keys are ordered as rows are listed
 abbrev pub key_order : List Value → List Value → Ordering
@@ -35,31 +33,60 @@ abbrev pub is_empty_key : List Value → Bool
 is_empty_key [] = true
 is_empty_key (value ∷ values) = false
 
+-- the numbers that stand under keys, as a test
+abbrev pub Named : Type 0
+Named = List Value → RowId → Bool
+
+-- the numbers that an index has under keys
+abbrev pub has : List (List Value × BTreeMap RowId (Unit {0})) → Named
+has index key id = is_among (ids_at index key) id
+
 -- whether an index has the number under the key; the empty key isn't indexed
 abbrev pub is_indexed : List (List Value × BTreeMap RowId (Unit {0})) → List Value → RowId → Bool
-is_indexed index key id = is_empty_key key || is_among (ids_at index key) id
+is_indexed index key id = is_empty_key key || has index key id
+
+-- each row that is there stands under its key, unless that is empty
+abbrev pub CoversRows : Named → List (RowId × Option Keyed) → Type 0
+CoversRows named slots = (id : RowId) (keyed : Keyed) → lookup (is_at (id_order id)) slots ≡ Some (Some keyed) → (is_empty_key keyed.key || named keyed.key id) ≡ true
 
 -- the index has each row that is there
 abbrev pub Covers : List (List Value × BTreeMap RowId (Unit {0})) → List (RowId × Option Keyed) → Type 0
-Covers index slots = (id : RowId) (keyed : Keyed) → lookup (is_at (id_order id)) slots ≡ Some (Some keyed) → is_indexed index keyed.key id ≡ true
+Covers index slots = CoversRows (has index) slots
 
--- the index has each row that is there, and each that will be there after each step of taking the past back, the last change first
-abbrev pub CoveredThroughout : List (List Value × BTreeMap RowId (Unit {0})) → List (RowId × Option Keyed) → List Before → Type 0
-CoveredThroughout index slots [] = Covers index slots
-CoveredThroughout index slots (before ∷ past) = Covers index slots × CoveredThroughout index (place_back before slots) past
+-- whether there are numbers
+abbrev pub is_filled : List (RowId × Unit {0}) → Bool
+is_filled [] = false
+is_filled (e ∷ ids) = true
 
--- another index has what the first one has
-abbrev pub Grows : List (List Value × BTreeMap RowId (Unit {0})) → List (List Value × BTreeMap RowId (Unit {0})) → Type 0
-Grows index other = (key : List Value) (id : RowId) → is_indexed index key id ≡ true → is_indexed other key id ≡ true
+-- whether the numbers may be kept under the key: there are some, and the key isn't empty
+abbrev pub is_proper : List Value → Option (BTreeMap RowId (Unit {0})) → Bool
+is_proper key (Some ids) = not (is_empty_key key) && is_filled ids.entries
+is_proper key None = true
+
+-- no key of the index is empty, and each has numbers
+abbrev pub IsProper : List (List Value × BTreeMap RowId (Unit {0})) → Type 0
+IsProper index = (key : List Value) → is_proper key (lookup (is_at (key_order key)) index) ≡ true
+
+-- whether it is that number under that key
+abbrev pub is_entry : List Value → RowId → List Value → RowId → Bool
+is_entry key id k i = is_at (key_order key) k && is_at (id_order id) i
+
+-- the other index has what the first one has, and if told also the number under the key
+abbrev pub IsWith : Bool → List Value → RowId → List (List Value × BTreeMap RowId (Unit {0})) → List (List Value × BTreeMap RowId (Unit {0})) → Type 0
+IsWith told key id index other = (k : List Value) (i : RowId) → has other k i ≡ (told && is_entry key id k i || has index k i)
+
+-- the other index has what the first one has, but not the number under the key
+abbrev pub IsWithout : List Value → RowId → List (List Value × BTreeMap RowId (Unit {0})) → List (List Value × BTreeMap RowId (Unit {0})) → Type 0
+IsWithout key id index other = (k : List Value) (i : RowId) → has other k i ≡ (not (is_entry key id k i) && has index k i)
+
+-- the other index has the same under each other key
+abbrev pub KeepsOtherKeys : List Value → List (List Value × BTreeMap RowId (Unit {0})) → List (List Value × BTreeMap RowId (Unit {0})) → Type 0
+KeepsOtherKeys key index other = (k : List Value) → is_at (key_order key) k ≡ false → lookup (is_at (key_order k)) other ≡ lookup (is_at (key_order k)) index
 
 -- whether an index has the row at the number, if there is one
 abbrev pub knows : List (List Value × BTreeMap RowId (Unit {0})) → RowId → Option Keyed → Bool
 knows index id (Some keyed) = is_indexed index keyed.key id
 knows index id None = true
-
--- the other index has what the first one has, but perhaps not the number under the key
-abbrev pub Keeps : List Value → RowId → List (List Value × BTreeMap RowId (Unit {0})) → List (List Value × BTreeMap RowId (Unit {0})) → Type 0
-Keeps key id index other = (k : List Value) (i : RowId) → (is_at (key_order key) k && is_at (id_order id) i) ≡ false → is_indexed index k i ≡ true → is_indexed other k i ≡ true
 
 -- whether the row of a place has the key, as the index tells keys apart
 abbrev pub stands_at : List Value → Option (Option Keyed) → Bool

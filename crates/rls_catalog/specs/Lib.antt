@@ -7,6 +7,8 @@ pub mod PolicyLists
 pub mod KeptCode
 pub mod Undone
 pub mod KeyIndex
+pub mod Tidy
+pub mod Settled
 pub mod Bases
 pub mod Writes
 pub mod SoundRows

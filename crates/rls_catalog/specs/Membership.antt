@@ -1,7 +1,7 @@
 -- Membership (PostgreSQL manual, 22.3, "Role Membership"): a role has the privileges of itself and, transitively, of
 -- each role that it is a member of through memberships whose INHERIT option is true. A superuser has those of every
 -- role. Neither SUPERUSER nor another attribute is inherited.
-use Rattle.std.specs.Prelude.{◌≡◌, ℕ, zero, suc, ◌+◌, List, [], ◌∷◌, ◌++◌, Option, Some, None, Bool, true, false, ◌||◌, if◌then◌else◌, map, filter, length, slice_get}
+use Rattle.std.specs.Prelude.{◌≡◌, ℕ, zero, suc, List, [], ◌∷◌, ◌++◌, Option, Some, None, Bool, true, false, ◌||◌, if◌then◌else◌, map, filter, length, slice_get}
 use Rattle.std.specs.List.{flat_map}
 use Rattle.rls_value.specs.Names.{one_of}
 use Rattle.rls_value.specs.declared.object.Object.{Object}

@@ -34,6 +34,11 @@ impl Model for Catalog {
     ghost use Rattle.rls_catalog.specs.Kept.{state_of};
 
     ghost view = { λ c. state_of c.contents };
+
+    ghost use Rattle.rls_catalog.specs.Settled.{AllSettled};
+
+    // Between two calls nothing can be taken back, so that nothing is kept for it (README.md, "How nothing is left over").
+    ghost invariant = { λ c. AllSettled c.contents.rows };
 }
 
 impl Catalog {
@@ -141,7 +146,6 @@ impl Catalog {
             }
             Err(refused) => {
                 contents.undo_all(log);
-                contents.tidy_all(delta.as_slice());
                 Err(refused)
             }
         }

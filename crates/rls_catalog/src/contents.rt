@@ -3,6 +3,7 @@
 ghost use Rattle.std.specs.Prelude.{◌≡◌, [], None, IfOk, OnOk, OnErr};
 ghost use Rattle.rls_catalog.specs.Changed.{opening, changed, changed_all, rows_changed, with_first_row};
 ghost use Rattle.rls_catalog.specs.Kept.{rows_listed, state_of};
+ghost use Rattle.rls_catalog.specs.Settled.{AllSettled, LogsFirsts, NotesFirst, SettlesFirst, SettlesTable};
 ghost use Rattle.rls_catalog.specs.State.{at};
 ghost use Rattle.rls_catalog.specs.Undone.{undone, undone_all, rows_undone};
 
@@ -70,8 +71,10 @@ impl Contents {
         changes: &[Change],
         log: &mut Vec<Undo>,
     ) -> Result<(), AllocError>
-        requires { log.old.items ≡ [] }
+        requires empty { log.old.items ≡ [] }
+        requires settled { AllSettled self.old.rows }
         ensures ok { OnOk result (state_of self.new ≡ changed_all (state_of self.old) changes.now) }
+        ensures firsts { OnOk result (LogsFirsts log.new.items self.new.rows) }
         ensures undo { undone_all log.new.items self.new ≡ self.old }
     {
         for change in changes {
@@ -94,21 +97,14 @@ impl Contents {
         }
     }
 
-    /// Lets go what would take the changes back.
+    /// Lets go what would take the changes back, of every table.
     pub(crate) fn settle_all(&mut self, alloc: Global, log: Vec<Undo>)
-        ensures { state_of self.new ≡ state_of self.old }
+        requires { LogsFirsts log.items self.old.rows }
+        ensures state { state_of self.new ≡ state_of self.old }
+        ensures settled { AllSettled self.new.rows }
     {
         for undo in log {
             self.settle(alloc, undo);
-        }
-    }
-
-    /// Takes out of the indices what changes put in that were taken back.
-    pub(crate) fn tidy_all(&mut self, changes: &[Change])
-        ensures { self.new ≡ self.old }
-    {
-        for change in changes {
-            self.tidy(change);
         }
     }
 
@@ -116,6 +112,7 @@ impl Contents {
     fn put(&mut self, alloc: Global, change: &Change) -> Result<Undo, AllocError>
         ensures ok { OnOk result (state_of self.new ≡ changed (state_of self.old) change.now) }
         ensures undo { IfOk result (λ undo. undone undo self.new ≡ self.old) }
+        ensures first { IfOk result (λ undo. NotesFirst undo self.old.rows self.new.rows) }
         ensures err { OnErr result (self.new ≡ self.old) }
     {
         match change {
@@ -130,6 +127,7 @@ impl Contents {
 
     fn put_role(&mut self, name: &Name, def: RoleDef) -> Result<Undo, AllocError>
         ensures ok { OnOk result (state_of self.new ≡ changed (state_of self.old) (Change.Role name.now def)) }
+        ensures rows { self.new.rows ≡ self.old.rows }
         ensures undo { IfOk result (λ undo. undone undo self.new ≡ self.old) }
         ensures err { OnErr result (self.new ≡ self.old) }
     {
@@ -145,6 +143,7 @@ impl Contents {
         content: &Items<Membership>,
     ) -> Result<Undo, AllocError>
         ensures ok { OnOk result (state_of self.new ≡ changed (state_of self.old) (Change.Members name.now content.now)) }
+        ensures rows { self.new.rows ≡ self.old.rows }
         ensures undo { IfOk result (λ undo. undone undo self.new ≡ self.old) }
         ensures err { OnErr result (self.new ≡ self.old) }
     {
@@ -156,6 +155,7 @@ impl Contents {
 
     fn put_table(&mut self, alloc: Global, name: &Name, def: &TableDef) -> Result<Undo, AllocError>
         ensures ok { OnOk result (state_of self.new ≡ changed (state_of self.old) (Change.Table name.now def.now)) }
+        ensures rows { self.new.rows ≡ self.old.rows }
         ensures undo { IfOk result (λ undo. undone undo self.new ≡ self.old) }
         ensures err { OnErr result (self.new ≡ self.old) }
     {
@@ -172,6 +172,7 @@ impl Contents {
         content: &Items<Grant>,
     ) -> Result<Undo, AllocError>
         ensures ok { OnOk result (state_of self.new ≡ changed (state_of self.old) (Change.Grants name.now content.now)) }
+        ensures rows { self.new.rows ≡ self.old.rows }
         ensures undo { IfOk result (λ undo. undone undo self.new ≡ self.old) }
         ensures err { OnErr result (self.new ≡ self.old) }
     {
@@ -188,6 +189,7 @@ impl Contents {
         content: &PolicyList,
     ) -> Result<Undo, AllocError>
         ensures ok { OnOk result (state_of self.new ≡ changed (state_of self.old) (Change.Policies name.now content.now)) }
+        ensures rows { self.new.rows ≡ self.old.rows }
         ensures undo { IfOk result (λ undo. undone undo self.new ≡ self.old) }
         ensures err { OnErr result (self.new ≡ self.old) }
     {
@@ -221,23 +223,18 @@ impl Contents {
         }
     }
 
-    /// Takes out of the index what the change put in, if it doesn't stand.
-    fn tidy(&mut self, change: &Change)
-        ensures { self.new ≡ self.old }
-    {
-        if let Change::Row(row) = change {
-            tidy_row(&mut self.rows, row);
-        }
-    }
-
-    /// Lets go what would take the change back. A table's first change settles all of its rows.
+    /// Lets go what would take the change back.
     fn settle(&mut self, alloc: Global, undo: Undo)
-        ensures { state_of self.new ≡ state_of self.old }
+        ensures state { state_of self.new ≡ state_of self.old }
+        ensures settled { SettlesFirst undo self.old.rows self.new.rows }
     {
-        if let Undo::Rows(RowsUndo::Place(table, is_first)) = undo {
-            if is_first {
-                settle_rows(&mut self.rows, alloc, &table);
-            }
+        match undo {
+            Undo::Role(_, _) => {}
+            Undo::Members(_, _) => {}
+            Undo::Table(_, _) => {}
+            Undo::Grants(_, _) => {}
+            Undo::Policies(_, _) => {}
+            Undo::Rows(undo) => settle_row(&mut self.rows, alloc, undo),
         }
     }
 }
@@ -249,6 +246,7 @@ fn put_row(
 ) -> Result<RowsUndo, AllocError>
     ensures ok { OnOk result (rows_listed tables.new.entries ≡ rows_changed (rows_listed tables.old.entries) change.now) }
     ensures undo { IfOk result (λ undo. rows_undone undo tables.new.entries ≡ tables.old.entries) }
+    ensures first { IfOk result (λ undo. NotesFirst (Undo.Rows undo) tables.old.entries tables.new.entries) }
     ensures err { OnErr result (tables.new.entries ≡ tables.old.entries) }
 {
     let table = change.table.copy()?;
@@ -275,12 +273,13 @@ fn put_first_row(
     requires same { table ≡ change.now.table }
     ensures ok { OnOk result (rows_listed tables.new.entries ≡ with_first_row change.now.table change.now.id change.now.after (rows_listed tables.old.entries)) }
     ensures undo { IfOk result (λ undo. rows_undone undo tables.new.entries ≡ tables.old.entries) }
+    ensures first { IfOk result (λ undo. NotesFirst (Undo.Rows undo) tables.old.entries tables.new.entries) }
     ensures err { OnErr result (tables.new.entries ≡ tables.old.entries) }
 {
-    let Some(_) = &change.after else {
+    let Some(keyed) = &change.after else {
         return Ok(RowsUndo::Place(table, false));
     };
-    let slots = Slots::of_one(alloc, change.id, &change.after)?;
+    let slots = Slots::of_one(alloc, change.id, keyed)?;
     put(tables, change.table.copy()?, slots)?;
     Ok(RowsUndo::Table(table))
 }
@@ -301,20 +300,27 @@ fn undo_row(tables: &mut BTreeMap<Name, Slots>, undo: RowsUndo)
     }
 }
 
-fn settle_rows(tables: &mut BTreeMap<Name, Slots>, alloc: Global, table: &Name)
-    ensures { rows_listed tables.new.entries ≡ rows_listed tables.old.entries }
+/// Lets go what would take the change of a row back. A table's first change settles all of its rows.
+fn settle_row(tables: &mut BTreeMap<Name, Slots>, alloc: Global, undo: RowsUndo)
+    ensures rows { rows_listed tables.new.entries ≡ rows_listed tables.old.entries }
+    ensures settled { SettlesFirst (Undo.Rows undo) tables.old.entries tables.new.entries }
 {
-    match tables.get_mut(table) {
-        Some(slots) => slots.settle(alloc),
-        None => {}
+    match undo {
+        RowsUndo::Place(table, is_first) => {
+            if is_first {
+                settle_rows(tables, alloc, &table);
+            }
+        }
+        RowsUndo::Table(_) => {}
     }
 }
 
-fn tidy_row(tables: &mut BTreeMap<Name, Slots>, change: &RowChange)
-    ensures { tables.new.entries ≡ tables.old.entries }
+fn settle_rows(tables: &mut BTreeMap<Name, Slots>, alloc: Global, table: &Name)
+    ensures rows { rows_listed tables.new.entries ≡ rows_listed tables.old.entries }
+    ensures settled { SettlesTable table.now tables.old.entries tables.new.entries }
 {
-    match tables.get_mut(&change.table) {
-        Some(slots) => slots.tidy(change.id, &change.after),
+    match tables.get_mut(table) {
+        Some(slots) => slots.settle(alloc),
         None => {}
     }
 }

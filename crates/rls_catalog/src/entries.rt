@@ -49,7 +49,8 @@ pub(crate) fn put_back<K: Ord + Drop, V: Drop>(
     key: &K,
     before: Option<V>,
 ) -> Option<V>
-    ensures { map.new.entries ≡ spec.put_back K.cmp key.now before map.old.entries }
+    ensures entries { map.new.entries ≡ spec.put_back K.cmp key.now before map.old.entries }
+    ensures stood { result ≡ get K.cmp map.old key.now }
 {
     match before {
         Some(content) => exchange(map, key, content),

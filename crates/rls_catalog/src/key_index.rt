@@ -1,8 +1,8 @@
-//! The numbers of the rows of a table, by key. An index may name more than there is; it is asked only where to look.
+//! The numbers of the rows of a table, by key.
 
-ghost use Rattle.std.specs.Prelude.{◌≡◌, [], true, false, OnOk, IsTrue};
+ghost use Rattle.std.specs.Prelude.{◌≡◌, [], true, false, not, ◌&&◌, ◌||◌, ◌↔◌, IfOk, OnOk, OnErr, IsTrue};
 ghost use Rattle.std.specs.BTreeMap.{is_at};
-ghost use Rattle.rls_catalog.specs.KeyIndex.{Grows, Keeps, ids_at, is_among, is_empty_key, is_indexed};
+ghost use Rattle.rls_catalog.specs.KeyIndex.{IsProper, IsWith, IsWithout, KeepsOtherKeys, has, ids_at, is_among, is_empty_key, is_indexed};
 ghost use Rattle.rls_catalog.specs.State.{id_order};
 
 use rls_value::{Row, RowId};
@@ -19,39 +19,28 @@ pub(crate) fn is_empty(key: &Row) -> bool
     }
 }
 
-/// Whether the index has the number under the key, or the key is empty.
-pub(crate) fn has(index: &BTreeMap<Row, BTreeMap<RowId, ()>>, key: &Row, id: RowId) -> bool
-    ensures { result ≡ is_indexed index.now.entries key.now id }
-{
-    if is_empty(key) {
-        return true;
-    }
-    match index.get(key) {
-        Some(ids) => ids.contains_key(&id),
-        None => false,
-    }
-}
-
-/// Adds the number under the key, if the key isn't empty.
+/// Adds the number under the key, if the key isn't empty, and tells whether it wasn't there.
 pub(crate) fn add(
     index: &mut BTreeMap<Row, BTreeMap<RowId, ()>>,
     alloc: Global,
     key: &Row,
     id: RowId,
-) -> Result<(), AllocError>
-    ensures grows { Grows index.old.entries index.new.entries }
-    ensures ok { OnOk result (is_indexed index.new.entries key.now id ≡ true) }
+) -> Result<bool, AllocError>
+    ensures came { IfOk result (λ has_added. IsWith has_added key.now id index.old.entries index.new.entries) }
+    ensures added { IfOk result (λ has_added. has_added ≡ not (is_indexed index.old.entries key.now id)) }
+    ensures proper { IsProper index.old.entries → IsProper index.new.entries }
+    ensures err { OnErr result (has index.new.entries ≡ has index.old.entries) }
 {
     if is_empty(key) {
-        return Ok(());
+        return Ok(false);
     }
     match index.get_mut(key) {
         Some(ids) => match add_id(ids, id) {
-            Ok(()) => Ok(()),
+            Ok(has_added) => Ok(has_added),
             Err(refused) => Err(refused),
         },
         None => match add_key(index, alloc, key, id) {
-            Ok(()) => Ok(()),
+            Ok(()) => Ok(true),
             Err(refused) => Err(refused),
         },
     }
@@ -59,20 +48,23 @@ pub(crate) fn add(
 
 /// Takes the number out under the key, and the key if it has no other.
 pub(crate) fn remove(index: &mut BTreeMap<Row, BTreeMap<RowId, ()>>, key: &Row, id: RowId)
-    ensures { Keeps key.now id index.old.entries index.new.entries }
+    ensures without { IsWithout key.now id index.old.entries index.new.entries }
+    ensures proper { IsProper index.old.entries → IsProper index.new.entries }
 {
     if remove_id(index, key, id) {
         let _ = index.remove(key);
     }
 }
 
-/// Adds the number to those of a key.
-fn add_id(ids: &mut BTreeMap<RowId, ()>, id: RowId) -> Result<(), AllocError>
-    ensures grows { (other : RowId) → is_among ids.old.entries other ≡ true → is_among ids.new.entries other ≡ true }
+/// Adds the number to those of a key, and tells whether it wasn't there.
+fn add_id(ids: &mut BTreeMap<RowId, ()>, id: RowId) -> Result<bool, AllocError>
+    ensures came { IfOk result (λ has_added. (other : RowId) → is_among ids.new.entries other ≡ (has_added && is_at (id_order id) other || is_among ids.old.entries other)) }
     ensures ok { OnOk result (is_among ids.new.entries id ≡ true) }
+    ensures added { IfOk result (λ has_added. has_added ≡ not (is_among ids.old.entries id)) }
+    ensures err { OnErr result (ids.new.entries ≡ ids.old.entries) }
 {
-    ids.insert(id, ())?;
-    Ok(())
+    let before = ids.insert(id, ())?;
+    Ok(before.is_none())
 }
 
 /// Adds a key with its first number.
@@ -82,20 +74,24 @@ fn add_key(
     key: &Row,
     id: RowId,
 ) -> Result<(), AllocError>
-    requires { ids_at index.old.entries key.now ≡ [] }
-    ensures grows { Grows index.old.entries index.new.entries }
-    ensures ok { OnOk result (is_indexed index.new.entries key.now id ≡ true) }
+    requires some { is_empty_key key.now ≡ false }
+    requires absent { ids_at index.old.entries key.now ≡ [] }
+    ensures came { OnOk result (IsWith true key.now id index.old.entries index.new.entries) }
+    ensures proper { IsProper index.old.entries → IsProper index.new.entries }
+    ensures err { OnErr result (index.new.entries ≡ index.old.entries) }
 {
     let mut ids = BTreeMap::new(alloc);
-    add_id(&mut ids, id)?;
+    let _ = add_id(&mut ids, id)?;
     index.insert(key.copy(alloc)?, ids)?;
     Ok(())
 }
 
 /// Takes the number out under the key, and tells whether the key has no other.
 fn remove_id(index: &mut BTreeMap<Row, BTreeMap<RowId, ()>>, key: &Row, id: RowId) -> bool
-    ensures keeps { Keeps key.now id index.old.entries index.new.entries }
+    ensures without { IsWithout key.now id index.old.entries index.new.entries }
+    ensures others { KeepsOtherKeys key.now index.old.entries index.new.entries }
     ensures none { IsTrue result → ids_at index.new.entries key.now ≡ [] }
+    ensures proper { result ≡ false → IsProper index.old.entries → IsProper index.new.entries }
 {
     match index.get_mut(key) {
         Some(ids) => take_id(ids, id),
@@ -105,8 +101,8 @@ fn remove_id(index: &mut BTreeMap<Row, BTreeMap<RowId, ()>>, key: &Row, id: RowI
 
 /// Takes the number out of those of a key, and tells whether there is no other.
 fn take_id(ids: &mut BTreeMap<RowId, ()>, id: RowId) -> bool
-    ensures keeps { (other : RowId) → is_at (id_order id) other ≡ false → is_among ids.old.entries other ≡ true → is_among ids.new.entries other ≡ true }
-    ensures none { IsTrue result → ids.new.entries ≡ [] }
+    ensures without { (other : RowId) → is_among ids.new.entries other ≡ (not (is_at (id_order id) other) && is_among ids.old.entries other) }
+    ensures none { IsTrue result ↔ (ids.new.entries ≡ []) }
 {
     let _ = ids.remove(&id);
     ids.is_empty()

@@ -12,6 +12,7 @@ mod placing;
 mod policy_list;
 mod role;
 mod same;
+mod settling;
 mod slots;
 mod stored;
 mod undo;

@@ -1,12 +1,11 @@
 //! The rows of one table, by number, in places that may stand empty, with an index by key.
 
-ghost use Rattle.std.specs.Prelude.{◌≡◌, [], IfOk, OnOk, OnErr, map};
-ghost use Rattle.std.specs.BTreeMap.{IsOrdered, is_at};
-ghost use Rattle.std.specs.Map.{lookup};
+ghost use Rattle.std.specs.Prelude.{◌≡◌, [], ◌∷◌, IfOk, OnOk, OnErr, map};
+ghost use Rattle.std.specs.BTreeMap.{IsOrdered};
 ghost use Rattle.rls_catalog.specs.Changed.{with_row};
-ghost use Rattle.rls_catalog.specs.KeyIndex.{picked, stands_at};
+ghost use Rattle.rls_catalog.specs.KeyIndex.{picked};
 ghost use Rattle.rls_catalog.specs.InOrder.{Ascend};
-ghost use Rattle.rls_catalog.specs.Kept.{present};
+ghost use Rattle.rls_catalog.specs.Kept.{is_settled, present};
 ghost use Rattle.rls_catalog.specs.State.{id_order, stored_of, with_key};
 ghost use Rattle.rls_catalog.specs.Undone as undone;
 
@@ -14,6 +13,7 @@ use crate::key_index;
 use crate::lent::Lent;
 use crate::placing::{place, restore};
 use crate::same::is_same_row;
+use crate::settling::settle;
 use crate::stored::Keyed;
 use crate::undo::Before;
 use rls_value::{Items, Row, RowId};
@@ -28,7 +28,7 @@ use std::mem::replace;
 #[derive(Drop)]
 pub(crate) struct Slots {
     slots: BTreeMap<RowId, Option<Keyed>>,
-    /// The numbers of the rows under their keys, also of the rows that taking the past back brings, and perhaps more.
+    /// The numbers of the rows under their keys, also of the rows that taking the past back brings.
     index: BTreeMap<Row, BTreeMap<RowId, ()>>,
     /// What takes the changes since the last settling back, the last one at the end.
     past: Vec<Before>,
@@ -38,7 +38,8 @@ impl Model for Slots {
     ghost use Rattle.std.specs.Prelude.{reverse};
     ghost use Rattle.rls_catalog.specs.Kept.{Placed};
     ghost use Rattle.rls_catalog.specs.KeptCode.{slots_code};
-    ghost use Rattle.rls_catalog.specs.KeyIndex.{CoveredThroughout};
+    ghost use Rattle.rls_catalog.specs.KeyIndex.{IsProper, has};
+    ghost use Rattle.rls_catalog.specs.Tidy.{IsTidyBefore};
 
     ghost Value = { Placed };
 
@@ -46,21 +47,19 @@ impl Model for Slots {
 
     ghost view = { λ it. record { places = it.slots.entries; past = reverse it.past.items } };
 
-    ghost invariant = { λ it. CoveredThroughout it.index.entries it.slots.entries (reverse it.past.items) };
+    ghost invariant = { λ it. IsProper it.index.entries × IsTidyBefore (has it.index.entries) it.slots.entries (reverse it.past.items) };
 }
 
 impl Slots {
-    /// The rows of a table that has just that content. There is nothing to take back.
-    pub(crate) fn of_one(
-        alloc: Global,
-        id: RowId,
-        content: &Option<Keyed>,
-    ) -> Result<Slots, AllocError>
-        ensures { IfOk result (λ slots. present slots.places ≡ with_row id content.now []) }
+    /// The rows of a table that has just that one. There is nothing to take back.
+    pub(crate) fn of_one(alloc: Global, id: RowId, keyed: &Keyed) -> Result<Slots, AllocError>
+        ensures rows { IfOk result (λ slots. present slots.places ≡ (id, keyed.now) ∷ []) }
+        ensures settled { IfOk result (λ slots. slots.past ≡ []) }
     {
         let mut slots = BTreeMap::new(alloc);
         let mut index = BTreeMap::new(alloc);
-        let _ = place(&mut slots, &mut index, alloc, id, content)?;
+        let _ = key_index::add(&mut index, alloc, &keyed.key, id)?;
+        slots.insert(id, Some(keyed.copy(alloc)?))?;
         Ok(Slots {
             slots,
             index,
@@ -77,6 +76,7 @@ impl Slots {
     ) -> Result<bool, AllocError>
         ensures ok { OnOk result (present self.new.places ≡ with_row id content.now (present self.old.places)) }
         ensures before { OnOk result (undone.taken_back self.new ≡ self.old) }
+        ensures first { IfOk result (λ is_first. is_first ≡ is_settled self.old) }
         ensures err { OnErr result (self.new ≡ self.old) }
     {
         let is_first = self.past.is_empty();
@@ -84,92 +84,29 @@ impl Slots {
         match self.past.push(before) {
             Ok(()) => Ok(is_first),
             Err(refused) => {
-                restore(&mut self.slots, refused.value);
+                restore(&mut self.slots, &mut self.index, refused.value);
                 Err(AllocError)
             }
         }
     }
 
-    /// Takes the last change back. It needs no memory, and the index stays: it has what is put back.
+    /// Takes the last change back, in the index too. It needs no memory: the index has what is put back.
     pub(crate) fn put_back(&mut self)
         ensures { self.new ≡ undone.taken_back self.old }
     {
         if let Some(before) = self.past.pop() {
-            restore(&mut self.slots, before);
+            restore(&mut self.slots, &mut self.index, before);
         }
     }
 
     /// Lets go what would take changes back, and what only that needed: places that stand empty, and what the index has of
     /// rows that are gone.
     pub(crate) fn settle(&mut self, alloc: Global)
-        ensures { present self.new.places ≡ present self.old.places }
-    {
-        let past = self.forget_past(alloc);
-        for before in past {
-            if !before.is_settled {
-                self.let_go(before.id, before.content);
-            }
-        }
-    }
-
-    /// Takes the content out of the index, if it isn't what stands at the number and nothing can be taken back.
-    pub(crate) fn tidy(&mut self, id: RowId, content: &Option<Keyed>)
-        ensures { self.new ≡ self.old }
-    {
-        if self.past.is_empty() {
-            self.tidy_settled(id, content);
-        }
-    }
-
-    /// Takes out what takes changes back.
-    fn forget_past(&mut self, alloc: Global) -> Vec<Before>
-        ensures places { self.new.places ≡ self.old.places }
-        ensures past { self.new.past ≡ [] }
-    {
-        replace(&mut self.past, Vec::new(alloc))
-    }
-
-    /// Lets go the place, if it stands empty, and what stood there.
-    fn let_go(&mut self, id: RowId, before: Option<Option<Keyed>>)
-        requires { self.old.past ≡ [] }
         ensures rows { present self.new.places ≡ present self.old.places }
-        ensures past { self.new.past ≡ [] }
+        ensures settled { self.new.past ≡ [] }
     {
-        self.close(id);
-        if let Some(content) = before {
-            self.tidy_settled(id, &content);
-        }
-    }
-
-    /// Takes the content out of the index, if it isn't what stands at the number.
-    fn tidy_settled(&mut self, id: RowId, content: &Option<Keyed>)
-        requires { self.old.past ≡ [] }
-        ensures { self.new ≡ self.old }
-    {
-        if let Some(keyed) = content {
-            self.forget(id, &keyed.key);
-        }
-    }
-
-    /// Takes the place away if it stands empty.
-    fn close(&mut self, id: RowId)
-        requires { self.old.past ≡ [] }
-        ensures rows { present self.new.places ≡ present self.old.places }
-        ensures past { self.new.past ≡ [] }
-    {
-        if let Some(None) = self.slots.get(&id) {
-            let _ = self.slots.remove(&id);
-        }
-    }
-
-    /// Takes the number under the key out of the index, if the row there hasn't that key.
-    fn forget(&mut self, id: RowId, key: &Row)
-        requires { self.old.past ≡ [] }
-        ensures { self.new ≡ self.old }
-    {
-        if !stands(&self.slots, id, key) {
-            key_index::remove(&mut self.index, key, id);
-        }
+        let past = replace(&mut self.past, Vec::new(alloc));
+        settle(&mut self.slots, &mut self.index, past);
     }
 
     /// The rows, in order of their numbers.
@@ -203,17 +140,6 @@ impl Slots {
             Some(ids) => pick(alloc, &self.slots, ids, key, most),
             None => Ok(Items::new(alloc)),
         }
-    }
-}
-
-/// Whether the row at the number has the key.
-fn stands(slots: &BTreeMap<RowId, Option<Keyed>>, id: RowId, key: &Row) -> bool
-    ensures { result ≡ stands_at key.now (lookup (is_at (id_order id)) slots.now.entries) }
-{
-    match slots.get(&id) {
-        Some(Some(keyed)) => *key == keyed.key,
-        Some(None) => false,
-        None => false,
     }
 }
 

@@ -12,8 +12,11 @@ use rls_value::{Items, Name, RowId};
 pub(crate) struct Before {
     pub(crate) id: RowId,
     pub(crate) content: Option<Option<Keyed>>,
-    /// Neither the place nor the index will have to go: the row has the key of the one that stood there, or none stood there.
+    /// Neither the place nor what the index has of the content will have to go: the row has the key of the one that stood there, or
+    /// none stood there.
     pub(crate) is_settled: bool,
+    /// The change put the number under the row's key into the index, which hadn't it before.
+    pub(crate) has_added: bool,
 }
 
 /// What stood where a change was put on; none where nothing stood.

@@ -1,10 +1,8 @@
-use Rattle.std.proofs.Common.{None}
-use Rattle.rls_catalog.specs.KeyIndex.{ids_at}
-use Rattle.rls_catalog.proofs.KeyIndexLemmas.{grown, none_among}
+use Rattle.std.proofs.Common.{◌∙◌}
+use Rattle.rls_catalog.proofs.KeyIndexLemmas.{bare_went}
 use Rattle.rls_catalog.proofs.key_index.remove.Goals as goal
 
-pub returns-then-remove_id : goal.returns-then-remove_id
-returns-then-remove_id c = λ key id other there.
-    grown c.args.key.now None c.remove_id.new.index.entries c.remove.new.self.entries c.remove.ensures.updates.0
-    (λ i among. none_among (ids_at c.remove_id.new.index.entries c.args.key.now) i (c.remove_id.ensures.none c.if-remove_id.true) among)
-    key id (c.remove_id.ensures.keeps key id other there)
+pub returns-then-remove_id-clause-without : goal.returns-then-remove_id-clause-without
+returns-then-remove_id-clause-without c = λ k i.
+    bare_went c.args.key.now c.remove_id.new.index.entries c.remove.new.self.entries c.remove.ensures.updates.0 (c.remove_id.ensures.none c.if-remove_id.true) k i
+    ∙ c.remove_id.ensures.without k i

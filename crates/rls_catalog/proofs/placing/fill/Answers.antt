@@ -1,12 +1,12 @@
-use Rattle.std.proofs.Common.{ap, sym, ◌∙◌, Some, subst}
+use Rattle.std.proofs.Common.{ap, sym, ◌∙◌, subst}
 use Rattle.std.specs.BTreeMap.{is_at}
 use Rattle.std.specs.Map.{lookup}
 use Rattle.rls_catalog.specs.Kept.{present}
 use Rattle.rls_catalog.specs.KeyIndex.{Covers}
 use Rattle.rls_catalog.specs.State.{id_order}
-use Rattle.rls_catalog.specs.Undone.{put_back}
-use Rattle.rls_catalog.proofs.Places.{present_exchanged, exchanged_back}
+use Rattle.rls_catalog.proofs.Places.{present_exchanged}
 use Rattle.rls_catalog.proofs.KeyIndexLemmas.{covers_like, standing_found}
+use Rattle.rls_catalog.proofs.TidyLemmas.{takes_like}
 use Rattle.rls_catalog.proofs.placing.fill.Goals as goal
 
 pub returns-in-Ok-clause-ok : goal.returns-in-Ok-clause-ok
@@ -17,8 +17,7 @@ returns-in-Ok-clause-ok c =
 
 pub returns-in-Ok-clause-before : goal.returns-in-Ok-clause-before
 returns-in-Ok-clause-before c =
-    ap (put_back id_order c.args.id c.in-Ok.content) c.in-Ok.ensures.entries
-    ∙ exchanged_back id_order c.args.id c.args.slots.now.entries (Some c.args.keyed) c.in-Ok.content c.in-Ok.ensures.stood
+    takes_like c.args.index.now.entries c.args.slots.now.entries c.exchange_like.new.slots.entries c.args.id c.args.keyed c.in-Ok.content c.in-Ok.ensures.entries c.in-Ok.ensures.stood c.in-Ok.ensures.like
 
 pub returns-in-Ok-clause-covers : goal.returns-in-Ok-clause-covers
 returns-in-Ok-clause-covers c = λ covers.
