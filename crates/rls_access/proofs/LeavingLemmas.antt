@@ -2,55 +2,15 @@
 use Rattle.std.specs.Prelude.{refl, ℕ, List, [], ◌∷◌, Result, Ok, Err}
 use Rattle.std.specs.List.{AllByRecursion}
 use Rattle.std.proofs.Common.{arith}
-use Rattle.rls_value.specs.declared.refusal.Refusal.{Refusal}
-use Rattle.rls_value.specs.Giving.{and_then}
-use Rattle.rls_catalog.specs.declared.change.Change.{Change}
-use Rattle.rls_catalog.specs.declared.change.Change.TheVariants as c
-use Rattle.rls_catalog.specs.Bases.{FitsAll}
-use Rattle.rls_catalog.specs.Changed.{changed, changed_all}
-use Rattle.rls_catalog.specs.SoundRows.{RowsAreSound}
-use Rattle.rls_catalog.specs.State.{State}
-use Rattle.rls_statement.specs.declared.changing.Delete.{Delete}
-use Rattle.rls_statement.specs.declared.changing.Update.{Update}
-use Rattle.rls_statement.specs.declared.statement.AlterPolicy.{AlterPolicy}
-use Rattle.rls_statement.specs.declared.statement.AlterRole.{AlterRole}
-use Rattle.rls_statement.specs.declared.statement.AlterTable.{AlterTable}
-use Rattle.rls_statement.specs.declared.statement.CreatePolicy.{CreatePolicy}
-use Rattle.rls_statement.specs.declared.statement.CreateRole.{CreateRole}
-use Rattle.rls_statement.specs.declared.statement.CreateTable.{CreateTable}
-use Rattle.rls_statement.specs.declared.statement.DropPolicy.{DropPolicy}
-use Rattle.rls_statement.specs.declared.statement.GrantPrivileges.{GrantPrivileges}
-use Rattle.rls_statement.specs.declared.statement.GrantRoles.{GrantRoles}
-use Rattle.rls_statement.specs.declared.statement.Insert.{Insert}
-use Rattle.rls_statement.specs.declared.statement.RevokePrivileges.{RevokePrivileges}
-use Rattle.rls_statement.specs.declared.statement.RevokeRoles.{RevokeRoles}
-use Rattle.rls_statement.specs.declared.statement.Select.{Select}
-use Rattle.rls_statement.specs.declared.statement.SetRole.{SetRole}
-use Rattle.rls_statement.specs.declared.statement.Statement.{Statement}
+use Rattle.rls_value.specs.{declared.refusal.Refusal.Refusal, Giving.and_then}
+use Rattle.rls_catalog.specs.{declared.change.Change.Change, Bases.FitsAll, SoundRows.RowsAreSound, State.State, Changed.changed, Changed.changed_all}
+use Rattle.rls_statement.specs.{declared.changing.Delete.Delete, declared.changing.Update.Update, declared.statement.AlterPolicy.AlterPolicy, declared.statement.AlterRole.AlterRole, declared.statement.AlterTable.AlterTable, declared.statement.CreatePolicy.CreatePolicy, declared.statement.CreateRole.CreateRole, declared.statement.CreateTable.CreateTable, declared.statement.DropPolicy.DropPolicy, declared.statement.GrantPrivileges.GrantPrivileges, declared.statement.GrantRoles.GrantRoles, declared.statement.Insert.Insert, declared.statement.RevokePrivileges.RevokePrivileges, declared.statement.RevokeRoles.RevokeRoles, declared.statement.Select.Select, declared.statement.SetRole.SetRole, declared.statement.Statement.Statement, Tags.tag_of}
 use Rattle.rls_statement.specs.declared.statement.Statement.TheVariants as statement
-use Rattle.rls_statement.specs.Tags.{tag_of}
-use Rattle.rls_guard.specs.declared.context.Ctx.{Ctx}
-use Rattle.rls_guard.specs.declared.effect.Effect.{Effect}
+use Rattle.rls_guard.specs.{declared.context.Ctx.Ctx, declared.effect.Effect.Effect, Effects.changes_of, Effects.shown, Keeping.IfDone, Keeping.IsNoRow, Keeping.KeepsRowsSound, Keeping.LeavesRows}
 use Rattle.rls_guard.specs.declared.effect.Effect.TheVariants as effect
-use Rattle.rls_guard.specs.Effects.{changes_of, shown}
-use Rattle.rls_guard.specs.Keeping.{IfDone, IsNoRow, KeepsRowsSound, LeavesRows}
-use Rattle.rls_ddl.specs.AlteringPolicies.{alter_policy}
-use Rattle.rls_ddl.specs.AlteringRoles.{alter_role}
-use Rattle.rls_ddl.specs.AlteringTables.{alter_table}
-use Rattle.rls_ddl.specs.CreatingPolicies.{create_policy}
-use Rattle.rls_ddl.specs.CreatingRoles.{create_role}
-use Rattle.rls_ddl.specs.CreatingTables.{create_table}
-use Rattle.rls_ddl.specs.DroppingPolicies.{drop_policy}
-use Rattle.rls_ddl.specs.Granting.{grant, grant_roles, revoke, revoke_roles}
-use Rattle.rls_ddl.specs.SettingRoles.{set_role}
-use Rattle.rls_dml.specs.Deleting.{delete}
-use Rattle.rls_dml.specs.Fitting.{NumbersFree}
-use Rattle.rls_dml.specs.Inserting.{insert}
-use Rattle.rls_dml.specs.NextRows.{AllFree, InRange, NumberOn}
-use Rattle.rls_dml.specs.Selecting.{select}
-use Rattle.rls_dml.specs.Updating.{update}
-use Rattle.rls_access.specs.Leaving.{GoOn}
-use Rattle.rls_access.specs.Statements.{done_by, effect_in, mode_or_refused, step}
+use Rattle.rls_ddl.specs.{AlteringPolicies.alter_policy, AlteringRoles.alter_role, AlteringTables.alter_table, CreatingPolicies.create_policy, CreatingRoles.create_role, CreatingTables.create_table, DroppingPolicies.drop_policy, SettingRoles.set_role, Granting.grant, Granting.grant_roles, Granting.revoke, Granting.revoke_roles}
+use Rattle.rls_dml.specs.{Deleting.delete, Fitting.NumbersFree, Inserting.insert, Selecting.select, Updating.update, NextRows.AllFree, NextRows.InRange, NextRows.NumberOn}
+use Rattle.rls_access.specs.{Leaving.GoOn, Statements.done_by, Statements.effect_in, Statements.mode_or_refused, Statements.step}
 
 -- ---- the laws
 
@@ -118,12 +78,12 @@ none_in_range next = λ within. omega (arith, within)
 -- changes of no rows do
 no_rows_go_on : (s : State) (ctx : Ctx) (changes : List Change) → AllByRecursion IsNoRow changes → GoOn s ctx changes
 no_rows_go_on s ctx [] none = record { fit = tt; numbered = tt; in_range = none_in_range ctx.next }
-no_rows_go_on s ctx (c.Role name def ∷ changes) none = let more = no_rows_go_on (changed s (c.Role name def)) ctx changes none.1 in record { fit = (refl, more.fit); numbered = (tt, more.numbered); in_range = more.in_range }
-no_rows_go_on s ctx (c.Members name content ∷ changes) none = let more = no_rows_go_on (changed s (c.Members name content)) ctx changes none.1 in record { fit = (refl, more.fit); numbered = (tt, more.numbered); in_range = more.in_range }
-no_rows_go_on s ctx (c.Table name def ∷ changes) none = let more = no_rows_go_on (changed s (c.Table name def)) ctx changes none.1 in record { fit = (refl, more.fit); numbered = (tt, more.numbered); in_range = more.in_range }
-no_rows_go_on s ctx (c.Grants name content ∷ changes) none = let more = no_rows_go_on (changed s (c.Grants name content)) ctx changes none.1 in record { fit = (refl, more.fit); numbered = (tt, more.numbered); in_range = more.in_range }
-no_rows_go_on s ctx (c.Policies name content ∷ changes) none = let more = no_rows_go_on (changed s (c.Policies name content)) ctx changes none.1 in record { fit = (refl, more.fit); numbered = (tt, more.numbered); in_range = more.in_range }
-no_rows_go_on s ctx (c.Row change ∷ changes) none = absurd none.0
+no_rows_go_on s ctx (Change.Role name def ∷ changes) none = let more = no_rows_go_on (changed s (Change.Role name def)) ctx changes none.1 in record { fit = (refl, more.fit); numbered = (tt, more.numbered); in_range = more.in_range }
+no_rows_go_on s ctx (Change.Members name content ∷ changes) none = let more = no_rows_go_on (changed s (Change.Members name content)) ctx changes none.1 in record { fit = (refl, more.fit); numbered = (tt, more.numbered); in_range = more.in_range }
+no_rows_go_on s ctx (Change.Table name def ∷ changes) none = let more = no_rows_go_on (changed s (Change.Table name def)) ctx changes none.1 in record { fit = (refl, more.fit); numbered = (tt, more.numbered); in_range = more.in_range }
+no_rows_go_on s ctx (Change.Grants name content ∷ changes) none = let more = no_rows_go_on (changed s (Change.Grants name content)) ctx changes none.1 in record { fit = (refl, more.fit); numbered = (tt, more.numbered); in_range = more.in_range }
+no_rows_go_on s ctx (Change.Policies name content ∷ changes) none = let more = no_rows_go_on (changed s (Change.Policies name content)) ctx changes none.1 in record { fit = (refl, more.fit); numbered = (tt, more.numbered); in_range = more.in_range }
+no_rows_go_on s ctx (Change.Row change ∷ changes) none = absurd none.0
 
 none_goes_on : (s : State) (ctx : Ctx) (given : Result Effect Refusal) → IfDone given (AllByRecursion IsNoRow) → GoesOn s ctx given
 none_goes_on s ctx given none = done_more (AllByRecursion IsNoRow) (GoOn s ctx) given (no_rows_go_on s ctx) none

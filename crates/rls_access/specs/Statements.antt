@@ -1,35 +1,17 @@
 -- What a statement comes to in a state, with what it reads: whether its transaction may run it, and then what its own
 -- definition says.
 use Rattle.std.specs.Prelude.{ℕ, List, Some, None, Result, Ok, Err}
-use Rattle.rls_value.specs.declared.refusal.Refusal.{Refusal}
-use Rattle.rls_value.specs.declared.refusal.Refusal.TheVariants.{TxnState}
-use Rattle.rls_value.specs.declared.refusal.TxnState.TheVariants.{ReadOnly}
-use Rattle.rls_value.specs.declared.tag.Tag.{Tag}
+use Rattle.rls_value.specs.{declared.refusal.Refusal.Refusal, declared.refusal.Refusal.TheVariants.TxnState, declared.refusal.TxnState.TheVariants.ReadOnly, declared.tag.Tag.Tag}
 use Rattle.rls_value.specs.declared.tag.Tag.TheVariants as tag
 use Rattle.rls_catalog.specs.State.{State}
-use Rattle.rls_statement.specs.declared.statement.Statement.{Statement}
+use Rattle.rls_statement.specs.{declared.statement.Statement.Statement, Tags.tag_of}
 use Rattle.rls_statement.specs.declared.statement.Statement.TheVariants as statement
-use Rattle.rls_statement.specs.Tags.{tag_of}
-use Rattle.rls_guard.specs.declared.context.Ctx.{Ctx}
-use Rattle.rls_guard.specs.declared.context.Mode.{Mode}
-use Rattle.rls_guard.specs.declared.context.Mode.TheVariants.{Write, Read}
-use Rattle.rls_guard.specs.declared.effect.Effect.{Effect}
+use Rattle.rls_guard.specs.{declared.context.Ctx.Ctx, declared.context.Mode.Mode, declared.effect.Effect.Effect, Effects.shown, declared.context.Mode.TheVariants.Write, declared.context.Mode.TheVariants.Read}
 use Rattle.rls_guard.specs.declared.effect.Effect.TheVariants as effect
 use Rattle.rls_source.specs.Askings.{Asking, known, followed_by}
-use Rattle.rls_guard.specs.Effects.{shown}
-use Rattle.rls_ddl.specs.CreatingRoles.{create_role}
-use Rattle.rls_ddl.specs.AlteringRoles.{alter_role}
-use Rattle.rls_ddl.specs.SettingRoles.{set_role}
-use Rattle.rls_ddl.specs.CreatingTables.{create_table}
-use Rattle.rls_ddl.specs.AlteringTables.{alter_table}
-use Rattle.rls_ddl.specs.CreatingPolicies.{create_policy}
-use Rattle.rls_ddl.specs.AlteringPolicies.{alter_policy}
-use Rattle.rls_ddl.specs.DroppingPolicies.{drop_policy}
+use Rattle.rls_ddl.specs.{CreatingRoles.create_role, AlteringRoles.alter_role, SettingRoles.set_role, CreatingTables.create_table, AlteringTables.alter_table, CreatingPolicies.create_policy, AlteringPolicies.alter_policy, DroppingPolicies.drop_policy}
 use Rattle.rls_ddl.specs.Granting.{grant, grant_roles, revoke, revoke_roles}
-use Rattle.rls_dml.specs.Inserting.{insert}
-use Rattle.rls_dml.specs.Updating.{update}
-use Rattle.rls_dml.specs.Deleting.{delete}
-use Rattle.rls_dml.specs.Selecting.{select}
+use Rattle.rls_dml.specs.{Inserting.insert, Updating.update, Deleting.delete, Selecting.select}
 
 -- a transaction that only reads takes SELECT, SET ROLE and RESET ROLE alone
 abbrev pub mode_or_refused : Mode → Tag → Result (Unit {0}) Refusal

@@ -3,8 +3,7 @@
 ghost use Rattle.std.specs.Prelude.{◌≡◌, ◌++◌, IfOk, OnOk};
 ghost use Rattle.rls_value.specs.Giving.{Gives};
 ghost use Rattle.rls_catalog.specs.State.{State, AgreesOn};
-ghost use Rattle.rls_source.specs.Footprints.{footprint_of};
-ghost use Rattle.rls_source.specs.Answering.{Answers};
+ghost use Rattle.rls_source.specs.{Footprints.footprint_of, Answering.Answers};
 ghost use Rattle.rls_access.specs.Statements as spec;
 ghost use Rattle.rls_access.specs.Statements.{effect_in, step, mode_or_refused};
 

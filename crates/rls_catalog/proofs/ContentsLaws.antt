@@ -9,14 +9,8 @@ use Rattle.std.proofs.Common.{ap, sym, ◌∙◌}
 use Rattle.std.proofs.lemmas.Bool.{true≢false}
 use Rattle.std.proofs.lemmas.Map.Text.{is_eq-slice_cmp}
 use Rattle.std.proofs.lemmas.Slice.Eq.{bytes_eq-Decides}
-use Rattle.rls_expr.specs.declared.table.TableDef.{TableDef}
-use Rattle.rls_catalog.specs.declared.role.RoleDef.{RoleDef}
-use Rattle.rls_catalog.specs.declared.role.Membership.{Membership}
-use Rattle.rls_catalog.specs.declared.grant.Grant.{Grant}
-use Rattle.rls_expr.specs.declared.policy.Policy.{Policy}
-use Rattle.rls_catalog.specs.declared.change.Change.TheVariants as c
-use Rattle.rls_catalog.specs.State.{State, name_order, at, or_none, role_of, members_of, table_of, grants_of, policies_of}
-use Rattle.rls_catalog.specs.Changed.{changed}
+use Rattle.rls_expr.specs.{declared.table.TableDef.TableDef, declared.policy.Policy.Policy}
+use Rattle.rls_catalog.specs.{declared.role.RoleDef.RoleDef, declared.role.Membership.Membership, declared.grant.Grant.Grant, Changed.changed, State.State, State.name_order, State.at, State.or_none, State.role_of, State.members_of, State.table_of, State.grants_of, State.policies_of, declared.change.Change.Change}
 
 -- whether the names are the same
 abbrev pub is_name : List ℕ → List ℕ → Bool
@@ -63,17 +57,17 @@ or_none_if : {X : Type 0} (b : Bool) (v : List X) (rest : Option (List X)) → o
 or_none_if true v rest = refl
 or_none_if false v rest = refl
 
-pub role_of_changed : (s : State) (name : List ℕ) (def : RoleDef) (q : List ℕ) → role_of (changed s (c.Role name def)) q ≡ cond (is_name q name) (Some def) (role_of s q)
+pub role_of_changed : (s : State) (name : List ℕ) (def : RoleDef) (q : List ℕ) → role_of (changed s (Change.Role name def)) q ≡ cond (is_name q name) (Some def) (role_of s q)
 role_of_changed s name def q = at_put q name def s.roles
 
-pub members_of_changed : (s : State) (name : List ℕ) (content : List Membership) (q : List ℕ) → members_of (changed s (c.Members name content)) q ≡ cond (is_name q name) content (members_of s q)
+pub members_of_changed : (s : State) (name : List ℕ) (content : List Membership) (q : List ℕ) → members_of (changed s (Change.Members name content)) q ≡ cond (is_name q name) content (members_of s q)
 members_of_changed s name content q = ap or_none (at_put q name content s.members) ∙ or_none_if (is_name q name) content (at q s.members)
 
-pub table_of_changed : (s : State) (name : List ℕ) (def : TableDef) (q : List ℕ) → table_of (changed s (c.Table name def)) q ≡ cond (is_name q name) (Some def) (table_of s q)
+pub table_of_changed : (s : State) (name : List ℕ) (def : TableDef) (q : List ℕ) → table_of (changed s (Change.Table name def)) q ≡ cond (is_name q name) (Some def) (table_of s q)
 table_of_changed s name def q = at_put q name def s.tables
 
-pub grants_of_changed : (s : State) (name : List ℕ) (content : List Grant) (q : List ℕ) → grants_of (changed s (c.Grants name content)) q ≡ cond (is_name q name) content (grants_of s q)
+pub grants_of_changed : (s : State) (name : List ℕ) (content : List Grant) (q : List ℕ) → grants_of (changed s (Change.Grants name content)) q ≡ cond (is_name q name) content (grants_of s q)
 grants_of_changed s name content q = ap or_none (at_put q name content s.grants) ∙ or_none_if (is_name q name) content (at q s.grants)
 
-pub policies_of_changed : (s : State) (name : List ℕ) (content : List Policy) (q : List ℕ) → policies_of (changed s (c.Policies name content)) q ≡ cond (is_name q name) content (policies_of s q)
+pub policies_of_changed : (s : State) (name : List ℕ) (content : List Policy) (q : List ℕ) → policies_of (changed s (Change.Policies name content)) q ≡ cond (is_name q name) content (policies_of s q)
 policies_of_changed s name content q = ap or_none (at_put q name content s.policies) ∙ or_none_if (is_name q name) content (at q s.policies)

@@ -5,24 +5,12 @@ use Rattle.std.proofs.Common.{ap, sym, ◌∙◌, subst}
 use Rattle.std.proofs.lemmas.Bool.{true≢false}
 use Rattle.std.proofs.lemmas.Cmp.{nat_eq_equiv}
 use Rattle.std.proofs.lemmas.Map.Text.{is_eq-slice_cmp}
-use Rattle.rls_value.specs.declared.row.RowId.{RowId}
-use Rattle.rls_value.specs.declared.value.Value.{Value}
-use Rattle.rls_value.specs.declared.object.Object.{Object}
+use Rattle.rls_value.specs.{declared.row.RowId.RowId, declared.value.Value.Value, declared.object.Object.Object}
 use Rattle.rls_value.specs.declared.object.Object.TheVariants as o
-use Rattle.rls_expr.specs.declared.table.TableDef.{TableDef}
-use Rattle.rls_catalog.specs.declared.role.RoleDef.{RoleDef}
-use Rattle.rls_catalog.specs.declared.role.Membership.{Membership}
-use Rattle.rls_catalog.specs.declared.grant.Grant.{Grant}
-use Rattle.rls_expr.specs.declared.policy.Policy.{Policy}
-use Rattle.rls_catalog.specs.declared.stored.Keyed.{Keyed}
-use Rattle.rls_catalog.specs.declared.change.Change.{Change}
+use Rattle.rls_expr.specs.{declared.table.TableDef.TableDef, declared.policy.Policy.Policy}
+use Rattle.rls_catalog.specs.{declared.role.RoleDef.RoleDef, declared.role.Membership.Membership, declared.grant.Grant.Grant, declared.stored.Keyed.Keyed, declared.change.Change.Change, declared.change.RowChange.RowChange, Changed.changed, Changed.changed_all, Changed.with_row, Bases.has_key, Bases.is_number, Bases.covers, Bases.Fits, Bases.FitsAll, Bases.covers_any, State.State, State.id_order, State.stored_of, State.role_of, State.members_of, State.table_of, State.grants_of, State.policies_of, State.rows_of, State.is_same_row, State.is_same_id, State.AgreesAt, State.entries_of}
 use Rattle.rls_catalog.specs.declared.change.Change.TheVariants as c
-use Rattle.rls_catalog.specs.declared.change.RowChange.{RowChange}
-use Rattle.rls_catalog.specs.State.{State, id_order, stored_of, role_of, members_of, table_of, grants_of, policies_of, rows_of, is_same_row, is_same_id, AgreesAt, entries_of}
-use Rattle.rls_catalog.specs.Changed.{changed, changed_all, with_row}
-use Rattle.rls_catalog.proofs.ContentsLaws.{is_name, role_of_changed, members_of_changed, table_of_changed, grants_of_changed, policies_of_changed}
-use Rattle.rls_catalog.specs.Bases.{has_key, is_number, covers, Fits, FitsAll, covers_any}
-use Rattle.rls_catalog.proofs.RowsChanged.{entries_of_changed, passes, same_id, equal_if, rows_kept}
+use Rattle.rls_catalog.proofs.{ContentsLaws.is_name, ContentsLaws.role_of_changed, ContentsLaws.members_of_changed, ContentsLaws.table_of_changed, ContentsLaws.grants_of_changed, ContentsLaws.policies_of_changed, RowsChanged.entries_of_changed, RowsChanged.passes, RowsChanged.same_id, RowsChanged.equal_if, RowsChanged.rows_kept}
 
 neither_left : (a b : Bool) → (a || b) ≡ false → a ≡ false
 neither_left true b is = is

@@ -3,41 +3,14 @@ use Rattle.std.specs.Prelude.{◌≡◌, refl, ℕ, pos, negsuc, List, [], ◌�
 use Rattle.std.proofs.Common.{ap, sym, subst}
 use Rattle.std.proofs.lemmas.Bool.{true≢false, or_left}
 use Rattle.std.specs.declared.cmp.Ordering.TheVariants.{Less, Greater}
-use Rattle.rls_value.specs.declared.verb.Privilege.TheVariants as p
-use Rattle.rls_value.specs.declared.verb.Kind.TheVariants as k
-use Rattle.rls_value.specs.declared.verb.PolicyKind.TheVariants as pk
-use Rattle.rls_value.specs.declared.truth.Truth.TheVariants.{True, False, Unknown}
-use Rattle.rls_value.specs.declared.value.Value.TheVariants as v
-use Rattle.rls_value.specs.declared.value.ColType.TheVariants as t
-use Rattle.rls_value.specs.declared.row.RowId.{RowId}
-use Rattle.rls_value.specs.declared.object.Object.TheVariants as o
+use Rattle.rls_value.specs.{declared.verb.Privilege.Privilege, declared.truth.Truth.TheVariants.True, declared.truth.Truth.TheVariants.False, declared.truth.Truth.TheVariants.Unknown, declared.row.RowId.RowId, Names.one_of, Truths.conjunction_of, Truths.disjunction_of, Truths.negation_of, Values.equal_values, Values.less_values, Values.listed, Values.fits_type, declared.verb.Kind.Kind, declared.verb.PolicyKind.PolicyKind, declared.value.Value.Value, declared.value.ColType.ColType, declared.object.Object.Object}
 use Rattle.std.specs.Str.{bytes_eq}
-use Rattle.rls_value.specs.Names.{one_of}
-use Rattle.rls_value.specs.Truths.{conjunction_of, disjunction_of, negation_of}
-use Rattle.rls_value.specs.Values.{equal_values, less_values, listed, fits_type}
-use Rattle.rls_expr.specs.declared.table.TableDef.{TableDef}
-use Rattle.rls_expr.specs.Terms.{Term, Literal}
-use Rattle.rls_catalog.specs.declared.role.RoleDef.{RoleDef}
-use Rattle.rls_catalog.specs.declared.role.Membership.{Membership}
-use Rattle.rls_catalog.specs.declared.grant.Grant.{Grant}
-use Rattle.rls_expr.specs.declared.policy.Grantee.TheVariants as g
-use Rattle.rls_catalog.specs.declared.stored.Keyed.{Keyed}
-use Rattle.rls_catalog.specs.declared.stored.Stored.{Stored}
-use Rattle.rls_catalog.specs.declared.change.Change.{Change}
+use Rattle.rls_expr.specs.{declared.table.TableDef.TableDef, declared.policy.Policy.Policy, Terms.Term, Terms.Literal, declared.policy.Grantee.Grantee}
+use Rattle.rls_catalog.specs.{declared.role.RoleDef.RoleDef, declared.role.Membership.Membership, declared.grant.Grant.Grant, declared.stored.Keyed.Keyed, declared.stored.Stored.Stored, declared.change.Change.Change, GrantOptions.LeftAfterRevoke, GrantOptions.HasDependents, GrantOptions.left_by, GrantOptions.without_grant, GrantOptions.without_option, GrantOptions.grantor_of, State.State, State.role_of, State.rows_of, State.AgreesAt, State.AgreesOn, Changed.opening, Changed.changed_all, Membership.reached_of, Membership.has_privileges_of, Paths.can_set, Paths.is_member, Paths.may_grant, Paths.closes_circle, Privileges.holds, Privileges.optioned_by, Privileges.Options, Privileges.Owner, Privileges.AreOptions, Verdict.is_exempt, Verdict.expression_of, Verdict.applying_of, Verdict.verdict_of}
 use Rattle.rls_catalog.specs.declared.change.Change.TheVariants as change
-use Rattle.rls_expr.specs.declared.policy.Policy.{Policy}
 use Rattle.rls_catalog.specs.declared.verdict.Side.TheVariants as side
 use Rattle.rls_catalog.specs.declared.verdict.Verdict.TheVariants as verdict
-use Rattle.rls_catalog.specs.State.{State, role_of, rows_of, AgreesAt, AgreesOn}
-use Rattle.rls_catalog.specs.Changed.{opening, changed_all}
-use Rattle.rls_catalog.specs.Membership.{reached_of, has_privileges_of}
-use Rattle.rls_catalog.specs.Paths.{can_set, is_member, may_grant, closes_circle}
-use Rattle.rls_catalog.proofs.Walks.{bytes_same}
-use Rattle.rls_catalog.proofs.Inheriting.{or_either}
-use Rattle.rls_catalog.specs.Privileges.{holds, optioned_by, Options, Owner, AreOptions}
-use Rattle.rls_catalog.specs.GrantOptions.{LeftAfterRevoke, HasDependents, left_by, without_grant, without_option, grantor_of}
-use Rattle.rls_catalog.proofs.Revoking.{options_only, left_by_is, has_dependents_is}
-use Rattle.rls_catalog.specs.Verdict.{is_exempt, expression_of, applying_of, verdict_of}
+use Rattle.rls_catalog.proofs.{Walks.bytes_same, Inheriting.or_either, Revoking.options_only, Revoking.left_by_is, Revoking.has_dependents_is}
 
 -- ---- a company: alice is a member of staff and of chief, a superuser; staff is a member of board WITH INHERIT FALSE;
 -- guard has BYPASSRLS, and night is a member of guard
@@ -49,7 +22,7 @@ abbrev of_role : List ℕ → Bool → Membership
 of_role role inherit = record { role = role; admin = false; inherit = inherit; set = true }
 
 abbrev select_on_t : Grant
-select_on_t = record { privilege = p.Select; grantee = g.Role (codes "staff"); grantor = codes "board"; option = false }
+select_on_t = record { privilege = Privilege.Select; grantee = Grantee.Role (codes "staff"); grantor = codes "board"; option = false }
 
 abbrev company : State
 company = record {
@@ -93,15 +66,15 @@ unfolding reached_of
 superuser_not_inherited = refl
 
 -- with SELECT on t granted to staff, alice holds SELECT on t, and not INSERT; board, who granted it, doesn't hold it
-holds_by_staff : holds company (codes "alice") p.Select (codes "t") ≡ true
+holds_by_staff : holds company (codes "alice") Privilege.Select (codes "t") ≡ true
 unfolding reached_of
 holds_by_staff = refl
 
-insert_not_held : holds company (codes "alice") p.Insert (codes "t") ≡ false
+insert_not_held : holds company (codes "alice") Privilege.Insert (codes "t") ≡ false
 unfolding reached_of
 insert_not_held = refl
 
-grantor_not_held : holds company (codes "board") p.Select (codes "t") ≡ false
+grantor_not_held : holds company (codes "board") Privilege.Select (codes "t") ≡ false
 unfolding reached_of
 grantor_not_held = refl
 
@@ -144,38 +117,38 @@ disabled_exempts = refl
 -- ---- which policies apply
 
 abbrev always : Term
-always = Literal (v.Bool true)
+always = Literal (Value.Bool true)
 
 abbrev never : Term
-never = Literal (v.Bool false)
+never = Literal (Value.Bool false)
 
 abbrev named : List ℕ → Bool → Policy
-named name permissive = record { name = name; permissive = permissive; kind = pk.All; to = g.Public ∷ []; using = Some always; check = None }
+named name permissive = record { name = name; permissive = permissive; kind = PolicyKind.All; to = Grantee.Public ∷ []; using = Some always; check = None }
 
 -- FOR ALL USING (true) checks new rows by that too
-using_checks : expression_of (named (codes "p") true) k.Insert side.New ≡ Some always
+using_checks : expression_of (named (codes "p") true) Kind.Insert side.New ≡ Some always
 using_checks = refl
 
 -- where there is a WITH CHECK, that one counts for new rows, and USING for old ones
-check_for_new : expression_of (record (named (codes "p") true) { check = Some never }) k.Update side.New ≡ Some never
+check_for_new : expression_of (record (named (codes "p") true) { check = Some never }) Kind.Update side.New ≡ Some never
 check_for_new = refl
 
-using_for_old : expression_of (record (named (codes "p") true) { check = Some never }) k.Update side.Old ≡ Some always
+using_for_old : expression_of (record (named (codes "p") true) { check = Some never }) Kind.Update side.Old ≡ Some always
 using_for_old = refl
 
 -- a policy FOR INSERT that has only USING has no expression for new rows
-insert_needs_check : expression_of (record (named (codes "p") true) { kind = pk.Only k.Insert }) k.Insert side.New ≡ None
+insert_needs_check : expression_of (record (named (codes "p") true) { kind = PolicyKind.Only Kind.Insert }) Kind.Insert side.New ≡ None
 insert_needs_check = refl
 
 abbrev with_policies : List Policy → State
 with_policies policies = record company { policies = (codes "t", policies) ∷ [] }
 
 -- a policy TO staff applies to alice, and not to board
-for_staff_to_alice : applying_of (with_policies (record (named (codes "p") true) { to = g.Role (codes "staff") ∷ [] } ∷ [])) (codes "alice") (codes "t") k.Select side.Old ≡ record (named (codes "p") true) { to = g.Role (codes "staff") ∷ [] } ∷ []
+for_staff_to_alice : applying_of (with_policies (record (named (codes "p") true) { to = Grantee.Role (codes "staff") ∷ [] } ∷ [])) (codes "alice") (codes "t") Kind.Select side.Old ≡ record (named (codes "p") true) { to = Grantee.Role (codes "staff") ∷ [] } ∷ []
 unfolding reached_of
 for_staff_to_alice = refl
 
-for_staff_not_to_board : applying_of (with_policies (record (named (codes "p") true) { to = g.Role (codes "staff") ∷ [] } ∷ [])) (codes "board") (codes "t") k.Select side.Old ≡ []
+for_staff_not_to_board : applying_of (with_policies (record (named (codes "p") true) { to = Grantee.Role (codes "staff") ∷ [] } ∷ [])) (codes "board") (codes "t") Kind.Select side.Old ≡ []
 unfolding reached_of
 for_staff_not_to_board = refl
 
@@ -233,37 +206,37 @@ not_unknown : negation_of Unknown ≡ Unknown
 not_unknown = refl
 
 -- null equals nothing, itself included
-null_equals_nothing : equal_values v.Null v.Null ≡ Unknown
+null_equals_nothing : equal_values Value.Null Value.Null ≡ Unknown
 null_equals_nothing = refl
 
 -- an upper case letter is less than a lower case one, and false less than true
-upper_before_lower : less_values (v.Text (codes "B")) (v.Text (codes "a")) ≡ True
+upper_before_lower : less_values (Value.Text (codes "B")) (Value.Text (codes "a")) ≡ True
 upper_before_lower = refl
 
-false_before_true : less_values (v.Bool false) (v.Bool true) ≡ True
+false_before_true : less_values (Value.Bool false) (Value.Bool true) ≡ True
 false_before_true = refl
 
 -- null is listed last; numbers by size, and not by their digits
-null_listed_last : listed v.Null (v.Int (pos 9)) ≡ Greater
+null_listed_last : listed Value.Null (Value.Int (pos 9)) ≡ Greater
 null_listed_last = refl
 
-numbers_by_size : listed (v.Int (pos 9)) (v.Int (pos 10)) ≡ Less
+numbers_by_size : listed (Value.Int (pos 9)) (Value.Int (pos 10)) ≡ Less
 numbers_by_size = refl
 
-negative_first : listed (v.Int (negsuc 9)) (v.Int (pos 0)) ≡ Less
+negative_first : listed (Value.Int (negsuc 9)) (Value.Int (pos 0)) ≡ Less
 negative_first = refl
 
 -- INTEGER ends at 2147483647 and begins at -2147483648
-greatest_integer : fits_type (v.Int (pos 2147483647)) t.Integer ≡ true
+greatest_integer : fits_type (Value.Int (pos 2147483647)) ColType.Integer ≡ true
 greatest_integer = refl
 
-past_integer : fits_type (v.Int (pos 2147483648)) t.Integer ≡ false
+past_integer : fits_type (Value.Int (pos 2147483648)) ColType.Integer ≡ false
 past_integer = refl
 
-least_integer : fits_type (v.Int (negsuc 2147483647)) t.Integer ≡ true
+least_integer : fits_type (Value.Int (negsuc 2147483647)) ColType.Integer ≡ true
 least_integer = refl
 
-before_integer : fits_type (v.Int (negsuc 2147483648)) t.Integer ≡ false
+before_integer : fits_type (Value.Int (negsuc 2147483648)) ColType.Integer ≡ false
 before_integer = refl
 
 -- ---- changes and agreement
@@ -272,13 +245,13 @@ abbrev first_id : RowId
 first_id = record { txn = 1; n = 0 }
 
 abbrev keyed : ℕ → Keyed
-keyed n = record { key = v.Int (pos n) ∷ []; row = v.Int (pos n) ∷ v.Null ∷ [] }
+keyed n = record { key = Value.Int (pos n) ∷ []; row = Value.Int (pos n) ∷ Value.Null ∷ [] }
 
 abbrev put : List ℕ → Option Keyed → Change
 put table content = change.Row (record { table = table; id = first_id; before = None; after = content })
 
 -- a row that is put in is there, and one that is taken away isn't
-put_row_is_there : rows_of (changed_all opening (put (codes "t") (Some (keyed 7)) ∷ [])) (codes "t") ≡ record { id = first_id; key = v.Int (pos 7) ∷ []; row = v.Int (pos 7) ∷ v.Null ∷ [] } ∷ []
+put_row_is_there : rows_of (changed_all opening (put (codes "t") (Some (keyed 7)) ∷ [])) (codes "t") ≡ record { id = first_id; key = Value.Int (pos 7) ∷ []; row = Value.Int (pos 7) ∷ Value.Null ∷ [] } ∷ []
 put_row_is_there = refl
 
 taken_row_is_gone : rows_of (changed_all opening (put (codes "t") (Some (keyed 7)) ∷ put (codes "t") None ∷ [])) (codes "t") ≡ []
@@ -296,14 +269,14 @@ others_are_absent : role_of opening (codes "alice") ≡ None
 others_are_absent = refl
 
 -- a state that has a row of t with the key (7) agrees with the opening state on the rows of u and on the key (8) of t, and not on the key (7) of t
-agrees_elsewhere : AgreesOn opening (changed_all opening (put (codes "t") (Some (keyed 7)) ∷ [])) (o.Rows (codes "u") ∷ o.Key (codes "t") (v.Int (pos 8) ∷ []) ∷ o.Role (codes "postgres") ∷ [])
+agrees_elsewhere : AgreesOn opening (changed_all opening (put (codes "t") (Some (keyed 7)) ∷ [])) (Object.Rows (codes "u") ∷ Object.Key (codes "t") (Value.Int (pos 8) ∷ []) ∷ Object.Role (codes "postgres") ∷ [])
 agrees_elsewhere = (refl, (refl, (refl, tt)))
 
 abbrev is_there : List Stored → Bool
 is_there [] = false
 is_there (stored ∷ more) = true
 
-differs_at_key : AgreesAt opening (changed_all opening (put (codes "t") (Some (keyed 7)) ∷ [])) (o.Key (codes "t") (v.Int (pos 7) ∷ [])) → ⊥
+differs_at_key : AgreesAt opening (changed_all opening (put (codes "t") (Some (keyed 7)) ∷ [])) (Object.Key (codes "t") (Value.Int (pos 7) ∷ [])) → ⊥
 differs_at_key same = true≢false (sym (ap is_there same))
 
 -- ---- what a login may set, who is a member, who may grant a membership: bob is a member of team WITH SET FALSE, and of
@@ -395,39 +368,39 @@ not_over_itself = refl
 -- gave SELECT to cid
 
 abbrev given : List ℕ → List ℕ → Bool → Grant
-given grantor grantee option = record { privilege = p.Select; grantee = g.Role grantee; grantor = grantor; option = option }
+given grantor grantee option = record { privilege = Privilege.Select; grantee = Grantee.Role grantee; grantor = grantor; option = option }
 
 abbrev circle : List Grant
 circle = given (codes "ann") (codes "ben") true ∷ given (codes "ben") (codes "ann") true ∷ given (codes "ben") (codes "cid") false ∷ []
 
-owner_alone : (role : List ℕ) → Options (codes "owner") circle p.Select role → bytes_eq role (codes "owner") ≡ true
-owner_alone = options_only (codes "owner") circle p.Select (λ role. bytes_eq role (codes "owner") ≡ true) refl
-    (λ grantor grantee own is. absurd (true≢false (sym (subst (λ name. one_of (optioned_by circle p.Select name) grantee ≡ true) (bytes_same grantor (codes "owner") own) is))))
+owner_alone : (role : List ℕ) → Options (codes "owner") circle Privilege.Select role → bytes_eq role (codes "owner") ≡ true
+owner_alone = options_only (codes "owner") circle Privilege.Select (λ role. bytes_eq role (codes "owner") ≡ true) refl
+    (λ grantor grantee own is. absurd (true≢false (sym (subst (λ name. one_of (optioned_by circle Privilege.Select name) grantee ≡ true) (bytes_same grantor (codes "owner") own) is))))
 
-only_owner : AreOptions (codes "owner") circle p.Select (codes "owner" ∷ [])
+only_owner : AreOptions (codes "owner") circle Privilege.Select (codes "owner" ∷ [])
 only_owner role = (
-  (λ is. or_either (bytes_eq (codes "owner") role) false is (λ same. subst (Options (codes "owner") circle p.Select) (bytes_same (codes "owner") role same) Owner) (λ never. absurd (true≢false (sym never)))),
+  (λ is. or_either (bytes_eq (codes "owner") role) false is (λ same. subst (Options (codes "owner") circle Privilege.Select) (bytes_same (codes "owner") role same) Owner) (λ never. absurd (true≢false (sym never)))),
   (λ holds. or_left (bytes_eq (codes "owner") role) false (ap (λ name. bytes_eq (codes "owner") name) (bytes_same role (codes "owner") (owner_alone role holds)))),
 )
 
 -- the circle holds no grant option: CASCADE leaves nothing of it
-circle_falls : LeftAfterRevoke (codes "owner") circle p.Select []
-circle_falls = left_by_is (codes "owner") circle p.Select (codes "owner" ∷ []) only_owner
+circle_falls : LeftAfterRevoke (codes "owner") circle Privilege.Select []
+circle_falls = left_by_is (codes "owner") circle Privilege.Select (codes "owner" ∷ []) only_owner
 
 -- and RESTRICT is refused
-circle_depends : HasDependents (codes "owner") circle p.Select
-circle_depends = (has_dependents_is (codes "owner") circle p.Select (codes "owner" ∷ []) only_owner).0 refl
+circle_depends : HasDependents (codes "owner") circle Privilege.Select
+circle_depends = (has_dependents_is (codes "owner") circle Privilege.Select (codes "owner" ∷ []) only_owner).0 refl
 
 -- a grant of INSERT by ann stays
-other_privilege_stays : left_by (codes "owner" ∷ []) p.Select (record (given (codes "ann") (codes "ben") true) { privilege = p.Insert } ∷ circle) ≡ record (given (codes "ann") (codes "ben") true) { privilege = p.Insert } ∷ []
+other_privilege_stays : left_by (codes "owner" ∷ []) Privilege.Select (record (given (codes "ann") (codes "ben") true) { privilege = Privilege.Insert } ∷ circle) ≡ record (given (codes "ann") (codes "ben") true) { privilege = Privilege.Insert } ∷ []
 other_privilege_stays = refl
 
 -- REVOKE by ben from cid leaves the others
-revoked_from_cid : without_grant p.Select (g.Role (codes "cid")) (codes "ben") circle ≡ given (codes "ann") (codes "ben") true ∷ given (codes "ben") (codes "ann") true ∷ []
+revoked_from_cid : without_grant Privilege.Select (Grantee.Role (codes "cid")) (codes "ben") circle ≡ given (codes "ann") (codes "ben") true ∷ given (codes "ben") (codes "ann") true ∷ []
 revoked_from_cid = refl
 
 -- REVOKE GRANT OPTION FOR by ann from ben takes the mark alone
-mark_taken : without_option p.Select (g.Role (codes "ben")) (codes "ann") circle ≡ given (codes "ann") (codes "ben") false ∷ given (codes "ben") (codes "ann") true ∷ given (codes "ben") (codes "cid") false ∷ []
+mark_taken : without_option Privilege.Select (Grantee.Role (codes "ben")) (codes "ann") circle ≡ given (codes "ann") (codes "ben") false ∷ given (codes "ben") (codes "ann") true ∷ given (codes "ben") (codes "cid") false ∷ []
 mark_taken = refl
 
 -- the grantor: the owner for one with his privileges; else who holds the option himself; else the least by bytes of

@@ -4,22 +4,13 @@ use Rattle.std.specs.List.{list_any, list_all}
 use Rattle.std.specs.Str.{bytes_eq}
 use Rattle.std.proofs.Common.{arith, sym, ap, ◌∙◌, subst}
 use Rattle.std.proofs.lemmas.Bool.{true≢false}
-use Rattle.rls_value.specs.Names.{one_of}
-use Rattle.rls_value.specs.declared.verb.Privilege.{Privilege}
-use Rattle.rls_value.specs.declared.verb.Kind.{Kind}
+use Rattle.rls_value.specs.{Names.one_of, declared.verb.Privilege.Privilege, declared.verb.Kind.Kind}
 use Rattle.rls_value.specs.declared.object.Object.TheVariants as o
-use Rattle.rls_expr.specs.declared.table.TableDef.{TableDef}
-use Rattle.rls_expr.specs.declared.policy.Grantee.{Grantee}
-use Rattle.rls_expr.specs.declared.policy.Grantee.TheVariants.{Public, Role}
-use Rattle.rls_expr.specs.declared.policy.Policy.{Policy}
-use Rattle.rls_catalog.specs.declared.verdict.Side.{Side}
-use Rattle.rls_catalog.specs.State.{State, role_of, grants_of, policies_of, AgreesOn}
-use Rattle.rls_catalog.proofs.StateLaws.{agrees-append}
+use Rattle.rls_expr.specs.{declared.table.TableDef.TableDef, declared.policy.Grantee.Grantee, declared.policy.Policy.Policy, declared.policy.Grantee.TheVariants.Public, declared.policy.Grantee.TheVariants.Role}
+use Rattle.rls_catalog.specs.{declared.verdict.Side.Side, State.State, State.role_of, State.grants_of, State.policies_of, State.AgreesOn, Privileges.includes, Privileges.concerns, Privileges.is_same_privilege, Privileges.holds, Privileges.holds_reads}
+use Rattle.rls_catalog.proofs.{StateLaws.agrees-append, Inheriting.or_either, Inheriting.among_got, Inheriting.walk_keeps, Walks.bytes_same, Walks.left_all, Walks.walk_step, Walks.walk_end, Walks.walk_finished}
 use Rattle.rls_catalog.specs.Membership.{attributes_in, attributes_of, inherited_if, inherited_by, fresh, walk, granted_roles, reached_of, walk_reads, walked_by, has_privileges_of, reach_reads}
-use Rattle.rls_catalog.specs.Privileges.{includes, concerns, is_same_privilege, holds, holds_reads}
 use Rattle.rls_catalog.specs.Verdict.{asked_of, is_asked, is_everyone, is_to, is_to_everyone, applying_of, applying_reads, is_exempt, exempt_reads}
-use Rattle.rls_catalog.proofs.Walks.{bytes_same, left_all, walk_step, walk_end, walk_finished}
-use Rattle.rls_catalog.proofs.Inheriting.{or_either, among_got, walk_keeps}
 
 -- the two states let each of the names inherit the same
 abbrev pub InheritSame : State → State → List (List ℕ) → Type 0

@@ -6,16 +6,10 @@ use Rattle.std.specs.Ordering.{eq_by_cmp, is_eq, ordering_reverse}
 use Rattle.std.specs.declared.cmp.Ordering.{Ordering}
 use Rattle.std.specs.declared.cmp.Ordering.TheVariants.{Less, Equal, Greater}
 use Rattle.std.proofs.Common.{ap, sym, ◌∙◌, subst}
-use Rattle.std.proofs.lemmas.Bool.{true≢false}
-use Rattle.std.proofs.lemmas.Cmp.{tied_itself, eq_by_cmp_equiv}
-use Rattle.std.proofs.lemmas.Map.{lookup-set_value}
-use Rattle.rls_value.specs.declared.row.RowId.{RowId}
-use Rattle.rls_value.specs.declared.value.Value.{Value}
-use Rattle.rls_value.specs.Listing.{rows_total}
+use Rattle.std.proofs.{lemmas.Bool.true≢false, lemmas.Map.lookup-set_value, lemmas.Cmp.tied_itself, lemmas.Cmp.eq_by_cmp_equiv}
+use Rattle.rls_value.specs.{declared.row.RowId.RowId, declared.value.Value.Value, Listing.rows_total}
 use Rattle.rls_value.proofs.ListingLaws.{rows_same}
-use Rattle.rls_catalog.specs.declared.stored.Keyed.{Keyed}
-use Rattle.rls_catalog.specs.State.{id_order}
-use Rattle.rls_catalog.specs.KeyIndex.{Covers, IsProper, IsWith, IsWithout, has, ids_at, ids_in, is_among, is_empty_key, is_entry, is_indexed, key_order, knows, stands_at}
+use Rattle.rls_catalog.specs.{declared.stored.Keyed.Keyed, State.id_order, KeyIndex.Covers, KeyIndex.IsProper, KeyIndex.IsWith, KeyIndex.IsWithout, KeyIndex.has, KeyIndex.ids_at, KeyIndex.ids_in, KeyIndex.is_among, KeyIndex.is_empty_key, KeyIndex.is_entry, KeyIndex.is_indexed, KeyIndex.key_order, KeyIndex.knows, KeyIndex.stands_at}
 use Rattle.rls_catalog.proofs.Places.{absent_set, id_total, same_id}
 
 -- ---- keys that tie are the same

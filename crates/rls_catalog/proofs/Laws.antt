@@ -1,26 +1,15 @@
 -- Laws of the definitions, in the words of their subject.
 use Rattle.std.specs.Prelude.{◌≡◌, refl, ℕ, List, [], ◌∷◌, ◌++◌, Option, Some, None, Bool, true, false, ◌||◌, ◌&&◌, not, cond, if◌then◌else◌, filter, map}
-use Rattle.std.specs.List.{list_any}
-use Rattle.std.specs.Str.{bytes_eq}
+use Rattle.std.specs.{List.list_any, Str.bytes_eq, declared.cmp.Ordering.Ordering}
 use Rattle.std.specs.Ordering.{is_gt, ordering_reverse}
-use Rattle.std.specs.declared.cmp.Ordering.{Ordering}
 use Rattle.std.specs.declared.cmp.Ordering.TheVariants.{Less, Equal, Greater}
-use Rattle.std.proofs.lemmas.Cmp.{nat_list_cmp_total}
+use Rattle.std.proofs.{lemmas.Cmp.nat_list_cmp_total, lemmas.List.Folds.list_any-append}
 use Rattle.std.proofs.Common.{ap, sym, ◌∙◌, subst}
 use Rattle.std.proofs.lemmas.Bool.{true≢false, or_left, or_right}
-use Rattle.std.proofs.lemmas.List.Folds.{list_any-append}
-use Rattle.rls_value.specs.Names.{one_of}
-use Rattle.rls_value.specs.declared.truth.Truth.{Truth}
-use Rattle.rls_value.specs.Truths.{is_true}
-use Rattle.rls_value.specs.Values.{same_flag}
+use Rattle.rls_value.specs.{Names.one_of, declared.truth.Truth.Truth, Truths.is_true, Values.same_flag}
 use Rattle.rls_expr.specs.declared.policy.Policy.{Policy}
-use Rattle.rls_catalog.specs.declared.verdict.Verdict.{Verdict}
-use Rattle.rls_catalog.specs.declared.verdict.Verdict.TheVariants as v
-use Rattle.rls_catalog.specs.State.{State, name_order}
-use Rattle.rls_catalog.proofs.Walks.{bytes_same, bytes_own}
-use Rattle.rls_catalog.specs.Membership.{Inherits, Itself, Through, attributes_of, inherited_by, reached_of, has_privileges_of}
-use Rattle.rls_catalog.proofs.Inheriting.{or_either, met_is_inherited, inherited_is_met}
-use Rattle.rls_catalog.specs.Verdict.{is_such, names_where, lesser, least, verdict_by, verdict_of}
+use Rattle.rls_catalog.specs.{declared.verdict.Verdict.Verdict, State.State, State.name_order, Membership.Inherits, Membership.Itself, Membership.Through, Membership.attributes_of, Membership.inherited_by, Membership.reached_of, Membership.has_privileges_of, Verdict.is_such, Verdict.names_where, Verdict.lesser, Verdict.least, Verdict.verdict_by, Verdict.verdict_of}
+use Rattle.rls_catalog.proofs.{Walks.bytes_same, Walks.bytes_own, Inheriting.or_either, Inheriting.met_is_inherited, Inheriting.inherited_is_met}
 
 -- ---- whose privileges a role has
 
@@ -78,10 +67,10 @@ cut_off s role other inside ordinary own hands_on outside =
 
 -- access is given: row security doesn't apply, or a policy gives it
 abbrev pub is_allowed : Verdict → Bool
-is_allowed v.Exempt = true
-is_allowed (v.By policy) = true
-is_allowed v.NoPermissive = false
-is_allowed (v.Restrictive policy) = false
+is_allowed Verdict.Exempt = true
+is_allowed (Verdict.By policy) = true
+is_allowed Verdict.NoPermissive = false
+is_allowed (Verdict.Restrictive policy) = false
 
 -- the policy is permissive, and true of the row
 abbrev pub permits : Policy × Truth → Bool
@@ -207,20 +196,20 @@ pub restrictive_alone : (judgements : List (Policy × Truth)) → list_any permi
 restrictive_alone judgements none = allowed_is judgements ∙ (λ i. none i && not (list_any forbids judgements))
 
 abbrev is_exempted : Verdict → Bool
-is_exempted v.Exempt = true
+is_exempted Verdict.Exempt = true
 is_exempted _ = false
 
 abbrev is_by : Verdict → Bool
-is_by (v.By policy) = true
+is_by (Verdict.By policy) = true
 is_by _ = false
 
 abbrev is_restrictive : Verdict → Bool
-is_restrictive (v.Restrictive policy) = true
+is_restrictive (Verdict.Restrictive policy) = true
 is_restrictive _ = false
 
 abbrev named_by : Verdict → List ℕ
-named_by (v.By policy) = policy
-named_by (v.Restrictive policy) = policy
+named_by (Verdict.By policy) = policy
+named_by (Verdict.Restrictive policy) = policy
 named_by _ = []
 
 exempt_no : (passing failing : Option (List ℕ)) → is_exempted (verdict_by passing failing) ≡ false
@@ -323,22 +312,22 @@ is_least (first ∷ names) name found =
           (λ there. least_all first names other there))),
     )
 
-by_if : (passing failing : Option (List ℕ)) (name : List ℕ) → verdict_by passing failing ≡ v.By name → passing ≡ Some name
+by_if : (passing failing : Option (List ℕ)) (name : List ℕ) → verdict_by passing failing ≡ Verdict.By name → passing ≡ Some name
 by_if None failing name is = absurd (true≢false (sym (ap is_by is)))
 by_if (Some passing) (Some failing) name is = absurd (true≢false (sym (ap is_by is)))
 by_if (Some passing) None name is = ap (λ verdict. Some (named_by verdict)) is
 
-restrictive_if : (passing failing : Option (List ℕ)) (name : List ℕ) → verdict_by passing failing ≡ v.Restrictive name → failing ≡ Some name
+restrictive_if : (passing failing : Option (List ℕ)) (name : List ℕ) → verdict_by passing failing ≡ Verdict.Restrictive name → failing ≡ Some name
 restrictive_if None failing name is = absurd (true≢false (sym (ap is_restrictive is)))
 restrictive_if (Some passing) (Some failing) name is = ap (λ verdict. Some (named_by verdict)) is
 restrictive_if (Some passing) None name is = absurd (true≢false (sym (ap is_restrictive is)))
 
 -- the policy that is named as giving access is the least, by bytes, of the permissive ones that are true
-pub by_is_least : (judgements : List (Policy × Truth)) (name : List ℕ) → verdict_of judgements ≡ v.By name → IsLeast (names_where true true judgements) name
+pub by_is_least : (judgements : List (Policy × Truth)) (name : List ℕ) → verdict_of judgements ≡ Verdict.By name → IsLeast (names_where true true judgements) name
 by_is_least judgements name is =
     is_least (names_where true true judgements) name (by_if (least None (names_where true true judgements)) (least None (names_where false false judgements)) name is)
 
 -- and the one that is named as denying it the least of the restrictive ones that aren't true
-pub restrictive_is_least : (judgements : List (Policy × Truth)) (name : List ℕ) → verdict_of judgements ≡ v.Restrictive name → IsLeast (names_where false false judgements) name
+pub restrictive_is_least : (judgements : List (Policy × Truth)) (name : List ℕ) → verdict_of judgements ≡ Verdict.Restrictive name → IsLeast (names_where false false judgements) name
 restrictive_is_least judgements name is =
     is_least (names_where false false judgements) name (restrictive_if (least None (names_where true true judgements)) (least None (names_where false false judgements)) name is)

@@ -1,28 +1,15 @@
 -- The rows of a table that have a key are those among the numbers that the index has under it.
 use Rattle.std.specs.Prelude.{◌≡◌, refl, List, [], ◌∷◌, ◌++◌, Option, Some, None, Bool, true, false, ◌||◌, cond, is_some, map}
-use Rattle.std.specs.BTreeMap.{BTreeMap, is_at}
-use Rattle.std.specs.List.{AllByRecursion}
-use Rattle.std.specs.List.Sorted.{IsStrictlySortedBy}
-use Rattle.std.specs.Map.{lookup, keys_of}
-use Rattle.std.specs.Ordering.{is_eq, ordering_reverse}
-use Rattle.std.specs.declared.cmp.Ordering.{Ordering}
+use Rattle.std.specs.{BTreeMap.BTreeMap, BTreeMap.is_at, Map.lookup, Map.keys_of, Ordering.is_eq, Ordering.ordering_reverse}
+use Rattle.std.specs.{List.AllByRecursion, List.Sorted.IsStrictlySortedBy, declared.cmp.Ordering.Ordering}
 use Rattle.std.specs.declared.cmp.Ordering.TheVariants.{Less, Equal, Greater}
 use Rattle.std.proofs.Common.{ap, sym, ◌∙◌}
-use Rattle.std.proofs.lemmas.Bool.{true≢false}
-use Rattle.std.proofs.lemmas.Cmp.{eq_by_cmp_equiv}
-use Rattle.std.proofs.lemmas.Map.{lookup-none}
+use Rattle.std.proofs.{lemmas.Bool.true≢false, lemmas.Cmp.eq_by_cmp_equiv, lemmas.Map.lookup-none}
 use Rattle.std.proofs.lemmas.Map.Entries.{none_below_head, none_past_head}
 use Rattle.std.proofs.lemmas.Map.Keys.{sorted_tail, sorted_head, IsDistinct-from_sorted}
-use Rattle.rls_value.specs.declared.row.RowId.{RowId}
-use Rattle.rls_value.specs.declared.value.Value.{Value}
-use Rattle.rls_catalog.specs.declared.stored.Keyed.{Keyed}
-use Rattle.rls_catalog.specs.declared.stored.Stored.{Stored}
-use Rattle.rls_catalog.specs.State.{id_order, is_same_row, stored_of, with_key}
-use Rattle.rls_catalog.specs.Kept.{present, shown}
-use Rattle.rls_catalog.specs.KeyIndex.{Covers, ids_at, is_among, is_empty_key, is_indexed, picked, with_key_at}
-use Rattle.rls_catalog.proofs.Places.{id_total, same_id, below_all}
-use Rattle.rls_catalog.proofs.SameRows.{same_row}
-use Rattle.rls_catalog.proofs.KeyIndexLemmas.{same_number, own_number}
+use Rattle.rls_value.specs.{declared.row.RowId.RowId, declared.value.Value.Value}
+use Rattle.rls_catalog.specs.{declared.stored.Keyed.Keyed, declared.stored.Stored.Stored, Kept.present, Kept.shown, State.id_order, State.is_same_row, State.stored_of, State.with_key, KeyIndex.Covers, KeyIndex.ids_at, KeyIndex.is_among, KeyIndex.is_empty_key, KeyIndex.is_indexed, KeyIndex.picked, KeyIndex.with_key_at}
+use Rattle.rls_catalog.proofs.{Places.id_total, Places.same_id, Places.below_all, SameRows.same_row, KeyIndexLemmas.same_number, KeyIndexLemmas.own_number}
 
 no : {A : Type 0} → false ≡ true → A
 no is = absurd (true≢false (sym is))

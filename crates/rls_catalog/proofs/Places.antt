@@ -1,26 +1,14 @@
 -- Places of rows: what is put in one, and taken back.
 use Rattle.std.specs.Prelude.{◌≡◌, refl, List, [], ◌∷◌, Option, Some, None, Bool, true, false, cond, is_some}
 use Rattle.std.specs.BTreeMap.{is_at, insert_entry}
-use Rattle.std.specs.Cmp.{IsTotalOrder}
-use Rattle.std.specs.List.{AllByRecursion}
-use Rattle.std.specs.List.Sorted.{IsStrictlySortedBy}
+use Rattle.std.specs.{Cmp.IsTotalOrder, List.AllByRecursion, List.Sorted.IsStrictlySortedBy, declared.cmp.Ordering.Ordering, FinMap.nat_cmp-IsAntisymmetric}
 use Rattle.std.specs.Map.{lookup, set_value, remove_entry, keys_of}
 use Rattle.std.specs.Ordering.{is_eq, match_ordering, nat_cmp, ordering_then}
-use Rattle.std.specs.declared.cmp.Ordering.{Ordering}
 use Rattle.std.specs.declared.cmp.Ordering.TheVariants.{Less, Equal, Greater}
-use Rattle.std.specs.FinMap.{nat_cmp-IsAntisymmetric}
-use Rattle.std.proofs.Common.{ap, sym, ◌∙◌}
-use Rattle.std.proofs.lemmas.Bool.{true≢false}
+use Rattle.std.proofs.{Common.ap, Common.sym, Common.◌∙◌, lemmas.Bool.true≢false, lemmas.Map.lookup-none, lemmas.Map.Steps.set_value_same, lemmas.Map.Entries.none_below_head, lemmas.Map.Entries.none_past_head, lemmas.Map.Keys.sorted_tail, lemmas.Map.Keys.sorted_head, lemmas.Map.Keys.IsDistinct-from_sorted}
 use Rattle.std.proofs.lemmas.Cmp.{tied_itself, on_total, then_total, nat_cmp_total, eq_by_cmp_equiv}
-use Rattle.std.proofs.lemmas.Map.{lookup-none}
-use Rattle.std.proofs.lemmas.Map.Entries.{none_below_head, none_past_head}
-use Rattle.std.proofs.lemmas.Map.Keys.{sorted_tail, sorted_head, IsDistinct-from_sorted}
-use Rattle.std.proofs.lemmas.Map.Steps.{set_value_same}
 use Rattle.rls_value.specs.declared.row.RowId.{RowId}
-use Rattle.rls_catalog.specs.declared.stored.Keyed.{Keyed}
-use Rattle.rls_catalog.specs.State.{id_order}
-use Rattle.rls_catalog.specs.Kept.{present, shown}
-use Rattle.rls_catalog.specs.Undone.{put_back}
+use Rattle.rls_catalog.specs.{declared.stored.Keyed.Keyed, State.id_order, Undone.put_back, Kept.present, Kept.shown}
 
 abbrev is_there : Option (Option Keyed) → Bool
 is_there (Some (Some keyed)) = true

@@ -7,16 +7,9 @@ use Rattle.std.specs.Str.{bytes_eq}
 use Rattle.std.specs.declared.cmp.Ordering.{Ordering}
 use Rattle.std.specs.declared.cmp.Ordering.TheVariants.{Less, Equal, Greater}
 use Rattle.std.proofs.Common.{ap, sym, subst, ◌∙◌}
-use Rattle.std.proofs.Math.ListN.{set}
-use Rattle.std.proofs.Math.Numerals.{one-add}
-use Rattle.std.proofs.lemmas.Bool.{true≢false}
-use Rattle.std.proofs.lemmas.Cmp.{nat_list_cmp_total}
-use Rattle.std.proofs.lemmas.List.Kept.{IsStrictlySortedBy-filter}
-use Rattle.std.proofs.lemmas.Map.Text.{is_eq-slice_cmp}
-use Rattle.std.proofs.lemmas.Slice.Eq.{bytes_eq-Decides}
+use Rattle.std.proofs.{Math.ListN.set, Math.Numerals.one-add, lemmas.Bool.true≢false, lemmas.Cmp.nat_list_cmp_total, lemmas.List.Kept.IsStrictlySortedBy-filter, lemmas.Map.Text.is_eq-slice_cmp, lemmas.Slice.Eq.bytes_eq-Decides}
 use Rattle.rls_expr.specs.declared.policy.Policy.{Policy}
-use Rattle.rls_catalog.specs.State.{name_order}
-use Rattle.rls_catalog.specs.PolicyLists.{InNameOrder, is_named, has_policy, is_after, with_policy, without_policy, with_replaced}
+use Rattle.rls_catalog.specs.{State.name_order, PolicyLists.InNameOrder, PolicyLists.is_named, PolicyLists.has_policy, PolicyLists.is_after, PolicyLists.with_policy, PolicyLists.without_policy, PolicyLists.with_replaced}
 
 abbrev names : List Policy → List (List ℕ)
 names policies = map (λ policy. policy.name) policies

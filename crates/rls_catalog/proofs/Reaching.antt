@@ -6,13 +6,9 @@ use Rattle.std.specs.Str.{bytes_eq}
 use Rattle.std.proofs.Common.{ap, subst, sym, ◌∙◌, ◌⊎◌, inl, inr}
 use Rattle.std.proofs.lemmas.Bool.{true≢false, or_left, or_right}
 use Rattle.rls_value.specs.Names.{one_of}
-use Rattle.rls_catalog.specs.declared.role.RoleDef.{RoleDef}
-use Rattle.rls_catalog.specs.declared.role.Membership.{Membership}
-use Rattle.rls_catalog.specs.State.{State, at, name_order, or_none, role_of, members_of}
-use Rattle.rls_catalog.specs.Membership.{granted_inherited, inherited_if, inherited_by, attributes_of, Inherits, reached_of}
+use Rattle.rls_catalog.specs.{declared.role.RoleDef.RoleDef, declared.role.Membership.Membership, State.State, State.at, State.name_order, State.or_none, State.role_of, State.members_of, Membership.granted_inherited, Membership.inherited_if, Membership.inherited_by, Membership.attributes_of, Membership.Inherits, Membership.reached_of}
 use Rattle.rls_catalog.specs.Membership as inherits
-use Rattle.rls_catalog.proofs.Walks.{bytes_same, bytes_own}
-use Rattle.rls_catalog.proofs.Inheriting.{or_either, met_is_inherited, inherited_is_met}
+use Rattle.rls_catalog.proofs.{Walks.bytes_same, Walks.bytes_own, Inheriting.or_either, Inheriting.met_is_inherited, Inheriting.inherited_is_met}
 use Rattle.rls_catalog.specs.Paths.{held_if, held_by, granted_where, Reaches, Itself, Through, has_set, is_any, MaySet, IsMember, holds_admin, MayGrant, marked, inheriting, reached_where, can_set, is_member, may_grant, closes_circle}
 
 -- ---- the marked state

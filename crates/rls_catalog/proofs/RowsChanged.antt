@@ -3,22 +3,14 @@ use Rattle.std.specs.Prelude.{◌≡◌, refl, ℕ, List, [], ◌∷◌, Option,
 use Rattle.std.specs.BTreeMap.{is_at, insert_entry}
 use Rattle.std.specs.Map.{lookup, remove_entry}
 use Rattle.std.specs.Ordering.{is_eq, match_ordering, nat_cmp, ordering_then}
-use Rattle.std.specs.declared.cmp.Ordering.{Ordering}
+use Rattle.std.specs.{declared.cmp.Ordering.Ordering, FinMap.nat_cmp-IsAntisymmetric}
 use Rattle.std.specs.declared.cmp.Ordering.TheVariants.{Less, Equal, Greater}
-use Rattle.std.specs.FinMap.{nat_cmp-IsAntisymmetric}
 use Rattle.std.proofs.Common.{ap, sym, ◌∙◌, subst}
-use Rattle.std.proofs.lemmas.Bool.{true≢false}
+use Rattle.std.proofs.{lemmas.Bool.true≢false, lemmas.Map.lookup-set_value}
 use Rattle.std.proofs.lemmas.Cmp.{eq_by_cmp_equiv, nat_list_cmp_total}
-use Rattle.std.proofs.lemmas.Map.{lookup-set_value}
 use Rattle.rls_value.specs.declared.row.RowId.{RowId}
-use Rattle.rls_catalog.specs.declared.stored.Keyed.{Keyed}
-use Rattle.rls_catalog.specs.declared.stored.Stored.{Stored}
-use Rattle.rls_catalog.specs.declared.change.Change.TheVariants as c
-use Rattle.rls_catalog.specs.declared.change.RowChange.{RowChange}
-use Rattle.rls_catalog.specs.State.{State, id_order, name_order, at, or_none, stored_of, rows_of, entries_of}
-use Rattle.rls_catalog.specs.Changed.{changed, with_row, with_row_in}
+use Rattle.rls_catalog.specs.{declared.stored.Keyed.Keyed, declared.stored.Stored.Stored, declared.change.RowChange.RowChange, Bases.Fits, Changed.changed, Changed.with_row, Changed.with_row_in, State.State, State.id_order, State.name_order, State.at, State.or_none, State.stored_of, State.rows_of, State.entries_of, declared.change.Change.Change}
 use Rattle.rls_catalog.proofs.ContentsLaws.{is_name, same_name, at_put}
-use Rattle.rls_catalog.specs.Bases.{Fits}
 
 put_in_if : (b : Bool) (id : RowId) (content : Option Keyed) (rows : List (RowId × Keyed)) (found : Option (List (RowId × Keyed))) → (b ≡ true → found ≡ Some rows)
     → or_none (cond b (Some (with_row id content rows)) found) ≡ cond b (with_row id content (or_none found)) (or_none found)
@@ -56,7 +48,7 @@ entries_if None None tables table id q is = put_none_if (is_name q table) id (at
 
 -- a change of a row puts the content at the number in its table, and leaves the other tables
 pub entries_of_changed : (s : State) (change : RowChange) (q : List ℕ)
-    → entries_of (changed s (c.Row change)) q ≡ cond (is_name q change.table) (with_row change.id change.after (entries_of s q)) (entries_of s q)
+    → entries_of (changed s (Change.Row change)) q ≡ cond (is_name q change.table) (with_row change.id change.after (entries_of s q)) (entries_of s q)
 entries_of_changed s change q = entries_if (at change.table s.rows) change.after s.rows change.table change.id q refl
 
 -- ---- those of the rows that pass a test
@@ -138,7 +130,7 @@ with_row_kept : (test : Stored → Bool) (id : RowId) (content : Option Keyed) (
 with_row_kept test id (Some keyed) rows new old = put_kept test id keyed rows new old
 with_row_kept test id None rows new old = remove_kept test id rows old
 
-rows_kept_if : (b : Bool) (s : State) (change : RowChange) (q : List ℕ) (test : Stored → Bool) → is_name q change.table ≡ b → Fits s (c.Row change)
+rows_kept_if : (b : Bool) (s : State) (change : RowChange) (q : List ℕ) (test : Stored → Bool) → is_name q change.table ≡ b → Fits s (Change.Row change)
     → (b ≡ true → (passes test change.id change.before ≡ false) × (passes test change.id change.after ≡ false))
     → passing test (cond b (with_row change.id change.after (entries_of s q)) (entries_of s q)) ≡ passing test (entries_of s q)
 rows_kept_if true s change q test named fits neither =
@@ -148,8 +140,8 @@ rows_kept_if false s change q test named fits neither = refl
 
 -- a change of a row leaves those rows of a table that pass a test, where it is a change in another table, or neither
 -- its old nor its new content passes
-pub rows_kept : (s : State) (change : RowChange) (q : List ℕ) (test : Stored → Bool) → Fits s (c.Row change)
+pub rows_kept : (s : State) (change : RowChange) (q : List ℕ) (test : Stored → Bool) → Fits s (Change.Row change)
     → (is_name q change.table ≡ true → (passes test change.id change.before ≡ false) × (passes test change.id change.after ≡ false))
-    → filter test (rows_of s q) ≡ filter test (rows_of (changed s (c.Row change)) q)
+    → filter test (rows_of s q) ≡ filter test (rows_of (changed s (Change.Row change)) q)
 rows_kept s change q test fits neither =
     sym (ap (passing test) (entries_of_changed s change q) ∙ rows_kept_if (is_name q change.table) s change q test refl fits neither)

@@ -9,15 +9,8 @@ use Rattle.std.specs.declared.cmp.Ordering.TheVariants.{Less, Equal, Greater}
 use Rattle.std.proofs.Common.{ap, sym, ◌∙◌}
 use Rattle.std.proofs.lemmas.Map.Steps.{set_value_same}
 use Rattle.rls_value.specs.declared.row.RowId.{RowId}
-use Rattle.rls_catalog.specs.declared.stored.Keyed.{Keyed}
-use Rattle.rls_catalog.specs.declared.undo.RowsUndo.TheVariants as r
-use Rattle.rls_catalog.specs.State.{at, name_order, or_none}
-use Rattle.rls_catalog.specs.InOrder.{Ascend}
-use Rattle.rls_catalog.proofs.InOrderLaws.{rows_ascend}
-use Rattle.rls_catalog.specs.Kept.{Placed, standing, rows_listed}
-use Rattle.rls_catalog.specs.Changed.{with_row, with_first_row, with_row_in}
-use Rattle.rls_catalog.specs.Undone.{row_back, rows_undone, taken_back}
-use Rattle.rls_catalog.proofs.Places.{set_twice, set_found}
+use Rattle.rls_catalog.specs.{declared.stored.Keyed.Keyed, InOrder.Ascend, State.at, State.name_order, State.or_none, Kept.Placed, Kept.standing, Kept.rows_listed, Changed.with_row, Changed.with_first_row, Changed.with_row_in, Undone.row_back, Undone.rows_undone, Undone.taken_back, declared.undo.RowsUndo.RowsUndo}
+use Rattle.rls_catalog.proofs.{InOrderLaws.rows_ascend, Places.set_twice, Places.set_found}
 
 abbrev entries_in : Option (Placed) → List (RowId × Keyed)
 entries_in (Some m) = standing m
@@ -88,7 +81,7 @@ first_row_put name id content tables after absent put =
 -- a row of a table that has places, taken back
 pub table_back : (name : List ℕ) (is_first : Bool) (tables after : List (List ℕ × Placed)) (old rows : Placed)
     → at name tables ≡ Some old → after ≡ set_value (is_at (name_order name)) tables rows → taken_back rows ≡ old
-    → rows_undone (r.Place name is_first) after ≡ tables
+    → rows_undone (RowsUndo.Place name is_first) after ≡ tables
 table_back name is_first tables after old rows found set back =
     ap (λ l. row_back name (at name l) l) set
     ∙ ap (λ there. row_back name there (set_value (is_at (name_order name)) tables rows)) (set_found (is_at (name_order name)) tables old rows found)

@@ -4,11 +4,8 @@ use Rattle.std.specs.BTreeMap.{BTreeMap, is_at}
 use Rattle.std.specs.Map.{lookup, set_value}
 use Rattle.std.proofs.Common.{ap, sym, ◌∙◌, subst}
 use Rattle.std.proofs.lemmas.List.{reverse-append}
-use Rattle.rls_value.specs.declared.row.RowId.{RowId}
-use Rattle.rls_value.specs.declared.value.Value.{Value}
-use Rattle.rls_catalog.specs.declared.stored.Keyed.{Keyed}
-use Rattle.rls_catalog.specs.declared.undo.Before.{Before}
-use Rattle.rls_catalog.specs.State.{id_order}
+use Rattle.rls_value.specs.{declared.row.RowId.RowId, declared.value.Value.Value}
+use Rattle.rls_catalog.specs.{declared.stored.Keyed.Keyed, declared.undo.Before.Before, State.id_order}
 use Rattle.rls_catalog.specs.Undone.{before_last, place_back, put_back}
 use Rattle.rls_catalog.specs.KeyIndex.{Covers, CoversRows, IsWith, IsWithout, Named, has, is_empty_key, is_entry, is_indexed, key_order, stands_at}
 use Rattle.rls_catalog.specs.Tidy.{Explains, IsChange, IsLike, IsTidy, IsTidyBefore, TakesBack, closed, has_left, has_left_named, leaves, left_standing, stands_empty, without}

@@ -1,33 +1,15 @@
 -- An object is covered by a change exactly where the change writes it, or where it is the rows of the table whose row changes.
 use Rattle.std.specs.Prelude.{◌≡◌, refl, ℕ, List, ◌++◌, Option, Some, None, Bool, true, false, ◌&&◌, ◌||◌, nat_eq}
-use Rattle.std.specs.BTreeMap.{is_at}
-use Rattle.std.specs.Cmp.{unsigned_Decides}
-use Rattle.std.specs.Cmp.Lexicographic.{slice_cmp}
-use Rattle.std.specs.List.{list_any}
+use Rattle.std.specs.{BTreeMap.is_at, Cmp.unsigned_Decides, Cmp.Lexicographic.slice_cmp, List.list_any, Str.bytes_eq, declared.cmp.Ordering.Ordering, FinMap.nat_cmp-IsAntisymmetric}
 use Rattle.std.specs.Ordering.{is_eq, nat_cmp, ordering_then}
-use Rattle.std.specs.Str.{bytes_eq}
-use Rattle.std.specs.declared.cmp.Ordering.{Ordering}
 use Rattle.std.specs.declared.cmp.Ordering.TheVariants.{Less, Equal, Greater}
 use Rattle.std.proofs.Common.{ap, sym, ◌∙◌, subst}
-use Rattle.std.proofs.lemmas.Bool.{true≢false}
-use Rattle.std.specs.FinMap.{nat_cmp-IsAntisymmetric}
+use Rattle.std.proofs.{lemmas.Bool.true≢false, lemmas.Map.Text.is_eq-slice_cmp}
 use Rattle.std.proofs.lemmas.Cmp.{nat_cmp_total, nat_eq_equiv, tied_itself}
-use Rattle.std.proofs.lemmas.Map.Text.{is_eq-slice_cmp}
-use Rattle.rls_value.specs.declared.row.RowId.{RowId}
-use Rattle.rls_value.specs.declared.value.Value.{Value}
-use Rattle.rls_value.specs.declared.object.Object.{Object}
-use Rattle.rls_value.specs.declared.object.Object.TheVariants as o
-use Rattle.rls_value.specs.Listing.{rows_total}
+use Rattle.rls_value.specs.{declared.row.RowId.RowId, declared.value.Value.Value, declared.object.Object.Object, Listing.rows_total, Objects.object_order, Values.listed}
 use Rattle.rls_value.proofs.ListingLaws.{rows_same}
-use Rattle.rls_value.specs.Objects.{object_order}
-use Rattle.rls_value.specs.Values.{listed}
-use Rattle.rls_catalog.specs.declared.stored.Keyed.{Keyed}
-use Rattle.rls_catalog.specs.declared.change.Change.{Change}
-use Rattle.rls_catalog.specs.declared.change.Change.TheVariants as c
-use Rattle.rls_catalog.specs.State.{is_same_row}
-use Rattle.rls_catalog.specs.Bases.{covers, has_key, is_number}
+use Rattle.rls_catalog.specs.{declared.stored.Keyed.Keyed, declared.change.Change.Change, State.is_same_row, Bases.covers, Bases.has_key, Bases.is_number, Writes.key_of_row, Writes.is_written, Writes.is_rows_of}
 use Rattle.rls_catalog.proofs.SameRows.{same_row, own_row}
-use Rattle.rls_catalog.specs.Writes.{key_of_row, is_written, is_rows_of}
 
 -- ---- orders that tie
 
@@ -73,12 +55,12 @@ names_tie : (one other : Object) (name another : List ℕ) → object_order one 
     → is_at (object_order one) other ≡ bytes_eq name another
 names_tie one other name another is = ap is_eq is ∙ then_eq (slice_cmp nat_cmp name another) Equal ∙ and_true (is_eq (slice_cmp nat_cmp name another)) ∙ is_eq-slice_cmp name another
 
-keys_same : (table another : List ℕ) (key other : List Value) → is_at (object_order (o.Key table key)) (o.Key another other) ≡ (bytes_eq table another && is_same_row other key)
+keys_same : (table another : List ℕ) (key other : List Value) → is_at (object_order (Object.Key table key)) (Object.Key another other) ≡ (bytes_eq table another && is_same_row other key)
 keys_same table another key other =
     then_eq (slice_cmp nat_cmp table another) (slice_cmp listed key other)
     ∙ (λ i. is_eq-slice_cmp table another i && keys_tie key other i)
 
-rows_are_same : (table another : List ℕ) (number id : RowId) → is_at (object_order (o.RowOf table number)) (o.RowOf another id) ≡ (bytes_eq table another && is_number number id)
+rows_are_same : (table another : List ℕ) (number id : RowId) → is_at (object_order (Object.RowOf table number)) (Object.RowOf another id) ≡ (bytes_eq table another && is_number number id)
 rows_are_same table another number id =
     then_eq (slice_cmp nat_cmp table another) (ordering_then (nat_cmp number.txn id.txn) (nat_cmp number.n id.n))
     ∙ (λ i. is_eq-slice_cmp table another i && (then_eq (nat_cmp number.txn id.txn) (nat_cmp number.n id.n) ∙ (λ j. numbers_tie number.txn id.txn j && numbers_tie number.n id.n j)) i)
@@ -95,7 +77,7 @@ catalogue one other name another is =
     once (bytes_eq name another) ∙ ap (λ b. (b || false) || false) (sym (names_tie one other name another is))
 
 -- an object that is no row and no key isn't among a row's keys
-no_key : (object : Object) (table : List ℕ) (before after : Option Keyed) → ((key : List Value) → is_at (object_order object) (o.Key table key) ≡ false)
+no_key : (object : Object) (table : List ℕ) (before after : Option Keyed) → ((key : List Value) → is_at (object_order object) (Object.Key table key) ≡ false)
     → list_any (is_at (object_order object)) (key_of_row table before ++ key_of_row table after) ≡ false
 no_key object table (Some one) (Some other) not = (λ i. not one.key i || (not other.key i || false))
 no_key object table (Some one) None not = (λ i. not one.key i || false)
@@ -123,7 +105,7 @@ shape_none false = refl
 
 key_among : (table another : List ℕ) (key : List Value) (before after : Option Keyed)
     → ((bytes_eq table another && has_key before key) || (bytes_eq table another && has_key after key))
-    ≡ (list_any (is_at (object_order (o.Key table key))) (key_of_row another before ++ key_of_row another after) || false)
+    ≡ (list_any (is_at (object_order (Object.Key table key))) (key_of_row another before ++ key_of_row another after) || false)
 key_among table another key (Some one) (Some other) =
     shape (bytes_eq table another && is_same_row one.key key) (bytes_eq table another && is_same_row other.key key)
     ∙ (λ i. (sym (keys_same table another key one.key) i || (sym (keys_same table another key other.key) i || false)) || false)
@@ -151,51 +133,51 @@ none_shape rest none = sym (ap (λ r. r || false) none)
 
 -- an object is covered by a change exactly where the change writes it, or it is the rows of the change's table
 pub covered_writes : (object : Object) (change : Change) → covers object change ≡ (is_written object change || is_rows_of object change)
-covered_writes (o.Role name) (c.Role other content) = catalogue (o.Role name) (o.Role other) name other refl
-covered_writes (o.Members name) (c.Role other content) = refl
-covered_writes (o.Table name) (c.Role other content) = refl
-covered_writes (o.Grants name) (c.Role other content) = refl
-covered_writes (o.Policies name) (c.Role other content) = refl
-covered_writes (o.Rows name) (c.Role other content) = refl
-covered_writes (o.Key name key) (c.Role other content) = refl
-covered_writes (o.RowOf name id) (c.Role other content) = refl
-covered_writes (o.Role name) (c.Members other content) = refl
-covered_writes (o.Members name) (c.Members other content) = catalogue (o.Members name) (o.Members other) name other refl
-covered_writes (o.Table name) (c.Members other content) = refl
-covered_writes (o.Grants name) (c.Members other content) = refl
-covered_writes (o.Policies name) (c.Members other content) = refl
-covered_writes (o.Rows name) (c.Members other content) = refl
-covered_writes (o.Key name key) (c.Members other content) = refl
-covered_writes (o.RowOf name id) (c.Members other content) = refl
-covered_writes (o.Role name) (c.Table other content) = refl
-covered_writes (o.Members name) (c.Table other content) = refl
-covered_writes (o.Table name) (c.Table other content) = catalogue (o.Table name) (o.Table other) name other refl
-covered_writes (o.Grants name) (c.Table other content) = refl
-covered_writes (o.Policies name) (c.Table other content) = refl
-covered_writes (o.Rows name) (c.Table other content) = refl
-covered_writes (o.Key name key) (c.Table other content) = refl
-covered_writes (o.RowOf name id) (c.Table other content) = refl
-covered_writes (o.Role name) (c.Grants other content) = refl
-covered_writes (o.Members name) (c.Grants other content) = refl
-covered_writes (o.Table name) (c.Grants other content) = refl
-covered_writes (o.Grants name) (c.Grants other content) = catalogue (o.Grants name) (o.Grants other) name other refl
-covered_writes (o.Policies name) (c.Grants other content) = refl
-covered_writes (o.Rows name) (c.Grants other content) = refl
-covered_writes (o.Key name key) (c.Grants other content) = refl
-covered_writes (o.RowOf name id) (c.Grants other content) = refl
-covered_writes (o.Role name) (c.Policies other content) = refl
-covered_writes (o.Members name) (c.Policies other content) = refl
-covered_writes (o.Table name) (c.Policies other content) = refl
-covered_writes (o.Grants name) (c.Policies other content) = refl
-covered_writes (o.Policies name) (c.Policies other content) = catalogue (o.Policies name) (o.Policies other) name other refl
-covered_writes (o.Rows name) (c.Policies other content) = refl
-covered_writes (o.Key name key) (c.Policies other content) = refl
-covered_writes (o.RowOf name id) (c.Policies other content) = refl
-covered_writes (o.Role name) (c.Row row) = none_shape (list_any (is_at (object_order (o.Role name))) (key_of_row row.table row.before ++ key_of_row row.table row.after)) (no_key (o.Role name) row.table row.before row.after (λ key. refl))
-covered_writes (o.Members name) (c.Row row) = none_shape (list_any (is_at (object_order (o.Members name))) (key_of_row row.table row.before ++ key_of_row row.table row.after)) (no_key (o.Members name) row.table row.before row.after (λ key. refl))
-covered_writes (o.Table name) (c.Row row) = none_shape (list_any (is_at (object_order (o.Table name))) (key_of_row row.table row.before ++ key_of_row row.table row.after)) (no_key (o.Table name) row.table row.before row.after (λ key. refl))
-covered_writes (o.Grants name) (c.Row row) = none_shape (list_any (is_at (object_order (o.Grants name))) (key_of_row row.table row.before ++ key_of_row row.table row.after)) (no_key (o.Grants name) row.table row.before row.after (λ key. refl))
-covered_writes (o.Policies name) (c.Row row) = none_shape (list_any (is_at (object_order (o.Policies name))) (key_of_row row.table row.before ++ key_of_row row.table row.after)) (no_key (o.Policies name) row.table row.before row.after (λ key. refl))
-covered_writes (o.Rows name) (c.Row row) = rows_shape (bytes_eq name row.table) (list_any (is_at (object_order (o.Rows name))) (key_of_row row.table row.before ++ key_of_row row.table row.after)) (no_key (o.Rows name) row.table row.before row.after (λ key. refl))
-covered_writes (o.Key name key) (c.Row row) = key_among name row.table key row.before row.after
-covered_writes (o.RowOf name id) (c.Row row) = row_shape (bytes_eq name row.table && is_number id row.id) (is_at (object_order (o.RowOf name id)) (o.RowOf row.table row.id)) (list_any (is_at (object_order (o.RowOf name id))) (key_of_row row.table row.before ++ key_of_row row.table row.after)) (rows_are_same name row.table id row.id) (no_key (o.RowOf name id) row.table row.before row.after (λ key. refl))
+covered_writes (Object.Role name) (Change.Role other content) = catalogue (Object.Role name) (Object.Role other) name other refl
+covered_writes (Object.Members name) (Change.Role other content) = refl
+covered_writes (Object.Table name) (Change.Role other content) = refl
+covered_writes (Object.Grants name) (Change.Role other content) = refl
+covered_writes (Object.Policies name) (Change.Role other content) = refl
+covered_writes (Object.Rows name) (Change.Role other content) = refl
+covered_writes (Object.Key name key) (Change.Role other content) = refl
+covered_writes (Object.RowOf name id) (Change.Role other content) = refl
+covered_writes (Object.Role name) (Change.Members other content) = refl
+covered_writes (Object.Members name) (Change.Members other content) = catalogue (Object.Members name) (Object.Members other) name other refl
+covered_writes (Object.Table name) (Change.Members other content) = refl
+covered_writes (Object.Grants name) (Change.Members other content) = refl
+covered_writes (Object.Policies name) (Change.Members other content) = refl
+covered_writes (Object.Rows name) (Change.Members other content) = refl
+covered_writes (Object.Key name key) (Change.Members other content) = refl
+covered_writes (Object.RowOf name id) (Change.Members other content) = refl
+covered_writes (Object.Role name) (Change.Table other content) = refl
+covered_writes (Object.Members name) (Change.Table other content) = refl
+covered_writes (Object.Table name) (Change.Table other content) = catalogue (Object.Table name) (Object.Table other) name other refl
+covered_writes (Object.Grants name) (Change.Table other content) = refl
+covered_writes (Object.Policies name) (Change.Table other content) = refl
+covered_writes (Object.Rows name) (Change.Table other content) = refl
+covered_writes (Object.Key name key) (Change.Table other content) = refl
+covered_writes (Object.RowOf name id) (Change.Table other content) = refl
+covered_writes (Object.Role name) (Change.Grants other content) = refl
+covered_writes (Object.Members name) (Change.Grants other content) = refl
+covered_writes (Object.Table name) (Change.Grants other content) = refl
+covered_writes (Object.Grants name) (Change.Grants other content) = catalogue (Object.Grants name) (Object.Grants other) name other refl
+covered_writes (Object.Policies name) (Change.Grants other content) = refl
+covered_writes (Object.Rows name) (Change.Grants other content) = refl
+covered_writes (Object.Key name key) (Change.Grants other content) = refl
+covered_writes (Object.RowOf name id) (Change.Grants other content) = refl
+covered_writes (Object.Role name) (Change.Policies other content) = refl
+covered_writes (Object.Members name) (Change.Policies other content) = refl
+covered_writes (Object.Table name) (Change.Policies other content) = refl
+covered_writes (Object.Grants name) (Change.Policies other content) = refl
+covered_writes (Object.Policies name) (Change.Policies other content) = catalogue (Object.Policies name) (Object.Policies other) name other refl
+covered_writes (Object.Rows name) (Change.Policies other content) = refl
+covered_writes (Object.Key name key) (Change.Policies other content) = refl
+covered_writes (Object.RowOf name id) (Change.Policies other content) = refl
+covered_writes (Object.Role name) (Change.Row row) = none_shape (list_any (is_at (object_order (Object.Role name))) (key_of_row row.table row.before ++ key_of_row row.table row.after)) (no_key (Object.Role name) row.table row.before row.after (λ key. refl))
+covered_writes (Object.Members name) (Change.Row row) = none_shape (list_any (is_at (object_order (Object.Members name))) (key_of_row row.table row.before ++ key_of_row row.table row.after)) (no_key (Object.Members name) row.table row.before row.after (λ key. refl))
+covered_writes (Object.Table name) (Change.Row row) = none_shape (list_any (is_at (object_order (Object.Table name))) (key_of_row row.table row.before ++ key_of_row row.table row.after)) (no_key (Object.Table name) row.table row.before row.after (λ key. refl))
+covered_writes (Object.Grants name) (Change.Row row) = none_shape (list_any (is_at (object_order (Object.Grants name))) (key_of_row row.table row.before ++ key_of_row row.table row.after)) (no_key (Object.Grants name) row.table row.before row.after (λ key. refl))
+covered_writes (Object.Policies name) (Change.Row row) = none_shape (list_any (is_at (object_order (Object.Policies name))) (key_of_row row.table row.before ++ key_of_row row.table row.after)) (no_key (Object.Policies name) row.table row.before row.after (λ key. refl))
+covered_writes (Object.Rows name) (Change.Row row) = rows_shape (bytes_eq name row.table) (list_any (is_at (object_order (Object.Rows name))) (key_of_row row.table row.before ++ key_of_row row.table row.after)) (no_key (Object.Rows name) row.table row.before row.after (λ key. refl))
+covered_writes (Object.Key name key) (Change.Row row) = key_among name row.table key row.before row.after
+covered_writes (Object.RowOf name id) (Change.Row row) = row_shape (bytes_eq name row.table && is_number id row.id) (is_at (object_order (Object.RowOf name id)) (Object.RowOf row.table row.id)) (list_any (is_at (object_order (Object.RowOf name id))) (key_of_row row.table row.before ++ key_of_row row.table row.after)) (rows_are_same name row.table id row.id) (no_key (Object.RowOf name id) row.table row.before row.after (λ key. refl))

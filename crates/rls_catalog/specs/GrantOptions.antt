@@ -4,15 +4,12 @@ use Rattle.std.specs.Prelude.{◌≡◌, ℕ, List, [], ◌∷◌, Option, Some,
 use Rattle.std.specs.List.{list_any, Any}
 use Rattle.std.specs.Str.{bytes_eq}
 use Rattle.std.proofs.Common.{◌⊎◌}
-use Rattle.rls_value.specs.Names.{one_of}
-use Rattle.rls_value.specs.declared.verb.Privilege.{Privilege}
-use Rattle.rls_catalog.specs.declared.grant.Grant.{Grant}
+use Rattle.rls_value.specs.{Names.one_of, declared.verb.Privilege.Privilege}
+use Rattle.rls_catalog.specs.{declared.grant.Grant.Grant, State.State, Verdict.least}
 use Rattle.rls_expr.specs.declared.policy.Grantee.{Grantee}
 use Rattle.rls_expr.specs.declared.policy.Grantee.TheVariants as g
-use Rattle.rls_catalog.specs.State.{State}
 use Rattle.rls_catalog.specs.Membership.{has_privileges_of, walked_by}
 use Rattle.rls_catalog.specs.Privileges.{is_same_privilege, Options}
-use Rattle.rls_catalog.specs.Verdict.{least}
 
 -- ---- what REVOKE takes away itself
 

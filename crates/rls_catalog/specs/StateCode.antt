@@ -3,19 +3,14 @@ use Rattle.std.specs.Prelude.{ℕ, List, refl}
 use Rattle.std.specs.Coded.{Coded, code_by, coded×, coded_list, coded_ℕ}
 use Rattle.rls_value.specs.declared.row.RowId.{RowId}
 use Rattle.rls_value.specs.contracts.row.RowId as id
-use Rattle.rls_expr.specs.declared.table.TableDef.{TableDef}
+use Rattle.rls_expr.specs.{declared.table.TableDef.TableDef, declared.policy.Policy.Policy}
 use Rattle.rls_expr.specs.contracts.table.TableDef as table
-use Rattle.rls_catalog.specs.declared.role.RoleDef.{RoleDef}
-use Rattle.rls_catalog.specs.declared.role.Membership.{Membership}
-use Rattle.rls_catalog.specs.declared.grant.Grant.{Grant}
-use Rattle.rls_expr.specs.declared.policy.Policy.{Policy}
-use Rattle.rls_catalog.specs.declared.stored.Keyed.{Keyed}
+use Rattle.rls_catalog.specs.{declared.role.RoleDef.RoleDef, declared.role.Membership.Membership, declared.grant.Grant.Grant, declared.stored.Keyed.Keyed, State.State}
 use Rattle.rls_catalog.specs.contracts.role.RoleDef as role
 use Rattle.rls_catalog.specs.contracts.role.Membership as membership
 use Rattle.rls_catalog.specs.contracts.grant.Grant as grant
 use Rattle.rls_expr.specs.contracts.policy.Policy as policy
 use Rattle.rls_catalog.specs.contracts.stored.Keyed as keyed
-use Rattle.rls_catalog.specs.State.{State}
 
 -- the code of lists of contents under names
 abbrev pub under_names : {X : Type 0} → Coded X → Coded (List (List ℕ × X))

@@ -4,11 +4,8 @@ use Rattle.std.specs.BTreeMap.{is_at}
 use Rattle.std.specs.Map.{set_value, remove_entry}
 use Rattle.std.specs.declared.cmp.Ordering.{Ordering}
 use Rattle.rls_value.specs.declared.row.RowId.{RowId}
-use Rattle.rls_catalog.specs.declared.stored.Keyed.{Keyed}
-use Rattle.rls_catalog.specs.declared.undo.Before.{Before}
-use Rattle.rls_catalog.specs.declared.undo.Undo.{Undo}
+use Rattle.rls_catalog.specs.{declared.stored.Keyed.Keyed, declared.undo.Before.Before, declared.undo.Undo.Undo, declared.undo.RowsUndo.RowsUndo}
 use Rattle.rls_catalog.specs.declared.undo.Undo.TheVariants as u
-use Rattle.rls_catalog.specs.declared.undo.RowsUndo.{RowsUndo}
 use Rattle.rls_catalog.specs.declared.undo.RowsUndo.TheVariants as r
 use Rattle.rls_catalog.specs.State.{name_order, id_order, at}
 use Rattle.rls_catalog.specs.Kept.{Kept, Placed}

@@ -3,28 +3,15 @@
 use Rattle.std.specs.Prelude.{ℕ, List, [], ◌∷◌, Option, Some, None, Bool, true, false, ◌&&◌, ◌||◌, not, if◌then◌else◌, map, filter, is_some}
 use Rattle.std.specs.List.{list_any, list_all}
 use Rattle.std.specs.Ordering.{is_gt}
-use Rattle.rls_value.specs.declared.verb.Kind.{Kind}
+use Rattle.rls_value.specs.{declared.verb.Kind.Kind, declared.verb.PolicyKind.PolicyKind, declared.truth.Truth.Truth, Truths.is_true, Values.same_flag, declared.object.Object.Object}
 use Rattle.rls_value.specs.declared.verb.Kind.TheVariants as k
-use Rattle.rls_value.specs.declared.verb.PolicyKind.{PolicyKind}
 use Rattle.rls_value.specs.declared.verb.PolicyKind.TheVariants as pk
-use Rattle.rls_value.specs.declared.truth.Truth.{Truth}
-use Rattle.rls_value.specs.Truths.{is_true}
-use Rattle.rls_value.specs.Values.{same_flag}
-use Rattle.rls_value.specs.declared.object.Object.{Object}
 use Rattle.rls_value.specs.declared.object.Object.TheVariants as o
-use Rattle.rls_expr.specs.declared.table.TableDef.{TableDef}
-use Rattle.rls_expr.specs.Terms.{Term}
-use Rattle.rls_catalog.specs.declared.role.RoleDef.{RoleDef}
-use Rattle.rls_expr.specs.declared.policy.Grantee.{Grantee}
+use Rattle.rls_expr.specs.{declared.table.TableDef.TableDef, Terms.Term, declared.policy.Grantee.Grantee, declared.policy.Policy.Policy}
+use Rattle.rls_catalog.specs.{declared.role.RoleDef.RoleDef, declared.verdict.Side.Side, declared.verdict.Verdict.Verdict, State.State, State.policies_of, State.name_order, Membership.attributes_of, Membership.has_privileges_of, Membership.reach_reads, Privileges.includes, Privileges.concerns}
 use Rattle.rls_expr.specs.declared.policy.Grantee.TheVariants as g
-use Rattle.rls_expr.specs.declared.policy.Policy.{Policy}
-use Rattle.rls_catalog.specs.declared.verdict.Side.{Side}
 use Rattle.rls_catalog.specs.declared.verdict.Side.TheVariants as side
-use Rattle.rls_catalog.specs.declared.verdict.Verdict.{Verdict}
 use Rattle.rls_catalog.specs.declared.verdict.Verdict.TheVariants as v
-use Rattle.rls_catalog.specs.State.{State, policies_of, name_order}
-use Rattle.rls_catalog.specs.Membership.{attributes_of, has_privileges_of, reach_reads}
-use Rattle.rls_catalog.specs.Privileges.{includes, concerns}
 
 -- row security is off, or the role is SUPERUSER or BYPASSRLS itself, or it has the owner's privileges and the table
 -- isn't under FORCE

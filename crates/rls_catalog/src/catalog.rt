@@ -2,10 +2,7 @@
 
 ghost use Rattle.std.specs.Prelude.{◌≡◌, IfOk, OnOk, OnErr};
 ghost use Rattle.std.specs.Option.{option_copied};
-ghost use Rattle.rls_catalog.specs.State.{role_of, members_of, table_of, grants_of, policies_of, rows_of, rows_with_key};
-ghost use Rattle.rls_catalog.specs.Changed.{opening, changed_all};
-ghost use Rattle.rls_catalog.specs.InOrder.{RowsInOrder};
-ghost use Rattle.rls_catalog.specs.PolicyLists.{InNameOrder};
+ghost use Rattle.rls_catalog.specs.{State.role_of, State.members_of, State.table_of, State.grants_of, State.policies_of, State.rows_of, State.rows_with_key, Changed.opening, Changed.changed_all, InOrder.RowsInOrder, PolicyLists.InNameOrder};
 
 use crate::change::Delta;
 use crate::contents::Contents;

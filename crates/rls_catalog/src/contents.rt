@@ -1,11 +1,7 @@
 //! What a catalogue keeps: changes are put on it, and taken back without memory.
 
 ghost use Rattle.std.specs.Prelude.{◌≡◌, [], None, IfOk, OnOk, OnErr};
-ghost use Rattle.rls_catalog.specs.Changed.{opening, changed, changed_all, rows_changed, with_first_row};
-ghost use Rattle.rls_catalog.specs.Kept.{rows_listed, state_of};
-ghost use Rattle.rls_catalog.specs.Settled.{AllSettled, LogsFirsts, NotesFirst, SettlesFirst, SettlesTable};
-ghost use Rattle.rls_catalog.specs.State.{at};
-ghost use Rattle.rls_catalog.specs.Undone.{undone, undone_all, rows_undone};
+ghost use Rattle.rls_catalog.specs.{Changed.opening, Changed.changed, Changed.changed_all, Changed.rows_changed, Changed.with_first_row, Settled.AllSettled, Settled.LogsFirsts, Settled.NotesFirst, Settled.SettlesFirst, Settled.SettlesTable, Kept.rows_listed, Kept.state_of, State.at, Undone.undone, Undone.undone_all, Undone.rows_undone};
 
 use crate::change::{Change, RowChange};
 use crate::entries::{put, put_back};

@@ -3,11 +3,7 @@
 ghost use Rattle.std.specs.Prelude.{◌≡◌, None, Some, true, false, IfOk, IfErr, OnOk, OnErr};
 ghost use Rattle.std.specs.BTreeMap.{IsOrdered, is_at};
 ghost use Rattle.std.specs.Map.{lookup, set_value};
-ghost use Rattle.rls_catalog.specs.Changed.{with_row};
-ghost use Rattle.rls_catalog.specs.KeyIndex.{Covers, IsProper, has, stands_at};
-ghost use Rattle.rls_catalog.specs.Kept.{present};
-ghost use Rattle.rls_catalog.specs.State.{id_order};
-ghost use Rattle.rls_catalog.specs.Tidy.{IsChange, TakesBack, without};
+ghost use Rattle.rls_catalog.specs.{Changed.with_row, Kept.present, State.id_order, Tidy.IsChange, Tidy.TakesBack, Tidy.without, KeyIndex.Covers, KeyIndex.IsProper, KeyIndex.has, KeyIndex.stands_at};
 ghost use Rattle.rls_catalog.specs.Undone as undone;
 
 use crate::stored::Keyed;

@@ -2,11 +2,7 @@
 
 ghost use Rattle.std.specs.Prelude.{◌≡◌, [], ◌∷◌, IfOk, OnOk, OnErr, map};
 ghost use Rattle.std.specs.BTreeMap.{IsOrdered};
-ghost use Rattle.rls_catalog.specs.Changed.{with_row};
-ghost use Rattle.rls_catalog.specs.KeyIndex.{picked};
-ghost use Rattle.rls_catalog.specs.InOrder.{Ascend};
-ghost use Rattle.rls_catalog.specs.Kept.{is_settled, present};
-ghost use Rattle.rls_catalog.specs.State.{id_order, stored_of, with_key};
+ghost use Rattle.rls_catalog.specs.{Changed.with_row, KeyIndex.picked, InOrder.Ascend, Kept.is_settled, Kept.present, State.id_order, State.stored_of, State.with_key};
 ghost use Rattle.rls_catalog.specs.Undone as undone;
 
 use crate::key_index;

@@ -1,18 +1,13 @@
 -- The policies of a table with one altered: they stay in order, and one of them is exchanged.
 use Rattle.std.specs.Prelude.{◌≡◌, refl, ℕ, List, [], ◌∷◌, Bool, true, false, cond, Some, None, map, if◌then◌else◌}
 use Rattle.std.specs.List.{AllByRecursion, find}
-use Rattle.std.specs.List.Sorted.{IsStrictlySortedBy}
+use Rattle.std.specs.{List.Sorted.IsStrictlySortedBy, Str.bytes_eq, declared.cmp.Ordering.TheVariants.Less}
 use Rattle.std.specs.Ordering.{is_eq, ordering_reverse}
-use Rattle.std.specs.Str.{bytes_eq}
-use Rattle.std.specs.declared.cmp.Ordering.TheVariants.{Less}
 use Rattle.std.proofs.Common.{ap, sym, subst, ◌∙◌}
-use Rattle.std.proofs.lemmas.Cmp.{nat_list_cmp_total}
-use Rattle.std.proofs.lemmas.Map.Text.{is_eq-slice_cmp}
+use Rattle.std.proofs.{lemmas.Cmp.nat_list_cmp_total, lemmas.Map.Text.is_eq-slice_cmp, lemmas.Slice.Eq.bytes_eq-Decides}
 use Rattle.std.proofs.lemmas.Option.{none-some, same_Some}
-use Rattle.std.proofs.lemmas.Slice.Eq.{bytes_eq-Decides}
 use Rattle.rls_expr.specs.declared.policy.Policy.{Policy}
-use Rattle.rls_catalog.specs.State.{name_order}
-use Rattle.rls_catalog.specs.PolicyLists.{InNameOrder, is_named, with_replaced}
+use Rattle.rls_catalog.specs.{State.name_order, PolicyLists.InNameOrder, PolicyLists.is_named, PolicyLists.with_replaced}
 use Rattle.rls_statement.specs.declared.statement.AlterPolicy.{AlterPolicy}
 use Rattle.rls_ddl.specs.AlteringPolicies.{altered, with_altered}
 

@@ -1,24 +1,15 @@
 -- The columns of a new table's key are there, and take no null.
 use Rattle.std.specs.Prelude.{◌≡◌, refl, ℕ, List, [], ◌∷◌, Option, Some, None, Bool, true, false, ◌||◌, Result, Ok, Err, get_or, map, slice_get, is_some}
-use Rattle.std.specs.List.{All}
-use Rattle.std.specs.Option.{option_map}
-use Rattle.std.specs.Str.{bytes_eq}
+use Rattle.std.specs.{List.All, Option.option_map, Str.bytes_eq}
 use Rattle.std.proofs.Common.{ap, sym, subst, ◌∙◌}
-use Rattle.std.proofs.lemmas.Bool.{true≢false}
+use Rattle.std.proofs.{lemmas.Bool.true≢false, lemmas.List.Quantifiers.position-Some}
 use Rattle.std.proofs.lemmas.List.Elements.{All-nil, All-cons}
-use Rattle.std.proofs.lemmas.List.Quantifiers.{position-Some}
 use Rattle.std.proofs.lemmas.Option.{slice_get-get_or, slice_get-map}
-use Rattle.rls_value.specs.Names.{one_of}
-use Rattle.rls_value.specs.Giving.{and_then}
-use Rattle.rls_value.specs.declared.refusal.Refusal.{Refusal}
-use Rattle.rls_value.specs.declared.refusal.Refusal.TheVariants.{Undefined}
-use Rattle.rls_value.specs.declared.refusal.NameKind.TheVariants as named
+use Rattle.rls_value.specs.{Names.one_of, Giving.and_then, declared.refusal.Refusal.Refusal, declared.refusal.Refusal.TheVariants.Undefined, declared.refusal.NameKind.NameKind}
 use Rattle.rls_catalog.specs.SoundRows.{takes_no_null}
 use Rattle.rls_catalog.proofs.Walks.{bytes_own, bytes_same}
-use Rattle.rls_source.specs.Named.{found_or}
-use Rattle.rls_source.specs.Sequences.{each_of}
-use Rattle.rls_statement.specs.declared.statement.MarkedColumn.{MarkedColumn}
-use Rattle.rls_statement.specs.declared.statement.CreateTable.{CreateTable}
+use Rattle.rls_source.specs.{Named.found_or, Sequences.each_of}
+use Rattle.rls_statement.specs.{declared.statement.MarkedColumn.MarkedColumn, declared.statement.CreateTable.CreateTable}
 use Rattle.rls_ddl.specs.CreatingTables.{key_names, key_or_undefined, place_of, place_or_undefined, column_in, table_with}
 
 abbrev NoNullAt : List (List ℕ) → List MarkedColumn → ℕ → Type 0
@@ -54,7 +45,7 @@ is_given (Err refusal) = false
 places_true : (key : List (List ℕ)) (columns : List MarkedColumn) (name : List ℕ) (place : Option ℕ) (more : Result (List ℕ) Refusal) (places : List ℕ)
     → ((p : ℕ) → place ≡ Some p → NoNullAt key columns p)
     → ((ps : List ℕ) → more ≡ Ok ps → All (NoNullAt key columns) ps)
-    → and_then (found_or (Undefined named.Column name) place) (λ p. and_then more (λ ps. Ok (p ∷ ps))) ≡ Ok places → All (NoNullAt key columns) places
+    → and_then (found_or (Undefined NameKind.Column name) place) (λ p. and_then more (λ ps. Ok (p ∷ ps))) ≡ Ok places → All (NoNullAt key columns) places
 places_true key columns name None more places one others given = absurd (true≢false (sym (ap is_given given)))
 places_true key columns name (Some p) (Err refusal) places one others given = absurd (true≢false (sym (ap is_given given)))
 places_true key columns name (Some p) (Ok ps) places one others given = subst (All (NoNullAt key columns)) (ap places_in given) (All-cons (NoNullAt key columns) p ps (one p refl) (others ps refl))

@@ -1,62 +1,15 @@
 -- Statements that define write no row, and keep the rows of a state sound.
-use Rattle.std.specs.Prelude.{ℕ, List, [], ◌∷◌, Bool, true, false, Result, Ok, Err, IfOk, is_some, map}
-use Rattle.std.specs.List.{AllByRecursion}
-use Rattle.rls_value.specs.declared.refusal.Refusal.{Refusal}
-use Rattle.rls_value.specs.declared.refusal.Refusal.TheVariants.{Duplicate}
-use Rattle.rls_value.specs.declared.refusal.DefinedKind.TheVariants as defined
-use Rattle.rls_value.specs.Giving.{and_then}
-use Rattle.rls_expr.specs.declared.table.TableDef.{TableDef}
-use Rattle.rls_expr.specs.declared.policy.Policy.{Policy}
-use Rattle.rls_expr.specs.Scopes.{InScope}
-use Rattle.rls_catalog.specs.declared.change.Change.{Change}
-use Rattle.rls_catalog.specs.declared.change.Change.TheVariants as c
-use Rattle.rls_catalog.specs.declared.grant.Grant.{Grant}
-use Rattle.rls_catalog.specs.declared.role.RoleDef.{RoleDef}
-use Rattle.rls_catalog.specs.Changed.{changed, changed_all}
-use Rattle.rls_catalog.specs.Membership.{fresh}
-use Rattle.rls_catalog.specs.PolicyLists.{with_policy, without_policy}
-use Rattle.rls_catalog.specs.SoundRows.{RowsAreSound}
-use Rattle.rls_catalog.specs.State.{State}
-use Rattle.rls_source.specs.Asked.{asked_grants, asked_policies, asked_role}
-use Rattle.rls_source.specs.Askings.{Asking, asked_if, followed_by, known}
-use Rattle.rls_source.specs.Named.{grantees_or_undefined, role_or_undefined, roles_or_undefined, table_or_undefined}
-use Rattle.rls_role.specs.declared.holding.Held.{Held}
-use Rattle.rls_role.specs.declared.reach.Reach.{Reach}
-use Rattle.rls_role.specs.Granting as members
-use Rattle.rls_role.specs.Reaching.{reach_of}
-use Rattle.rls_role.specs.Revoking as members_left
-use Rattle.rls_grant.specs.Granting as privileges
-use Rattle.rls_grant.specs.Grantors.{grantors}
-use Rattle.rls_grant.specs.Revoking as privileges_left
-use Rattle.rls_guard.specs.declared.context.Ctx.{Ctx}
-use Rattle.rls_guard.specs.declared.effect.Effect.{Effect}
-use Rattle.rls_guard.specs.declared.effect.Effect.TheVariants as effect
-use Rattle.rls_guard.specs.Checks.{superuser_or_denied}
-use Rattle.rls_guard.specs.Effects.{writes}
-use Rattle.rls_guard.specs.Keeping.{IfDone, IsNoRow, LeavesRows}
-use Rattle.rls_guard.specs.Naming.{named, names_over}
-use Rattle.rls_guard.specs.Standings.{ownership}
-use Rattle.rls_statement.specs.declared.statement.SetRole.{SetRole}
-use Rattle.rls_statement.specs.declared.statement.SetRole.TheVariants as set
-use Rattle.rls_statement.specs.declared.statement.AlterPolicy.{AlterPolicy}
-use Rattle.rls_statement.specs.declared.statement.AlterRole.{AlterRole}
-use Rattle.rls_statement.specs.declared.statement.CreatePolicy.{CreatePolicy}
-use Rattle.rls_statement.specs.declared.statement.CreateRole.{CreateRole}
-use Rattle.rls_statement.specs.declared.statement.DropPolicy.{DropPolicy}
-use Rattle.rls_statement.specs.declared.statement.GrantPrivileges.{GrantPrivileges}
-use Rattle.rls_statement.specs.declared.statement.GrantRoles.{GrantRoles}
-use Rattle.rls_statement.specs.declared.statement.RevokePrivileges.{RevokePrivileges}
-use Rattle.rls_statement.specs.declared.statement.RevokeRoles.{RevokeRoles}
-use Rattle.rls_ddl.specs.AlteringPolicies as alter_policies
-use Rattle.rls_ddl.specs.AlteringPolicies.{alter_policy, alteration_made, alteration_of, alteration_over, alteration_on, conditions_or_refused, with_altered}
-use Rattle.rls_ddl.specs.AlteringRoles.{alter_role, role_altered, role_changed}
-use Rattle.rls_ddl.specs.Conditions.{condition_names}
-use Rattle.rls_ddl.specs.CreatingPolicies.{create_policy, policy_added, policy_made, policy_on, policy_or_refused}
-use Rattle.rls_ddl.specs.CreatingRoles.{create_role, role_made, role_with}
-use Rattle.rls_ddl.specs.DroppingPolicies.{drop_on, drop_policy, policy_dropped}
-use Rattle.rls_ddl.specs.Granting.{grant, grant_roles, revoke, revoke_roles, written}
-use Rattle.rls_ddl.specs.NamedPolicies.{policy_or_undefined}
-use Rattle.rls_ddl.specs.SettingRoles.{asked_may_set, role_set, set_or_denied, set_role}
+use Rattle.std.{specs.Prelude.ℕ, specs.Prelude.List, specs.Prelude.[], specs.Prelude.◌∷◌, specs.Prelude.Bool, specs.Prelude.true, specs.Prelude.false, specs.Prelude.Result, specs.Prelude.Ok, specs.Prelude.Err, specs.Prelude.IfOk, specs.Prelude.is_some, specs.Prelude.map, specs.List.AllByRecursion}
+use Rattle.rls_value.specs.{declared.refusal.Refusal.Refusal, declared.refusal.Refusal.TheVariants.Duplicate, Giving.and_then, declared.refusal.DefinedKind.DefinedKind}
+use Rattle.rls_expr.specs.{declared.table.TableDef.TableDef, declared.policy.Policy.Policy, Scopes.InScope}
+use Rattle.rls_catalog.specs.{declared.change.Change.Change, declared.grant.Grant.Grant, declared.role.RoleDef.RoleDef, Membership.fresh, SoundRows.RowsAreSound, State.State, Changed.changed, Changed.changed_all, PolicyLists.with_policy, PolicyLists.without_policy}
+use Rattle.rls_source.specs.{Asked.asked_grants, Asked.asked_policies, Asked.asked_role, Askings.Asking, Askings.asked_if, Askings.followed_by, Askings.known, Named.grantees_or_undefined, Named.role_or_undefined, Named.roles_or_undefined, Named.table_or_undefined}
+use Rattle.rls_role.specs.{declared.holding.Held.Held, declared.reach.Reach.Reach, Reaching.reach_of}
+use Rattle.rls_role.specs as members
+use Rattle.rls_grant.specs as privileges
+use Rattle.rls_guard.specs.{declared.context.Ctx.Ctx, declared.effect.Effect.Effect, Checks.superuser_or_denied, Effects.writes, Standings.ownership, Keeping.IfDone, Keeping.IsNoRow, Keeping.LeavesRows, Naming.named, Naming.names_over}
+use Rattle.rls_statement.specs.{declared.statement.SetRole.SetRole, declared.statement.AlterPolicy.AlterPolicy, declared.statement.AlterRole.AlterRole, declared.statement.CreatePolicy.CreatePolicy, declared.statement.CreateRole.CreateRole, declared.statement.DropPolicy.DropPolicy, declared.statement.GrantPrivileges.GrantPrivileges, declared.statement.GrantRoles.GrantRoles, declared.statement.RevokePrivileges.RevokePrivileges, declared.statement.RevokeRoles.RevokeRoles}
+use Rattle.rls_ddl.specs.{AlteringPolicies.alter_policy, AlteringPolicies.alteration_made, AlteringPolicies.alteration_of, AlteringPolicies.alteration_over, AlteringPolicies.alteration_on, AlteringPolicies.conditions_or_refused, AlteringPolicies.with_altered, AlteringRoles.alter_role, AlteringRoles.role_altered, AlteringRoles.role_changed, Conditions.condition_names, NamedPolicies.policy_or_undefined, CreatingRoles.create_role, CreatingRoles.role_made, CreatingRoles.role_with, DroppingPolicies.drop_on, DroppingPolicies.drop_policy, DroppingPolicies.policy_dropped, CreatingPolicies.create_policy, CreatingPolicies.policy_added, CreatingPolicies.policy_made, CreatingPolicies.policy_on, CreatingPolicies.policy_or_refused, Granting.grant, Granting.grant_roles, Granting.revoke, Granting.revoke_roles, Granting.written, SettingRoles.asked_may_set, SettingRoles.role_set, SettingRoles.set_or_denied, SettingRoles.set_role, AlteringPolicies.roles_or_undefined as policy_roles_or_undefined}
 
 -- ---- one step after another
 
@@ -72,16 +25,16 @@ given_then fact (Err refusal) next all = tt
 
 -- what holds of the changes lets more hold of them
 done_more : (fact more : List Change → Type 0) (given : Result Effect Refusal) → ((changes : List Change) → fact changes → more changes) → IfDone given fact → IfDone given more
-done_more fact more (Ok (effect.Done reply decisions changes role)) all is = all changes is
-done_more fact more (Ok (effect.Refused refusal decisions)) all is = tt
+done_more fact more (Ok (Effect.Done reply decisions changes role)) all is = all changes is
+done_more fact more (Ok (Effect.Refused refusal decisions)) all is = tt
 done_more fact more (Err refusal) all is = tt
 
 -- ---- neither tables nor rows
 
 -- the change is one of a role, of memberships, of grants or of policies
 abbrev IsBeside : Change → Type 0
-IsBeside (c.Table name def) = ⊥
-IsBeside (c.Row change) = ⊥
+IsBeside (Change.Table name def) = ⊥
+IsBeside (Change.Row change) = ⊥
 IsBeside _ = Unit {0}
 
 abbrev AreBeside : List Change → Type 0
@@ -90,22 +43,22 @@ AreBeside changes = AllByRecursion IsBeside changes
 -- such changes leave sound rows sound
 beside_sound : (s : State) (changes : List Change) → RowsAreSound s → AreBeside changes → RowsAreSound (changed_all s changes)
 beside_sound s [] sound beside = sound
-beside_sound s (c.Role name def ∷ changes) sound beside = beside_sound (changed s (c.Role name def)) changes sound beside.1
-beside_sound s (c.Members name content ∷ changes) sound beside = beside_sound (changed s (c.Members name content)) changes sound beside.1
-beside_sound s (c.Table name def ∷ changes) sound beside = absurd beside.0
-beside_sound s (c.Grants name content ∷ changes) sound beside = beside_sound (changed s (c.Grants name content)) changes sound beside.1
-beside_sound s (c.Policies name content ∷ changes) sound beside = beside_sound (changed s (c.Policies name content)) changes sound beside.1
-beside_sound s (c.Row change ∷ changes) sound beside = absurd beside.0
+beside_sound s (Change.Role name def ∷ changes) sound beside = beside_sound (changed s (Change.Role name def)) changes sound beside.1
+beside_sound s (Change.Members name content ∷ changes) sound beside = beside_sound (changed s (Change.Members name content)) changes sound beside.1
+beside_sound s (Change.Table name def ∷ changes) sound beside = absurd beside.0
+beside_sound s (Change.Grants name content ∷ changes) sound beside = beside_sound (changed s (Change.Grants name content)) changes sound beside.1
+beside_sound s (Change.Policies name content ∷ changes) sound beside = beside_sound (changed s (Change.Policies name content)) changes sound beside.1
+beside_sound s (Change.Row change ∷ changes) sound beside = absurd beside.0
 
 -- none of them is one of a row
 beside_no_row : (changes : List Change) → AreBeside changes → AllByRecursion IsNoRow changes
 beside_no_row [] beside = tt
-beside_no_row (c.Role name def ∷ changes) beside = (tt, beside_no_row changes beside.1)
-beside_no_row (c.Members name content ∷ changes) beside = (tt, beside_no_row changes beside.1)
-beside_no_row (c.Table name def ∷ changes) beside = absurd beside.0
-beside_no_row (c.Grants name content ∷ changes) beside = (tt, beside_no_row changes beside.1)
-beside_no_row (c.Policies name content ∷ changes) beside = (tt, beside_no_row changes beside.1)
-beside_no_row (c.Row change ∷ changes) beside = absurd beside.0
+beside_no_row (Change.Role name def ∷ changes) beside = (tt, beside_no_row changes beside.1)
+beside_no_row (Change.Members name content ∷ changes) beside = (tt, beside_no_row changes beside.1)
+beside_no_row (Change.Table name def ∷ changes) beside = absurd beside.0
+beside_no_row (Change.Grants name content ∷ changes) beside = (tt, beside_no_row changes beside.1)
+beside_no_row (Change.Policies name content ∷ changes) beside = (tt, beside_no_row changes beside.1)
+beside_no_row (Change.Row change ∷ changes) beside = absurd beside.0
 
 -- a statement whose changes are such ones
 abbrev StaysBeside : Asking Effect → Type 0
@@ -125,7 +78,7 @@ after_any first next all = λ s. done_then AreBeside (first.in_state s).gives (�
 role_made_beside : (role : List ℕ) (asked : CreateRole) → StaysBeside (role_made role asked)
 unfolding role_made
 role_made_beside role asked =
-    after_any (superuser_or_denied role asked.name) (λ _. known (Ok (writes (c.Role asked.name (role_with asked.attributes) ∷ [])))) (λ _ s. (tt, tt))
+    after_any (superuser_or_denied role asked.name) (λ _. known (Ok (writes (Change.Role asked.name (role_with asked.attributes) ∷ [])))) (λ _ s. (tt, tt))
 
 unless_taken : (b : Bool) (refusal : Refusal) (next : Asking Effect) → StaysBeside next → StaysBeside (asked_if b (known (Err refusal)) next)
 unless_taken true refusal next beside = λ s. tt
@@ -133,13 +86,13 @@ unless_taken false refusal next beside = beside
 
 pub create_role_leaves : (ctx : Ctx) (asked : CreateRole) → LeavesRows (create_role ctx asked)
 create_role_leaves ctx asked = leaves (create_role ctx asked) (
-    after_any (asked_role asked.name) (λ found. asked_if (is_some found) (known (Err (Duplicate defined.Role asked.name))) (role_made ctx.role asked)) (λ found.
-    unless_taken (is_some found) (Duplicate defined.Role asked.name) (role_made ctx.role asked) (role_made_beside ctx.role asked)))
+    after_any (asked_role asked.name) (λ found. asked_if (is_some found) (known (Err (Duplicate DefinedKind.Role asked.name))) (role_made ctx.role asked)) (λ found.
+    unless_taken (is_some found) (Duplicate DefinedKind.Role asked.name) (role_made ctx.role asked) (role_made_beside ctx.role asked)))
 
 role_changed_beside : (role : List ℕ) (asked : AlterRole) (def : RoleDef) → StaysBeside (role_changed role asked def)
 unfolding role_changed
 role_changed_beside role asked def =
-    after_any (superuser_or_denied role asked.name) (λ _. known (Ok (writes (c.Role asked.name (role_altered asked.attributes def) ∷ [])))) (λ _ s. (tt, tt))
+    after_any (superuser_or_denied role asked.name) (λ _. known (Ok (writes (Change.Role asked.name (role_altered asked.attributes def) ∷ [])))) (λ _ s. (tt, tt))
 
 pub alter_role_leaves : (ctx : Ctx) (asked : AlterRole) → LeavesRows (alter_role ctx asked)
 alter_role_leaves ctx asked = leaves (alter_role ctx asked) (after_any (role_or_undefined asked.name) (λ def. role_changed ctx.role asked def) (λ def. role_changed_beside ctx.role asked def))
@@ -153,9 +106,9 @@ unfolding role_set
 role_set_beside login role = after_any (asked_may_set login role) (λ may. known (set_or_denied role may)) (λ may s. sets_if role may)
 
 set_role_beside : (ctx : Ctx) (asked : SetRole) → StaysBeside (set_role ctx asked)
-set_role_beside ctx (set.To role) = after_any (role_or_undefined role) (λ _. role_set ctx.login role) (λ _. role_set_beside ctx.login role)
-set_role_beside ctx set.None = λ s. tt
-set_role_beside ctx set.Reset = λ s. tt
+set_role_beside ctx (SetRole.To role) = after_any (role_or_undefined role) (λ _. role_set ctx.login role) (λ _. role_set_beside ctx.login role)
+set_role_beside ctx SetRole.None = λ s. tt
+set_role_beside ctx SetRole.Reset = λ s. tt
 
 pub set_role_leaves : (ctx : Ctx) (asked : SetRole) → LeavesRows (set_role ctx asked)
 set_role_leaves ctx asked = leaves (set_role ctx asked) (set_role_beside ctx asked)
@@ -165,7 +118,7 @@ set_role_leaves ctx asked = leaves (set_role ctx asked) (set_role_beside ctx ask
 policy_made_beside : (role name : List ℕ) (table : TableDef) (policies : List Policy) (policy : Policy) → StaysBeside (policy_made role name table policies policy)
 unfolding policy_made
 policy_made_beside role name table policies policy =
-    after_any (ownership role name table) (λ _. known (Ok (writes (c.Policies name (with_policy policies policy) ∷ [])))) (λ _ s. (tt, tt))
+    after_any (ownership role name table) (λ _. known (Ok (writes (Change.Policies name (with_policy policies policy) ∷ [])))) (λ _ s. (tt, tt))
 
 policy_added_beside : (role name : List ℕ) (table : TableDef) (found : List InScope) (policy : Policy) → StaysBeside (policy_added role name table found policy)
 unfolding policy_added
@@ -187,7 +140,7 @@ create_policy_leaves ctx asked = leaves (create_policy ctx asked) (
 alteration_made_beside : (role : List ℕ) (table : TableDef) (policies : List Policy) (asked : AlterPolicy) → StaysBeside (alteration_made role table policies asked)
 unfolding alteration_made
 alteration_made_beside role table policies asked =
-    after_any (ownership role asked.table table) (λ _. known (Ok (writes (c.Policies asked.table (with_altered asked policies) ∷ [])))) (λ _ s. (tt, tt))
+    after_any (ownership role asked.table table) (λ _. known (Ok (writes (Change.Policies asked.table (with_altered asked policies) ∷ [])))) (λ _ s. (tt, tt))
 
 alteration_over_beside : (role : List ℕ) (table : TableDef) (found : List InScope) (policies : List Policy) (policy : Policy) (asked : AlterPolicy) → StaysBeside (alteration_over role table found policies policy asked)
 unfolding alteration_over
@@ -198,7 +151,7 @@ alteration_of_beside : (role : List ℕ) (table : TableDef) (policies : List Pol
 unfolding alteration_of
 alteration_of_beside role table policies policy asked =
     let names : Asking (List InScope) = named (condition_names asked.using asked.check) ((asked.table, table) ∷ []) [] in
-    after_any (alter_policies.roles_or_undefined asked.to) (λ _. followed_by names (λ found. alteration_over role table found policies policy asked)) (λ _.
+    after_any (policy_roles_or_undefined asked.to) (λ _. followed_by names (λ found. alteration_over role table found policies policy asked)) (λ _.
     after_any names (λ found. alteration_over role table found policies policy asked) (λ found. alteration_over_beside role table found policies policy asked))
 
 alteration_on_beside : (role : List ℕ) (table : TableDef) (asked : AlterPolicy) → StaysBeside (alteration_on role table asked)
@@ -215,7 +168,7 @@ alter_policy_leaves ctx asked = leaves (alter_policy ctx asked) (
 policy_dropped_beside : (role : List ℕ) (table : TableDef) (policies : List Policy) (asked : DropPolicy) → StaysBeside (policy_dropped role table policies asked)
 unfolding policy_dropped
 policy_dropped_beside role table policies asked =
-    after_any (ownership role asked.table table) (λ _. known (Ok (writes (c.Policies asked.table (without_policy policies asked.name) ∷ [])))) (λ _ s. (tt, tt))
+    after_any (ownership role asked.table table) (λ _. known (Ok (writes (Change.Policies asked.table (without_policy policies asked.name) ∷ [])))) (λ _ s. (tt, tt))
 
 drop_on_beside : (role : List ℕ) (table : TableDef) (asked : DropPolicy) → StaysBeside (drop_on role table asked)
 unfolding drop_on
@@ -243,65 +196,65 @@ written_if (Err refusal) beside = tt
 written_leaves : (changes : Asking (List Change)) → GivesBeside changes → LeavesRows (written changes)
 written_leaves changes beside = leaves (written changes) (λ s. written_if (changes.in_state s).gives (beside s))
 
-grants_made_beside : (reach : Reach) (role : List ℕ) (table : TableDef) (grants : List Grant) (asked : GrantPrivileges) → IfOk (privileges.grants_made reach role table grants asked) AreBeside
-unfolding privileges.grants_made privileges.granted
+grants_made_beside : (reach : Reach) (role : List ℕ) (table : TableDef) (grants : List Grant) (asked : GrantPrivileges) → IfOk (privileges.Granting.grants_made reach role table grants asked) AreBeside
+unfolding privileges.Granting.grants_made privileges.Granting.granted
 grants_made_beside reach role table grants asked =
-    given_then AreBeside (grantors reach role asked.table table grants asked.privileges) (λ by. privileges.granted table grants by asked) (λ by.
-    given_then AreBeside (privileges.options_or_refused asked.with_option table.owner grants by asked.to) (λ _. Ok (privileges.grants_with grants by asked)) (λ _. (tt, tt)))
+    given_then AreBeside (privileges.Grantors.grantors reach role asked.table table grants asked.privileges) (λ by. privileges.Granting.granted table grants by asked) (λ by.
+    given_then AreBeside (privileges.Granting.options_or_refused asked.with_option table.owner grants by asked.to) (λ _. Ok (privileges.Granting.grants_with grants by asked)) (λ _. (tt, tt)))
 
-grant_on_beside : (role : List ℕ) (table : TableDef) (asked : GrantPrivileges) → GivesBeside (privileges.grant_on role table asked)
-unfolding privileges.grant_on
+grant_on_beside : (role : List ℕ) (table : TableDef) (asked : GrantPrivileges) → GivesBeside (privileges.Granting.grant_on role table asked)
+unfolding privileges.Granting.grant_on
 grant_on_beside role table asked =
-    given_any (asked_grants asked.table) (λ grants. followed_by (reach_of role) (λ reach. known (privileges.grants_made reach role table grants asked))) (λ grants.
-    given_any (reach_of role) (λ reach. known (privileges.grants_made reach role table grants asked)) (λ reach s. grants_made_beside reach role table grants asked))
+    given_any (asked_grants asked.table) (λ grants. followed_by (reach_of role) (λ reach. known (privileges.Granting.grants_made reach role table grants asked))) (λ grants.
+    given_any (reach_of role) (λ reach. known (privileges.Granting.grants_made reach role table grants asked)) (λ reach s. grants_made_beside reach role table grants asked))
 
 pub grant_leaves : (ctx : Ctx) (asked : GrantPrivileges) → LeavesRows (grant ctx asked)
-grant_leaves ctx asked = written_leaves (privileges.grant ctx.role asked) (
-    given_any (table_or_undefined asked.table) (λ table. followed_by (grantees_or_undefined asked.to) (λ _. privileges.grant_on ctx.role table asked)) (λ table.
-    given_any (grantees_or_undefined asked.to) (λ _. privileges.grant_on ctx.role table asked) (λ _. grant_on_beside ctx.role table asked)))
+grant_leaves ctx asked = written_leaves (privileges.Granting.grant ctx.role asked) (
+    given_any (table_or_undefined asked.table) (λ table. followed_by (grantees_or_undefined asked.to) (λ _. privileges.Granting.grant_on ctx.role table asked)) (λ table.
+    given_any (grantees_or_undefined asked.to) (λ _. privileges.Granting.grant_on ctx.role table asked) (λ _. grant_on_beside ctx.role table asked)))
 
-grants_revoked_beside : (reach : Reach) (role : List ℕ) (table : TableDef) (grants : List Grant) (asked : RevokePrivileges) → IfOk (privileges_left.grants_revoked reach role table grants asked) AreBeside
-unfolding privileges_left.grants_revoked privileges_left.revoked
+grants_revoked_beside : (reach : Reach) (role : List ℕ) (table : TableDef) (grants : List Grant) (asked : RevokePrivileges) → IfOk (privileges.Revoking.grants_revoked reach role table grants asked) AreBeside
+unfolding privileges.Revoking.grants_revoked privileges.Revoking.revoked
 grants_revoked_beside reach role table grants asked =
-    given_then AreBeside (grantors reach role asked.table table grants asked.privileges) (λ by. privileges_left.revoked table grants by asked) (λ by.
-    given_then AreBeside (privileges_left.left_after asked.cascade asked.table table.owner by (privileges_left.without_taken asked.option_only by asked.from grants))
-    (λ left. Ok (privileges.grants_written asked.table left)) (λ left. (tt, tt)))
+    given_then AreBeside (privileges.Grantors.grantors reach role asked.table table grants asked.privileges) (λ by. privileges.Revoking.revoked table grants by asked) (λ by.
+    given_then AreBeside (privileges.Revoking.left_after asked.cascade asked.table table.owner by (privileges.Revoking.without_taken asked.option_only by asked.from grants))
+    (λ left. Ok (privileges.Granting.grants_written asked.table left)) (λ left. (tt, tt)))
 
-revoke_on_beside : (role : List ℕ) (table : TableDef) (asked : RevokePrivileges) → GivesBeside (privileges_left.revoke_on role table asked)
-unfolding privileges_left.revoke_on
+revoke_on_beside : (role : List ℕ) (table : TableDef) (asked : RevokePrivileges) → GivesBeside (privileges.Revoking.revoke_on role table asked)
+unfolding privileges.Revoking.revoke_on
 revoke_on_beside role table asked =
-    given_any (asked_grants asked.table) (λ grants. followed_by (reach_of role) (λ reach. known (privileges_left.grants_revoked reach role table grants asked))) (λ grants.
-    given_any (reach_of role) (λ reach. known (privileges_left.grants_revoked reach role table grants asked)) (λ reach s. grants_revoked_beside reach role table grants asked))
+    given_any (asked_grants asked.table) (λ grants. followed_by (reach_of role) (λ reach. known (privileges.Revoking.grants_revoked reach role table grants asked))) (λ grants.
+    given_any (reach_of role) (λ reach. known (privileges.Revoking.grants_revoked reach role table grants asked)) (λ reach s. grants_revoked_beside reach role table grants asked))
 
 pub revoke_leaves : (ctx : Ctx) (asked : RevokePrivileges) → LeavesRows (revoke ctx asked)
-revoke_leaves ctx asked = written_leaves (privileges_left.revoke ctx.role asked) (
-    given_any (table_or_undefined asked.table) (λ table. followed_by (grantees_or_undefined asked.from) (λ _. privileges_left.revoke_on ctx.role table asked)) (λ table.
-    given_any (grantees_or_undefined asked.from) (λ _. privileges_left.revoke_on ctx.role table asked) (λ _. revoke_on_beside ctx.role table asked)))
+revoke_leaves ctx asked = written_leaves (privileges.Revoking.revoke ctx.role asked) (
+    given_any (table_or_undefined asked.table) (λ table. followed_by (grantees_or_undefined asked.from) (λ _. privileges.Revoking.revoke_on ctx.role table asked)) (λ table.
+    given_any (grantees_or_undefined asked.from) (λ _. privileges.Revoking.revoke_on ctx.role table asked) (λ _. revoke_on_beside ctx.role table asked)))
 
-members_beside : (held : List Held) → AreBeside (members.members_written held)
+members_beside : (held : List Held) → AreBeside (members.Granting.members_written held)
 members_beside [] = tt
 members_beside (h ∷ held) = (tt, members_beside held)
 
-roles_granted_beside : (role : List ℕ) (asked : GrantRoles) → GivesBeside (members.roles_granted role asked)
-unfolding members.roles_granted members.memberships_granted
+roles_granted_beside : (role : List ℕ) (asked : GrantRoles) → GivesBeside (members.Granting.roles_granted role asked)
+unfolding members.Granting.roles_granted members.Granting.memberships_granted
 roles_granted_beside role asked =
-    given_any (members.managed_or_refused role asked.roles) (λ _. members.memberships_granted asked) (λ _.
-    given_any (members.asked_held (fresh [] asked.to)) (λ held. followed_by (members.each_granted asked.options asked.roles asked.to held) (λ grown. known (Ok (members.members_written grown)))) (λ held.
-    given_any (members.each_granted asked.options asked.roles asked.to held) (λ grown. known (Ok (members.members_written grown))) (λ grown s. members_beside grown)))
+    given_any (members.Granting.managed_or_refused role asked.roles) (λ _. members.Granting.memberships_granted asked) (λ _.
+    given_any (members.Granting.asked_held (fresh [] asked.to)) (λ held. followed_by (members.Granting.each_granted asked.options asked.roles asked.to held) (λ grown. known (Ok (members.Granting.members_written grown)))) (λ held.
+    given_any (members.Granting.each_granted asked.options asked.roles asked.to held) (λ grown. known (Ok (members.Granting.members_written grown))) (λ grown s. members_beside grown)))
 
 pub grant_roles_leaves : (ctx : Ctx) (asked : GrantRoles) → LeavesRows (grant_roles ctx asked)
-grant_roles_leaves ctx asked = written_leaves (members.grant_member ctx.role asked) (
-    given_any (roles_or_undefined asked.roles) (λ _. followed_by (roles_or_undefined asked.to) (λ _. members.roles_granted ctx.role asked)) (λ _.
-    given_any (roles_or_undefined asked.to) (λ _. members.roles_granted ctx.role asked) (λ _. roles_granted_beside ctx.role asked)))
+grant_roles_leaves ctx asked = written_leaves (members.Granting.grant_member ctx.role asked) (
+    given_any (roles_or_undefined asked.roles) (λ _. followed_by (roles_or_undefined asked.to) (λ _. members.Granting.roles_granted ctx.role asked)) (λ _.
+    given_any (roles_or_undefined asked.to) (λ _. members.Granting.roles_granted ctx.role asked) (λ _. roles_granted_beside ctx.role asked)))
 
-roles_revoked_beside : (role : List ℕ) (asked : RevokeRoles) → GivesBeside (members_left.roles_revoked role asked)
-unfolding members_left.roles_revoked members_left.memberships_revoked
+roles_revoked_beside : (role : List ℕ) (asked : RevokeRoles) → GivesBeside (members.Revoking.roles_revoked role asked)
+unfolding members.Revoking.roles_revoked members.Revoking.memberships_revoked
 roles_revoked_beside role asked =
-    given_any (members.managed_or_refused role asked.roles) (λ _. members_left.memberships_revoked asked) (λ _.
-    given_any (members.asked_held (fresh [] asked.from)) (λ held. known (Ok (members.members_written (map (members_left.taken_in asked.option asked.roles) held)))) (λ held s.
-    members_beside (map (members_left.taken_in asked.option asked.roles) held)))
+    given_any (members.Granting.managed_or_refused role asked.roles) (λ _. members.Revoking.memberships_revoked asked) (λ _.
+    given_any (members.Granting.asked_held (fresh [] asked.from)) (λ held. known (Ok (members.Granting.members_written (map (members.Revoking.taken_in asked.option asked.roles) held)))) (λ held s.
+    members_beside (map (members.Revoking.taken_in asked.option asked.roles) held)))
 
 pub revoke_roles_leaves : (ctx : Ctx) (asked : RevokeRoles) → LeavesRows (revoke_roles ctx asked)
-revoke_roles_leaves ctx asked = written_leaves (members_left.revoke_member ctx.role asked) (
-    given_any (roles_or_undefined asked.roles) (λ _. followed_by (roles_or_undefined asked.from) (λ _. members_left.roles_revoked ctx.role asked)) (λ _.
-    given_any (roles_or_undefined asked.from) (λ _. members_left.roles_revoked ctx.role asked) (λ _. roles_revoked_beside ctx.role asked)))
+revoke_roles_leaves ctx asked = written_leaves (members.Revoking.revoke_member ctx.role asked) (
+    given_any (roles_or_undefined asked.roles) (λ _. followed_by (roles_or_undefined asked.from) (λ _. members.Revoking.roles_revoked ctx.role asked)) (λ _.
+    given_any (roles_or_undefined asked.from) (λ _. members.Revoking.roles_revoked ctx.role asked) (λ _. roles_revoked_beside ctx.role asked)))

@@ -2,43 +2,16 @@
 -- and its key.
 use Rattle.std.specs.Prelude.{◌≡◌, refl, ℕ, List, [], ◌∷◌, Option, Some, None, Bool, true, false, cond, Result, Ok, Err, if◌then◌else◌, is_some, map, slice_get}
 use Rattle.std.specs.List.{All, AllByRecursion}
-use Rattle.std.proofs.Common.{ap, sym, subst, ◌∙◌}
-use Rattle.std.proofs.lemmas.Option.{none-some}
-use Rattle.rls_value.specs.declared.refusal.Refusal.{Refusal}
-use Rattle.rls_value.specs.declared.refusal.Refusal.TheVariants.{Duplicate, Undefined}
-use Rattle.rls_value.specs.declared.refusal.DefinedKind.TheVariants as defined
-use Rattle.rls_value.specs.declared.refusal.NameKind.TheVariants as named
-use Rattle.rls_value.specs.declared.row.RowId.{RowId}
-use Rattle.rls_value.specs.Giving.{and_then}
-use Rattle.rls_value.specs.Values.{value_at}
+use Rattle.std.proofs.{Common.ap, Common.sym, Common.subst, Common.◌∙◌, lemmas.Option.none-some}
+use Rattle.rls_value.specs.{declared.refusal.Refusal.Refusal, declared.row.RowId.RowId, Giving.and_then, Values.value_at, declared.refusal.Refusal.TheVariants.Duplicate, declared.refusal.Refusal.TheVariants.Undefined, declared.refusal.DefinedKind.DefinedKind, declared.refusal.NameKind.NameKind}
 use Rattle.rls_expr.specs.declared.table.TableDef.{TableDef}
-use Rattle.rls_catalog.specs.declared.change.Change.{Change}
-use Rattle.rls_catalog.specs.declared.change.Change.TheVariants as c
-use Rattle.rls_catalog.specs.declared.grant.Grant.{Grant}
-use Rattle.rls_catalog.specs.declared.stored.Keyed.{Keyed}
-use Rattle.rls_catalog.specs.Changed.{changed, changed_all}
-use Rattle.rls_catalog.proofs.ContentsLaws.{is_name, same_name, table_of_changed}
-use Rattle.rls_catalog.proofs.InOrderLaws.{none_ascend}
-use Rattle.rls_catalog.specs.State.{entries_of, State, table_of}
-use Rattle.rls_catalog.specs.SoundRows.{AreSound, AreSoundIn, CarriesKey, RowsAreSound, takes_no_null}
-use Rattle.rls_source.specs.Asked.{asked_grants, table_at}
-use Rattle.rls_source.specs.Askings.{Asking, known}
-use Rattle.rls_source.specs.Named.{found_or}
+use Rattle.rls_catalog.specs.{declared.change.Change.Change, declared.grant.Grant.Grant, declared.stored.Keyed.Keyed, Changed.changed, Changed.changed_all, State.entries_of, State.State, State.table_of, SoundRows.AreSound, SoundRows.AreSoundIn, SoundRows.CarriesKey, SoundRows.RowsAreSound, SoundRows.takes_no_null}
+use Rattle.rls_catalog.proofs.{ContentsLaws.is_name, ContentsLaws.same_name, ContentsLaws.table_of_changed, InOrderLaws.none_ascend}
+use Rattle.rls_source.specs.{Asked.asked_grants, Asked.table_at, Askings.Asking, Askings.known, Named.found_or}
 use Rattle.rls_grant.specs.Granting.{own_grants, with_grants}
-use Rattle.rls_guard.specs.declared.context.Ctx.{Ctx}
-use Rattle.rls_guard.specs.declared.effect.Effect.{Effect}
-use Rattle.rls_guard.specs.declared.effect.Effect.TheVariants as effect
-use Rattle.rls_guard.specs.Effects.{writes}
-use Rattle.rls_guard.specs.Keeping.{IfDone, IsNoRow, LeavesRows}
-use Rattle.rls_guard.specs.Standings.{ownership}
-use Rattle.rls_statement.specs.declared.statement.AlterTable.{AlterTable}
-use Rattle.rls_statement.specs.declared.statement.CreateTable.{CreateTable}
-use Rattle.rls_statement.specs.declared.statement.RowSecurity.{RowSecurity}
-use Rattle.rls_statement.specs.declared.statement.RowSecurity.TheVariants.{Disable, Enable, Force, NoForce}
-use Rattle.rls_ddl.specs.AlteringTables.{alter_table, altered}
-use Rattle.rls_ddl.specs.CreatingTables.{create_table, key_or_undefined, table_made, table_unless_taken, table_with}
-use Rattle.rls_ddl.proofs.PrimaryKeyLaws.{key_takes_no_null}
-use Rattle.rls_ddl.proofs.RowsLeftLemmas.{done_then}
+use Rattle.rls_guard.specs.{declared.context.Ctx.Ctx, declared.effect.Effect.Effect, Effects.writes, Standings.ownership, Keeping.IfDone, Keeping.IsNoRow, Keeping.LeavesRows}
+use Rattle.rls_statement.specs.{declared.statement.AlterTable.AlterTable, declared.statement.CreateTable.CreateTable, declared.statement.RowSecurity.RowSecurity, declared.statement.RowSecurity.TheVariants.Disable, declared.statement.RowSecurity.TheVariants.Enable, declared.statement.RowSecurity.TheVariants.Force, declared.statement.RowSecurity.TheVariants.NoForce}
+use Rattle.rls_ddl.{specs.AlteringTables.alter_table, specs.AlteringTables.altered, specs.CreatingTables.create_table, specs.CreatingTables.key_or_undefined, specs.CreatingTables.table_made, specs.CreatingTables.table_unless_taken, specs.CreatingTables.table_with, proofs.PrimaryKeyLaws.key_takes_no_null, proofs.RowsLeftLemmas.done_then}
 
 -- ---- one definition more
 
@@ -48,7 +21,7 @@ defined_if : (b : Bool) (s : State) (name : List ℕ) (def : TableDef) (other : 
 defined_if true s name def other is sound here = subst (λ n. AreSound def (entries_of s n)) (sym (same_name other name is)) here
 defined_if false s name def other is sound here = sound other
 
-defined_sound : (s : State) (name : List ℕ) (def : TableDef) → RowsAreSound s → AreSound def (entries_of s name) → RowsAreSound (changed s (c.Table name def))
+defined_sound : (s : State) (name : List ℕ) (def : TableDef) → RowsAreSound s → AreSound def (entries_of s name) → RowsAreSound (changed s (Change.Table name def))
 defined_sound s name def sound here = λ other.
     subst (λ found. AreSoundIn found (entries_of s other)) (sym (table_of_changed s name def other)) (defined_if (is_name other name) s name def other refl sound here)
 
@@ -58,13 +31,13 @@ record Left (s : State) (changes : List Change) : Type 0 where
   sound : RowsAreSound s → RowsAreSound (changed_all s changes)
 
 none_written : (s : State) (given : Result Effect Refusal) → IfDone given (Left s) → IfDone given (AllByRecursion IsNoRow)
-none_written s (Ok (effect.Done reply decisions changes role)) left = left.writes_none
-none_written s (Ok (effect.Refused refusal decisions)) left = tt
+none_written s (Ok (Effect.Done reply decisions changes role)) left = left.writes_none
+none_written s (Ok (Effect.Refused refusal decisions)) left = tt
 none_written s (Err refusal) left = tt
 
 left_sound : (s : State) (given : Result Effect Refusal) → RowsAreSound s → IfDone given (Left s) → IfDone given (λ changes. RowsAreSound (changed_all s changes))
-left_sound s (Ok (effect.Done reply decisions changes role)) sound left = left.sound sound
-left_sound s (Ok (effect.Refused refusal decisions)) sound left = tt
+left_sound s (Ok (Effect.Done reply decisions changes role)) sound left = left.sound sound
+left_sound s (Ok (Effect.Refused refusal decisions)) sound left = tt
 left_sound s (Err refusal) sound left = tt
 
 leaves_rows : (asking : Asking Effect) → ((s : State) → IfDone (asking.in_state s).gives (Left s)) → LeavesRows asking
@@ -85,7 +58,7 @@ none_sound def takes = record {
 }
 
 created_sound : (s : State) (name : List ℕ) (def : TableDef) (grants : List Grant) → table_of s name ≡ None → All (λ place. takes_no_null (slice_get def.columns place) ≡ true) def.key
-    → Left s (c.Table name def ∷ c.Grants name grants ∷ [])
+    → Left s (Change.Table name def ∷ Change.Grants name grants ∷ [])
 created_sound s name def grants absent takes = record {
   writes_none = (tt, (tt, tt));
   sound = λ sound. defined_sound s name def sound
@@ -93,12 +66,12 @@ created_sound s name def grants absent takes = record {
 }
 
 created_if : (found : Option TableDef) (s : State) (ctx : Ctx) (asked : CreateTable) (key : List ℕ) → table_of s asked.name ≡ found → key_or_undefined asked ≡ Ok key
-    → IfDone (if is_some found then (known (Err (Duplicate defined.Relation asked.name))).in_state s else (table_made ctx asked key).in_state s).gives (Left s)
+    → IfDone (if is_some found then (known (Err (Duplicate DefinedKind.Relation asked.name))).in_state s else (table_made ctx asked key).in_state s).gives (Left s)
 unfolding table_made
 created_if (Some def) s ctx asked key is given = tt
 created_if None s ctx asked key is given =
     done_then (Left s) ((asked_grants asked.name).in_state s).gives
-    (λ grants. Ok (writes (c.Table asked.name (table_with ctx.role asked key) ∷ c.Grants asked.name (with_grants grants (own_grants ctx.role)) ∷ []))) (λ grants.
+    (λ grants. Ok (writes (Change.Table asked.name (table_with ctx.role asked key) ∷ Change.Grants asked.name (with_grants grants (own_grants ctx.role)) ∷ []))) (λ grants.
     created_sound s asked.name (table_with ctx.role asked key) (with_grants grants (own_grants ctx.role)) is (key_takes_no_null ctx.role asked key given))
 
 unless_taken : (s : State) (ctx : Ctx) (asked : CreateTable) (key : List ℕ) → key_or_undefined asked ≡ Ok key → IfDone ((table_unless_taken ctx asked key).in_state s).gives (Left s)
@@ -134,7 +107,7 @@ altered_same Disable table rows sound = same_sound table (altered Disable table)
 altered_same Force table rows sound = same_sound table (altered Force table) rows refl refl sound
 altered_same NoForce table rows sound = same_sound table (altered NoForce table) rows refl refl sound
 
-altered_left : (s : State) (name : List ℕ) (change : RowSecurity) (table : TableDef) → table_of s name ≡ Some table → Left s (c.Table name (altered change table) ∷ [])
+altered_left : (s : State) (name : List ℕ) (change : RowSecurity) (table : TableDef) → table_of s name ≡ Some table → Left s (Change.Table name (altered change table) ∷ [])
 altered_left s name change table there = record {
   writes_none = (tt, tt);
   sound = λ sound. defined_sound s name (altered change table) sound
@@ -142,10 +115,10 @@ altered_left s name change table there = record {
 }
 
 altered_if : (found : Option TableDef) (s : State) (ctx : Ctx) (asked : AlterTable) → table_of s asked.table ≡ found
-    → IfDone (and_then (found_or (Undefined named.Relation asked.table) found) (λ table. and_then ((ownership ctx.role asked.table table).in_state s).gives (λ _.
-    Ok (writes (c.Table asked.table (altered asked.change table) ∷ []))))) (Left s)
+    → IfDone (and_then (found_or (Undefined NameKind.Relation asked.table) found) (λ table. and_then ((ownership ctx.role asked.table table).in_state s).gives (λ _.
+    Ok (writes (Change.Table asked.table (altered asked.change table) ∷ []))))) (Left s)
 altered_if (Some table) s ctx asked is =
-    done_then (Left s) ((ownership ctx.role asked.table table).in_state s).gives (λ _. Ok (writes (c.Table asked.table (altered asked.change table) ∷ []))) (λ _.
+    done_then (Left s) ((ownership ctx.role asked.table table).in_state s).gives (λ _. Ok (writes (Change.Table asked.table (altered asked.change table) ∷ []))) (λ _.
     altered_left s asked.table asked.change table is)
 altered_if None s ctx asked is = tt
 

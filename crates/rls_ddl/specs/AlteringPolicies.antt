@@ -2,30 +2,15 @@
 -- and what a policy of its kind has no place for, then that the role is one that owns the table. What is written changes, the rest stays.
 use Rattle.std.specs.Prelude.{ℕ, List, [], ◌∷◌, Option, Some, None, Bool, false, Result, Ok, Err, is_some, unwrap_or, map, if◌then◌else◌}
 use Rattle.std.specs.Option.{option_or}
-use Rattle.rls_value.specs.declared.refusal.Refusal.{Refusal}
-use Rattle.rls_value.specs.declared.refusal.Refusal.TheVariants.{Unsupported}
+use Rattle.rls_value.specs.{declared.refusal.Refusal.Refusal, declared.refusal.Refusal.TheVariants.Unsupported, declared.verb.PolicyKind.PolicyKind, Giving.and_then, declared.verb.PolicyKind.TheVariants.All, declared.verb.PolicyKind.TheVariants.Only}
 use Rattle.rls_value.specs.declared.verb.Kind.TheVariants as k
-use Rattle.rls_value.specs.declared.verb.PolicyKind.{PolicyKind}
-use Rattle.rls_value.specs.declared.verb.PolicyKind.TheVariants.{All, Only}
-use Rattle.rls_value.specs.Giving.{and_then}
-use Rattle.rls_expr.specs.declared.table.TableDef.{TableDef}
-use Rattle.rls_expr.specs.declared.policy.Grantee.{Grantee}
-use Rattle.rls_expr.specs.declared.policy.Policy.{Policy}
-use Rattle.rls_expr.specs.Placing.{Names}
-use Rattle.rls_expr.specs.Scopes.{InScope}
+use Rattle.rls_expr.specs.{declared.table.TableDef.TableDef, declared.policy.Grantee.Grantee, declared.policy.Policy.Policy, Placing.Names, Scopes.InScope}
 use Rattle.rls_catalog.specs.declared.change.Change.TheVariants as change
 use Rattle.rls_catalog.specs.PolicyLists.{is_named}
 use Rattle.rls_statement.specs.declared.statement.AlterPolicy.{AlterPolicy}
-use Rattle.rls_guard.specs.declared.context.Ctx.{Ctx}
-use Rattle.rls_source.specs.Askings.{Asking, known, followed_by}
-use Rattle.rls_source.specs.Asked.{asked_policies}
-use Rattle.rls_source.specs.Named.{table_or_undefined, grantees_or_undefined}
-use Rattle.rls_guard.specs.Naming.{named, names_over}
-use Rattle.rls_guard.specs.Standings.{ownership}
-use Rattle.rls_guard.specs.declared.effect.Effect.{Effect}
-use Rattle.rls_guard.specs.Effects.{writes}
-use Rattle.rls_ddl.specs.Conditions.{condition_names, condition_fits, is_supported, both_conditions}
-use Rattle.rls_ddl.specs.NamedPolicies.{policy_or_undefined}
+use Rattle.rls_guard.specs.{declared.context.Ctx.Ctx, Standings.ownership, declared.effect.Effect.Effect, Effects.writes, Naming.named, Naming.names_over}
+use Rattle.rls_source.specs.{Askings.Asking, Askings.known, Askings.followed_by, Asked.asked_policies, Named.table_or_undefined, Named.grantees_or_undefined}
+use Rattle.rls_ddl.specs.{Conditions.condition_names, Conditions.condition_fits, Conditions.is_supported, Conditions.both_conditions, NamedPolicies.policy_or_undefined}
 
 -- the roles that are written behind TO have to be there
 abbrev pub roles_or_undefined : Option (List Grantee) → Asking (Unit {0})

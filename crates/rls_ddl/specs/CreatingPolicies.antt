@@ -1,26 +1,16 @@
 -- CREATE POLICY (PostgreSQL manual, CREATE POLICY): names, then that none of the name is there, then types, then that nothing
 -- in it isn't supported, then how many there are, then that the role is one that owns the table.
 use Rattle.std.specs.Prelude.{ℕ, List, [], ◌∷◌, nat_lt, Result, Ok, Err, length, if◌then◌else◌}
-use Rattle.rls_value.specs.declared.refusal.Refusal.{Refusal}
-use Rattle.rls_value.specs.declared.refusal.Refusal.TheVariants.{Duplicate, Limit}
+use Rattle.rls_value.specs.{declared.refusal.Refusal.Refusal, Giving.and_then, declared.refusal.Refusal.TheVariants.Duplicate, declared.refusal.Refusal.TheVariants.Limit}
 use Rattle.rls_value.specs.declared.refusal.DefinedKind.TheVariants as kind
 use Rattle.rls_value.specs.declared.refusal.Limit.TheVariants as limit
-use Rattle.rls_value.specs.Giving.{and_then}
-use Rattle.rls_expr.specs.declared.table.TableDef.{TableDef}
-use Rattle.rls_expr.specs.declared.policy.Policy.{Policy}
-use Rattle.rls_expr.specs.Placing.{Names}
-use Rattle.rls_expr.specs.Scopes.{InScope}
+use Rattle.rls_expr.specs.{declared.table.TableDef.TableDef, declared.policy.Policy.Policy, Placing.Names, Scopes.InScope}
 use Rattle.rls_catalog.specs.declared.change.Change.TheVariants as change
 use Rattle.rls_catalog.specs.PolicyLists.{has_policy, with_policy}
 use Rattle.rls_statement.specs.declared.statement.CreatePolicy.{CreatePolicy}
-use Rattle.rls_guard.specs.declared.context.Ctx.{Ctx}
-use Rattle.rls_source.specs.Askings.{Asking, known, followed_by}
-use Rattle.rls_source.specs.Asked.{asked_policies}
-use Rattle.rls_source.specs.Named.{table_or_undefined, grantees_or_undefined}
+use Rattle.rls_guard.specs.{declared.context.Ctx.Ctx, Standings.ownership, declared.effect.Effect.Effect, Effects.writes}
+use Rattle.rls_source.specs.{Askings.Asking, Askings.known, Askings.followed_by, Asked.asked_policies, Named.table_or_undefined, Named.grantees_or_undefined}
 use Rattle.rls_guard.specs.Naming.{named, names_over}
-use Rattle.rls_guard.specs.Standings.{ownership}
-use Rattle.rls_guard.specs.declared.effect.Effect.{Effect}
-use Rattle.rls_guard.specs.Effects.{writes}
 use Rattle.rls_ddl.specs.Conditions.{condition_names, condition_fits, is_supported, both_conditions}
 
 -- a policy of the name may not be there

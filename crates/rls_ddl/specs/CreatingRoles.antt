@@ -5,14 +5,10 @@ use Rattle.rls_value.specs.declared.refusal.Refusal.TheVariants.{Duplicate}
 use Rattle.rls_value.specs.declared.refusal.DefinedKind.TheVariants as kind
 use Rattle.rls_catalog.specs.declared.role.RoleDef.{RoleDef}
 use Rattle.rls_catalog.specs.declared.change.Change.TheVariants as change
-use Rattle.rls_statement.specs.declared.statement.Attributes.{Attributes}
-use Rattle.rls_statement.specs.declared.statement.CreateRole.{CreateRole}
-use Rattle.rls_guard.specs.declared.context.Ctx.{Ctx}
+use Rattle.rls_statement.specs.{declared.statement.Attributes.Attributes, declared.statement.CreateRole.CreateRole}
+use Rattle.rls_guard.specs.{declared.context.Ctx.Ctx, Checks.superuser_or_denied, declared.effect.Effect.Effect, Effects.writes}
 use Rattle.rls_source.specs.Askings.{Asking, known, asked_if, followed_by}
 use Rattle.rls_source.specs.Asked.{asked_role}
-use Rattle.rls_guard.specs.Checks.{superuser_or_denied}
-use Rattle.rls_guard.specs.declared.effect.Effect.{Effect}
-use Rattle.rls_guard.specs.Effects.{writes}
 
 -- an attribute that isn't written is false
 abbrev pub role_with : Attributes → RoleDef

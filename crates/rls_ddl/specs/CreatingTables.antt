@@ -2,23 +2,15 @@
 -- Names come first, then that the table's own is free.
 use Rattle.std.specs.Prelude.{ℕ, List, [], ◌∷◌, Option, false, ◌||◌, Result, Ok, Err, is_some, unwrap_or, map, filter, position}
 use Rattle.std.specs.Str.{bytes_eq}
-use Rattle.rls_value.specs.Names.{one_of}
-use Rattle.rls_value.specs.declared.refusal.Refusal.{Refusal}
-use Rattle.rls_value.specs.declared.refusal.Refusal.TheVariants.{Duplicate, Undefined}
+use Rattle.rls_value.specs.{Names.one_of, declared.refusal.Refusal.Refusal, declared.refusal.Refusal.TheVariants.Duplicate, declared.refusal.Refusal.TheVariants.Undefined}
 use Rattle.rls_value.specs.declared.refusal.DefinedKind.TheVariants as kind
 use Rattle.rls_value.specs.declared.refusal.NameKind.TheVariants as named
-use Rattle.rls_expr.specs.declared.table.Column.{Column}
-use Rattle.rls_expr.specs.declared.table.TableDef.{TableDef}
+use Rattle.rls_expr.specs.{declared.table.Column.Column, declared.table.TableDef.TableDef}
 use Rattle.rls_catalog.specs.declared.change.Change.TheVariants as change
-use Rattle.rls_statement.specs.declared.statement.CreateTable.{CreateTable}
-use Rattle.rls_statement.specs.declared.statement.MarkedColumn.{MarkedColumn}
-use Rattle.rls_guard.specs.declared.context.Ctx.{Ctx}
+use Rattle.rls_statement.specs.{declared.statement.CreateTable.CreateTable, declared.statement.MarkedColumn.MarkedColumn}
+use Rattle.rls_guard.specs.{declared.context.Ctx.Ctx, declared.effect.Effect.Effect, Effects.writes}
 use Rattle.rls_source.specs.Askings.{Asking, known, asked_if, followed_by}
-use Rattle.rls_source.specs.Asked.{asked_table, asked_grants}
-use Rattle.rls_source.specs.Named.{found_or}
-use Rattle.rls_source.specs.Sequences.{each_of}
-use Rattle.rls_guard.specs.declared.effect.Effect.{Effect}
-use Rattle.rls_guard.specs.Effects.{writes}
+use Rattle.rls_source.specs.{Asked.asked_table, Asked.asked_grants, Named.found_or, Sequences.each_of}
 use Rattle.rls_grant.specs.Granting.{own_grants, with_grants}
 
 -- ---- the primary key

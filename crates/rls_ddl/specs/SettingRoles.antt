@@ -1,24 +1,16 @@
 -- SET ROLE and RESET ROLE (PostgreSQL manual, SET ROLE): the login, and not the current role, tells which roles may be set.
 use Rattle.std.specs.Prelude.{◌≡◌, refl, ℕ, List, [], ◌∷◌, Some, Bool, true, false, Result, Ok, Err, if◌then◌else◌}
 use Rattle.std.proofs.Common.{ap, ◌∙◌}
-use Rattle.rls_value.specs.declared.object.Object.{Object}
-use Rattle.rls_value.specs.declared.object.Object.TheVariants as o
-use Rattle.rls_value.specs.declared.refusal.Refusal.{Refusal}
-use Rattle.rls_value.specs.declared.refusal.Refusal.TheVariants.{Denied}
+use Rattle.rls_value.specs.{declared.object.Object.Object, declared.refusal.Refusal.Refusal, declared.refusal.Refusal.TheVariants.Denied}
 use Rattle.rls_value.specs.declared.refusal.Why.TheVariants as why
-use Rattle.rls_catalog.specs.State.{State, AgreesOn}
-use Rattle.rls_catalog.specs.Membership.{attributes_of, walk_reads}
-use Rattle.rls_catalog.proofs.Frames.{attributes_frame}
-use Rattle.rls_catalog.specs.Paths.{has_set, path_reads, can_set, can_set_reads}
-use Rattle.rls_catalog.proofs.PathFrames.{path_frame, can_set_frame}
+use Rattle.rls_catalog.specs.{State.State, State.AgreesOn, Membership.attributes_of, Membership.walk_reads, Paths.has_set, Paths.path_reads, Paths.can_set, Paths.can_set_reads}
+use Rattle.rls_catalog.proofs.{Frames.attributes_frame, PathFrames.path_frame, PathFrames.can_set_frame}
 use Rattle.rls_statement.specs.declared.statement.SetRole.{SetRole}
 use Rattle.rls_statement.specs.declared.statement.SetRole.TheVariants as set
-use Rattle.rls_guard.specs.declared.context.Ctx.{Ctx}
-use Rattle.rls_guard.specs.declared.effect.Effect.{Effect}
+use Rattle.rls_guard.specs.{declared.context.Ctx.Ctx, declared.effect.Effect.Effect}
 use Rattle.rls_guard.specs.declared.effect.Effect.TheVariants as effect
 use Rattle.rls_guard.specs.declared.reply.Reply.TheVariants as reply
-use Rattle.rls_source.specs.Askings.{Asking, IsFramed, known, followed_by}
-use Rattle.rls_source.specs.Named.{role_or_undefined}
+use Rattle.rls_source.specs.{Askings.Asking, Askings.IsFramed, Askings.known, Askings.followed_by, Named.role_or_undefined}
 
 -- ---- whether the login may set the role
 
@@ -37,8 +29,8 @@ reads_if false s other login agrees = ap walk_reads (path_frame has_set s other 
 
 set_reads_frame : (s other : State) (login : List ℕ) → AgreesOn s other (can_set_reads s login) → can_set_reads other login ≡ can_set_reads s login
 set_reads_frame s other login agrees =
-    ap (λ def. o.Role login ∷ (if def.superuser then [] else path_reads has_set other login)) (attributes_frame s other login agrees.0)
-    ∙ ap (λ reads. o.Role login ∷ reads) (reads_if (attributes_of s login).superuser s other login agrees.1)
+    ap (λ def. Object.Role login ∷ (if def.superuser then [] else path_reads has_set other login)) (attributes_frame s other login agrees.0)
+    ∙ ap (λ reads. Object.Role login ∷ reads) (reads_if (attributes_of s login).superuser s other login agrees.1)
 
 pub may_set_framed : (login role : List ℕ) → IsFramed (λ s. record { gives = Ok (may_set s login role); reads = may_set_reads s login })
 unfolding may_set may_set_reads

@@ -1,13 +1,11 @@
 //! ALTER POLICY.
 
 ghost use Rattle.std.specs.Prelude.{◌≡◌, [], ◌∷◌, Some, IfOk, unwrap_or};
-ghost use Rattle.std.specs.List.{find};
-ghost use Rattle.std.specs.Option.{option_or};
+ghost use Rattle.std.specs.{List.find, Option.option_or};
 ghost use Rattle.rls_value.specs.Giving.{Gives};
 ghost use Rattle.rls_catalog.specs.PolicyLists.{InNameOrder, is_named};
 ghost use Rattle.rls_source.specs.Answering.{Answers};
-ghost use Rattle.rls_guard.specs.Effects.{writes};
-ghost use Rattle.rls_guard.specs.Naming.{names_over};
+ghost use Rattle.rls_guard.specs.{Effects.writes, Naming.names_over};
 ghost use Rattle.rls_ddl.specs.AlteringPolicies as spec;
 ghost use Rattle.rls_ddl.specs.AlteringPolicies.{alter_policy, alteration_on, alteration_of, alteration_over, alteration_made, conditions_or_refused, roles_or_undefined};
 

@@ -2,8 +2,7 @@
 
 ghost use Rattle.std.specs.Prelude.{◌≡◌, [], ◌∷◌, Some, map, IfOk};
 ghost use Rattle.rls_value.specs.Giving.{Gives};
-ghost use Rattle.rls_expr.specs.Naming.{step_of};
-ghost use Rattle.rls_expr.specs.Placing.{names_in};
+ghost use Rattle.rls_expr.specs.{Naming.step_of, Placing.names_in};
 ghost use Rattle.rls_source.specs.Answering.{Answers};
 ghost use Rattle.rls_guard.specs.Naming.{named, names_over};
 ghost use Rattle.rls_ddl.specs.Conditions as spec;

@@ -4,8 +4,7 @@ ghost use Rattle.std.specs.Prelude.{◌≡◌, ◌∷◌, [], false, IfOk, OnOk}
 ghost use Rattle.rls_value.specs.Giving.{Gives};
 ghost use Rattle.rls_catalog.specs.PolicyLists.{InNameOrder, has_policy, with_policy};
 ghost use Rattle.rls_source.specs.Answering.{Answers};
-ghost use Rattle.rls_guard.specs.Effects.{writes};
-ghost use Rattle.rls_guard.specs.Naming.{names_over};
+ghost use Rattle.rls_guard.specs.{Effects.writes, Naming.names_over};
 ghost use Rattle.rls_ddl.specs.CreatingPolicies as spec;
 ghost use Rattle.rls_ddl.specs.CreatingPolicies.{create_policy, policy_added, policy_made, policy_or_refused};
 

@@ -1,28 +1,9 @@
 //! What statements that define leave of the rows of a state, each a clause of a function that does nothing.
 
-ghost use Rattle.rls_guard.specs.Keeping.{LeavesRows};
-ghost use Rattle.rls_guard.specs.declared.context.Ctx.{Ctx};
-ghost use Rattle.rls_statement.specs.declared.statement.AlterPolicy.{AlterPolicy};
-ghost use Rattle.rls_statement.specs.declared.statement.AlterRole.{AlterRole};
-ghost use Rattle.rls_statement.specs.declared.statement.AlterTable.{AlterTable};
-ghost use Rattle.rls_statement.specs.declared.statement.CreatePolicy.{CreatePolicy};
-ghost use Rattle.rls_statement.specs.declared.statement.CreateRole.{CreateRole};
-ghost use Rattle.rls_statement.specs.declared.statement.CreateTable.{CreateTable};
-ghost use Rattle.rls_statement.specs.declared.statement.DropPolicy.{DropPolicy};
-ghost use Rattle.rls_statement.specs.declared.statement.GrantPrivileges.{GrantPrivileges};
-ghost use Rattle.rls_statement.specs.declared.statement.GrantRoles.{GrantRoles};
-ghost use Rattle.rls_statement.specs.declared.statement.RevokePrivileges.{RevokePrivileges};
-ghost use Rattle.rls_statement.specs.declared.statement.RevokeRoles.{RevokeRoles};
-ghost use Rattle.rls_statement.specs.declared.statement.SetRole.{SetRole};
-ghost use Rattle.rls_ddl.specs.AlteringPolicies.{alter_policy};
-ghost use Rattle.rls_ddl.specs.AlteringRoles.{alter_role};
-ghost use Rattle.rls_ddl.specs.AlteringTables.{alter_table};
-ghost use Rattle.rls_ddl.specs.CreatingPolicies.{create_policy};
-ghost use Rattle.rls_ddl.specs.CreatingRoles.{create_role};
-ghost use Rattle.rls_ddl.specs.CreatingTables.{create_table};
-ghost use Rattle.rls_ddl.specs.DroppingPolicies.{drop_policy};
+ghost use Rattle.rls_guard.specs.{Keeping.LeavesRows, declared.context.Ctx.Ctx};
+ghost use Rattle.rls_statement.specs.{declared.statement.AlterPolicy.AlterPolicy, declared.statement.AlterRole.AlterRole, declared.statement.AlterTable.AlterTable, declared.statement.CreatePolicy.CreatePolicy, declared.statement.CreateRole.CreateRole, declared.statement.CreateTable.CreateTable, declared.statement.DropPolicy.DropPolicy, declared.statement.GrantPrivileges.GrantPrivileges, declared.statement.GrantRoles.GrantRoles, declared.statement.RevokePrivileges.RevokePrivileges, declared.statement.RevokeRoles.RevokeRoles, declared.statement.SetRole.SetRole};
+ghost use Rattle.rls_ddl.specs.{AlteringPolicies.alter_policy, AlteringRoles.alter_role, AlteringTables.alter_table, CreatingPolicies.create_policy, CreatingRoles.create_role, CreatingTables.create_table, DroppingPolicies.drop_policy, SettingRoles.set_role};
 ghost use Rattle.rls_ddl.specs.Granting.{grant, grant_roles, revoke, revoke_roles};
-ghost use Rattle.rls_ddl.specs.SettingRoles.{set_role};
 
 /// A statement on tables writes no row, and leaves sound rows sound: a new table has none, since none stand under a name
 /// that no table has, and an altered one keeps its columns and its key.

@@ -2,29 +2,11 @@
 use Rattle.std.specs.Prelude.{◌≡◌, refl, ℕ, List, [], ◌∷◌, Bool, true, false, ◌||◌, not, Option, Some, None, Ok, if◌then◌else◌}
 use Rattle.std.specs.List.{flat_map}
 use Rattle.std.proofs.Common.{ap}
-use Rattle.rls_value.specs.declared.value.Value.{Value}
-use Rattle.rls_value.specs.declared.value.Value.TheVariants.{Null, Bool as Flag}
-use Rattle.rls_value.specs.declared.truth.Truth.{Truth}
-use Rattle.rls_value.specs.declared.truth.Truth.TheVariants.{True, False}
-use Rattle.rls_value.specs.Names.{one_of}
-use Rattle.rls_value.specs.Truths.{negation_of, is_true}
-use Rattle.rls_value.specs.Values.{value_of_truth, truth_in, is_null}
-use Rattle.rls_expr.specs.declared.expr.Sign.{Sign}
-use Rattle.rls_expr.specs.declared.policy.Policy.{Policy}
-use Rattle.rls_expr.specs.Naming.{names_of, query_names, names_all}
-use Rattle.rls_expr.specs.Terms.{Term, Terms, Query, Literal, Column, Place, CurrentUser, Compare, And, Or, Not, IsNull, IsNotNull, Among, NotAmong, Exists, Within as InQuery, NotWithin, Scalar, Sum, End, More, Select}
-use Rattle.rls_catalog.specs.State.{State}
-use Rattle.rls_catalog.specs.Verdict.{verdict_of}
-use Rattle.rls_catalog.specs.Membership.{Within}
-use Rattle.rls_source.specs.Readings.{Reading, unread, read_then}
-use Rattle.rls_source.specs.Askings.{Asking, followed_by}
-use Rattle.rls_evaluation.specs.declared.fence.Guard.{Guard}
-use Rattle.rls_evaluation.specs.declared.fence.Guard.TheVariants.{Exempt, Policies}
-use Rattle.rls_evaluation.specs.Environments.{Environment, inside, over, compared, joined, number_or_null}
-use Rattle.rls_evaluation.specs.Eval.{Shows, and_value, or_value, or_equal, or_item, item_or, item_if, value_of, together, sum_of, sum_from, has_row, meets, among_items, first_item, item_of}
-use Rattle.rls_evaluation.specs.Gathering.{gathered, with_row}
-use Rattle.rls_evaluation.specs.Keys.{key_of}
-use Rattle.rls_evaluation.specs.Showing.{asked_for, with_judgement, judgements_on, allows, is_allowed, shown, verdict_on}
+use Rattle.rls_value.specs.{declared.value.Value.Value, declared.truth.Truth.Truth, Names.one_of, Values.value_of_truth, Values.truth_in, Values.is_null, declared.value.Value.TheVariants.Null, declared.value.Value.TheVariants.Bool as Flag, declared.truth.Truth.TheVariants.True, declared.truth.Truth.TheVariants.False, Truths.negation_of, Truths.is_true}
+use Rattle.rls_expr.specs.{declared.expr.Sign.Sign, declared.policy.Policy.Policy, Naming.names_of, Naming.query_names, Naming.names_all, Terms.Term, Terms.Terms, Terms.Query, Terms.Literal, Terms.Column, Terms.Place, Terms.CurrentUser, Terms.Compare, Terms.And, Terms.Or, Terms.Not, Terms.IsNull, Terms.IsNotNull, Terms.Among, Terms.NotAmong, Terms.Exists, Terms.Within as InQuery, Terms.NotWithin, Terms.Scalar, Terms.Sum, Terms.End, Terms.More, Terms.Select}
+use Rattle.rls_catalog.specs.{State.State, Verdict.verdict_of, Membership.Within}
+use Rattle.rls_source.specs.{Readings.Reading, Readings.unread, Readings.read_then, Askings.Asking, Askings.followed_by}
+use Rattle.rls_evaluation.specs.{declared.fence.Guard.Guard, Keys.key_of, declared.fence.Guard.TheVariants.Exempt, declared.fence.Guard.TheVariants.Policies, Gathering.gathered, Gathering.with_row, Environments.Environment, Environments.inside, Environments.over, Environments.compared, Environments.joined, Environments.number_or_null, Showing.asked_for, Showing.with_judgement, Showing.judgements_on, Showing.allows, Showing.is_allowed, Showing.shown, Showing.verdict_on, Eval.Shows, Eval.and_value, Eval.or_value, Eval.or_equal, Eval.or_item, Eval.item_or, Eval.item_if, Eval.value_of, Eval.together, Eval.sum_of, Eval.sum_from, Eval.has_row, Eval.meets, Eval.among_items, Eval.first_item, Eval.item_of}
 use Rattle.rls_expansion.specs.Used.{entered}
 use Rattle.rls_depth.specs.Leading.{condition_tables, guard_tables}
 use Rattle.rls_depth.proofs.Tables.{first_part, last_part, query_table, query_items, query_condition, within_first, within_last}

@@ -1,41 +1,16 @@
 -- Fences in order show what the tables show so many policies deep.
 use Rattle.std.specs.Prelude.{◌≡◌, refl, ℕ, zero, suc, ◌≤◌, List, [], ◌∷◌, ◌++◌, Bool, true, false, ◌||◌, Option, Some, None, Ok, length, IfSome, if◌then◌else◌}
-use Rattle.std.specs.List.{flat_map}
-use Rattle.std.specs.Str.{bytes_eq}
-use Rattle.std.proofs.Common.{arith, ap, sym, ◌∙◌, subst}
-use Rattle.std.proofs.lemmas.Bool.{true≢false, or_left, or_right}
-use Rattle.std.proofs.lemmas.Slice.Eq.{bytes_eq-Decides}
-use Rattle.rls_value.specs.declared.value.Value.{Value}
-use Rattle.rls_value.specs.Names.{one_of}
-use Rattle.rls_expr.specs.declared.policy.Policy.{Policy}
-use Rattle.rls_expr.specs.declared.table.TableDef.{TableDef}
-use Rattle.rls_expr.specs.Placing.{placed}
-use Rattle.rls_expr.specs.Scopes.{InScope, known_table}
-use Rattle.rls_expr.specs.Terms.{Term}
-use Rattle.rls_catalog.specs.State.{State}
-use Rattle.rls_catalog.proofs.Walks.{bytes_own}
-use Rattle.rls_catalog.specs.Membership.{Within}
+use Rattle.std.specs.{List.flat_map, Str.bytes_eq}
+use Rattle.std.proofs.{Common.arith, Common.ap, Common.sym, Common.◌∙◌, Common.subst, lemmas.Bool.true≢false, lemmas.Bool.or_left, lemmas.Bool.or_right, lemmas.Slice.Eq.bytes_eq-Decides}
+use Rattle.rls_value.specs.{declared.value.Value.Value, Names.one_of, declared.verb.Kind.Kind}
+use Rattle.rls_expr.specs.{declared.policy.Policy.Policy, declared.table.TableDef.TableDef, Placing.placed, Terms.Term, Scopes.InScope, Scopes.known_table}
+use Rattle.rls_catalog.{specs.State.State, specs.Membership.Within, specs.declared.verdict.Side.Side, specs.Verdict.expression_of, proofs.Walks.bytes_own}
 use Rattle.rls_source.specs.Readings.{unread}
-use Rattle.rls_evaluation.specs.declared.fence.Fence.{Fence}
-use Rattle.rls_evaluation.specs.Eval.{Shows}
-use Rattle.rls_evaluation.specs.Showing.{shown, shows}
-use Rattle.rls_evaluation.specs.declared.fence.Guard.{Guard}
-use Rattle.rls_guard.specs.Guards.{with_condition, conditions_of}
-use Rattle.rls_guard.specs.Naming.{names_over}
-use Rattle.rls_value.specs.declared.verb.Kind.{Kind}
-use Rattle.rls_value.specs.declared.verb.Kind.TheVariants as k
-use Rattle.rls_catalog.specs.declared.verdict.Side.{Side}
-use Rattle.rls_catalog.specs.declared.verdict.Side.TheVariants as side
-use Rattle.rls_catalog.specs.Verdict.{expression_of}
-use Rattle.rls_recursion.specs.declared.room.Room.{Room}
-use Rattle.rls_recursion.specs.Searching.{InOrder, inner_in, next_in, room_in}
-use Rattle.rls_expansion.specs.Fences.{known_in, guard_of, fence_for, fences_of}
-use Rattle.rls_expansion.specs.Used.{tables_of, tables_if}
-use Rattle.rls_depth.specs.Deep.{shown_by, shows_deep}
-use Rattle.rls_depth.specs.Leading.{condition_tables, guard_tables, tables_read, Leads, RoomsLead, guard_in, guards_of}
-use Rattle.rls_depth.proofs.Agreeing.{Agree, shown_same}
-use Rattle.rls_depth.proofs.Using.{expression_tables}
-use Rattle.rls_depth.proofs.Tables.{within_nothing, within_append, placed_tables}
+use Rattle.rls_evaluation.specs.{declared.fence.Fence.Fence, Eval.Shows, declared.fence.Guard.Guard, Showing.shown, Showing.shows}
+use Rattle.rls_guard.specs.{Guards.with_condition, Guards.conditions_of, Naming.names_over}
+use Rattle.rls_recursion.specs.{declared.room.Room.Room, Searching.InOrder, Searching.inner_in, Searching.next_in, Searching.room_in}
+use Rattle.rls_expansion.specs.{Fences.known_in, Fences.guard_of, Fences.fence_for, Fences.fences_of, Used.tables_of, Used.tables_if}
+use Rattle.rls_depth.{specs.Deep.shown_by, specs.Deep.shows_deep, specs.Leading.condition_tables, specs.Leading.guard_tables, specs.Leading.tables_read, specs.Leading.Leads, specs.Leading.RoomsLead, specs.Leading.guard_in, specs.Leading.guards_of, proofs.Agreeing.Agree, proofs.Agreeing.shown_same, proofs.Using.expression_tables, proofs.Tables.within_nothing, proofs.Tables.within_append, proofs.Tables.placed_tables}
 
 -- ---- the tables of a guard are those of its policies
 
@@ -53,7 +28,7 @@ conditions_tables kind which from found (policy ∷ policies) =
 
 guard_reads : (found : List InScope) (from : InScope) (policies : Option (List Policy)) → Within (guard_tables (guard_of found from policies)) (tables_read policies)
 guard_reads found from None = within_nothing []
-guard_reads found from (Some policies) = conditions_tables k.Select side.Old from found policies
+guard_reads found from (Some policies) = conditions_tables Kind.Select Side.Old from found policies
 
 -- ---- rooms
 

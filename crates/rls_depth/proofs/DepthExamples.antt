@@ -2,30 +2,15 @@
 -- computes.
 use Rattle.std.specs.Prelude.{◌≡◌, refl, ℕ, pos, List, [], ◌∷◌, true, false, Option, Some, None, Result, Ok, codes, if◌then◌else◌}
 use Rattle.std.specs.Str.{bytes_eq}
-use Rattle.rls_value.specs.declared.refusal.Refusal.{Refusal}
-use Rattle.rls_value.specs.declared.value.Value.{Value}
-use Rattle.rls_value.specs.declared.value.Value.TheVariants.{Int, Text}
-use Rattle.rls_value.specs.declared.value.ColType.TheVariants as column
-use Rattle.rls_value.specs.declared.verb.Kind.TheVariants as k
-use Rattle.rls_value.specs.declared.verb.PolicyKind.TheVariants as pk
-use Rattle.rls_expr.specs.declared.expr.Category.TheVariants as category
-use Rattle.rls_expr.specs.declared.expr.Comparison.TheVariants.{Equal}
-use Rattle.rls_expr.specs.declared.expr.Selects.TheVariants as selects
+use Rattle.rls_value.specs.{declared.refusal.Refusal.Refusal, declared.value.Value.Value, declared.value.Value.TheVariants.Int, declared.value.Value.TheVariants.Text, declared.value.ColType.ColType, declared.verb.Kind.Kind, declared.verb.PolicyKind.PolicyKind}
+use Rattle.rls_expr.specs.{declared.expr.Category.Category, declared.expr.Comparison.TheVariants.Equal, declared.policy.Policy.Policy, declared.table.TableDef.TableDef, Terms.Column, Terms.Place, Terms.CurrentUser, Terms.Compare, Terms.Within, Terms.End, Terms.More, Terms.Select, declared.expr.Selects.Selects}
 use Rattle.rls_expr.specs.declared.policy.Grantee.TheVariants as g
-use Rattle.rls_expr.specs.declared.policy.Policy.{Policy}
-use Rattle.rls_expr.specs.declared.table.TableDef.{TableDef}
-use Rattle.rls_expr.specs.Terms.{Column, Place, CurrentUser, Compare, Within, End, More, Select}
 use Rattle.rls_catalog.specs.declared.verdict.Side.TheVariants as side
-use Rattle.rls_catalog.specs.Membership.{nobody}
-use Rattle.rls_catalog.specs.State.{State}
+use Rattle.rls_catalog.specs.{Membership.nobody, State.State}
 use Rattle.rls_source.specs.Asked.{policies_at, rows_at, table_at}
-use Rattle.rls_evaluation.specs.declared.fence.Guard.{Guard}
-use Rattle.rls_evaluation.specs.declared.fence.Guard.TheVariants.{Exempt, Policies}
-use Rattle.rls_evaluation.specs.Showing.{shows}
+use Rattle.rls_evaluation.specs.{declared.fence.Guard.Guard, Showing.shows, declared.fence.Guard.TheVariants.Exempt, declared.fence.Guard.TheVariants.Policies}
 use Rattle.rls_guard.specs.declared.standing.Standing.{Standing}
-use Rattle.rls_expansion.specs.Policies.{policies_for}
-use Rattle.rls_expansion.specs.Protecting.{past_policies, protection_of}
-use Rattle.rls_expansion.specs.Rooms.{room_in as room_there, room_of, rooms_of}
+use Rattle.rls_expansion.specs.{Policies.policies_for, Protecting.past_policies, Protecting.protection_of, Rooms.room_in as room_there, Rooms.room_of, Rooms.rooms_of}
 use Rattle.rls_depth.specs.Deep.{shows_deep, state_guard}
 
 -- papers, each of a team
@@ -34,7 +19,7 @@ papers = record {
   owner = codes "olga";
   enabled = true;
   forced = false;
-  columns = record { name = codes "id"; kind = column.BigInt; not_null = false } ∷ record { name = codes "team"; kind = column.BigInt; not_null = false } ∷ [];
+  columns = record { name = codes "id"; kind = ColType.BigInt; not_null = false } ∷ record { name = codes "team"; kind = ColType.BigInt; not_null = false } ∷ [];
   key = [];
 }
 
@@ -44,7 +29,7 @@ teams = record {
   owner = codes "olga";
   enabled = true;
   forced = false;
-  columns = record { name = codes "id"; kind = column.BigInt; not_null = false } ∷ record { name = codes "lead"; kind = column.Text; not_null = false } ∷ [];
+  columns = record { name = codes "id"; kind = ColType.BigInt; not_null = false } ∷ record { name = codes "lead"; kind = ColType.Text; not_null = false } ∷ [];
   key = [];
 }
 
@@ -53,10 +38,10 @@ abbrev on_papers : Policy
 on_papers = record {
   name = codes "of_team";
   permissive = true;
-  kind = pk.All;
+  kind = PolicyKind.All;
   to = g.Public ∷ [];
   using = Some (Within (Column (record { qualifier = None; name = codes "team" }))
-      (Select (record { table = codes "teams"; alias = None }) [] selects.Items (More (Column (record { qualifier = None; name = codes "id" })) End) End));
+      (Select (record { table = codes "teams"; alias = None }) [] Selects.Items (More (Column (record { qualifier = None; name = codes "id" })) End) End));
   check = None;
 }
 
@@ -65,7 +50,7 @@ abbrev on_teams : Policy
 on_teams = record {
   name = codes "own";
   permissive = true;
-  kind = pk.All;
+  kind = PolicyKind.All;
   to = g.Public ∷ [];
   using = Some (Compare Equal (Column (record { qualifier = None; name = codes "lead" })) CurrentUser);
   check = None;
@@ -85,14 +70,14 @@ now = record {
 
 -- a team is shown to its lead: lead = CURRENT_USER
 abbrev of_team : Guard
-of_team = Policies ((on_teams, Compare Equal (Place (record { out = 0; column = 1; kind = category.Text })) CurrentUser) ∷ [])
+of_team = Policies ((on_teams, Compare Equal (Place (record { out = 0; column = 1; kind = Category.Text })) CurrentUser) ∷ [])
 
 -- a paper is shown if its team is: team IN (SELECT id FROM teams)
 abbrev of_paper : Guard
 of_paper = Policies ((
   on_papers,
-  Within (Place (record { out = 0; column = 1; kind = category.Number }))
-      (Select (record { table = codes "teams"; alias = None }) [] selects.Items (More (Place (record { out = 0; column = 0; kind = category.Number })) End) End),
+  Within (Place (record { out = 0; column = 1; kind = Category.Number }))
+      (Select (record { table = codes "teams"; alias = None }) [] Selects.Items (More (Place (record { out = 0; column = 0; kind = Category.Number })) End) End),
 ) ∷ [])
 
 abbrev guards : List ℕ → Option Guard
@@ -158,9 +143,9 @@ unfolding rows_at
 all_shown = refl
 
 -- what protects alice's SELECT from papers: the one watch of the policy, and the fence of the one table that it leads to
-protects : ((protection_of (only (codes "alice")) (codes "papers") papers k.Select false []).in_state now).gives
+protects : ((protection_of (only (codes "alice")) (codes "papers") papers Kind.Select false []).in_state now).gives
     ≡ Ok (record {
-      old = record { kind = k.Select; side = side.Old; guard = of_paper } ∷ [];
+      old = record { kind = Kind.Select; side = side.Old; guard = of_paper } ∷ [];
       new = [];
       fences = record { table = codes "teams"; guard = of_team } ∷ [];
       asked = codes "teams" ∷ [];

@@ -3,25 +3,14 @@ use Rattle.std.specs.Prelude.{◌≡◌, refl, ℕ, List, [], ◌∷◌, Option,
 use Rattle.std.specs.List.{flat_map}
 use Rattle.std.specs.Str.{bytes_eq}
 use Rattle.std.proofs.Common.{ap, sym, ◌∙◌}
-use Rattle.std.proofs.lemmas.Bool.{true≢false}
-use Rattle.std.proofs.lemmas.Map.Text.{is_eq-slice_cmp}
-use Rattle.rls_value.specs.declared.verb.Kind.{Kind}
-use Rattle.rls_value.specs.Names.{one_of}
-use Rattle.rls_expr.specs.declared.policy.Policy.{Policy}
-use Rattle.rls_expr.specs.declared.table.TableDef.{TableDef}
-use Rattle.rls_expr.specs.Naming.{names_of, query_names, names_all}
-use Rattle.rls_expr.specs.Placing.{Names, items_of, definition_of, placed, query_over, placed_all}
-use Rattle.rls_expr.specs.Scopes.{InScope, known_table}
-use Rattle.rls_expr.specs.Terms.{Term, Terms, Query, Literal, Column, Place, CurrentUser, Compare, And, Or, Not, IsNull, IsNotNull, Among, NotAmong, Exists, Within as InQuery, NotWithin, Scalar, Sum, End, More, Select, qualifier_of}
-use Rattle.rls_catalog.specs.declared.verdict.Side.{Side}
-use Rattle.rls_catalog.specs.State.{State, at, table_of}
-use Rattle.rls_catalog.specs.Verdict.{expression_of}
+use Rattle.std.proofs.{lemmas.Bool.true≢false, lemmas.Map.Text.is_eq-slice_cmp}
+use Rattle.rls_value.specs.{declared.verb.Kind.Kind, Names.one_of}
+use Rattle.rls_expr.specs.{declared.policy.Policy.Policy, declared.table.TableDef.TableDef, Scopes.InScope, Scopes.known_table, Naming.names_of, Naming.query_names, Naming.names_all, Placing.Names, Placing.items_of, Placing.definition_of, Placing.placed, Placing.query_over, Placing.placed_all, Terms.Term, Terms.Terms, Terms.Query, Terms.Literal, Terms.Column, Terms.Place, Terms.CurrentUser, Terms.Compare, Terms.And, Terms.Or, Terms.Not, Terms.IsNull, Terms.IsNotNull, Terms.Among, Terms.NotAmong, Terms.Exists, Terms.Within as InQuery, Terms.NotWithin, Terms.Scalar, Terms.Sum, Terms.End, Terms.More, Terms.Select, Terms.qualifier_of}
+use Rattle.rls_catalog.specs.{declared.verdict.Side.Side, Verdict.expression_of, Membership.Within, State.State, State.at, State.table_of}
 use Rattle.rls_catalog.proofs.Walks.{bytes_same, bytes_own}
-use Rattle.rls_catalog.specs.Membership.{Within}
 use Rattle.rls_guard.specs.Guards.{with_condition, conditions_of}
 use Rattle.rls_expansion.specs.Used.{entered, tables_if}
-use Rattle.rls_depth.proofs.Using.{expression_tables}
-use Rattle.rls_depth.proofs.Tables.{first_part, last_part, query_table, query_items, query_condition, within_first, within_last}
+use Rattle.rls_depth.proofs.{Using.expression_tables, Tables.first_part, Tables.last_part, Tables.query_table, Tables.query_items, Tables.query_condition, Tables.within_first, Tables.within_last}
 
 -- the same definitions of these tables
 abbrev pub SameKnown : List (List ℕ) → List InScope → List InScope → Type 0

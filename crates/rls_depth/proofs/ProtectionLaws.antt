@@ -1,47 +1,16 @@
 -- What protects the rows of a statement is what the state says: its watches, and what its subqueries see.
 use Rattle.std.specs.Prelude.{◌≡◌, suc, refl, ℕ, ◌≤◌, List, [], ◌∷◌, ◌++◌, Bool, true, false, Option, Some, None, Ok, length, if◌then◌else◌}
 use Rattle.std.specs.List.{list_any}
-use Rattle.std.proofs.Common.{ap, sym, ◌∙◌, subst}
-use Rattle.std.proofs.lemmas.Bool.{or_left, or_right}
-use Rattle.std.proofs.lemmas.List.Folds.{list_any-append}
-use Rattle.rls_value.specs.declared.value.Value.{Value}
-use Rattle.rls_value.specs.declared.verb.Kind.{Kind}
-use Rattle.rls_value.specs.declared.verb.Kind.TheVariants as k
-use Rattle.rls_value.specs.Names.{one_of}
-use Rattle.rls_expr.specs.declared.policy.Policy.{Policy}
-use Rattle.rls_expr.specs.declared.table.TableDef.{TableDef}
-use Rattle.rls_expr.specs.Scopes.{InScope}
-use Rattle.rls_catalog.specs.declared.verdict.Side.{Side}
-use Rattle.rls_catalog.specs.declared.verdict.Side.TheVariants as side
-use Rattle.rls_catalog.specs.State.{State, policies_of, table_of}
-use Rattle.rls_catalog.specs.Verdict.{chosen, exempts, expression_of}
-use Rattle.rls_catalog.specs.Membership.{Within}
-use Rattle.rls_source.specs.Asked.{asked_policies, policies_at}
-use Rattle.rls_source.specs.Askings.{asked_if, followed_by, known}
-use Rattle.rls_evaluation.specs.Eval.{Shows}
-use Rattle.rls_evaluation.specs.declared.fence.Guard.TheVariants.{Policies}
-use Rattle.rls_evaluation.specs.Showing.{shown, shows, verdict_on}
-use Rattle.rls_guard.specs.declared.standing.Standing.{Standing}
-use Rattle.rls_guard.specs.Guards.{guard_from}
-use Rattle.rls_guard.specs.Standings.{has_owner}
-use Rattle.rls_recursion.specs.declared.room.Room.{Room}
-use Rattle.rls_recursion.specs.declared.searching.Reached.{Reached}
-use Rattle.rls_recursion.specs.Searching.{AsksEach, InOrder, ordered_by}
-use Rattle.rls_expansion.specs.declared.protection.Protection.{Protection}
-use Rattle.rls_expansion.specs.Fences.{known_in}
-use Rattle.rls_expansion.specs.Policies.{policies_for}
-use Rattle.rls_expansion.specs.Protecting.{asks_of, asks_on, judges_new, judges_old, own_tables, past_policies, protected, protection_by, protection_of, watches_if}
-use Rattle.rls_expansion.specs.Rooms.{rooms_of}
-use Rattle.rls_expansion.specs.Used.{Ask, expression_by, takes_check, takes_using}
-use Rattle.rls_depth.specs.Deep.{JudgeAlike, ShowAlike, guard_at, policies_in, shown_by, shows_deep, state_guard}
-use Rattle.rls_depth.specs.Leading.{guard_tables}
-use Rattle.rls_depth.proofs.Agreeing.{Agree, shown_same, verdict_same}
-use Rattle.rls_depth.proofs.Deepening.{conditions_tables}
-use Rattle.rls_depth.proofs.Placing.{SameKnown, conditions_same}
-use Rattle.rls_depth.proofs.Stating.{same_known, state_deep}
-use Rattle.rls_depth.proofs.Tables.{within_all, within_nothing}
-use Rattle.rls_depth.proofs.Using.{IsAsk, chosen_used, in_front, own_ask}
-use Rattle.rls_depth.proofs.Walking.{AreRead, and_then_ok, are_read, ok_same}
+use Rattle.std.proofs.{Common.ap, Common.sym, Common.◌∙◌, Common.subst, lemmas.Bool.or_left, lemmas.Bool.or_right, lemmas.List.Folds.list_any-append}
+use Rattle.rls_value.specs.{declared.value.Value.Value, declared.verb.Kind.Kind, Names.one_of}
+use Rattle.rls_expr.specs.{declared.policy.Policy.Policy, declared.table.TableDef.TableDef, Scopes.InScope}
+use Rattle.rls_catalog.specs.{declared.verdict.Side.Side, Membership.Within, State.State, State.policies_of, State.table_of, Verdict.chosen, Verdict.exempts, Verdict.expression_of}
+use Rattle.rls_source.specs.{Asked.asked_policies, Asked.policies_at, Askings.asked_if, Askings.followed_by, Askings.known}
+use Rattle.rls_evaluation.specs.{Eval.Shows, declared.fence.Guard.TheVariants.Policies, Showing.shown, Showing.shows, Showing.verdict_on}
+use Rattle.rls_guard.specs.{declared.standing.Standing.Standing, Guards.guard_from, Standings.has_owner}
+use Rattle.rls_recursion.specs.{declared.room.Room.Room, declared.searching.Reached.Reached, Searching.AsksEach, Searching.InOrder, Searching.ordered_by}
+use Rattle.rls_expansion.specs.{declared.protection.Protection.Protection, Fences.known_in, Policies.policies_for, Rooms.rooms_of, Used.Ask, Used.expression_by, Used.takes_check, Used.takes_using, Protecting.asks_of, Protecting.asks_on, Protecting.judges_new, Protecting.judges_old, Protecting.own_tables, Protecting.past_policies, Protecting.protected, Protecting.protection_by, Protecting.protection_of, Protecting.watches_if}
+use Rattle.rls_depth.{specs.Deep.JudgeAlike, specs.Deep.ShowAlike, specs.Deep.guard_at, specs.Deep.policies_in, specs.Deep.shown_by, specs.Deep.shows_deep, specs.Deep.state_guard, specs.Leading.guard_tables, proofs.Agreeing.Agree, proofs.Agreeing.shown_same, proofs.Agreeing.verdict_same, proofs.Using.IsAsk, proofs.Using.chosen_used, proofs.Using.in_front, proofs.Using.own_ask, proofs.Walking.AreRead, proofs.Walking.and_then_ok, proofs.Walking.are_read, proofs.Walking.ok_same, proofs.Deepening.conditions_tables, proofs.Placing.SameKnown, proofs.Placing.conditions_same, proofs.Stating.same_known, proofs.Stating.state_deep, proofs.Tables.within_all, proofs.Tables.within_nothing}
 
 -- which expression is taken, as the law of it says
 abbrev pub Taken : Type 0
@@ -69,15 +38,15 @@ guard_own kind asked reads which standing from found (Some policies) takes ask =
 abbrev pub AskedOn : Bool → Kind → Bool → Side → Type 0
 AskedOn judges kind reads which = (ask : Ask) → IsAsk ask (asks_on judges kind reads which) → IsAsk ask (asks_of kind reads)
 
-old_asked : (kind : Kind) (reads : Bool) → AskedOn (judges_old kind) kind reads side.Old
+old_asked : (kind : Kind) (reads : Bool) → AskedOn (judges_old kind) kind reads Side.Old
 old_asked kind reads ask on test is =
-    list_any-append test (asks_on (judges_old kind) kind reads side.Old) (asks_on (judges_new kind) kind reads side.New)
-    ∙ or_left (list_any test (asks_on (judges_old kind) kind reads side.Old)) (list_any test (asks_on (judges_new kind) kind reads side.New)) (on test is)
+    list_any-append test (asks_on (judges_old kind) kind reads Side.Old) (asks_on (judges_new kind) kind reads Side.New)
+    ∙ or_left (list_any test (asks_on (judges_old kind) kind reads Side.Old)) (list_any test (asks_on (judges_new kind) kind reads Side.New)) (on test is)
 
-new_asked : (kind : Kind) (reads : Bool) → AskedOn (judges_new kind) kind reads side.New
+new_asked : (kind : Kind) (reads : Bool) → AskedOn (judges_new kind) kind reads Side.New
 new_asked kind reads ask on test is =
-    list_any-append test (asks_on (judges_old kind) kind reads side.Old) (asks_on (judges_new kind) kind reads side.New)
-    ∙ or_right (list_any test (asks_on (judges_old kind) kind reads side.Old)) (list_any test (asks_on (judges_new kind) kind reads side.New)) (on test is)
+    list_any-append test (asks_on (judges_old kind) kind reads Side.Old) (asks_on (judges_new kind) kind reads Side.New)
+    ∙ or_right (list_any test (asks_on (judges_old kind) kind reads Side.Old)) (list_any test (asks_on (judges_new kind) kind reads Side.New)) (on test is)
 
 further_ask : (first ask : Ask) (more : List Ask) → IsAsk ask more → IsAsk ask (first ∷ more)
 further_ask first ask more further test is = or_right (test first) (list_any test more) (further test is)
@@ -89,8 +58,8 @@ watches_same false reads kind which standing from one other policies all takes a
 watches_same true false kind which standing from one other policies all takes asked same within =
     λ i. record { kind = kind; side = which; guard = guard_same kind kind false which standing from one other policies all takes (asked (kind, which) (own_ask (kind, which) [])) same within i } ∷ []
 watches_same true true kind which standing from one other policies all takes asked same within =
-    λ i. record { kind = kind; side = which; guard = guard_same kind kind true which standing from one other policies all takes (asked (kind, which) (own_ask (kind, which) ((k.Select, which) ∷ []))) same within i }
-    ∷ record { kind = k.Select; side = which; guard = guard_same kind k.Select true which standing from one other policies all takes (asked (k.Select, which) (further_ask (kind, which) (k.Select, which) ((k.Select, which) ∷ []) (own_ask (k.Select, which) []))) same within i }
+    λ i. record { kind = kind; side = which; guard = guard_same kind kind true which standing from one other policies all takes (asked (kind, which) (own_ask (kind, which) ((Kind.Select, which) ∷ []))) same within i }
+    ∷ record { kind = Kind.Select; side = which; guard = guard_same kind Kind.Select true which standing from one other policies all takes (asked (Kind.Select, which) (further_ask (kind, which) (Kind.Select, which) ((Kind.Select, which) ∷ []) (own_ask (Kind.Select, which) []))) same within i }
     ∷ []
 
 guard_alike : (kind asked : Kind) (reads : Bool) (which : Side) (standing : Standing) (from : InScope) (found : List InScope) (policies : Option (List Policy)) (all : List (List ℕ)) (s : State) (user : List ℕ) (one other : Shows)
@@ -105,10 +74,10 @@ watches_alike false reads kind which standing from found policies all s user one
 watches_alike true false kind which standing from found policies all s user one other takes asked within agree =
     (guard_alike kind kind false which standing from found policies all s user one other takes (asked (kind, which) (own_ask (kind, which) [])) within agree, tt)
 watches_alike true true kind which standing from found policies all s user one other takes asked within agree = (
-  guard_alike kind kind true which standing from found policies all s user one other takes (asked (kind, which) (own_ask (kind, which) ((k.Select, which) ∷ []))) within agree,
+  guard_alike kind kind true which standing from found policies all s user one other takes (asked (kind, which) (own_ask (kind, which) ((Kind.Select, which) ∷ []))) within agree,
   (
-    guard_alike kind k.Select true which standing from found policies all s user one other takes
-        (asked (k.Select, which) (further_ask (kind, which) (k.Select, which) ((k.Select, which) ∷ []) (own_ask (k.Select, which) []))) within agree,
+    guard_alike kind Kind.Select true which standing from found policies all s user one other takes
+        (asked (Kind.Select, which) (further_ask (kind, which) (Kind.Select, which) ((Kind.Select, which) ∷ []) (own_ask (Kind.Select, which) []))) within agree,
     tt,
   ),
 )
@@ -204,17 +173,17 @@ made_known s standing name table kind reads queries protection made t is =
     same_known s standing tables made.rooms read t (read.asked t (in_front (own_of s standing name table kind reads) queries (own_of s standing name table kind reads) (λ t is. is) t is))
 
 pub made_old : (s : State) (standing : Standing) (name : List ℕ) (table : TableDef) (kind : Kind) (reads : Bool) (queries : List (List ℕ)) (protection : Protection) (made : IsMade s standing name table kind reads queries protection) → Taken
-    → protection.old ≡ watches_if (judges_old kind) standing kind reads (name, table) s.tables (policies_in s standing name table) side.Old
+    → protection.old ≡ watches_if (judges_old kind) standing kind reads (name, table) s.tables (policies_in s standing name table) Side.Old
 made_old s standing name table kind reads queries protection made takes =
     ap (λ p. p.old) (sym made.is)
-    ∙ watches_same (judges_old kind) reads kind side.Old standing (name, table) (known_in made.rooms) s.tables (policies_in s standing name table) (own_of s standing name table kind reads) takes (old_asked kind reads)
+    ∙ watches_same (judges_old kind) reads kind Side.Old standing (name, table) (known_in made.rooms) s.tables (policies_in s standing name table) (own_of s standing name table kind reads) takes (old_asked kind reads)
     (made_known s standing name table kind reads queries protection made) (λ t is. is)
 
 pub made_new : (s : State) (standing : Standing) (name : List ℕ) (table : TableDef) (kind : Kind) (reads : Bool) (queries : List (List ℕ)) (protection : Protection) (made : IsMade s standing name table kind reads queries protection) → Taken
-    → protection.new ≡ watches_if (judges_new kind) standing kind reads (name, table) s.tables (policies_in s standing name table) side.New
+    → protection.new ≡ watches_if (judges_new kind) standing kind reads (name, table) s.tables (policies_in s standing name table) Side.New
 made_new s standing name table kind reads queries protection made takes =
     ap (λ p. p.new) (sym made.is)
-    ∙ watches_same (judges_new kind) reads kind side.New standing (name, table) (known_in made.rooms) s.tables (policies_in s standing name table) (own_of s standing name table kind reads) takes (new_asked kind reads)
+    ∙ watches_same (judges_new kind) reads kind Side.New standing (name, table) (known_in made.rooms) s.tables (policies_in s standing name table) (own_of s standing name table kind reads) takes (new_asked kind reads)
     (made_known s standing name table kind reads queries protection made) (λ t is. is)
 
 pub made_old_alike : (s : State) (standing : Standing) (name : List ℕ) (table : TableDef) (kind : Kind) (reads : Bool) (queries : List (List ℕ)) (protection : Protection) (made : IsMade s standing name table kind reads queries protection) → Taken
@@ -222,7 +191,7 @@ pub made_old_alike : (s : State) (standing : Standing) (name : List ℕ) (table 
     → JudgeAlike s user (shows protection.fences user) (shows_deep n (state_guard s standing) user) protection.old
 made_old_alike s standing name table kind reads queries protection made takes searched n user enough =
     subst (JudgeAlike s user (shows protection.fences user) (shows_deep n (state_guard s standing) user)) (ap (λ p. p.old) made.is)
-    (watches_alike (judges_old kind) reads kind side.Old standing (name, table) (known_in made.rooms) (policies_in s standing name table) made.reached.fenced s user (shows protection.fences user) (shows_deep n (state_guard s standing) user)
+    (watches_alike (judges_old kind) reads kind Side.Old standing (name, table) (known_in made.rooms) (policies_in s standing name table) made.reached.fenced s user (shows protection.fences user) (shows_deep n (state_guard s standing) user)
     takes (old_asked kind reads) searched.own_in (made_deep s standing name table kind reads queries protection made n user searched.order enough))
 
 pub made_new_alike : (s : State) (standing : Standing) (name : List ℕ) (table : TableDef) (kind : Kind) (reads : Bool) (queries : List (List ℕ)) (protection : Protection) (made : IsMade s standing name table kind reads queries protection) → Taken
@@ -230,32 +199,32 @@ pub made_new_alike : (s : State) (standing : Standing) (name : List ℕ) (table 
     → JudgeAlike s user (shows protection.fences user) (shows_deep n (state_guard s standing) user) protection.new
 made_new_alike s standing name table kind reads queries protection made takes searched n user enough =
     subst (JudgeAlike s user (shows protection.fences user) (shows_deep n (state_guard s standing) user)) (ap (λ p. p.new) made.is)
-    (watches_alike (judges_new kind) reads kind side.New standing (name, table) (known_in made.rooms) (policies_in s standing name table) made.reached.fenced s user (shows protection.fences user) (shows_deep n (state_guard s standing) user)
+    (watches_alike (judges_new kind) reads kind Side.New standing (name, table) (known_in made.rooms) (policies_in s standing name table) made.reached.fenced s user (shows protection.fences user) (shows_deep n (state_guard s standing) user)
     takes (new_asked kind reads) searched.own_in (made_deep s standing name table kind reads queries protection made n user searched.order enough))
 
 -- ---- what SELECT sees of its own table
 
-target_one : (reads : Bool) (s : State) (standing : Standing) (name : List ℕ) (table : TableDef) (all : List (List ℕ)) (user : List ℕ) (one : Shows) (n : ℕ) → Taken → IsAsk (k.Select, side.Old) (asks_of k.Select reads)
-    → Within (own_of s standing name table k.Select reads) all → Agree s all one (shows_deep n (state_guard s standing) user) → table_of s name ≡ Some table → (key : Option (List Value))
-    → (shown (guard_from standing k.Select side.Old (name, table) s.tables (policies_in s standing name table)) one user name key).in_state s ≡ (shows_deep (suc n) (state_guard s standing) user name key).in_state s
+target_one : (reads : Bool) (s : State) (standing : Standing) (name : List ℕ) (table : TableDef) (all : List (List ℕ)) (user : List ℕ) (one : Shows) (n : ℕ) → Taken → IsAsk (Kind.Select, Side.Old) (asks_of Kind.Select reads)
+    → Within (own_of s standing name table Kind.Select reads) all → Agree s all one (shows_deep n (state_guard s standing) user) → table_of s name ≡ Some table → (key : Option (List Value))
+    → (shown (guard_from standing Kind.Select Side.Old (name, table) s.tables (policies_in s standing name table)) one user name key).in_state s ≡ (shows_deep (suc n) (state_guard s standing) user name key).in_state s
 target_one reads s standing name table all user one n takes ask within agree there key =
-    shown_same (guard_from standing k.Select side.Old (name, table) s.tables (policies_in s standing name table)) one (shows_deep n (state_guard s standing) user) all user name key s agree
-    (λ t is. within t (guard_own k.Select k.Select reads side.Old standing (name, table) s.tables (policies_in s standing name table) takes ask t is))
+    shown_same (guard_from standing Kind.Select Side.Old (name, table) s.tables (policies_in s standing name table)) one (shows_deep n (state_guard s standing) user) all user name key s agree
+    (λ t is. within t (guard_own Kind.Select Kind.Select reads Side.Old standing (name, table) s.tables (policies_in s standing name table) takes ask t is))
     ∙ ap (λ found. (shown_by found (shows_deep n (state_guard s standing) user) user name key).in_state s) (sym (ap (guard_at s standing name) there))
 
 target_shown : (reads : Bool) (s : State) (standing : Standing) (name : List ℕ) (table : TableDef) (all : List (List ℕ)) (user : List ℕ) (one : Shows) (n : ℕ) → Taken
-    → Within (own_of s standing name table k.Select reads) all → Agree s all one (shows_deep n (state_guard s standing) user) → table_of s name ≡ Some table
-    → ShowAlike s user name one (shows_deep (suc n) (state_guard s standing) user) (watches_if true standing k.Select reads (name, table) s.tables (policies_in s standing name table) side.Old)
+    → Within (own_of s standing name table Kind.Select reads) all → Agree s all one (shows_deep n (state_guard s standing) user) → table_of s name ≡ Some table
+    → ShowAlike s user name one (shows_deep (suc n) (state_guard s standing) user) (watches_if true standing Kind.Select reads (name, table) s.tables (policies_in s standing name table) Side.Old)
 target_shown false s standing name table all user one n takes within agree there =
-    (target_one false s standing name table all user one n takes (own_ask (k.Select, side.Old) []) within agree there, tt)
+    (target_one false s standing name table all user one n takes (own_ask (Kind.Select, Side.Old) []) within agree there, tt)
 target_shown true s standing name table all user one n takes within agree there =
-    let shown : (key : Option (List Value)) → _ = target_one true s standing name table all user one n takes (own_ask (k.Select, side.Old) ((k.Select, side.Old) ∷ [])) within agree there in
+    let shown : (key : Option (List Value)) → _ = target_one true s standing name table all user one n takes (own_ask (Kind.Select, Side.Old) ((Kind.Select, Side.Old) ∷ [])) within agree there in
     (shown, (shown, tt))
 
-pub made_target : (s : State) (standing : Standing) (name : List ℕ) (table : TableDef) (reads : Bool) (queries : List (List ℕ)) (protection : Protection) (made : IsMade s standing name table k.Select reads queries protection) → Taken
-    → Searched made.rooms (own_of s standing name table k.Select reads) queries made.reached → (n : ℕ) (user : List ℕ) → table_of s name ≡ Some table → length protection.fences ≤ n
+pub made_target : (s : State) (standing : Standing) (name : List ℕ) (table : TableDef) (reads : Bool) (queries : List (List ℕ)) (protection : Protection) (made : IsMade s standing name table Kind.Select reads queries protection) → Taken
+    → Searched made.rooms (own_of s standing name table Kind.Select reads) queries made.reached → (n : ℕ) (user : List ℕ) → table_of s name ≡ Some table → length protection.fences ≤ n
     → ShowAlike s user name (shows protection.fences user) (shows_deep (suc n) (state_guard s standing) user) protection.old
 made_target s standing name table reads queries protection made takes searched n user there enough =
-    subst (ShowAlike s user name (shows protection.fences user) (shows_deep (suc n) (state_guard s standing) user)) (sym (made_old s standing name table k.Select reads queries protection made takes))
+    subst (ShowAlike s user name (shows protection.fences user) (shows_deep (suc n) (state_guard s standing) user)) (sym (made_old s standing name table Kind.Select reads queries protection made takes))
     (target_shown reads s standing name table made.reached.fenced user (shows protection.fences user) n takes searched.own_in
-    (made_deep s standing name table k.Select reads queries protection made n user searched.order enough) there)
+    (made_deep s standing name table Kind.Select reads queries protection made n user searched.order enough) there)

@@ -1,33 +1,16 @@
 -- The rooms that are read leave out no table that their policies read.
 use Rattle.std.specs.Prelude.{◌≡◌, refl, ℕ, zero, suc, List, [], ◌∷◌, ◌++◌, Bool, true, false, ◌||◌, Option, Some, None, Result, Ok, Err, slice_get, if◌then◌else◌}
 use Rattle.std.specs.List.{AllByRecursion, list_any, flat_map}
-use Rattle.std.proofs.Common.{ap, sym, ◌∙◌, subst}
-use Rattle.std.proofs.lemmas.Bool.{true≢false}
-use Rattle.rls_value.specs.declared.refusal.Refusal.{Refusal}
-use Rattle.rls_value.specs.declared.verb.Kind.TheVariants as k
-use Rattle.rls_value.specs.Giving.{and_then}
-use Rattle.rls_expr.specs.declared.policy.Policy.{Policy}
-use Rattle.rls_expr.specs.declared.table.TableDef.{TableDef}
-use Rattle.rls_expr.specs.Naming.{names_of, names_all}
-use Rattle.rls_expr.specs.Parts.{has_query, have_query}
-use Rattle.rls_expr.specs.Terms.{Term, Terms, Literal, Column, Place, CurrentUser, Compare, And, Or, Not, IsNull, IsNotNull, Among, NotAmong, Exists, Within as InQuery, NotWithin, Scalar, Sum, End, More}
-use Rattle.rls_catalog.specs.declared.verdict.Side.TheVariants as side
-use Rattle.rls_catalog.specs.Membership.{fresh, Within}
-use Rattle.rls_catalog.specs.State.{State}
-use Rattle.rls_catalog.specs.Verdict.{chosen, exempts}
-use Rattle.rls_source.specs.Asked.{asked_policies, policies_at, table_at}
-use Rattle.rls_source.specs.Askings.{Asking, asked_if, followed_by, known}
-use Rattle.rls_guard.specs.declared.standing.Standing.{Standing}
-use Rattle.rls_guard.specs.Standings.{has_owner}
+use Rattle.std.proofs.{Common.ap, Common.sym, Common.◌∙◌, Common.subst, lemmas.Bool.true≢false}
+use Rattle.rls_value.specs.{declared.refusal.Refusal.Refusal, Giving.and_then, declared.verb.Kind.Kind}
+use Rattle.rls_expr.specs.{declared.policy.Policy.Policy, declared.table.TableDef.TableDef, Naming.names_of, Naming.names_all, Parts.has_query, Parts.have_query, Terms.Term, Terms.Terms, Terms.Literal, Terms.Column, Terms.Place, Terms.CurrentUser, Terms.Compare, Terms.And, Terms.Or, Terms.Not, Terms.IsNull, Terms.IsNotNull, Terms.Among, Terms.NotAmong, Terms.Exists, Terms.Within as InQuery, Terms.NotWithin, Terms.Scalar, Terms.Sum, Terms.End, Terms.More}
+use Rattle.rls_catalog.specs.{declared.verdict.Side.Side, Membership.fresh, Membership.Within, State.State, Verdict.chosen, Verdict.exempts}
+use Rattle.rls_source.specs.{Asked.asked_policies, Asked.policies_at, Asked.table_at, Askings.Asking, Askings.asked_if, Askings.followed_by, Askings.known}
+use Rattle.rls_guard.specs.{declared.standing.Standing.Standing, Standings.has_owner}
 use Rattle.rls_recursion.specs.declared.room.Room.{Room}
-use Rattle.rls_expansion.specs.Enough.{collect, collect_end, collect_step, visits}
-use Rattle.rls_expansion.specs.Leading.{named}
-use Rattle.rls_expansion.specs.Policies.{policies_for}
-use Rattle.rls_expansion.specs.Rooms.{reading, absent, room_by, room_in, room_if, room_of, rooms_of}
-use Rattle.rls_expansion.specs.Used.{entered, tables_if, tables_used, has_query_if, holds_subquery}
+use Rattle.rls_expansion.specs.{Enough.collect, Enough.collect_end, Enough.collect_step, Enough.visits, Leading.named, Policies.policies_for, Used.entered, Used.tables_if, Used.tables_used, Used.has_query_if, Used.holds_subquery, Rooms.reading, Rooms.absent, Rooms.room_by, Rooms.room_in, Rooms.room_if, Rooms.room_of, Rooms.rooms_of}
 use Rattle.rls_depth.specs.Leading.{using_tables, Leads, RoomsLead}
-use Rattle.rls_depth.proofs.Using.{chosen_used, own_ask}
-use Rattle.rls_depth.proofs.Tables.{within_nothing, within_all, steps_all}
+use Rattle.rls_depth.proofs.{Using.chosen_used, Using.own_ask, Tables.within_nothing, Tables.within_all, Tables.steps_all}
 
 -- ---- an expression without a subquery names no table
 
@@ -71,8 +54,8 @@ none_read (policy ∷ policies) is =
 
 -- ---- the tables that policies use are all that those that apply read
 
-chosen_in : (superuser : Bool) (names : List (List ℕ)) (policies : List Policy) → Within (flat_map using_tables (chosen superuser names k.Select side.Old policies)) (tables_used superuser names reading policies)
-chosen_in superuser names policies = chosen_used superuser names k.Select side.Old reading (λ policy. refl) (own_ask (k.Select, side.Old) []) policies
+chosen_in : (superuser : Bool) (names : List (List ℕ)) (policies : List Policy) → Within (flat_map using_tables (chosen superuser names Kind.Select Side.Old policies)) (tables_used superuser names reading policies)
+chosen_in superuser names policies = chosen_used superuser names Kind.Select Side.Old reading (λ policy. refl) (own_ask (Kind.Select, Side.Old) []) policies
 
 -- ---- a room
 
@@ -83,7 +66,7 @@ leads_by false read next within none = none refl
 pub by_leads : (standing : Standing) (table : List ℕ) (def : TableDef) (policies : Option (List Policy)) → Leads (room_by standing table def policies)
 by_leads standing table def None = within_nothing []
 by_leads standing table def (Some policies) =
-    let applying : List Policy = chosen standing.reach.superuser standing.reach.names k.Select side.Old policies in
+    let applying : List Policy = chosen standing.reach.superuser standing.reach.names Kind.Select Side.Old policies in
     leads_by (list_any holds_subquery applying) (flat_map using_tables applying) (tables_used standing.reach.superuser standing.reach.names reading policies)
     (chosen_in standing.reach.superuser standing.reach.names policies) (none_read applying)
 

@@ -1,33 +1,16 @@
 -- The guards that the rooms give are those that the state gives, so that the fences show what the state says.
 use Rattle.std.specs.Prelude.{◌≡◌, refl, ℕ, ◌≤◌, List, [], ◌++◌, Bool, true, false, Option, Some, None, Ok, length, if◌then◌else◌}
 use Rattle.std.proofs.Common.{arith, ap, sym, ◌∙◌, subst}
-use Rattle.rls_value.specs.declared.verb.Kind.TheVariants as k
-use Rattle.rls_value.specs.Names.{one_of}
-use Rattle.rls_expr.specs.declared.policy.Policy.{Policy}
-use Rattle.rls_expr.specs.declared.table.TableDef.{TableDef}
-use Rattle.rls_expr.specs.Scopes.{InScope, known_table}
+use Rattle.rls_value.specs.{declared.verb.Kind.Kind, Names.one_of}
+use Rattle.rls_expr.specs.{declared.policy.Policy.Policy, declared.table.TableDef.TableDef, Scopes.InScope, Scopes.known_table}
 use Rattle.rls_catalog.specs.declared.verdict.Side.TheVariants as side
-use Rattle.rls_catalog.specs.State.{State, table_of}
-use Rattle.rls_catalog.specs.Verdict.{chosen}
-use Rattle.rls_catalog.specs.Membership.{Within}
-use Rattle.rls_evaluation.specs.declared.fence.Guard.TheVariants.{Policies}
-use Rattle.rls_evaluation.specs.Showing.{shows}
-use Rattle.rls_guard.specs.declared.standing.Standing.{Standing}
-use Rattle.rls_guard.specs.Guards.{guard_from}
-use Rattle.rls_recursion.specs.declared.room.Room.{Room}
-use Rattle.rls_recursion.specs.declared.searching.Reached.{Reached}
-use Rattle.rls_recursion.specs.Searching.{InOrder, next_in, ordered_by, room_in, tables_in}
-use Rattle.rls_expansion.specs.Fences.{fences_of, guard_of, known_in}
-use Rattle.rls_expansion.specs.Rooms.{room_by, rooms_of}
-use Rattle.rls_depth.specs.Deep.{guard_at, policies_in, shows_deep, state_guard}
-use Rattle.rls_depth.specs.Leading.{guard_in, guards_of}
-use Rattle.rls_depth.proofs.Agreeing.{Agree}
-use Rattle.rls_depth.proofs.Deepening.{fences_few, order_deep}
-use Rattle.rls_depth.proofs.Placing.{SameKnown, conditions_same, state_table}
-use Rattle.rls_depth.proofs.Reaching.{reached_within}
-use Rattle.rls_depth.proofs.RoomLaws.{by_leads, rooms_read}
-use Rattle.rls_depth.proofs.Tables.{within_nothing, within_first, within_last}
-use Rattle.rls_depth.proofs.Walking.{AreRead, are_read, next_within, room_at, room_for, room_found, table_found}
+use Rattle.rls_catalog.specs.{State.State, State.table_of, Verdict.chosen, Membership.Within}
+use Rattle.rls_evaluation.specs.{declared.fence.Guard.TheVariants.Policies, Showing.shows}
+use Rattle.rls_guard.specs.{declared.standing.Standing.Standing, Guards.guard_from}
+use Rattle.rls_recursion.specs.{declared.room.Room.Room, declared.searching.Reached.Reached, Searching.InOrder, Searching.next_in, Searching.ordered_by, Searching.room_in, Searching.tables_in}
+use Rattle.rls_expansion.specs.{Fences.fences_of, Fences.guard_of, Fences.known_in, Rooms.room_by, Rooms.rooms_of}
+use Rattle.rls_depth.specs.{Deep.guard_at, Deep.policies_in, Deep.shows_deep, Deep.state_guard, Leading.guard_in, Leading.guards_of}
+use Rattle.rls_depth.proofs.{Agreeing.Agree, Reaching.reached_within, Deepening.fences_few, Deepening.order_deep, RoomLaws.by_leads, RoomLaws.rooms_read, Placing.SameKnown, Placing.conditions_same, Placing.state_table, Tables.within_nothing, Tables.within_first, Tables.within_last, Walking.AreRead, Walking.are_read, Walking.next_within, Walking.room_at, Walking.room_for, Walking.room_found, Walking.table_found}
 
 -- the tables that have a room are those of the state
 pub same_known : (s : State) (standing : Standing) (tables : List (List ℕ)) (rooms : List Room) → AreRead s standing tables rooms → SameKnown (tables_in rooms) (known_in rooms) s.tables
@@ -39,11 +22,11 @@ leads_within false next all within = within_nothing all
 
 -- a guard over the tables of the rooms
 policies_same : (s : State) (standing : Standing) (found : List InScope) (name : List ℕ) (def : TableDef) (policies : Option (List Policy)) (all : List (List ℕ)) → SameKnown all found s.tables
-    → Within (room_by standing name def policies).next all → guard_from standing k.Select side.Old (name, def) s.tables policies ≡ guard_of found (name, def) (room_by standing name def policies).policies
+    → Within (room_by standing name def policies).next all → guard_from standing Kind.Select side.Old (name, def) s.tables policies ≡ guard_of found (name, def) (room_by standing name def policies).policies
 policies_same s standing found name def None all same within = refl
 policies_same s standing found name def (Some policies) all same within =
     let room : Room = room_by standing name def (Some policies) in
-    sym (ap Policies (conditions_same k.Select side.Old (name, def) found s.tables all (chosen standing.reach.superuser standing.reach.names k.Select side.Old policies) same
+    sym (ap Policies (conditions_same Kind.Select side.Old (name, def) found s.tables all (chosen standing.reach.superuser standing.reach.names Kind.Select side.Old policies) same
     (λ t is. leads_within room.inner room.next all within t (by_leads standing name def (Some policies) t is))))
 
 found_same : (s : State) (standing : Standing) (found : List InScope) (name : List ℕ) (def : Option TableDef) (all : List (List ℕ)) → SameKnown all found s.tables → Within (room_for s standing name def).next all

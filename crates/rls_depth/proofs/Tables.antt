@@ -5,17 +5,8 @@ use Rattle.std.proofs.Common.{ap, sym, ◌∙◌}
 use Rattle.std.proofs.lemmas.Bool.{true≢false, or_left, or_right}
 use Rattle.std.proofs.lemmas.Slice.Eq.{bytes_eq-Decides}
 use Rattle.rls_value.specs.Names.{one_of}
-use Rattle.rls_expr.specs.declared.column_name.ColumnName.{ColumnName}
-use Rattle.rls_expr.specs.declared.expr.FromItem.{FromItem}
-use Rattle.rls_expr.specs.declared.expr.Place.{Place as ColumnPlace}
-use Rattle.rls_expr.specs.declared.expr.Selects.{Selects}
+use Rattle.rls_expr.specs.{declared.column_name.ColumnName.ColumnName, declared.expr.FromItem.FromItem, declared.expr.Place.Place as ColumnPlace, declared.expr.Selects.Selects, declared.table.Column.Column as ColumnOf, declared.table.TableDef.TableDef, Naming.Step, Naming.Look, Naming.Enter, Naming.Leave, Naming.names_of, Naming.query_names, Naming.names_all, Scopes.Unknown, Scopes.place_in, Placing.Names, Placing.inside, Placing.column_placed, Placing.columns_from, Placing.items_of, Placing.definition_of, Placing.placed, Placing.query_over, Placing.placed_all, Terms.Term, Terms.Terms, Terms.Query, Terms.Literal, Terms.Column, Terms.Place, Terms.CurrentUser, Terms.Compare, Terms.And, Terms.Or, Terms.Not, Terms.IsNull, Terms.IsNotNull, Terms.Among, Terms.NotAmong, Terms.Exists, Terms.Within as InQuery, Terms.NotWithin, Terms.Scalar, Terms.Sum, Terms.End, Terms.More, Terms.Select, Terms.qualifier_of, Terms.terms_of}
 use Rattle.rls_expr.specs.declared.expr.Selects.TheVariants as s
-use Rattle.rls_expr.specs.declared.table.Column.{Column as ColumnOf}
-use Rattle.rls_expr.specs.declared.table.TableDef.{TableDef}
-use Rattle.rls_expr.specs.Naming.{Step, Look, Enter, Leave, names_of, query_names, names_all}
-use Rattle.rls_expr.specs.Placing.{Names, inside, column_placed, columns_from, items_of, definition_of, placed, query_over, placed_all}
-use Rattle.rls_expr.specs.Scopes.{Unknown, place_in}
-use Rattle.rls_expr.specs.Terms.{Term, Terms, Query, Literal, Column, Place, CurrentUser, Compare, And, Or, Not, IsNull, IsNotNull, Among, NotAmong, Exists, Within as InQuery, NotWithin, Scalar, Sum, End, More, Select, qualifier_of, terms_of}
 use Rattle.rls_catalog.proofs.Walks.{one_of-append}
 use Rattle.rls_catalog.specs.Membership.{Within}
 use Rattle.rls_expansion.specs.Used.{entered, tables_of}

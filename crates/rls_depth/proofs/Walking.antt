@@ -1,35 +1,16 @@
 -- The rooms that are read: each is what the state tells of its table, and the tables that they lead to have rooms too.
 use Rattle.std.specs.Prelude.{◌≡◌, refl, ℕ, zero, suc, ◌+◌, ◌≤◌, List, [], ◌∷◌, ◌++◌, Bool, true, false, ◌||◌, Option, Some, None, Result, Ok, Err, length, slice_get, take, if◌then◌else◌}
-use Rattle.std.specs.List.{AllByRecursion}
-use Rattle.std.specs.Result.{is_ok}
-use Rattle.std.specs.Str.{bytes_eq}
-use Rattle.std.proofs.Common.{arith, ap, sym, ◌∙◌, subst, append-nil, append_assoc}
-use Rattle.std.proofs.lemmas.Bool.{true≢false}
-use Rattle.std.proofs.lemmas.List.{length-append}
-use Rattle.std.proofs.lemmas.Option.{slice_get_past, slice_get_within}
-use Rattle.rls_value.specs.declared.refusal.Refusal.{Refusal}
-use Rattle.rls_value.specs.Giving.{and_then}
-use Rattle.rls_value.specs.Names.{one_of}
-use Rattle.rls_expr.specs.declared.policy.Policy.{Policy}
-use Rattle.rls_expr.specs.declared.table.TableDef.{TableDef}
-use Rattle.rls_expr.specs.Scopes.{InScope, known_table}
-use Rattle.rls_catalog.specs.Membership.{fresh, Within}
-use Rattle.rls_catalog.specs.State.{State, table_of, policies_of}
-use Rattle.rls_catalog.specs.Verdict.{exempts}
+use Rattle.std.specs.{List.AllByRecursion, Result.is_ok, Str.bytes_eq}
+use Rattle.std.proofs.{Common.arith, Common.ap, Common.sym, Common.◌∙◌, Common.subst, Common.append-nil, Common.append_assoc, lemmas.Bool.true≢false, lemmas.List.length-append, lemmas.Option.slice_get_past, lemmas.Option.slice_get_within}
+use Rattle.rls_value.specs.{declared.refusal.Refusal.Refusal, Giving.and_then, Names.one_of}
+use Rattle.rls_expr.specs.{declared.policy.Policy.Policy, declared.table.TableDef.TableDef, Scopes.InScope, Scopes.known_table}
+use Rattle.rls_catalog.specs.{Membership.fresh, Membership.Within, Verdict.exempts, State.State, State.table_of, State.policies_of}
 use Rattle.rls_catalog.proofs.Walks.{left, left_all, fresh_few, one_of_last, among_first, bytes_same, reads_all}
-use Rattle.rls_source.specs.Asked.{asked_policies, policies_at, table_at}
-use Rattle.rls_source.specs.Askings.{asked_if, followed_by, known}
-use Rattle.rls_guard.specs.declared.standing.Standing.{Standing}
-use Rattle.rls_guard.specs.Standings.{has_owner}
-use Rattle.rls_recursion.specs.declared.room.Room.{Room}
-use Rattle.rls_recursion.specs.Searching.{next_in, next_of, room_in, tables_in}
-use Rattle.rls_expansion.specs.Enough.{collect, collect_end, collect_step, visits}
-use Rattle.rls_expansion.specs.Fences.{known_in, with_known}
-use Rattle.rls_expansion.specs.Leading.{named}
-use Rattle.rls_expansion.specs.Policies.{policies_for}
-use Rattle.rls_expansion.specs.Rooms.{absent, room_by, room_in as room_there, room_if, room_of, rooms_lead, rooms_of}
-use Rattle.rls_depth.specs.Deep.{policies_in}
-use Rattle.rls_depth.proofs.Tables.{within_nothing, or_either}
+use Rattle.rls_source.specs.{Asked.asked_policies, Asked.policies_at, Asked.table_at, Askings.asked_if, Askings.followed_by, Askings.known}
+use Rattle.rls_guard.specs.{declared.standing.Standing.Standing, Standings.has_owner}
+use Rattle.rls_recursion.specs.{declared.room.Room.Room, Searching.next_in, Searching.next_of, Searching.room_in, Searching.tables_in}
+use Rattle.rls_expansion.specs.{Enough.collect, Enough.collect_end, Enough.collect_step, Enough.visits, Fences.known_in, Fences.with_known, Leading.named, Policies.policies_for, Rooms.absent, Rooms.room_by, Rooms.room_in as room_there, Rooms.room_if, Rooms.room_of, Rooms.rooms_lead, Rooms.rooms_of}
+use Rattle.rls_depth.{specs.Deep.policies_in, proofs.Tables.within_nothing, proofs.Tables.or_either}
 
 -- ---- what is told
 

@@ -2,25 +2,14 @@
 -- on, so many policies deep (PostgreSQL manual, 5.9). And who guards a table's rows from a role, as the state has it.
 use Rattle.std.specs.Prelude.{◌≡◌, ℕ, zero, suc, List, [], Option, Some, None, Ok, if◌then◌else◌}
 use Rattle.std.specs.List.{AllByRecursion}
-use Rattle.rls_value.specs.declared.value.Value.{Value}
-use Rattle.rls_value.specs.declared.verb.Kind.{Kind}
+use Rattle.rls_value.specs.{declared.value.Value.Value, declared.verb.Kind.Kind}
 use Rattle.rls_value.specs.declared.verb.Kind.TheVariants as k
-use Rattle.rls_expr.specs.declared.policy.Policy.{Policy}
-use Rattle.rls_expr.specs.declared.table.TableDef.{TableDef}
-use Rattle.rls_expr.specs.Scopes.{InScope}
-use Rattle.rls_catalog.specs.declared.verdict.Side.{Side}
+use Rattle.rls_expr.specs.{declared.policy.Policy.Policy, declared.table.TableDef.TableDef, Scopes.InScope}
+use Rattle.rls_catalog.specs.{declared.verdict.Side.Side, State.State, State.policies_of, State.table_of, Verdict.applying_of, Verdict.exempts, Verdict.is_exempt}
 use Rattle.rls_catalog.specs.declared.verdict.Side.TheVariants as side
-use Rattle.rls_catalog.specs.State.{State, policies_of, table_of}
-use Rattle.rls_catalog.specs.Verdict.{applying_of, exempts, is_exempt}
 use Rattle.rls_source.specs.Askings.{Asking, known}
-use Rattle.rls_evaluation.specs.declared.fence.Guard.{Guard}
-use Rattle.rls_evaluation.specs.declared.fence.Guard.TheVariants.{Exempt, Policies}
-use Rattle.rls_evaluation.specs.Eval.{Shows}
-use Rattle.rls_evaluation.specs.Showing.{shown, verdict_on}
-use Rattle.rls_guard.specs.declared.guard.Watch.{Watch}
-use Rattle.rls_guard.specs.declared.standing.Standing.{Standing}
-use Rattle.rls_guard.specs.Guards.{conditions_of, guard_from}
-use Rattle.rls_guard.specs.Standings.{has_owner}
+use Rattle.rls_evaluation.specs.{declared.fence.Guard.Guard, Eval.Shows, declared.fence.Guard.TheVariants.Exempt, declared.fence.Guard.TheVariants.Policies, Showing.shown, Showing.verdict_on}
+use Rattle.rls_guard.specs.{declared.guard.Watch.Watch, declared.standing.Standing.Standing, Standings.has_owner, Guards.conditions_of, Guards.guard_from}
 
 -- ---- by depth
 

@@ -1,15 +1,12 @@
 -- Rooms that tell which tables their policies lead to: none is left out. And the guards of tables by their rooms.
 use Rattle.std.specs.Prelude.{ℕ, List, [], Option, Some, None, if◌then◌else◌}
 use Rattle.std.specs.List.{AllByRecursion, flat_map}
-use Rattle.rls_expr.specs.declared.policy.Policy.{Policy}
-use Rattle.rls_expr.specs.declared.table.TableDef.{TableDef}
+use Rattle.rls_expr.specs.{declared.policy.Policy.Policy, declared.table.TableDef.TableDef, Terms.Term}
 use Rattle.rls_expr.specs.Scopes.{InScope, known_table}
-use Rattle.rls_expr.specs.Terms.{Term}
 use Rattle.rls_catalog.specs.Membership.{Within}
 use Rattle.rls_evaluation.specs.declared.fence.Guard.{Guard}
 use Rattle.rls_evaluation.specs.declared.fence.Guard.TheVariants.{Exempt, Policies}
-use Rattle.rls_recursion.specs.declared.room.Room.{Room}
-use Rattle.rls_recursion.specs.Searching.{room_in}
+use Rattle.rls_recursion.specs.{declared.room.Room.Room, Searching.room_in}
 use Rattle.rls_expansion.specs.Fences.{guard_of, known_in}
 use Rattle.rls_expansion.specs.Used.{tables_of, tables_if}
 

@@ -8,11 +8,8 @@ use Rattle.std.specs.declared.cmp.Ordering.{Ordering}
 use Rattle.std.specs.declared.cmp.Ordering.TheVariants.{Less, Equal, Greater}
 use Rattle.std.specs.BTreeMap.{is_at}
 use Rattle.std.specs.BTreeSet.{insert_key}
-use Rattle.std.proofs.Math.Seq.{take-length}
-use Rattle.std.proofs.lemmas.Bool.{true≢false}
-use Rattle.rls_value.specs.declared.value.Value.{Value}
-use Rattle.rls_value.specs.Listing.{rows_total}
-use Rattle.rls_value.specs.Values.{listed}
+use Rattle.std.proofs.{Math.Seq.take-length, lemmas.Bool.true≢false}
+use Rattle.rls_value.specs.{declared.value.Value.Value, Listing.rows_total, Values.listed}
 use Rattle.rls_dml.specs.Writing.{is_among, has_doubles, is_below, ascend}
 
 -- the order of borrowed keys

@@ -1,69 +1,17 @@
 -- The changes of INSERT, UPDATE and DELETE name as before what the earlier ones leave at their places, and they are at
 -- the numbers of the rows that are hit, or at new ones.
 use lib.ListN.{length-map}
-use Rattle.std.specs.Prelude.{◌≡◌, refl, ℕ, zero, suc, ◌≤◌, ◌<◌, List, [], ◌∷◌, ◌++◌, Option, Some, None, Bool, true, false, cond, Result, Ok, Err, IfOk, if◌then◌else◌, length, map, filter}
-use Rattle.std.specs.BTreeMap.{is_at, insert_entry}
-use Rattle.std.specs.List.{AllByRecursion, list_any}
-use Rattle.std.specs.List.Sorted.{IsStrictlySortedBy}
-use Rattle.std.specs.Map.{lookup, remove_entry, keys_of}
-use Rattle.std.specs.Ordering.{is_eq, match_ordering, ordering_reverse}
-use Rattle.std.specs.declared.cmp.Ordering.{Ordering}
-use Rattle.std.specs.declared.cmp.Ordering.TheVariants.{Less, Equal, Greater}
-use Rattle.std.proofs.Common.{ap, sym, ◌∙◌, subst}
-use Rattle.std.specs.Cmp.{IsTotalOrder}
-use Rattle.std.proofs.lemmas.Cmp.{tied_itself, on_total, then_total, nat_cmp_total}
-use Rattle.std.proofs.Math.Nat.{suc-ne-zero, suc_inj, le-suc, le_of_suc-le, not-suc-le_self, le_trans, le_refl}
-use Rattle.rls_value.specs.declared.refusal.Refusal.{Refusal}
-use Rattle.rls_value.specs.declared.verb.Privilege.TheVariants as privilege
-use Rattle.rls_value.specs.declared.verb.Kind.TheVariants as kind
-use Rattle.rls_value.specs.declared.row.RowId.{RowId}
-use Rattle.rls_value.specs.declared.value.Value.{Value}
-use Rattle.rls_value.specs.Giving.{and_then}
-use Rattle.rls_value.specs.Values.{is_null}
-use Rattle.rls_expr.specs.declared.table.TableDef.{TableDef}
-use Rattle.rls_expr.specs.Terms.{Term, maybe_term}
-use Rattle.rls_catalog.specs.declared.change.Change.{Change}
-use Rattle.rls_catalog.specs.declared.change.Change.TheVariants as c
-use Rattle.rls_catalog.specs.declared.change.RowChange.{RowChange}
-use Rattle.rls_catalog.specs.declared.stored.Keyed.{Keyed}
-use Rattle.rls_catalog.specs.declared.stored.Stored.{Stored}
-use Rattle.rls_catalog.specs.State.{State, id_order, is_same_id, is_same_row, stored_of, rows_of, entries_of}
-use Rattle.rls_catalog.specs.Bases.{Row, FitsAll, row_at}
-use Rattle.rls_catalog.specs.Changed.{changed, with_row}
-use Rattle.rls_catalog.proofs.ContentsLaws.{is_name}
-use Rattle.rls_catalog.specs.InOrder.{Ascend, RowsInOrder}
-use Rattle.rls_catalog.proofs.RowsChanged.{entries_of_changed, same_id, equal_if}
-use Rattle.rls_statement.specs.declared.statement.Insert.{Insert}
-use Rattle.rls_statement.specs.declared.statement.Selected.{Selected}
-use Rattle.rls_statement.specs.declared.changing.Update.{Update}
-use Rattle.rls_statement.specs.declared.changing.Delete.{Delete}
-use Rattle.rls_guard.specs.declared.context.Ctx.{Ctx}
-use Rattle.rls_guard.specs.declared.standing.Standing.{Standing}
-use Rattle.rls_guard.specs.declared.guard.Watch.{Watch}
-use Rattle.rls_evaluation.specs.declared.fence.Fence.{Fence}
-use Rattle.rls_evaluation.specs.Gathering.{gathered}
-use Rattle.rls_evaluation.specs.Showing.{shows}
-use Rattle.rls_expansion.specs.declared.protection.Protection.{Protection}
-use Rattle.rls_expansion.specs.Protecting.{protection_of}
-use Rattle.rls_expansion.specs.Used.{tables_if}
-use Rattle.rls_guard.specs.declared.reply.Decision.{Decision}
-use Rattle.rls_guard.specs.declared.effect.Effect.{Effect}
-use Rattle.rls_guard.specs.Standings.{standing_of}
-use Rattle.rls_source.specs.Asked.{rows_at, keyed_at, asked_key}
-use Rattle.rls_source.specs.Askings.{Asking, known, followed_by}
-use Rattle.rls_source.specs.Named.{table_or_undefined}
-use Rattle.rls_dml.specs.declared.addition.Addition.{Addition}
-use Rattle.rls_dml.specs.declared.revision.Revision.{Revision}
-use Rattle.rls_dml.specs.declared.deleting.Removal.{Removal}
-use Rattle.rls_dml.specs.Checking.{names_over_none, returning_reads}
-use Rattle.rls_judging.specs.Judging.{hit_row, hits_of, judged_all, judged_old, with_judged, decisions_of}
-use Rattle.rls_judging.specs.Valuing.{settings_of, tuples_of}
-use Rattle.rls_judging.specs.Candidates.{pinned_key, candidates_with, candidates}
-use Rattle.rls_dml.specs.Writing.{privileges_or_denied, order_of, rows_or_refused, each_with, first_of, behind_first}
-use Rattle.rls_dml.specs.Inserting.{places_of, tuple_placed, addition_named, addition_placed, addition_in, addition_or_refused, addition_for, row_of_tuple, numbered, new_rows, inserted_row, inserted, insert_judged, insert_rows, insert_made, insert_values, tuples_tables, insert_guarded, insert_as, insert_into, insert}
-use Rattle.rls_dml.specs.Updating.{revision_for, revision_reads, places_set, updated_row, changed_rows, updated, update_judged, update_rows, update_values, update_hits, revision_tables, update_guarded, update_as, update_in, update}
-use Rattle.rls_dml.specs.Deleting.{removal_for, removal_reads, deleted_row, deleted, delete_hits, delete_guarded, delete_as, delete_from, delete}
-use Rattle.rls_dml.specs.Fitting.{IfDone, NumbersFree, numbers_from, Overwrite}
+use Rattle.std.{specs.Prelude.◌≡◌, specs.Prelude.refl, specs.Prelude.ℕ, specs.Prelude.zero, specs.Prelude.suc, specs.Prelude.◌≤◌, specs.Prelude.◌<◌, specs.Prelude.List, specs.Prelude.[], specs.Prelude.◌∷◌, specs.Prelude.◌++◌, specs.Prelude.Option, specs.Prelude.Some, specs.Prelude.None, specs.Prelude.Bool, specs.Prelude.true, specs.Prelude.false, specs.Prelude.cond, specs.Prelude.Result, specs.Prelude.Ok, specs.Prelude.Err, specs.Prelude.IfOk, specs.Prelude.if◌then◌else◌, specs.Prelude.length, specs.Prelude.map, specs.Prelude.filter, specs.BTreeMap.is_at, specs.BTreeMap.insert_entry, specs.List.AllByRecursion, specs.List.list_any, specs.List.Sorted.IsStrictlySortedBy, specs.declared.cmp.Ordering.Ordering, specs.Cmp.IsTotalOrder, specs.Map.lookup, specs.Map.remove_entry, specs.Map.keys_of, specs.Ordering.is_eq, specs.Ordering.match_ordering, specs.Ordering.ordering_reverse, specs.declared.cmp.Ordering.TheVariants.Less, specs.declared.cmp.Ordering.TheVariants.Equal, specs.declared.cmp.Ordering.TheVariants.Greater, proofs.Common.ap, proofs.Common.sym, proofs.Common.◌∙◌, proofs.Common.subst, proofs.lemmas.Cmp.tied_itself, proofs.lemmas.Cmp.on_total, proofs.lemmas.Cmp.then_total, proofs.lemmas.Cmp.nat_cmp_total, proofs.Math.Nat.suc-ne-zero, proofs.Math.Nat.suc_inj, proofs.Math.Nat.le-suc, proofs.Math.Nat.le_of_suc-le, proofs.Math.Nat.not-suc-le_self, proofs.Math.Nat.le_trans, proofs.Math.Nat.le_refl}
+use Rattle.rls_value.specs.{declared.refusal.Refusal.Refusal, declared.row.RowId.RowId, declared.value.Value.Value, Giving.and_then, Values.is_null, declared.verb.Privilege.Privilege, declared.verb.Kind.Kind}
+use Rattle.rls_expr.specs.{declared.table.TableDef.TableDef, Terms.Term, Terms.maybe_term}
+use Rattle.rls_catalog.{specs.declared.change.Change.Change, specs.declared.change.RowChange.RowChange, specs.declared.stored.Keyed.Keyed, specs.declared.stored.Stored.Stored, specs.Bases.Row, specs.Bases.FitsAll, specs.Bases.row_at, specs.Changed.changed, specs.Changed.with_row, specs.InOrder.Ascend, specs.InOrder.RowsInOrder, specs.State.State, specs.State.id_order, specs.State.is_same_id, specs.State.is_same_row, specs.State.stored_of, specs.State.rows_of, specs.State.entries_of, proofs.ContentsLaws.is_name, proofs.RowsChanged.entries_of_changed, proofs.RowsChanged.same_id, proofs.RowsChanged.equal_if}
+use Rattle.rls_statement.specs.{declared.statement.Insert.Insert, declared.statement.Selected.Selected, declared.changing.Update.Update, declared.changing.Delete.Delete}
+use Rattle.rls_guard.specs.{declared.context.Ctx.Ctx, declared.standing.Standing.Standing, declared.guard.Watch.Watch, declared.reply.Decision.Decision, declared.effect.Effect.Effect, Standings.standing_of}
+use Rattle.rls_evaluation.specs.{declared.fence.Fence.Fence, Gathering.gathered, Showing.shows}
+use Rattle.rls_expansion.specs.{declared.protection.Protection.Protection, Protecting.protection_of, Used.tables_if}
+use Rattle.rls_source.specs.{Asked.rows_at, Asked.keyed_at, Asked.asked_key, Askings.Asking, Askings.known, Askings.followed_by, Named.table_or_undefined}
+use Rattle.rls_dml.specs.{declared.addition.Addition.Addition, declared.revision.Revision.Revision, declared.deleting.Removal.Removal, Checking.names_over_none, Checking.returning_reads, Fitting.IfDone, Fitting.NumbersFree, Fitting.numbers_from, Fitting.Overwrite, Writing.privileges_or_denied, Writing.order_of, Writing.rows_or_refused, Writing.each_with, Writing.first_of, Writing.behind_first, Inserting.places_of, Inserting.tuple_placed, Inserting.addition_named, Inserting.addition_placed, Inserting.addition_in, Inserting.addition_or_refused, Inserting.addition_for, Inserting.row_of_tuple, Inserting.numbered, Inserting.new_rows, Inserting.inserted_row, Inserting.inserted, Inserting.insert_judged, Inserting.insert_rows, Inserting.insert_made, Inserting.insert_values, Inserting.tuples_tables, Inserting.insert_guarded, Inserting.insert_as, Inserting.insert_into, Inserting.insert, Updating.revision_for, Updating.revision_reads, Updating.places_set, Updating.updated_row, Updating.changed_rows, Updating.updated, Updating.update_judged, Updating.update_rows, Updating.update_values, Updating.update_hits, Updating.revision_tables, Updating.update_guarded, Updating.update_as, Updating.update_in, Updating.update, Deleting.removal_for, Deleting.removal_reads, Deleting.deleted_row, Deleting.deleted, Deleting.delete_hits, Deleting.delete_guarded, Deleting.delete_as, Deleting.delete_from, Deleting.delete}
+use Rattle.rls_judging.specs.{Judging.hit_row, Judging.hits_of, Judging.judged_all, Judging.judged_old, Judging.with_judged, Judging.decisions_of, Valuing.settings_of, Valuing.tuples_of, Candidates.pinned_key, Candidates.candidates_with, Candidates.candidates}
 
 -- ---- numbers
 
@@ -114,7 +62,7 @@ other_if true id changed content rows other = with_other id changed content rows
 other_if false id changed content rows other = refl
 
 -- a change of a row leaves what stands at another number
-pub row_at_other : (s : State) (change : RowChange) (table : List ℕ) (id : RowId) → is_same_id id change.id ≡ false → row_at (changed s (c.Row change)) table id ≡ row_at s table id
+pub row_at_other : (s : State) (change : RowChange) (table : List ℕ) (id : RowId) → is_same_id id change.id ≡ false → row_at (changed s (Change.Row change)) table id ≡ row_at s table id
 row_at_other s change table id other =
     ap (lookup (is_at (id_order id))) (entries_of_changed s change table) ∙ other_if (is_name table change.table) id change.id change.after (entries_of s table) other
 
@@ -143,7 +91,7 @@ Apart (stored ∷ rows) = OtherThan stored.id rows × Apart rows
 
 -- what stands at other numbers stays
 have_after : (s : State) (change : RowChange) (table : List ℕ) (content : Stored → Option Keyed) (rows : List Stored) → OtherThan change.id rows → HaveAt s table content rows
-    → HaveAt (changed s (c.Row change)) table content rows
+    → HaveAt (changed s (Change.Row change)) table content rows
 have_after s change table content [] other have = tt
 have_after s change table content (stored ∷ rows) other have =
     (row_at_other s change table stored.id other.0 ∙ have.0, have_after s change table content rows other.1 have.1)
@@ -154,20 +102,20 @@ deleted_fit : (s : State) (table : List ℕ) (rows : List Stored) → Apart rows
 deleted_fit s table [] apart have = tt
 deleted_fit s table (stored ∷ rows) apart have =
     let change : RowChange = record { table = table; id = stored.id; before = content_of stored; after = None } in
-    (have.0, deleted_fit (changed s (c.Row change)) table rows apart.1 (have_after s change table content_of rows apart.0 have.1))
+    (have.0, deleted_fit (changed s (Change.Row change)) table rows apart.1 (have_after s change table content_of rows apart.0 have.1))
 
 changed_fit : (s : State) (table : List ℕ) (old new : List Stored) → Apart old → HaveAt s table content_of old → FitsAll s (changed_rows table old new)
 changed_fit s table old [] apart have = tt
 changed_fit s table [] (new ∷ news) apart have = tt
 changed_fit s table (old ∷ olds) (new ∷ news) apart have =
     let change : RowChange = record { table = table; id = old.id; before = content_of old; after = content_of new } in
-    (have.0, changed_fit (changed s (c.Row change)) table olds news apart.1 (have_after s change table content_of olds apart.0 have.1))
+    (have.0, changed_fit (changed s (Change.Row change)) table olds news apart.1 (have_after s change table content_of olds apart.0 have.1))
 
 inserted_fit : (s : State) (table : List ℕ) (rows : List Stored) → Apart rows → HaveAt s table no_content rows → FitsAll s (map (inserted_row table) rows)
 inserted_fit s table [] apart have = tt
 inserted_fit s table (stored ∷ rows) apart have =
     let change : RowChange = record { table = table; id = stored.id; before = None; after = content_of stored } in
-    (have.0, inserted_fit (changed s (c.Row change)) table rows apart.1 (have_after s change table no_content rows apart.0 have.1))
+    (have.0, inserted_fit (changed s (Change.Row change)) table rows apart.1 (have_after s change table no_content rows apart.0 have.1))
 
 -- ---- the rows of a table in order
 
@@ -347,7 +295,7 @@ delete_guarded_fit : (s : State) (standing : Standing) (protection : Protection)
     → IfDone ((delete_guarded standing protection removal role name table).in_state s).gives (FitsAll s)
 unfolding delete_guarded
 delete_guarded_fit s standing protection removal role name table ordered =
-    done_then (FitsAll s) ((privileges_or_denied standing privilege.Delete (removal_reads removal) name protection.asked).in_state s).gives
+    done_then (FitsAll s) ((privileges_or_denied standing Privilege.Delete (removal_reads removal) name protection.asked).in_state s).gives
     (λ _. ((followed_by (candidates role name table removal.condition) (λ rows. delete_hits role name protection removal rows)).in_state s).gives) (λ _.
     done_after (StandIn s name) (FitsAll s) ((candidates role name table removal.condition).in_state s).gives
     (λ rows. ((delete_hits role name protection removal rows).in_state s).gives)
@@ -357,7 +305,7 @@ delete_as_fit : (s : State) (standing : Standing) (role name : List ℕ) (table 
     → IfDone ((delete_as standing role name table removal).in_state s).gives (FitsAll s)
 unfolding delete_as
 delete_as_fit s standing role name table removal ordered =
-    done_then (FitsAll s) ((protection_of standing name table kind.Delete (removal_reads removal) (tables_if removal.condition)).in_state s).gives
+    done_then (FitsAll s) ((protection_of standing name table Kind.Delete (removal_reads removal) (tables_if removal.condition)).in_state s).gives
     (λ protection. ((delete_guarded standing protection removal role name table).in_state s).gives) (λ protection.
     delete_guarded_fit s standing protection removal role name table ordered)
 
@@ -428,7 +376,7 @@ update_guarded_fit : (s : State) (standing : Standing) (protection : Protection)
     → IfDone ((update_guarded standing protection revision role name table).in_state s).gives (FitsAll s)
 unfolding update_guarded
 update_guarded_fit s standing protection revision role name table ordered =
-    done_then (FitsAll s) ((privileges_or_denied standing privilege.Update (revision_reads revision) name protection.asked).in_state s).gives
+    done_then (FitsAll s) ((privileges_or_denied standing Privilege.Update (revision_reads revision) name protection.asked).in_state s).gives
     (λ _. ((followed_by (candidates role name table revision.condition) (λ rows. update_hits role name table protection revision rows)).in_state s).gives) (λ _.
     done_after (StandIn s name) (FitsAll s) ((candidates role name table revision.condition).in_state s).gives
     (λ rows. ((update_hits role name table protection revision rows).in_state s).gives)
@@ -438,7 +386,7 @@ update_as_fit : (s : State) (standing : Standing) (role name : List ℕ) (table 
     → IfDone ((update_as standing role name table revision).in_state s).gives (FitsAll s)
 unfolding update_as
 update_as_fit s standing role name table revision ordered =
-    done_then (FitsAll s) ((protection_of standing name table kind.Update (revision_reads revision) (revision_tables revision)).in_state s).gives
+    done_then (FitsAll s) ((protection_of standing name table Kind.Update (revision_reads revision) (revision_tables revision)).in_state s).gives
     (λ protection. ((update_guarded standing protection revision role name table).in_state s).gives) (λ protection.
     update_guarded_fit s standing protection revision role name table ordered)
 
@@ -529,7 +477,7 @@ insert_guarded_done : (fact : List Change → Type 0) (s : State) (ctx : Ctx) (n
     → HoldsOf fact ctx name (length addition.tuples) → IfDone ((insert_guarded ctx name table standing protection addition).in_state s).gives fact
 unfolding insert_guarded
 insert_guarded_done fact s ctx name table standing protection addition all =
-    done_then fact ((privileges_or_denied standing privilege.Insert (returning_reads addition.returning) name protection.asked).in_state s).gives
+    done_then fact ((privileges_or_denied standing Privilege.Insert (returning_reads addition.returning) name protection.asked).in_state s).gives
     (λ _. ((insert_values ctx name table protection addition).in_state s).gives) (λ _.
     insert_values_done fact s ctx name table protection addition all)
 
@@ -537,7 +485,7 @@ insert_as_done : (fact : List Change → Type 0) (s : State) (ctx : Ctx) (name :
     → HoldsOf fact ctx name (length addition.tuples) → IfDone ((insert_as ctx name table standing addition).in_state s).gives fact
 unfolding insert_as
 insert_as_done fact s ctx name table standing addition all =
-    done_then fact ((protection_of standing name table kind.Insert (returning_reads addition.returning) (tuples_tables addition.tuples)).in_state s).gives
+    done_then fact ((protection_of standing name table Kind.Insert (returning_reads addition.returning) (tuples_tables addition.tuples)).in_state s).gives
     (λ protection. ((insert_guarded ctx name table standing protection addition).in_state s).gives) (λ protection.
     insert_guarded_done fact s ctx name table standing protection addition all)
 

@@ -4,16 +4,11 @@ use Rattle.std.proofs.Common.{arith, ap, sym, subst, ◌∙◌}
 use Rattle.std.proofs.Math.Nat.{le-suc, le_refl, le_trans, not-suc-le_self}
 use Rattle.std.proofs.lemmas.Option.{none-some}
 use Rattle.rls_value.specs.declared.row.RowId.{RowId}
-use Rattle.rls_catalog.specs.declared.change.Change.{Change}
+use Rattle.rls_catalog.specs.{declared.change.Change.Change, declared.change.RowChange.RowChange, declared.stored.Keyed.Keyed}
 use Rattle.rls_catalog.specs.declared.change.Change.TheVariants as c
-use Rattle.rls_catalog.specs.declared.change.RowChange.{RowChange}
-use Rattle.rls_catalog.specs.declared.stored.Keyed.{Keyed}
-use Rattle.rls_catalog.specs.Bases.{FitsAll, row_at}
-use Rattle.rls_catalog.specs.Changed.{changed, changed_all}
-use Rattle.rls_catalog.specs.State.{State, is_same_id}
+use Rattle.rls_catalog.specs.{Bases.FitsAll, Bases.row_at, Changed.changed, Changed.changed_all, State.State, State.is_same_id}
 use Rattle.rls_dml.specs.NextRows.{AllFree, NumberOn, is_new_row, new_rows, next_row}
-use Rattle.rls_dml.proofs.FittingLemmas.{not_if, row_at_other}
-use Rattle.rls_dml.proofs.PutLemmas.{one_number}
+use Rattle.rls_dml.proofs.{FittingLemmas.not_if, FittingLemmas.row_at_other, PutLemmas.one_number}
 
 -- no table has a row of that number
 abbrev FreeAt : State → RowId → Type 0

@@ -1,59 +1,16 @@
 -- INSERT, UPDATE and DELETE keep the rows of a state sound.
 use Rattle.std.specs.Prelude.{◌≡◌, refl, ℕ, suc, List, [], ◌∷◌, ◌++◌, Option, Some, None, true, false, ◌||◌, Result, Ok, Err, IfOk, map}
 use Rattle.std.specs.List.{AllByRecursion}
-use Rattle.std.proofs.Common.{ap, sym, ◌∙◌, subst}
-use Rattle.std.proofs.lemmas.Bool.{true≢false}
-use Rattle.std.proofs.lemmas.Option.{none-some}
-use Rattle.rls_value.specs.declared.refusal.Refusal.{Refusal}
-use Rattle.rls_value.specs.declared.refusal.Refusal.TheVariants.{Undefined}
-use Rattle.rls_value.specs.declared.refusal.NameKind.TheVariants as named
-use Rattle.rls_value.specs.declared.row.RowId.{RowId}
-use Rattle.rls_value.specs.declared.value.Value.{Value}
-use Rattle.rls_value.specs.declared.verb.Privilege.TheVariants as privilege
-use Rattle.rls_value.specs.declared.verb.Kind.TheVariants as kind
-use Rattle.rls_value.specs.Giving.{and_then}
+use Rattle.std.proofs.{Common.ap, Common.sym, Common.◌∙◌, Common.subst, lemmas.Bool.true≢false, lemmas.Option.none-some}
+use Rattle.rls_value.specs.{declared.refusal.Refusal.Refusal, declared.refusal.Refusal.TheVariants.Undefined, declared.row.RowId.RowId, declared.value.Value.Value, Giving.and_then, declared.refusal.NameKind.NameKind, declared.verb.Privilege.Privilege, declared.verb.Kind.Kind}
 use Rattle.rls_expr.specs.declared.table.TableDef.{TableDef}
-use Rattle.rls_catalog.specs.declared.change.Change.{Change}
-use Rattle.rls_catalog.specs.declared.stored.Stored.{Stored}
-use Rattle.rls_catalog.specs.State.{State, is_same_id, table_of, entries_of}
-use Rattle.rls_catalog.specs.Changed.{changed_all}
-use Rattle.rls_catalog.specs.InOrder.{RowsInOrder}
-use Rattle.rls_catalog.specs.SoundRows.{AreSound, RowsAreSound}
-use Rattle.rls_statement.specs.declared.changing.Delete.{Delete}
-use Rattle.rls_statement.specs.declared.changing.Update.{Update}
-use Rattle.rls_statement.specs.declared.statement.Insert.{Insert}
-use Rattle.rls_statement.specs.declared.statement.Select.{Select}
-use Rattle.rls_statement.specs.declared.statement.Selected.{Selected}
-use Rattle.rls_source.specs.Asked.{table_at}
-use Rattle.rls_source.specs.Askings.{known, followed_by}
-use Rattle.rls_source.specs.Named.{found_or, table_or_undefined}
-use Rattle.rls_guard.specs.declared.context.Ctx.{Ctx}
-use Rattle.rls_expansion.specs.declared.protection.Protection.{Protection}
-use Rattle.rls_expansion.specs.Protecting.{protection_of}
-use Rattle.rls_expansion.specs.Used.{tables_if}
-use Rattle.rls_guard.specs.declared.reply.Decision.{Decision}
-use Rattle.rls_guard.specs.declared.standing.Standing.{Standing}
-use Rattle.rls_guard.specs.Standings.{standing_of}
-use Rattle.rls_guard.specs.Keeping.{IfDone, IsNoRow, KeepsRowsSound, LeavesRows}
-use Rattle.rls_judging.specs.Candidates.{candidates}
-use Rattle.rls_judging.specs.Judging.{decisions_of, hits_of}
-use Rattle.rls_judging.specs.Valuing.{settings_of, tuples_of}
-use Rattle.rls_dml.specs.declared.addition.Addition.{Addition}
-use Rattle.rls_dml.specs.declared.deleting.Removal.{Removal}
-use Rattle.rls_dml.specs.declared.revision.Revision.{Revision}
-use Rattle.rls_dml.specs.declared.selecting.Query.{Query}
-use Rattle.rls_dml.specs.Checking.{returning_reads}
-use Rattle.rls_dml.specs.Deleting.{delete, delete_as, delete_from, delete_guarded, delete_hits, deleted, deleted_row, removal_for, removal_reads}
-use Rattle.rls_dml.specs.Inserting.{addition_for, insert, insert_as, insert_guarded, insert_into, insert_judged, insert_made, insert_rows, insert_values, inserted, inserted_row, new_rows, numbered, row_of_tuple, tuples_tables}
-use Rattle.rls_dml.specs.NextRows.{NumberOn}
-use Rattle.rls_dml.specs.Numbers.{has_number}
-use Rattle.rls_dml.specs.Selecting.{listed_by, listed_for, listed_from, qualifier_of, query_for, select, select_as, select_from}
-use Rattle.rls_dml.specs.Updating.{changed_rows, places_set, revision_for, revision_reads, revision_tables, update, update_as, update_guarded, update_hits, update_in, update_judged, update_rows, update_values, updated, updated_row}
-use Rattle.rls_dml.specs.Writing.{assigned, behind_first, each_with, first_of, key_at, order_of, privileges_or_denied, rows_or_refused}
-use Rattle.rls_dml.proofs.FittingLemmas.{Apart, OtherThan, StandIn, candidates_stand, done_after, done_then, given_after, given_then, hits_stand, insert_done, numbered_apart}
-use Rattle.rls_dml.proofs.PassingLemmas.{KeysAreMade, Pass, each_free, rows_carry, rows_passed}
-use Rattle.rls_dml.proofs.SoundLemmas.{AreRenewed, changed_leave, deleted_leave, inserted_leave, left_rows_sound, sound_in}
-use Rattle.rls_dml.proofs.WrittenLemmas.{MayStand, keyed_of, left_sound, with_rows, without_rows, written_sound}
+use Rattle.rls_catalog.specs.{declared.change.Change.Change, declared.stored.Stored.Stored, Changed.changed_all, InOrder.RowsInOrder, State.State, State.is_same_id, State.table_of, State.entries_of, SoundRows.AreSound, SoundRows.RowsAreSound}
+use Rattle.rls_statement.specs.{declared.changing.Delete.Delete, declared.changing.Update.Update, declared.statement.Insert.Insert, declared.statement.Select.Select, declared.statement.Selected.Selected}
+use Rattle.rls_source.specs.{Asked.table_at, Askings.known, Askings.followed_by, Named.found_or, Named.table_or_undefined}
+use Rattle.rls_guard.specs.{declared.context.Ctx.Ctx, declared.reply.Decision.Decision, declared.standing.Standing.Standing, Standings.standing_of, Keeping.IfDone, Keeping.IsNoRow, Keeping.KeepsRowsSound, Keeping.LeavesRows}
+use Rattle.rls_expansion.specs.{declared.protection.Protection.Protection, Protecting.protection_of, Used.tables_if}
+use Rattle.rls_judging.specs.{Candidates.candidates, Judging.decisions_of, Judging.hits_of, Valuing.settings_of, Valuing.tuples_of}
+use Rattle.rls_dml.{specs.declared.addition.Addition.Addition, specs.declared.deleting.Removal.Removal, specs.declared.revision.Revision.Revision, specs.declared.selecting.Query.Query, specs.Checking.returning_reads, specs.NextRows.NumberOn, specs.Numbers.has_number, specs.Selecting.listed_by, specs.Selecting.listed_for, specs.Selecting.listed_from, specs.Selecting.qualifier_of, specs.Selecting.query_for, specs.Selecting.select, specs.Selecting.select_as, specs.Selecting.select_from, specs.Writing.assigned, specs.Writing.behind_first, specs.Writing.each_with, specs.Writing.first_of, specs.Writing.key_at, specs.Writing.order_of, specs.Writing.privileges_or_denied, specs.Writing.rows_or_refused, specs.Deleting.delete, specs.Deleting.delete_as, specs.Deleting.delete_from, specs.Deleting.delete_guarded, specs.Deleting.delete_hits, specs.Deleting.deleted, specs.Deleting.deleted_row, specs.Deleting.removal_for, specs.Deleting.removal_reads, specs.Inserting.addition_for, specs.Inserting.insert, specs.Inserting.insert_as, specs.Inserting.insert_guarded, specs.Inserting.insert_into, specs.Inserting.insert_judged, specs.Inserting.insert_made, specs.Inserting.insert_rows, specs.Inserting.insert_values, specs.Inserting.inserted, specs.Inserting.inserted_row, specs.Inserting.new_rows, specs.Inserting.numbered, specs.Inserting.row_of_tuple, specs.Inserting.tuples_tables, specs.Updating.changed_rows, specs.Updating.places_set, specs.Updating.revision_for, specs.Updating.revision_reads, specs.Updating.revision_tables, specs.Updating.update, specs.Updating.update_as, specs.Updating.update_guarded, specs.Updating.update_hits, specs.Updating.update_in, specs.Updating.update_judged, specs.Updating.update_rows, specs.Updating.update_values, specs.Updating.updated, specs.Updating.updated_row, proofs.FittingLemmas.Apart, proofs.FittingLemmas.OtherThan, proofs.FittingLemmas.StandIn, proofs.FittingLemmas.candidates_stand, proofs.FittingLemmas.done_after, proofs.FittingLemmas.done_then, proofs.FittingLemmas.given_after, proofs.FittingLemmas.given_then, proofs.FittingLemmas.hits_stand, proofs.FittingLemmas.insert_done, proofs.FittingLemmas.numbered_apart, proofs.PassingLemmas.KeysAreMade, proofs.PassingLemmas.Pass, proofs.PassingLemmas.each_free, proofs.PassingLemmas.rows_carry, proofs.PassingLemmas.rows_passed, proofs.SoundLemmas.AreRenewed, proofs.SoundLemmas.changed_leave, proofs.SoundLemmas.deleted_leave, proofs.SoundLemmas.inserted_leave, proofs.SoundLemmas.left_rows_sound, proofs.SoundLemmas.sound_in, proofs.WrittenLemmas.MayStand, proofs.WrittenLemmas.keyed_of, proofs.WrittenLemmas.left_sound, proofs.WrittenLemmas.with_rows, proofs.WrittenLemmas.without_rows, proofs.WrittenLemmas.written_sound}
 
 -- the rows are sound with the changes
 abbrev pub Keeps : State → List Change → Type 0
@@ -68,7 +25,7 @@ found_there refusal None = tt
 -- a table that has to be there is there
 table_there : (s : State) (name : List ℕ) → IfOk ((table_or_undefined name).in_state s).gives (λ table. table_of s name ≡ Some table)
 unfolding table_at
-table_there s name = found_there (Undefined named.Relation name) (table_of s name)
+table_there s name = found_there (Undefined NameKind.Relation name) (table_of s name)
 
 -- its rows stand in order
 in_order : (s : State) (name : List ℕ) (table : TableDef) → RowsAreSound s → table_of s name ≡ Some table → RowsInOrder s name
@@ -139,14 +96,14 @@ insert_guarded_keep : (s : State) (ctx : Ctx) (name : List ℕ) (table : TableDe
     → IfDone ((insert_guarded ctx name table standing protection addition).in_state s).gives (Keeps s)
 unfolding insert_guarded
 insert_guarded_keep s ctx name table standing protection addition sound there =
-    done_then (Keeps s) ((privileges_or_denied standing privilege.Insert (returning_reads addition.returning) name protection.asked).in_state s).gives
+    done_then (Keeps s) ((privileges_or_denied standing Privilege.Insert (returning_reads addition.returning) name protection.asked).in_state s).gives
     (λ _. ((insert_values ctx name table protection addition).in_state s).gives) (λ _. insert_values_keep s ctx name table protection addition sound there)
 
 insert_as_keep : (s : State) (ctx : Ctx) (name : List ℕ) (table : TableDef) (standing : Standing) (addition : Addition) → RowsAreSound s → table_of s name ≡ Some table
     → IfDone ((insert_as ctx name table standing addition).in_state s).gives (Keeps s)
 unfolding insert_as
 insert_as_keep s ctx name table standing addition sound there =
-    done_then (Keeps s) ((protection_of standing name table kind.Insert (returning_reads addition.returning) (tuples_tables addition.tuples)).in_state s).gives
+    done_then (Keeps s) ((protection_of standing name table Kind.Insert (returning_reads addition.returning) (tuples_tables addition.tuples)).in_state s).gives
     (λ protection. ((insert_guarded ctx name table standing protection addition).in_state s).gives) (λ protection.
     insert_guarded_keep s ctx name table standing protection addition sound there)
 
@@ -275,7 +232,7 @@ update_guarded_hold : (fact : List Change → Type 0) (s : State) (standing : St
     → RowsAreSound s → table_of s name ≡ Some table → IfDone ((update_guarded standing protection revision role name table).in_state s).gives fact
 unfolding update_guarded
 update_guarded_hold fact s standing protection revision role name table all sound there =
-    done_then fact ((privileges_or_denied standing privilege.Update (revision_reads revision) name protection.asked).in_state s).gives
+    done_then fact ((privileges_or_denied standing Privilege.Update (revision_reads revision) name protection.asked).in_state s).gives
     (λ _. ((followed_by (candidates role name table revision.condition) (λ rows. update_hits role name table protection revision rows)).in_state s).gives) (λ _.
     done_after (StandIn s name) fact ((candidates role name table revision.condition).in_state s).gives
     (λ rows. ((update_hits role name table protection revision rows).in_state s).gives)
@@ -286,7 +243,7 @@ update_as_hold : (fact : List Change → Type 0) (s : State) (standing : Standin
     → table_of s name ≡ Some table → IfDone ((update_as standing role name table revision).in_state s).gives fact
 unfolding update_as
 update_as_hold fact s standing role name table revision all sound there =
-    done_then fact ((protection_of standing name table kind.Update (revision_reads revision) (revision_tables revision)).in_state s).gives
+    done_then fact ((protection_of standing name table Kind.Update (revision_reads revision) (revision_tables revision)).in_state s).gives
     (λ protection. ((update_guarded standing protection revision role name table).in_state s).gives) (λ protection.
     update_guarded_hold fact s standing protection revision role name table all sound there)
 
@@ -338,7 +295,7 @@ delete_guarded_hold : (fact : List Change → Type 0) (s : State) (standing : St
     → table_of s name ≡ Some table → IfDone ((delete_guarded standing protection removal role name table).in_state s).gives fact
 unfolding delete_guarded
 delete_guarded_hold fact s standing protection removal role name table all there =
-    done_then fact ((privileges_or_denied standing privilege.Delete (removal_reads removal) name protection.asked).in_state s).gives
+    done_then fact ((privileges_or_denied standing Privilege.Delete (removal_reads removal) name protection.asked).in_state s).gives
     (λ _. ((followed_by (candidates role name table removal.condition) (λ rows. delete_hits role name protection removal rows)).in_state s).gives) (λ _.
     done_then fact ((candidates role name table removal.condition).in_state s).gives (λ rows. ((delete_hits role name protection removal rows).in_state s).gives) (λ rows.
     delete_hits_hold fact s role name table protection removal rows all there))
@@ -347,7 +304,7 @@ delete_as_hold : (fact : List Change → Type 0) (s : State) (standing : Standin
     → IfDone ((delete_as standing role name table removal).in_state s).gives fact
 unfolding delete_as
 delete_as_hold fact s standing role name table removal all there =
-    done_then fact ((protection_of standing name table kind.Delete (removal_reads removal) (tables_if removal.condition)).in_state s).gives
+    done_then fact ((protection_of standing name table Kind.Delete (removal_reads removal) (tables_if removal.condition)).in_state s).gives
     (λ protection. ((delete_guarded standing protection removal role name table).in_state s).gives) (λ protection.
     delete_guarded_hold fact s standing protection removal role name table all there)
 
@@ -388,7 +345,7 @@ listed_for_hold : (fact : List Change → Type 0) (s : State) (standing : Standi
     → IfDone ((listed_for standing protection query role name table).in_state s).gives fact
 unfolding listed_for
 listed_for_hold fact s standing protection query role name table none =
-    done_then fact ((privileges_or_denied standing privilege.Select false name protection.asked).in_state s).gives
+    done_then fact ((privileges_or_denied standing Privilege.Select false name protection.asked).in_state s).gives
     (λ _. ((followed_by (candidates role name table query.condition) (λ rows. listed_from role protection query rows)).in_state s).gives) (λ _.
     done_then fact ((candidates role name table query.condition).in_state s).gives (λ rows. ((listed_from role protection query rows).in_state s).gives) (λ rows.
     listed_from_hold fact s role protection query rows none))
@@ -397,7 +354,7 @@ select_as_hold : (fact : List Change → Type 0) (s : State) (standing : Standin
     → IfDone ((select_as standing role name table query).in_state s).gives fact
 unfolding select_as
 select_as_hold fact s standing role name table query none =
-    done_then fact ((protection_of standing name table kind.Select false (tables_if query.condition)).in_state s).gives
+    done_then fact ((protection_of standing name table Kind.Select false (tables_if query.condition)).in_state s).gives
     (λ protection. ((listed_for standing protection query role name table).in_state s).gives) (λ protection.
     listed_for_hold fact s standing protection query role name table none)
 

@@ -1,6 +1,7 @@
 pub mod DoubleLemmas
 pub mod ListingLemmas
 pub mod KeyLemmas
+pub mod StayingLemmas
 pub mod NumberLemmas
 pub mod PinnedLemmas
 pub mod FittingLemmas

@@ -7,13 +7,8 @@ use Rattle.std.specs.Cmp.Lexicographic.{slice_cmp}
 use Rattle.std.specs.Ordering.{is_eq, is_lt, ordering_reverse}
 use Rattle.std.specs.declared.cmp.Ordering.{Ordering}
 use Rattle.std.specs.declared.cmp.Ordering.TheVariants.{Less, Equal, Greater}
-use Rattle.std.proofs.lemmas.Bool.{true≢false}
-use Rattle.std.proofs.lemmas.Cmp.{tied_itself}
-use Rattle.std.proofs.lemmas.List.Sorted.{sum_by-IsPermutation}
-use Rattle.std.proofs.lemmas.List.Sums.{sum_by-cons}
-use Rattle.rls_value.specs.declared.value.Value.{Value}
-use Rattle.rls_value.specs.Values.{listed}
-use Rattle.rls_value.specs.Listing.{rows_total}
+use Rattle.std.proofs.{lemmas.Bool.true≢false, lemmas.Cmp.tied_itself, lemmas.List.Sorted.sum_by-IsPermutation, lemmas.List.Sums.sum_by-cons}
+use Rattle.rls_value.specs.{declared.value.Value.Value, Values.listed, Listing.rows_total}
 use Rattle.rls_value.proofs.ListingLaws.{rows_same}
 use Rattle.rls_dml.specs.Listings.{put_listed, listing}
 

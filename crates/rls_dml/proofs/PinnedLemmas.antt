@@ -1,36 +1,15 @@
 -- Reading by the key that WHERE pins leaves out no row that it holds of.
 use Rattle.std.specs.Prelude.{◌≡◌, refl, ℕ, List, [], ◌∷◌, Option, Some, None, Bool, true, false, ◌&&◌, ◌||◌, cond, Result, Ok, Err, map, filter}
-use Rattle.std.specs.List.{All, AllByRecursion, list_any}
-use Rattle.std.specs.Option.{option_map}
-use Rattle.std.proofs.Common.{ap, sym, subst, ◌∙◌}
-use Rattle.std.proofs.lemmas.Bool.{true≢false, and_parts, eqb-true, or_left, or_right}
-use Rattle.std.proofs.lemmas.Bool.Decides.{Decides-int_eq}
-use Rattle.std.proofs.lemmas.List.Elements.{All-head, All-tail}
-use Rattle.std.proofs.lemmas.Option.{none-some, same_Some}
-use Rattle.rls_value.specs.declared.refusal.Refusal.{Refusal}
-use Rattle.rls_value.specs.declared.row.RowId.{RowId}
-use Rattle.rls_value.specs.Giving.{and_then}
-use Rattle.rls_value.specs.declared.truth.Truth.{Truth}
-use Rattle.rls_value.specs.declared.truth.Truth.TheVariants.{True, False, Unknown}
-use Rattle.rls_value.specs.declared.value.Value.{Value}
-use Rattle.rls_value.specs.declared.value.Value.TheVariants as v
-use Rattle.rls_value.specs.Truths.{is_true, truth_of, conjunction_of}
-use Rattle.rls_value.specs.Values.{equal_values, is_null, same_flag, truth_in, value_at, value_of_truth}
-use Rattle.rls_expr.specs.declared.expr.Comparison.TheVariants as c
-use Rattle.rls_expr.specs.declared.table.TableDef.{TableDef}
-use Rattle.rls_expr.specs.Pinning.{is_column, is_known, or_else, pin_among, pin_if, pin_in, pin_of, pins_of, with_pin}
-use Rattle.rls_expr.specs.Terms.{Term, Terms, Literal, Place, CurrentUser, Compare, And, End, More, maybe_term}
-use Rattle.rls_catalog.specs.declared.stored.Stored.{Stored}
-use Rattle.rls_catalog.specs.State.{State, is_same_id, is_same_row, is_same_value, rows_of}
+use Rattle.std.specs.{List.All, List.AllByRecursion, List.list_any, Option.option_map}
+use Rattle.std.proofs.{Common.ap, Common.sym, Common.subst, Common.◌∙◌, lemmas.Bool.true≢false, lemmas.Bool.and_parts, lemmas.Bool.eqb-true, lemmas.Bool.or_left, lemmas.Bool.or_right, lemmas.Bool.Decides.Decides-int_eq, lemmas.List.Elements.All-head, lemmas.List.Elements.All-tail, lemmas.Option.none-some, lemmas.Option.same_Some}
+use Rattle.rls_value.specs.{declared.refusal.Refusal.Refusal, declared.row.RowId.RowId, Giving.and_then, declared.truth.Truth.Truth, declared.value.Value.Value, declared.truth.Truth.TheVariants.True, declared.truth.Truth.TheVariants.False, declared.truth.Truth.TheVariants.Unknown, Truths.is_true, Truths.truth_of, Truths.conjunction_of, Values.equal_values, Values.is_null, Values.same_flag, Values.truth_in, Values.value_at, Values.value_of_truth}
+use Rattle.rls_expr.specs.{declared.expr.Comparison.Comparison, declared.table.TableDef.TableDef, Pinning.is_column, Pinning.is_known, Pinning.or_else, Pinning.pin_among, Pinning.pin_if, Pinning.pin_in, Pinning.pin_of, Pinning.pins_of, Pinning.with_pin, Terms.Term, Terms.Terms, Terms.Literal, Terms.Place, Terms.CurrentUser, Terms.Compare, Terms.And, Terms.End, Terms.More, Terms.maybe_term}
+use Rattle.rls_catalog.specs.{declared.stored.Stored.Stored, State.State, State.is_same_id, State.is_same_row, State.is_same_value, State.rows_of}
 use Rattle.rls_catalog.proofs.Walks.{bytes_own, bytes_same}
-use Rattle.rls_source.specs.Asked.{rows_at, keyed_at, asked_key}
-use Rattle.rls_source.specs.Askings.{asked_if, known, followed_by}
-use Rattle.rls_evaluation.specs.Environments.{over, row_at}
-use Rattle.rls_evaluation.specs.Eval.{Shows, and_value, meets, together, value_of}
+use Rattle.rls_source.specs.{Asked.rows_at, Asked.keyed_at, Asked.asked_key, Askings.asked_if, Askings.known, Askings.followed_by}
+use Rattle.rls_evaluation.specs.{Environments.over, Environments.row_at, Eval.Shows, Eval.and_value, Eval.meets, Eval.together, Eval.value_of}
 use Rattle.rls_judging.specs.Candidates.{candidates, candidates_with, pinned_key, pinned_value}
-use Rattle.rls_dml.specs.Keys.{CarryKeys}
-use Rattle.rls_dml.specs.Numbers.{has_number}
-use Rattle.rls_dml.specs.Writing.{key_at}
+use Rattle.rls_dml.specs.{Keys.CarryKeys, Numbers.has_number, Writing.key_at}
 use Rattle.rls_dml.proofs.FittingLemmas.{own_number}
 
 -- false is not true
@@ -78,10 +57,10 @@ own_flag false = refl
 
 -- a value is the same as itself, null too
 own_value : (x : Value) → is_same_value x x ≡ true
-own_value v.Null = refl
-own_value (v.Int a) = (Decides-int_eq a a).1 refl
-own_value (v.Text a) = bytes_own a
-own_value (v.Bool a) = own_flag a
+own_value Value.Null = refl
+own_value (Value.Int a) = (Decides-int_eq a a).1 refl
+own_value (Value.Text a) = bytes_own a
+own_value (Value.Bool a) = own_flag a
 
 -- the two are the same, and no null
 abbrev AreSame : Value → Value → Type 0
@@ -89,9 +68,9 @@ AreSame x y = (x ≡ y) × (is_null y ≡ false)
 
 -- where an equality is true
 equal_means : (x y : Value) → is_true (equal_values x y) ≡ true → AreSame x y
-equal_means (v.Int a) (v.Int b) is = (ap v.Int ((Decides-int_eq a b).0 (true_test _ is)), refl)
-equal_means (v.Text a) (v.Text b) is = (ap v.Text (bytes_same a b (true_test _ is)), refl)
-equal_means (v.Bool a) (v.Bool b) is = (ap v.Bool (same_flags a b (true_test _ is)), refl)
+equal_means (Value.Int a) (Value.Int b) is = (ap Value.Int ((Decides-int_eq a b).0 (true_test _ is)), refl)
+equal_means (Value.Text a) (Value.Text b) is = (ap Value.Text (bytes_same a b (true_test _ is)), refl)
+equal_means (Value.Bool a) (Value.Bool b) is = (ap Value.Bool (same_flags a b (true_test _ is)), refl)
 equal_means x y is = no is
 
 -- from the other side
@@ -128,7 +107,7 @@ IsWorth s sees user row t v = ((value_of t sees (over user row)).in_state s).giv
 -- what is known without a row is the same over each
 known_value : (s : State) (sees : Shows) (user : List ℕ) (row : List Value) (t : Term) (x : Value) → is_known t ≡ true → IsWorth s sees user row t x → x ≡ pinned_value user t
 known_value s sees user row (Literal value) x is worth = sym (same_given value x worth)
-known_value s sees user row CurrentUser x is worth = sym (same_given (v.Text user) x worth)
+known_value s sees user row CurrentUser x is worth = sym (same_given (Value.Text user) x worth)
 known_value s sees user row t x is worth = no is
 
 -- the column's value is the row's at its place
@@ -160,7 +139,7 @@ record IsTrueOf (s : State) (sees : Shows) (user : List ℕ) (row : List Value) 
 
 -- an equality that pins the column and is true of the row
 pinned_in : (s : State) (sees : Shows) (user : List ℕ) (row : List Value) (place : ℕ) (t pin : Term) → pin_in place t ≡ Some pin → IsTrueOf s sees user row t → AreSame (value_at row place) (pinned_value user pin)
-pinned_in s sees user row place (Compare c.Equal a b) pin is true_of =
+pinned_in s sees user row place (Compare Comparison.Equal a b) pin is true_of =
     let left = parts_of ((value_of a sees (over user row)).in_state s).gives (λ x. ((followed_by (value_of b sees (over user row)) (λ y. known (Ok (value_of_truth (equal_values x y))))).in_state s).gives) true_of.value true_of.worth in
     let right = parts_of ((value_of b sees (over user row)).in_state s).gives (λ y. Ok (value_of_truth (equal_values left.0 y))) true_of.value left.1.1 in
     let same = equal_means left.0 right.0 (true_again (equal_values left.0 right.0) (ap (λ v. is_true (truth_in v)) (same_given (value_of_truth (equal_values left.0 right.0)) true_of.value right.1.1) ∙ true_of.holds)) in

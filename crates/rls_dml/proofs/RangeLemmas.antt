@@ -1,35 +1,16 @@
 -- The numbers of new rows stay in their range.
 use Rattle.std.specs.Prelude.{◌≡◌, refl, ℕ, suc, ◌+◌, ◌≤◌, List, [], ◌∷◌, Bool, true, false, ◌&&◌, ◌||◌, nat_le, Result, Ok, Err, IfOk, if◌then◌else◌, length, map}
 use Rattle.std.specs.List.{list_all, list_any}
-use Rattle.std.proofs.Common.{arith, ap}
-use Rattle.std.proofs.lemmas.Bool.{leb-true}
-use Rattle.rls_value.specs.declared.refusal.Refusal.{Refusal}
-use Rattle.rls_value.specs.declared.refusal.Refusal.TheVariants.{Limit}
+use Rattle.std.proofs.{Common.arith, Common.ap, lemmas.Bool.leb-true}
+use Rattle.rls_value.specs.{declared.refusal.Refusal.Refusal, declared.refusal.Refusal.TheVariants.Limit, declared.value.Value.Value, Giving.and_then}
 use Rattle.rls_value.specs.declared.refusal.Limit.TheVariants as limit
-use Rattle.rls_value.specs.declared.value.Value.{Value}
-use Rattle.rls_value.specs.Giving.{and_then}
-use Rattle.rls_expr.specs.declared.table.Column.{Column}
-use Rattle.rls_expr.specs.declared.table.TableDef.{TableDef}
-use Rattle.rls_catalog.specs.declared.change.Change.{Change}
-use Rattle.rls_catalog.specs.declared.stored.Stored.{Stored}
-use Rattle.rls_catalog.specs.SoundRows.{RowsAreSound}
-use Rattle.rls_catalog.specs.State.{State}
-use Rattle.rls_statement.specs.declared.changing.Delete.{Delete}
-use Rattle.rls_statement.specs.declared.changing.Update.{Update}
-use Rattle.rls_statement.specs.declared.statement.Insert.{Insert}
-use Rattle.rls_source.specs.Askings.{known, followed_by}
-use Rattle.rls_source.specs.Named.{table_or_undefined}
-use Rattle.rls_guard.specs.declared.context.Ctx.{Ctx}
-use Rattle.rls_guard.specs.Checks.{is_unsupported}
-use Rattle.rls_guard.specs.Keeping.{IfDone}
-use Rattle.rls_dml.specs.declared.addition.Addition.{Addition}
-use Rattle.rls_dml.specs.Checking.{fitting_or_fault, supported_or_refused, returning_fits, returning_unsupported}
-use Rattle.rls_dml.specs.Deleting.{delete, deleted_row}
-use Rattle.rls_dml.specs.Inserting.{addition_for, addition_in, addition_named, addition_or_refused, addition_placed, insert, insert_into, inserted_row, numbered, places_of, room_or_limit, tuple_fits}
-use Rattle.rls_dml.specs.NextRows.{InRange, new_rows}
-use Rattle.rls_dml.specs.Updating.{changed_rows, update}
-use Rattle.rls_dml.proofs.FittingLemmas.{done_after, done_then, given_after, given_then, insert_into_done}
-use Rattle.rls_dml.proofs.KeepingLemmas.{delete_holds, update_holds}
+use Rattle.rls_expr.specs.{declared.table.Column.Column, declared.table.TableDef.TableDef}
+use Rattle.rls_catalog.specs.{declared.change.Change.Change, declared.stored.Stored.Stored, SoundRows.RowsAreSound, State.State}
+use Rattle.rls_statement.specs.{declared.changing.Delete.Delete, declared.changing.Update.Update, declared.statement.Insert.Insert}
+use Rattle.rls_source.specs.{Askings.known, Askings.followed_by, Named.table_or_undefined}
+use Rattle.rls_guard.specs.{declared.context.Ctx.Ctx, Checks.is_unsupported, Keeping.IfDone}
+use Rattle.rls_dml.specs.{declared.addition.Addition.Addition, Deleting.delete, Deleting.deleted_row, NextRows.InRange, NextRows.new_rows, Updating.changed_rows, Updating.update, Checking.fitting_or_fault, Checking.supported_or_refused, Checking.returning_fits, Checking.returning_unsupported, Inserting.addition_for, Inserting.addition_in, Inserting.addition_named, Inserting.addition_or_refused, Inserting.addition_placed, Inserting.insert, Inserting.insert_into, Inserting.inserted_row, Inserting.numbered, Inserting.places_of, Inserting.room_or_limit, Inserting.tuple_fits}
+use Rattle.rls_dml.proofs.{FittingLemmas.done_after, FittingLemmas.done_then, FittingLemmas.given_after, FittingLemmas.given_then, FittingLemmas.insert_into_done, KeepingLemmas.delete_holds, KeepingLemmas.update_holds}
 
 -- ---- INSERT
 

@@ -1,32 +1,15 @@
 -- A state whose rows are sound, with changes of the rows of one table.
 use Rattle.std.specs.Prelude.{◌≡◌, refl, ℕ, List, [], ◌∷◌, Option, Some, None, Bool, true, false, cond, map}
-use Rattle.std.specs.BTreeMap.{insert_entry}
-use Rattle.std.specs.List.{AllByRecursion}
-use Rattle.std.specs.Ordering.{is_eq}
+use Rattle.std.specs.{BTreeMap.insert_entry, List.AllByRecursion, Ordering.is_eq}
 use Rattle.std.proofs.Common.{ap, sym, ◌∙◌, subst}
 use Rattle.std.proofs.lemmas.Cmp.{tied_itself, nat_list_cmp_total}
 use Rattle.std.proofs.lemmas.List.Elements.{All-nil, All-cons}
 use Rattle.rls_value.specs.declared.row.RowId.{RowId}
 use Rattle.rls_expr.specs.declared.table.TableDef.{TableDef}
-use Rattle.rls_catalog.specs.declared.change.Change.{Change}
-use Rattle.rls_catalog.specs.declared.change.Change.TheVariants as c
-use Rattle.rls_catalog.specs.declared.change.RowChange.{RowChange}
-use Rattle.rls_catalog.specs.declared.stored.Keyed.{Keyed}
-use Rattle.rls_catalog.specs.declared.stored.Stored.{Stored}
-use Rattle.rls_catalog.specs.State.{State, id_order, rows_of, table_of, entries_of}
-use Rattle.rls_catalog.specs.Changed.{changed, changed_all, with_row}
-use Rattle.rls_catalog.proofs.ContentsLaws.{is_name, same_name}
-use Rattle.rls_catalog.proofs.RowsChanged.{entries_of_changed}
-use Rattle.rls_catalog.specs.InOrder.{Ascend, RowsInOrder}
-use Rattle.rls_catalog.proofs.InOrderLaws.{none_ascend}
-use Rattle.rls_catalog.specs.SoundRows.{AreSound, AreSoundIn, RowsAreSound, StandsAt}
-use Rattle.rls_dml.specs.Deleting.{deleted_row}
-use Rattle.rls_dml.specs.Inserting.{inserted_row}
-use Rattle.rls_dml.specs.Keys.{CarryKeys}
-use Rattle.rls_dml.specs.Updating.{changed_rows}
-use Rattle.rls_dml.specs.Writing.{key_at}
-use Rattle.rls_dml.proofs.FittingLemmas.{rows_stand}
-use Rattle.rls_dml.proofs.WrittenLemmas.{keyed_of, with_rows, without_rows}
+use Rattle.rls_catalog.specs.{declared.change.Change.Change, declared.change.RowChange.RowChange, declared.stored.Keyed.Keyed, declared.stored.Stored.Stored, State.State, State.id_order, State.rows_of, State.table_of, State.entries_of, Changed.changed, Changed.changed_all, Changed.with_row, InOrder.Ascend, InOrder.RowsInOrder, SoundRows.AreSound, SoundRows.AreSoundIn, SoundRows.RowsAreSound, SoundRows.StandsAt}
+use Rattle.rls_catalog.proofs.{ContentsLaws.is_name, ContentsLaws.same_name, RowsChanged.entries_of_changed, InOrderLaws.none_ascend}
+use Rattle.rls_dml.specs.{Deleting.deleted_row, Inserting.inserted_row, Keys.CarryKeys, Updating.changed_rows, Writing.key_at}
+use Rattle.rls_dml.proofs.{FittingLemmas.rows_stand, WrittenLemmas.keyed_of, WrittenLemmas.with_rows, WrittenLemmas.without_rows}
 
 -- the changes leave these rows in the table, and all else that rows may be sound or not by
 pub record Leave (s : State) (table : List ℕ) (changes : List Change) (rows : List (RowId × Keyed)) : Type 0 where
@@ -39,12 +22,12 @@ pub record Leave (s : State) (table : List ℕ) (changes : List Change) (rows : 
 own_name : (name : List ℕ) → is_name name name ≡ true
 own_name name = ap is_eq (tied_itself nat_list_cmp_total name)
 
-row_here : (s : State) (change : RowChange) → entries_of (changed s (c.Row change)) change.table ≡ with_row change.id change.after (entries_of s change.table)
+row_here : (s : State) (change : RowChange) → entries_of (changed s (Change.Row change)) change.table ≡ with_row change.id change.after (entries_of s change.table)
 row_here s change =
     entries_of_changed s change change.table
     ∙ ap (λ b. cond b (with_row change.id change.after (entries_of s change.table)) (entries_of s change.table)) (own_name change.table)
 
-row_others : (s : State) (change : RowChange) (name : List ℕ) → is_name name change.table ≡ false → entries_of (changed s (c.Row change)) name ≡ entries_of s name
+row_others : (s : State) (change : RowChange) (name : List ℕ) → is_name name change.table ≡ false → entries_of (changed s (Change.Row change)) name ≡ entries_of s name
 row_others s change name other = entries_of_changed s change name ∙ ap (λ b. cond b (with_row change.id change.after (entries_of s name)) (entries_of s name)) other
 
 leave_none : (s : State) (table : List ℕ) → Leave s table [] (entries_of s table)
@@ -52,8 +35,8 @@ leave_none s table = record { tables = λ name. refl; here = refl; others = λ n
 
 -- what is left by the first change and then by the others
 leave_more : (s : State) (change : RowChange) (more : List Change) (left : List (RowId × Keyed) → List (RowId × Keyed))
-    → Leave (changed s (c.Row change)) change.table more (left (entries_of (changed s (c.Row change)) change.table))
-    → Leave s change.table (c.Row change ∷ more) (left (with_row change.id change.after (entries_of s change.table)))
+    → Leave (changed s (Change.Row change)) change.table more (left (entries_of (changed s (Change.Row change)) change.table))
+    → Leave s change.table (Change.Row change ∷ more) (left (with_row change.id change.after (entries_of s change.table)))
 leave_more s change more left rest = record {
   tables = rest.tables;
   here = rest.here ∙ ap left (row_here s change);
@@ -65,7 +48,7 @@ pub inserted_leave : (s : State) (table : List ℕ) (rows : List Stored) → Lea
 inserted_leave s table [] = leave_none s table
 inserted_leave s table (stored ∷ rows) =
     let change : RowChange = record { table = table; id = stored.id; before = None; after = Some (keyed_of stored) } in
-    leave_more s change (map (inserted_row table) rows) (with_rows rows) (inserted_leave (changed s (c.Row change)) table rows)
+    leave_more s change (map (inserted_row table) rows) (with_rows rows) (inserted_leave (changed s (Change.Row change)) table rows)
 
 -- the rows have the numbers of the old ones, one after another
 abbrev pub AreRenewed : List Stored → List Stored → Type 0
@@ -81,14 +64,14 @@ changed_leave s table (old ∷ olds) [] renewed = absurd renewed
 changed_leave s table (old ∷ olds) (new ∷ news) renewed =
     let change : RowChange = record { table = table; id = old.id; before = Some (keyed_of old); after = Some (keyed_of new) } in
     subst (λ id. Leave s table (changed_rows table (old ∷ olds) (new ∷ news)) (with_rows news (insert_entry id_order (entries_of s table) id (keyed_of new)))) renewed.0
-    (leave_more s change (changed_rows table olds news) (with_rows news) (changed_leave (changed s (c.Row change)) table olds news renewed.1))
+    (leave_more s change (changed_rows table olds news) (with_rows news) (changed_leave (changed s (Change.Row change)) table olds news renewed.1))
 
 -- rows that are taken out
 pub deleted_leave : (s : State) (table : List ℕ) (rows : List Stored) → Leave s table (map (deleted_row table) rows) (without_rows rows (entries_of s table))
 deleted_leave s table [] = leave_none s table
 deleted_leave s table (stored ∷ rows) =
     let change : RowChange = record { table = table; id = stored.id; before = Some (keyed_of stored); after = None } in
-    leave_more s change (map (deleted_row table) rows) (without_rows rows) (deleted_leave (changed s (c.Row change)) table rows)
+    leave_more s change (map (deleted_row table) rows) (without_rows rows) (deleted_leave (changed s (Change.Row change)) table rows)
 
 -- ---- all tables
 

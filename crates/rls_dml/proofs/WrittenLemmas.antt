@@ -1,32 +1,16 @@
 -- Rows written into a table: where they have keys of their own, each once and none that of a row that stays, keys that were
 -- unique stay unique.
 use Rattle.std.specs.Prelude.{◌≡◌, refl, ℕ, List, [], ◌∷◌, Option, Some, None, Bool, true, false, not, ◌&&◌, ◌||◌, cond, length, map}
-use Rattle.std.specs.BTreeMap.{is_at, insert_entry}
-use Rattle.std.specs.List.{AllByRecursion, list_any}
-use Rattle.std.specs.Ordering.{is_eq}
-use Rattle.std.specs.Cmp.Lexicographic.{slice_cmp}
-use Rattle.std.specs.Map.{remove_entry}
-use Rattle.std.specs.Option.{option_or}
+use Rattle.std.specs.{BTreeMap.is_at, BTreeMap.insert_entry, List.AllByRecursion, List.list_any}
+use Rattle.std.specs.{Ordering.is_eq, Cmp.Lexicographic.slice_cmp, Map.remove_entry, Option.option_or}
 use Rattle.std.proofs.Common.{ap, sym, ◌∙◌, subst}
 use Rattle.std.proofs.lemmas.Bool.{true≢false, not-false, or_left, or_right}
-use Rattle.std.proofs.lemmas.Cmp.{tied_itself}
-use Rattle.std.proofs.lemmas.Option.{none-some, same_Some}
-use Rattle.std.proofs.lemmas.Bool.Decides.{Decides-int_eq}
-use Rattle.std.proofs.Math.Nat.{suc-ne-zero}
-use Rattle.rls_value.specs.Listing.{rows_total}
-use Rattle.rls_value.specs.declared.row.RowId.{RowId}
-use Rattle.rls_value.specs.declared.value.Value.{Value}
-use Rattle.rls_value.specs.declared.value.Value.TheVariants as v
-use Rattle.rls_value.specs.Values.{is_null, listed, value_at}
+use Rattle.std.proofs.{lemmas.Cmp.tied_itself, lemmas.Bool.Decides.Decides-int_eq, Math.Nat.suc-ne-zero, lemmas.Option.none-some, lemmas.Option.same_Some}
+use Rattle.rls_value.specs.{Listing.rows_total, declared.row.RowId.RowId, declared.value.Value.Value, Values.is_null, Values.listed, Values.value_at}
 use Rattle.rls_expr.specs.declared.table.TableDef.{TableDef}
-use Rattle.rls_catalog.specs.declared.stored.Keyed.{Keyed}
-use Rattle.rls_catalog.specs.declared.stored.Stored.{Stored}
-use Rattle.rls_catalog.specs.State.{id_order, is_same_id, is_same_row, is_same_value, stored_of, with_key}
-use Rattle.rls_catalog.specs.InOrder.{Ascend}
+use Rattle.rls_catalog.specs.{declared.stored.Keyed.Keyed, declared.stored.Stored.Stored, InOrder.Ascend, SoundRows.AreSound, SoundRows.CarriesKey, SoundRows.StandsAt, State.id_order, State.is_same_id, State.is_same_row, State.is_same_value, State.stored_of, State.with_key}
 use Rattle.rls_catalog.proofs.Walks.{bytes_own}
-use Rattle.rls_catalog.specs.SoundRows.{AreSound, CarriesKey, StandsAt}
-use Rattle.rls_dml.specs.Numbers.{has_number}
-use Rattle.rls_dml.specs.Writing.{is_among, is_whole, has_doubles, keys_of, stays_any}
+use Rattle.rls_dml.specs.{Numbers.has_number, Writing.is_among, Writing.is_whole, Writing.has_doubles, Writing.keys_of, Writing.stays_any}
 use Rattle.rls_dml.proofs.PutLemmas.{found, found_gone, found_put, gone_ascends, one_number, own_number, put_ascends}
 
 -- ---- what stands at each number
@@ -170,11 +154,11 @@ one_new id other (stored ∷ rows) keyed same once here there key is =
 -- ---- beside the rows that stay
 
 own_value : (value : Value) → is_same_value value value ≡ true
-own_value v.Null = refl
-own_value (v.Int n) = (Decides-int_eq n n).1 refl
-own_value (v.Text bytes) = bytes_own bytes
-own_value (v.Bool true) = refl
-own_value (v.Bool false) = refl
+own_value Value.Null = refl
+own_value (Value.Int n) = (Decides-int_eq n n).1 refl
+own_value (Value.Text bytes) = bytes_own bytes
+own_value (Value.Bool true) = refl
+own_value (Value.Bool false) = refl
 
 -- values are the same as themselves
 own_row : (row : List Value) → is_same_row row row ≡ true

@@ -3,18 +3,12 @@
 use Rattle.std.specs.Prelude.{ℕ, List, [], Bool, true, false, Option, Some, None, Result, Ok, Err, if◌then◌else◌, slice_get, map}
 use Rattle.std.specs.List.{list_any, list_all}
 use Rattle.std.specs.Option.{option_map}
-use Rattle.rls_value.specs.declared.refusal.Refusal.{Refusal}
-use Rattle.rls_value.specs.declared.refusal.Refusal.TheVariants.{TypeFault, Undefined, Unsupported}
+use Rattle.rls_value.specs.{declared.refusal.Refusal.Refusal, declared.refusal.Refusal.TheVariants.TypeFault, declared.refusal.Refusal.TheVariants.Undefined, declared.refusal.Refusal.TheVariants.Unsupported}
 use Rattle.rls_value.specs.declared.refusal.NameKind.TheVariants as kind
-use Rattle.rls_expr.specs.declared.table.Column.{Column}
-use Rattle.rls_expr.specs.declared.typing.Typing.{Typing}
-use Rattle.rls_expr.specs.Scopes.{InScope}
+use Rattle.rls_expr.specs.{declared.table.Column.Column, declared.typing.Typing.Typing, Scopes.InScope, Tables.column_named, Parts.mentions}
 use Rattle.rls_expr.specs.Terms.{Term, maybe_term, terms_of}
-use Rattle.rls_expr.specs.Naming.{Step, names_all}
-use Rattle.rls_expr.specs.Tables.{column_named}
-use Rattle.rls_expr.specs.Placing.{Names, placed}
+use Rattle.rls_expr.specs.{Naming.Step, Naming.names_all, Placing.Names, Placing.placed}
 use Rattle.rls_expr.specs.Typing.{type_of, is_typed, takes_boolean, goes_into}
-use Rattle.rls_expr.specs.Parts.{mentions}
 use Rattle.rls_statement.specs.declared.statement.Selected.{Selected}
 use Rattle.rls_statement.specs.declared.statement.Selected.TheVariants as selected
 use Rattle.rls_guard.specs.Checks.{is_unsupported, is_unsupported_item}

@@ -1,36 +1,17 @@
 -- DELETE (PostgreSQL manual, DELETE, and 5.9): names, then types, then the privileges; then the rows that row security
 -- lets go and that WHERE holds of. A row that it hides stays, and nothing is said of it.
 use Rattle.std.specs.Prelude.{ℕ, List, [], ◌∷◌, ◌++◌, Some, None, Bool, ◌&&◌, ◌||◌, Result, Ok, map}
-use Rattle.rls_value.specs.declared.refusal.Refusal.{Refusal}
-use Rattle.rls_value.specs.declared.verb.Privilege.TheVariants as privilege
-use Rattle.rls_value.specs.declared.verb.Kind.TheVariants as kind
-use Rattle.rls_value.specs.Giving.{and_then}
-use Rattle.rls_expr.specs.declared.table.TableDef.{TableDef}
-use Rattle.rls_expr.specs.Scopes.{InScope}
-use Rattle.rls_expr.specs.Naming.{Step}
-use Rattle.rls_expr.specs.Placing.{Names}
-use Rattle.rls_catalog.specs.declared.change.Change.{Change}
+use Rattle.rls_value.specs.{declared.refusal.Refusal.Refusal, Giving.and_then, declared.verb.Privilege.Privilege, declared.verb.Kind.Kind}
+use Rattle.rls_expr.specs.{declared.table.TableDef.TableDef, Scopes.InScope, Naming.Step, Placing.Names}
+use Rattle.rls_catalog.specs.{declared.change.Change.Change, declared.stored.Stored.Stored}
 use Rattle.rls_catalog.specs.declared.change.Change.TheVariants as change
-use Rattle.rls_catalog.specs.declared.stored.Stored.{Stored}
 use Rattle.rls_statement.specs.declared.changing.Delete.{Delete}
-use Rattle.rls_guard.specs.declared.context.Ctx.{Ctx}
-use Rattle.rls_guard.specs.declared.standing.Standing.{Standing}
-use Rattle.rls_expansion.specs.declared.protection.Protection.{Protection}
-use Rattle.rls_guard.specs.declared.effect.Effect.{Effect}
+use Rattle.rls_guard.specs.{declared.context.Ctx.Ctx, declared.standing.Standing.Standing, declared.effect.Effect.Effect, Standings.standing_of, declared.reply.Decision.Decision, Naming.named, Naming.names_over}
+use Rattle.rls_expansion.specs.{declared.protection.Protection.Protection, Used.tables_if, Protecting.protection_of}
 use Rattle.rls_guard.specs.declared.effect.Effect.TheVariants as effect
-use Rattle.rls_guard.specs.Naming.{named, names_over}
-use Rattle.rls_guard.specs.Standings.{standing_of}
-use Rattle.rls_guard.specs.declared.reply.Decision.{Decision}
-use Rattle.rls_expansion.specs.Used.{tables_if}
-use Rattle.rls_expansion.specs.Protecting.{protection_of}
-use Rattle.rls_source.specs.Askings.{Asking, known, followed_by}
-use Rattle.rls_source.specs.Named.{table_or_undefined}
-use Rattle.rls_dml.specs.declared.deleting.Removal.{Removal}
-use Rattle.rls_dml.specs.Checking.{where_names, returning_names, where_placed, returning_placed, where_fits, returning_fits, fitting_or_fault, where_unsupported, returning_unsupported, supported_or_refused, where_reads, returning_reads}
-use Rattle.rls_judging.specs.Judging.{hits_of}
-use Rattle.rls_judging.specs.Candidates.{candidates}
-use Rattle.rls_dml.specs.Listings.{reply_of}
-use Rattle.rls_dml.specs.Writing.{privileges_or_denied}
+use Rattle.rls_source.specs.{Askings.Asking, Askings.known, Askings.followed_by, Named.table_or_undefined}
+use Rattle.rls_dml.specs.{declared.deleting.Removal.Removal, Listings.reply_of, Writing.privileges_or_denied, Checking.where_names, Checking.returning_names, Checking.where_placed, Checking.returning_placed, Checking.where_fits, Checking.returning_fits, Checking.fitting_or_fault, Checking.where_unsupported, Checking.returning_unsupported, Checking.supported_or_refused, Checking.where_reads, Checking.returning_reads}
+use Rattle.rls_judging.specs.{Judging.hits_of, Candidates.candidates}
 
 -- the names of the condition and of RETURNING
 abbrev pub removal_names : Delete → List Step
@@ -75,13 +56,13 @@ delete_hits role name protection removal rows = followed_by (hits_of protection.
 
 -- the rows, where the role may delete them
 unfoldable pub delete_guarded : Standing → Protection → Removal → List ℕ → List ℕ → TableDef → Asking Effect
-delete_guarded standing protection removal role name table = followed_by (privileges_or_denied standing privilege.Delete (removal_reads removal) name protection.asked) (λ _.
+delete_guarded standing protection removal role name table = followed_by (privileges_or_denied standing Privilege.Delete (removal_reads removal) name protection.asked) (λ _.
     followed_by (candidates role name table removal.condition) (λ rows. delete_hits role name protection removal rows))
 
 -- what guards the rows from the role
 unfoldable pub delete_as : Standing → List ℕ → List ℕ → TableDef → Removal → Asking Effect
 delete_as standing role name table removal =
-    followed_by (protection_of standing name table kind.Delete (removal_reads removal) (tables_if removal.condition)) (λ protection. delete_guarded standing protection removal role name table)
+    followed_by (protection_of standing name table Kind.Delete (removal_reads removal) (tables_if removal.condition)) (λ protection. delete_guarded standing protection removal role name table)
 
 -- who the role is
 unfoldable pub delete_from : List ℕ → List ℕ → TableDef → Removal → Asking Effect

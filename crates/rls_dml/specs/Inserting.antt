@@ -2,45 +2,16 @@
 -- the ranges; then the rows are judged: row security, then NOT NULL, then the primary key.
 use Rattle.std.specs.Prelude.{ℕ, suc, ◌+◌, List, [], ◌∷◌, ◌++◌, Option, Some, None, Bool, true, false, ◌&&◌, ◌||◌, nat_le, Result, Ok, Err, length, if◌then◌else◌, map}
 use Rattle.std.specs.List.{list_any, list_all}
-use Rattle.rls_value.specs.declared.value.Value.{Value}
-use Rattle.rls_value.specs.declared.value.Value.TheVariants.{Null}
-use Rattle.rls_value.specs.declared.verb.Privilege.TheVariants as privilege
-use Rattle.rls_value.specs.declared.verb.Kind.TheVariants as kind
-use Rattle.rls_value.specs.declared.refusal.Refusal.{Refusal}
-use Rattle.rls_value.specs.declared.refusal.Refusal.TheVariants.{Limit}
+use Rattle.rls_value.specs.{declared.value.Value.Value, declared.value.Value.TheVariants.Null, declared.refusal.Refusal.Refusal, declared.refusal.Refusal.TheVariants.Limit, Giving.and_then, declared.verb.Privilege.Privilege, declared.verb.Kind.Kind}
 use Rattle.rls_value.specs.declared.refusal.Limit.TheVariants as limit
-use Rattle.rls_value.specs.Giving.{and_then}
-use Rattle.rls_expr.specs.declared.table.Column.{Column}
-use Rattle.rls_expr.specs.declared.table.TableDef.{TableDef}
-use Rattle.rls_expr.specs.Terms.{Term, terms_of}
-use Rattle.rls_expr.specs.Scopes.{InScope}
-use Rattle.rls_expr.specs.Naming.{Step, names_all}
-use Rattle.rls_expr.specs.Placing.{Names}
-use Rattle.rls_catalog.specs.declared.change.Change.{Change}
-use Rattle.rls_catalog.specs.declared.change.Change.TheVariants as change
-use Rattle.rls_catalog.specs.declared.stored.Stored.{Stored}
-use Rattle.rls_statement.specs.declared.statement.Insert.{Insert}
-use Rattle.rls_statement.specs.declared.statement.Selected.{Selected}
-use Rattle.rls_guard.specs.declared.context.Ctx.{Ctx}
-use Rattle.rls_guard.specs.declared.standing.Standing.{Standing}
-use Rattle.rls_expansion.specs.declared.protection.Protection.{Protection}
-use Rattle.rls_guard.specs.declared.reply.Decision.{Decision}
-use Rattle.rls_guard.specs.declared.effect.Effect.{Effect}
-use Rattle.rls_guard.specs.declared.effect.Effect.TheVariants as effect
-use Rattle.rls_guard.specs.Checks.{is_unsupported}
-use Rattle.rls_guard.specs.Naming.{named, names_over}
-use Rattle.rls_guard.specs.Standings.{standing_of}
-use Rattle.rls_expansion.specs.Used.{all_tables}
-use Rattle.rls_expansion.specs.Protecting.{protection_of}
-use Rattle.rls_source.specs.Askings.{Asking, known, followed_by, settled}
-use Rattle.rls_source.specs.Sequences.{each_of}
-use Rattle.rls_source.specs.Named.{table_or_undefined}
-use Rattle.rls_dml.specs.declared.addition.Addition.{Addition}
-use Rattle.rls_dml.specs.Checking.{names_over_none, returning_names, place_in, returning_placed, place_or_undefined, value_fits, returning_fits, fitting_or_fault, returning_unsupported, supported_or_refused, returning_reads}
-use Rattle.rls_judging.specs.Judging.{decisions_of}
-use Rattle.rls_judging.specs.Valuing.{tuples_of}
-use Rattle.rls_dml.specs.Listings.{reply_of}
-use Rattle.rls_dml.specs.Writing.{privileges_or_denied, assigned, each_with, key_at, order_of, rows_or_refused}
+use Rattle.rls_expr.specs.{declared.table.Column.Column, declared.table.TableDef.TableDef, Scopes.InScope, Placing.Names, Terms.Term, Terms.terms_of, Naming.Step, Naming.names_all}
+use Rattle.rls_catalog.specs.{declared.change.Change.Change, declared.stored.Stored.Stored}
+use Rattle.rls_statement.specs.{declared.statement.Insert.Insert, declared.statement.Selected.Selected}
+use Rattle.rls_guard.specs.{declared.context.Ctx.Ctx, declared.standing.Standing.Standing, declared.reply.Decision.Decision, declared.effect.Effect.Effect, Checks.is_unsupported, Standings.standing_of, Naming.named, Naming.names_over}
+use Rattle.rls_expansion.specs.{declared.protection.Protection.Protection, Used.all_tables, Protecting.protection_of}
+use Rattle.rls_source.specs.{Askings.Asking, Askings.known, Askings.followed_by, Askings.settled, Sequences.each_of, Named.table_or_undefined}
+use Rattle.rls_dml.specs.{declared.addition.Addition.Addition, Listings.reply_of, Writing.privileges_or_denied, Writing.assigned, Writing.each_with, Writing.key_at, Writing.order_of, Writing.rows_or_refused, Checking.names_over_none, Checking.returning_names, Checking.place_in, Checking.returning_placed, Checking.place_or_undefined, Checking.value_fits, Checking.returning_fits, Checking.fitting_or_fault, Checking.returning_unsupported, Checking.supported_or_refused, Checking.returning_reads}
+use Rattle.rls_judging.specs.{Judging.decisions_of, Valuing.tuples_of}
 
 -- ---- its parts
 
@@ -119,14 +90,14 @@ new_rows ctx table addition values = and_then (each_with (row_of_tuple table add
 
 -- the change that puts a new row into the table
 abbrev pub inserted_row : List ℕ → Stored → Change
-inserted_row table stored = change.Row (record { table = table; id = stored.id; before = None; after = Some (record { key = stored.key; row = stored.row }) })
+inserted_row table stored = Change.Row (record { table = table; id = stored.id; before = None; after = Some (record { key = stored.key; row = stored.row }) })
 
 -- ---- the statement
 
 -- the decisions stand also where the rows are refused
 abbrev pub inserted : List ℕ → Option Selected → List ℕ → List Decision → List Stored → Result (Unit {0}) Refusal → Effect
-inserted table returning role decisions rows (Ok _) = effect.Done (reply_of returning role (map (λ stored. stored.row) rows)) decisions (map (inserted_row table) rows) None
-inserted table returning role decisions rows (Err refusal) = effect.Refused refusal decisions
+inserted table returning role decisions rows (Ok _) = Effect.Done (reply_of returning role (map (λ stored. stored.row) rows)) decisions (map (inserted_row table) rows) None
+inserted table returning role decisions rows (Err refusal) = Effect.Refused refusal decisions
 
 -- each new row is judged, and then all are put in or none
 unfoldable pub insert_judged : List ℕ → List ℕ → TableDef → Addition → List Stored → List Decision → Asking Effect
@@ -148,7 +119,7 @@ insert_values ctx name table protection addition = followed_by (tuples_of protec
 
 -- the privileges, then the values
 unfoldable pub insert_guarded : Ctx → List ℕ → TableDef → Standing → Protection → Addition → Asking Effect
-insert_guarded ctx name table standing protection addition = followed_by (privileges_or_denied standing privilege.Insert (returning_reads addition.returning) name protection.asked) (λ _.
+insert_guarded ctx name table standing protection addition = followed_by (privileges_or_denied standing Privilege.Insert (returning_reads addition.returning) name protection.asked) (λ _.
     insert_values ctx name table protection addition)
 
 -- the tables of the tuples' subqueries
@@ -159,7 +130,7 @@ tuples_tables (tuple ∷ tuples) = all_tables tuple ++ tuples_tables tuples
 -- what guards the new rows from the role
 unfoldable pub insert_as : Ctx → List ℕ → TableDef → Standing → Addition → Asking Effect
 insert_as ctx name table standing addition =
-    followed_by (protection_of standing name table kind.Insert (returning_reads addition.returning) (tuples_tables addition.tuples)) (λ protection. insert_guarded ctx name table standing protection addition)
+    followed_by (protection_of standing name table Kind.Insert (returning_reads addition.returning) (tuples_tables addition.tuples)) (λ protection. insert_guarded ctx name table standing protection addition)
 
 -- who the role is
 unfoldable pub insert_into : Ctx → List ℕ → TableDef → Addition → Asking Effect

@@ -1,35 +1,17 @@
 -- SELECT (PostgreSQL manual, SELECT, and 5.9): names, then types, then the privilege; then the rows that row security
 -- shows and that WHERE holds of.
 use Rattle.std.specs.Prelude.{ℕ, List, [], ◌∷◌, ◌++◌, None, false, ◌&&◌, ◌||◌, Result, Ok, map, unwrap_or}
-use Rattle.rls_value.specs.declared.refusal.Refusal.{Refusal}
-use Rattle.rls_value.specs.declared.verb.Privilege.TheVariants as privilege
+use Rattle.rls_value.specs.{declared.refusal.Refusal.Refusal, Giving.and_then, declared.verb.Privilege.Privilege}
 use Rattle.rls_value.specs.declared.verb.Kind.TheVariants as kind
-use Rattle.rls_value.specs.Giving.{and_then}
-use Rattle.rls_expr.specs.declared.table.TableDef.{TableDef}
-use Rattle.rls_expr.specs.Scopes.{InScope}
-use Rattle.rls_expr.specs.Naming.{Step}
-use Rattle.rls_expr.specs.Placing.{Names}
+use Rattle.rls_expr.specs.{declared.table.TableDef.TableDef, Scopes.InScope, Naming.Step, Placing.Names}
 use Rattle.rls_catalog.specs.declared.stored.Stored.{Stored}
 use Rattle.rls_statement.specs.declared.statement.Select.{Select}
-use Rattle.rls_guard.specs.declared.context.Ctx.{Ctx}
-use Rattle.rls_guard.specs.declared.standing.Standing.{Standing}
-use Rattle.rls_expansion.specs.declared.protection.Protection.{Protection}
-use Rattle.rls_guard.specs.declared.reply.Reply.TheVariants.{Rows}
-use Rattle.rls_guard.specs.declared.effect.Effect.{Effect}
+use Rattle.rls_guard.specs.{declared.context.Ctx.Ctx, declared.standing.Standing.Standing, declared.reply.Reply.TheVariants.Rows, declared.effect.Effect.Effect, Standings.standing_of, declared.reply.Decision.Decision, Naming.named, Naming.names_over}
+use Rattle.rls_expansion.specs.{declared.protection.Protection.Protection, Used.tables_if, Protecting.protection_of}
 use Rattle.rls_guard.specs.declared.effect.Effect.TheVariants as effect
-use Rattle.rls_guard.specs.Naming.{named, names_over}
-use Rattle.rls_guard.specs.Standings.{standing_of}
-use Rattle.rls_guard.specs.declared.reply.Decision.{Decision}
-use Rattle.rls_expansion.specs.Used.{tables_if}
-use Rattle.rls_expansion.specs.Protecting.{protection_of}
-use Rattle.rls_dml.specs.Writing.{privileges_or_denied}
-use Rattle.rls_source.specs.Askings.{Asking, known, followed_by}
-use Rattle.rls_source.specs.Named.{table_or_undefined}
-use Rattle.rls_dml.specs.declared.selecting.Query.{Query}
-use Rattle.rls_dml.specs.Checking.{selection_names, where_names, selection_placed, where_placed, selection_fits, where_fits, fitting_or_fault, selection_unsupported, where_unsupported, supported_or_refused}
-use Rattle.rls_judging.specs.Judging.{hits_of}
-use Rattle.rls_judging.specs.Candidates.{candidates}
-use Rattle.rls_dml.specs.Listings.{answered}
+use Rattle.rls_dml.specs.{Writing.privileges_or_denied, declared.selecting.Query.Query, Listings.answered, Checking.selection_names, Checking.where_names, Checking.selection_placed, Checking.where_placed, Checking.selection_fits, Checking.where_fits, Checking.fitting_or_fault, Checking.selection_unsupported, Checking.where_unsupported, Checking.supported_or_refused}
+use Rattle.rls_source.specs.{Askings.Asking, Askings.known, Askings.followed_by, Named.table_or_undefined}
+use Rattle.rls_judging.specs.{Judging.hits_of, Candidates.candidates}
 
 -- what qualifies the columns: the alias or, without one, the table's name
 abbrev pub qualifier_of : Select → List ℕ
@@ -66,7 +48,7 @@ listed_from role protection query rows = followed_by (hits_of protection.old pro
 
 -- the rows, where the role may read the table
 unfoldable pub listed_for : Standing → Protection → Query → List ℕ → List ℕ → TableDef → Asking Effect
-listed_for standing protection query role name table = followed_by (privileges_or_denied standing privilege.Select false name protection.asked) (λ _.
+listed_for standing protection query role name table = followed_by (privileges_or_denied standing Privilege.Select false name protection.asked) (λ _.
     followed_by (candidates role name table query.condition) (λ rows. listed_from role protection query rows))
 
 -- what guards the rows from the role, and the rows

@@ -2,44 +2,16 @@
 -- lets change and that WHERE holds of get their new values: their ranges come before the new rows are judged.
 use Rattle.std.specs.Prelude.{ℕ, List, [], ◌∷◌, ◌++◌, Some, None, Bool, true, ◌&&◌, ◌||◌, Result, Ok, Err, map}
 use Rattle.std.specs.List.{list_any}
-use Rattle.rls_value.specs.declared.refusal.Refusal.{Refusal}
-use Rattle.rls_value.specs.declared.verb.Privilege.TheVariants as privilege
-use Rattle.rls_value.specs.declared.verb.Kind.TheVariants as kind
-use Rattle.rls_value.specs.declared.value.Value.{Value}
-use Rattle.rls_value.specs.Giving.{and_then}
-use Rattle.rls_expr.specs.declared.table.Column.{Column}
-use Rattle.rls_expr.specs.declared.table.TableDef.{TableDef}
-use Rattle.rls_expr.specs.Parts.{mentions}
-use Rattle.rls_expr.specs.Scopes.{InScope}
-use Rattle.rls_expr.specs.Naming.{Step, Look, names_of}
-use Rattle.rls_expr.specs.Placing.{Names}
-use Rattle.rls_expr.specs.Terms.{Term}
-use Rattle.rls_catalog.specs.declared.change.Change.{Change}
-use Rattle.rls_catalog.specs.declared.change.Change.TheVariants as change
-use Rattle.rls_catalog.specs.declared.stored.Stored.{Stored}
-use Rattle.rls_statement.specs.declared.changing.Setting.{Setting}
-use Rattle.rls_statement.specs.declared.changing.Update.{Update}
-use Rattle.rls_guard.specs.declared.context.Ctx.{Ctx}
-use Rattle.rls_guard.specs.declared.standing.Standing.{Standing}
-use Rattle.rls_expansion.specs.declared.protection.Protection.{Protection}
-use Rattle.rls_guard.specs.declared.reply.Decision.{Decision}
-use Rattle.rls_guard.specs.declared.effect.Effect.{Effect}
+use Rattle.rls_value.specs.{declared.refusal.Refusal.Refusal, declared.value.Value.Value, Giving.and_then, declared.verb.Privilege.Privilege, declared.verb.Kind.Kind}
+use Rattle.rls_expr.specs.{declared.table.Column.Column, declared.table.TableDef.TableDef, Parts.mentions, Scopes.InScope, Placing.Names, Terms.Term, Naming.Step, Naming.Look, Naming.names_of}
+use Rattle.rls_catalog.specs.{declared.change.Change.Change, declared.stored.Stored.Stored}
+use Rattle.rls_statement.specs.{declared.changing.Setting.Setting, declared.changing.Update.Update}
+use Rattle.rls_guard.specs.{declared.context.Ctx.Ctx, declared.standing.Standing.Standing, declared.reply.Decision.Decision, declared.effect.Effect.Effect, Support.is_unsupported, Standings.standing_of, Naming.named, Naming.names_over}
+use Rattle.rls_expansion.specs.{declared.protection.Protection.Protection, Protecting.protection_of, Used.all_tables, Used.tables_if}
 use Rattle.rls_guard.specs.declared.effect.Effect.TheVariants as effect
-use Rattle.rls_guard.specs.Support.{is_unsupported}
-use Rattle.rls_guard.specs.Naming.{named, names_over}
-use Rattle.rls_guard.specs.Standings.{standing_of}
-use Rattle.rls_expansion.specs.Used.{all_tables, tables_if}
-use Rattle.rls_expansion.specs.Protecting.{protection_of}
-use Rattle.rls_source.specs.Askings.{Asking, known, followed_by, settled}
-use Rattle.rls_source.specs.Sequences.{each_of}
-use Rattle.rls_source.specs.Named.{table_or_undefined}
-use Rattle.rls_dml.specs.declared.revision.Revision.{Revision}
-use Rattle.rls_dml.specs.Checking.{where_names, returning_names, place_in, where_placed, returning_placed, place_or_undefined, value_fits, where_fits, returning_fits, fitting_or_fault, where_unsupported, returning_unsupported, supported_or_refused, where_reads, returning_reads}
-use Rattle.rls_judging.specs.Judging.{hits_of, decisions_of}
-use Rattle.rls_judging.specs.Valuing.{settings_of}
-use Rattle.rls_judging.specs.Candidates.{candidates}
-use Rattle.rls_dml.specs.Listings.{reply_of}
-use Rattle.rls_dml.specs.Writing.{privileges_or_denied, assigned, each_with, key_at, order_of, rows_or_refused}
+use Rattle.rls_source.specs.{Askings.Asking, Askings.known, Askings.followed_by, Askings.settled, Sequences.each_of, Named.table_or_undefined}
+use Rattle.rls_dml.specs.{declared.revision.Revision.Revision, Listings.reply_of, Writing.privileges_or_denied, Writing.assigned, Writing.each_with, Writing.key_at, Writing.order_of, Writing.rows_or_refused, Checking.where_names, Checking.returning_names, Checking.place_in, Checking.where_placed, Checking.returning_placed, Checking.place_or_undefined, Checking.value_fits, Checking.where_fits, Checking.returning_fits, Checking.fitting_or_fault, Checking.where_unsupported, Checking.returning_unsupported, Checking.supported_or_refused, Checking.where_reads, Checking.returning_reads}
+use Rattle.rls_judging.specs.{Judging.hits_of, Judging.decisions_of, Valuing.settings_of, Candidates.candidates}
 
 -- ---- its parts
 
@@ -101,7 +73,7 @@ updated_row table places stored values =
 
 -- the change from the old row to the new one
 abbrev pub changed_row : List ℕ → Stored → Stored → Change
-changed_row table old new = change.Row (record { table = table; id = old.id; before = Some (record { key = old.key; row = old.row }); after = Some (record { key = new.key; row = new.row }) })
+changed_row table old new = Change.Row (record { table = table; id = old.id; before = Some (record { key = old.key; row = old.row }); after = Some (record { key = new.key; row = new.row }) })
 
 -- the changes from the old rows to the new ones
 abbrev pub changed_rows : List ℕ → List Stored → List Stored → List Change
@@ -138,7 +110,7 @@ update_hits role name table protection revision rows = followed_by (hits_of prot
 
 -- the rows, where the role may change them
 unfoldable pub update_guarded : Standing → Protection → Revision → List ℕ → List ℕ → TableDef → Asking Effect
-update_guarded standing protection revision role name table = followed_by (privileges_or_denied standing privilege.Update (revision_reads revision) name protection.asked) (λ _.
+update_guarded standing protection revision role name table = followed_by (privileges_or_denied standing Privilege.Update (revision_reads revision) name protection.asked) (λ _.
     followed_by (candidates role name table revision.condition) (λ rows. update_hits role name table protection revision rows))
 
 -- the tables of its subqueries: to the right of SET's equal signs, then in WHERE
@@ -148,7 +120,7 @@ revision_tables revision = all_tables (map (λ setting. setting.1) revision.sett
 -- what guards the rows from the role, before and after
 unfoldable pub update_as : Standing → List ℕ → List ℕ → TableDef → Revision → Asking Effect
 update_as standing role name table revision =
-    followed_by (protection_of standing name table kind.Update (revision_reads revision) (revision_tables revision)) (λ protection. update_guarded standing protection revision role name table)
+    followed_by (protection_of standing name table Kind.Update (revision_reads revision) (revision_tables revision)) (λ protection. update_guarded standing protection revision role name table)
 
 -- who the role is
 unfoldable pub update_in : List ℕ → List ℕ → TableDef → Revision → Asking Effect

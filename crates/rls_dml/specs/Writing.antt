@@ -4,28 +4,13 @@ use Rattle.std.specs.Prelude.{ℕ, suc, List, [], ◌∷◌, ◌++◌, Option, S
 use Rattle.std.specs.List.{list_any}
 use Rattle.std.specs.Cmp.Lexicographic.{slice_cmp}
 use Rattle.std.specs.Ordering.{is_eq, is_lt}
-use Rattle.rls_value.specs.declared.value.Value.{Value}
-use Rattle.rls_value.specs.declared.value.Value.TheVariants.{Null}
-use Rattle.rls_value.specs.declared.verb.Kind.{Kind}
-use Rattle.rls_value.specs.declared.verb.Privilege.{Privilege}
-use Rattle.rls_value.specs.declared.verb.Privilege.TheVariants as privileges
-use Rattle.rls_value.specs.declared.refusal.Refusal.{Refusal}
-use Rattle.rls_value.specs.declared.refusal.Refusal.TheVariants.{NotNull, Unique, Denied}
-use Rattle.rls_value.specs.declared.refusal.Why.TheVariants as why
-use Rattle.rls_value.specs.Giving.{and_then}
-use Rattle.rls_value.specs.Values.{is_null, value_at, listed}
+use Rattle.rls_value.specs.{declared.value.Value.Value, declared.value.Value.TheVariants.Null, declared.verb.Kind.Kind, declared.verb.Privilege.Privilege, declared.object.Object.Object, declared.object.Object.TheVariants.Key, declared.refusal.Refusal.Refusal, Giving.and_then, declared.refusal.Refusal.TheVariants.NotNull, declared.refusal.Refusal.TheVariants.Unique, declared.refusal.Refusal.TheVariants.Denied, Values.is_null, Values.value_at, Values.listed, declared.refusal.Why.Why}
 use Rattle.rls_expr.specs.declared.table.Column.{Column}
-use Rattle.rls_catalog.specs.declared.verdict.Verdict.{Verdict}
+use Rattle.rls_catalog.specs.{declared.verdict.Verdict.Verdict, declared.stored.Stored.Stored}
 use Rattle.rls_catalog.specs.declared.verdict.Verdict.TheVariants as verdict
-use Rattle.rls_catalog.specs.declared.stored.Stored.{Stored}
-use Rattle.rls_guard.specs.declared.reply.Decision.{Decision}
-use Rattle.rls_guard.specs.declared.standing.Standing.{Standing}
-use Rattle.rls_evaluation.specs.Environments.{assigned_value}
-use Rattle.rls_evaluation.specs.Showing.{allows}
-use Rattle.rls_guard.specs.Standings.{privilege_or_denied}
-use Rattle.rls_source.specs.Askings.{Asking, known, asked_if, followed_by}
-use Rattle.rls_source.specs.Asked.{asked_key}
-use Rattle.rls_source.specs.Sequences.{each_or_refused}
+use Rattle.rls_guard.specs.{declared.reply.Decision.Decision, declared.standing.Standing.Standing, Standings.privilege_or_denied}
+use Rattle.rls_evaluation.specs.{Environments.assigned_value, Showing.allows}
+use Rattle.rls_source.specs.{Askings.Asking, Askings.known, Askings.asked_if, Askings.followed_by, Asked.asked_key, Sequences.each_or_refused}
 use Rattle.rls_dml.specs.Numbers.{has_number}
 
 -- ---- privileges
@@ -33,12 +18,12 @@ use Rattle.rls_dml.specs.Numbers.{has_number}
 -- SELECT on each of the tables
 abbrev pub readable_or_denied : Standing → List (List ℕ) → Asking (Unit {0})
 readable_or_denied standing [] = known (Ok tt)
-readable_or_denied standing (name ∷ names) = followed_by (privilege_or_denied standing privileges.Select name) (λ _. readable_or_denied standing names)
+readable_or_denied standing (name ∷ names) = followed_by (privilege_or_denied standing Privilege.Select name) (λ _. readable_or_denied standing names)
 
 -- that of the command, and SELECT where it reads the table
 abbrev pub own_or_denied : Standing → Privilege → Bool → List ℕ → Asking (Unit {0})
 own_or_denied standing privilege reads name = followed_by (privilege_or_denied standing privilege name) (λ _.
-    asked_if reads (privilege_or_denied standing privileges.Select name) (known (Ok tt)))
+    asked_if reads (privilege_or_denied standing Privilege.Select name) (known (Ok tt)))
 
 -- the same, then SELECT on each table that subqueries look at, those of policies too
 abbrev pub privileges_or_denied : Standing → Privilege → Bool → List ℕ → List (List ℕ) → Asking (Unit {0})
@@ -82,8 +67,8 @@ key_at places row = map (value_at row) places
 abbrev pub verdict_or_denied : List ℕ → Kind → Verdict → Result (Unit {0}) Refusal
 verdict_or_denied table command verdict.Exempt = Ok tt
 verdict_or_denied table command (verdict.By policy) = Ok tt
-verdict_or_denied table command verdict.NoPermissive = Err (Denied (why.NoPermissive table command))
-verdict_or_denied table command (verdict.Restrictive policy) = Err (Denied (why.Restrictive policy table))
+verdict_or_denied table command verdict.NoPermissive = Err (Denied (Why.NoPermissive table command))
+verdict_or_denied table command (verdict.Restrictive policy) = Err (Denied (Why.Restrictive policy table))
 
 -- what a decision refuses
 abbrev pub allowed_or_denied : List ℕ → Decision → Result (Unit {0}) Refusal
@@ -157,6 +142,10 @@ stays_any replaced rows = list_any (λ stored. not (has_number replaced stored.i
 abbrev pub keys_taken : List ℕ → List Stored → List (List Value) → Asking Bool
 keys_taken table replaced [] = known (Ok false)
 keys_taken table replaced (key ∷ keys) = followed_by (asked_key table key) (λ rows. followed_by (keys_taken table replaced keys) (λ rest. known (Ok (stays_any replaced rows || rest))))
+
+-- what is read for it: each key
+abbrev pub keys_read : List ℕ → List (List Value) → List Object
+keys_read table keys = map (λ key. Key table key) keys
 
 -- no key is that of a row that stays, or of two new ones
 abbrev pub unique_or_refused : List ℕ → List Stored → List (List Value) → Asking (Unit {0})

@@ -3,12 +3,9 @@
 ghost use Rattle.std.specs.Prelude.{◌≡◌, [], ◌∷◌, ◌++◌, ◌+◌, ◌≤◌, length, map, Ok, IfOk, OnOk};
 ghost use Rattle.std.specs.List.{list_any, list_all};
 ghost use Rattle.rls_value.specs.Giving.{Gives, and_then};
-ghost use Rattle.rls_expr.specs.Naming.{step_of};
-ghost use Rattle.rls_expr.specs.Placing.{names_in};
-ghost use Rattle.rls_source.specs.Answering.{Answers};
-ghost use Rattle.rls_source.specs.Sequences.{each_of};
-ghost use Rattle.rls_guard.specs.Checks.{is_unsupported};
-ghost use Rattle.rls_guard.specs.Naming.{named, names_over};
+ghost use Rattle.rls_expr.specs.{Naming.step_of, Placing.names_in};
+ghost use Rattle.rls_source.specs.{Answering.Answers, Sequences.each_of};
+ghost use Rattle.rls_guard.specs.{Checks.is_unsupported, Naming.named, Naming.names_over};
 ghost use Rattle.rls_dml.specs.Checking.{place_or_undefined, names_over_none, returning_names, returning_placed};
 ghost use Rattle.rls_dml.specs.Inserting as spec;
 

@@ -2,21 +2,13 @@
 
 ghost use Rattle.std.specs.Prelude.{ℕ, List, Ok, length, map};
 ghost use Rattle.rls_expr.specs.declared.table.TableDef.{TableDef};
-ghost use Rattle.rls_catalog.specs.declared.stored.Stored.{Stored};
-ghost use Rattle.rls_catalog.specs.Bases.{FitsAll};
-ghost use Rattle.rls_catalog.specs.InOrder.{RowsInOrder};
-ghost use Rattle.rls_catalog.specs.State.{State};
-ghost use Rattle.rls_statement.specs.declared.changing.Delete.{Delete};
-ghost use Rattle.rls_statement.specs.declared.changing.Update.{Update};
-ghost use Rattle.rls_statement.specs.declared.statement.Insert.{Insert};
-ghost use Rattle.rls_guard.specs.declared.context.Ctx.{Ctx};
-ghost use Rattle.rls_guard.specs.declared.reply.Decision.{Decision};
+ghost use Rattle.rls_catalog.specs.{declared.stored.Stored.Stored, Bases.FitsAll, InOrder.RowsInOrder, State.State};
+ghost use Rattle.rls_statement.specs.{declared.changing.Delete.Delete, declared.changing.Update.Update, declared.statement.Insert.Insert};
+ghost use Rattle.rls_guard.specs.{declared.context.Ctx.Ctx, declared.reply.Decision.Decision};
 ghost use Rattle.rls_expansion.specs.declared.protection.Protection.{Protection};
-ghost use Rattle.rls_dml.specs.declared.deleting.Removal.{Removal};
-ghost use Rattle.rls_dml.specs.declared.revision.Revision.{Revision};
+ghost use Rattle.rls_dml.specs.{declared.deleting.Removal.Removal, declared.revision.Revision.Revision, Inserting.insert};
 ghost use Rattle.rls_dml.specs.Deleting.{delete, deleted};
 ghost use Rattle.rls_dml.specs.Fitting.{IfDone, NumbersFree, numbers_from, Overwrite};
-ghost use Rattle.rls_dml.specs.Inserting.{insert};
 ghost use Rattle.rls_dml.specs.Updating.{update, update_values};
 
 /// Each change of a statement names as before what the earlier ones leave at its place: of an INSERT where the numbers

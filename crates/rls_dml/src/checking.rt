@@ -3,9 +3,7 @@
 ghost use Rattle.std.specs.Prelude.{◌≡◌, ◌++◌, map, slice_get, IfOk, OnOk};
 ghost use Rattle.std.specs.List.{list_any, list_all};
 ghost use Rattle.rls_value.specs.Giving.{Gives};
-ghost use Rattle.rls_expr.specs.Parts.{mentions};
-ghost use Rattle.rls_expr.specs.Naming.{step_of};
-ghost use Rattle.rls_expr.specs.Placing.{names_in};
+ghost use Rattle.rls_expr.specs.{Parts.mentions, Naming.step_of, Placing.names_in};
 ghost use Rattle.rls_expansion.specs.Used.{tables_if};
 ghost use Rattle.rls_guard.specs.Checks.{is_unsupported_item as spec_unsupported_item};
 ghost use Rattle.rls_dml.specs.Checking as spec;

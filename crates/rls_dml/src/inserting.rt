@@ -3,13 +3,10 @@
 ghost use Rattle.std.specs.Prelude.{◌≡◌, ◌+◌, ◌≤◌, [], ◌∷◌, None, length, map, IfOk};
 ghost use Rattle.rls_value.specs.Giving.{Gives};
 ghost use Rattle.rls_source.specs.Answering.{Answers, Tells};
-ghost use Rattle.rls_dml.specs.Listings.{reply_of as spec_reply_of};
+ghost use Rattle.rls_dml.specs.{Listings.reply_of as spec_reply_of, Checking.returning_reads as spec_returning_reads, Writing.assigned, Writing.each_with, Writing.rows_or_refused, Writing.order_of as spec_order_of};
 ghost use Rattle.rls_evaluation.specs.Scoping.{held_value};
 ghost use Rattle.rls_expansion.specs.Protecting.{protection_of};
-ghost use Rattle.rls_judging.specs.Handed.{held_each, values_held};
-ghost use Rattle.rls_judging.specs.Valuing.{tuples_of};
-ghost use Rattle.rls_dml.specs.Checking.{returning_reads as spec_returning_reads};
-ghost use Rattle.rls_dml.specs.Writing.{assigned, each_with, rows_or_refused, order_of as spec_order_of};
+ghost use Rattle.rls_judging.specs.{Handed.held_each, Handed.values_held, Valuing.tuples_of};
 ghost use Rattle.rls_dml.specs.Inserting as spec;
 
 use crate::addition::{Addition, known_addition};
@@ -383,11 +380,10 @@ fn require_inserted<'c, 'x, S: RowSource<'c>>(
     ensures { Answers S.state S.after (rows_or_refused from.entry.name.now from.entry.table.now.columns (spec_order_of places.now from.entry.table.now.columns) decisions.now [] rows.now) source.old source.new notes.old notes.new result }
 {
     let order = order_of(alloc, places, from.table.columns.as_slice())?;
-    let replaced = Replaced::new(alloc, &[])?;
+    let replaced = Replaced::new(&[], false);
     let found = require_rows(
         alloc, source, notes, from, &order, decisions, &replaced, rows,
     );
-    drop(replaced);
     drop(order);
     found
 }

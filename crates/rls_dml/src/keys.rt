@@ -1,16 +1,17 @@
 //! The primary keys of new rows.
 
-ghost use Rattle.std.specs.Prelude.{◌≡◌, map, IfOk, IsTrue};
+ghost use Rattle.std.specs.Prelude.{◌≡◌, ◌++◌, map, false, IfOk, OnOk, IsTrue};
 ghost use Rattle.std.specs.List.{list_any};
 ghost use Rattle.rls_value.specs.Values.{is_null, value_at};
+ghost use Rattle.rls_catalog.specs.State.{rows_of};
 ghost use Rattle.rls_source.specs.Answering.{Answers, Tells};
 ghost use Rattle.rls_dml.specs.Writing as spec;
 ghost use Rattle.rls_dml.specs.Writing.{unique_or_refused, keys_taken, has_doubles};
 
-use crate::replaced::Replaced;
+use crate::replaced::{Numbers, Replaced};
 use rls_catalog::{Lent, Stored};
 use rls_source::{Reads, RowSource, noted_key};
-use rls_value::{Name, Refusal, Row, Value, cmp_values};
+use rls_value::{Name, Object, Refusal, Row, Value, cmp_values};
 use std::alloc::{AllocError, Global};
 use std::cmp::Ordering;
 use std::collections::BTreeSet;
@@ -115,13 +116,94 @@ fn have_null(values: &[Value]) -> bool
     values.iter().any(|value| value.is_null())
 }
 
-/// Whether a row of the table that stays has one of the keys. All are looked up.
+/// Whether a row of the table that stays has one of the keys. All are read; where no row stays none has to be looked up.
+#[tactic(auto, using(crate::proofs::StayingLemmas::none_taken_gives, crate::proofs::StayingLemmas::none_taken_reads))]
 fn are_taken<'c, S: RowSource<'c>>(
     alloc: Global,
     source: &mut S,
     notes: &mut Reads,
     name: &Name,
     replaced: &Replaced<'_, 'c>,
+    keys: &[Row],
+) -> Result<bool, AllocError>
+    ensures { Tells S.state S.after (keys_taken name.now replaced.now keys.now) source.old source.new notes.old notes.new result }
+{
+    if none_stays(alloc, &*source, name, &*replaced)? {
+        read_keys(alloc, source, notes, name, keys)?;
+        Ok(false)
+    } else {
+        let numbers = replaced.numbers(alloc)?;
+        let taken = have_taken(alloc, source, notes, name, &numbers, keys);
+        drop(numbers);
+        taken
+    }
+}
+
+/// Whether no row of the table stays, where that is seen at a look at the table, which is no read.
+#[tactic(auto, using(crate::proofs::StayingLemmas::none_of_those))]
+fn none_stays<'c, S: RowSource<'c>>(
+    alloc: Global,
+    source: &S,
+    name: &Name,
+    replaced: &Replaced<'_, 'c>,
+) -> Result<bool, AllocError>
+    ensures { IfOk result (λ none. IsTrue none → spec.stays_any replaced.now (rows_of (S.state source.now) name.now) ≡ false) }
+{
+    if replaced.may_be_all() {
+        let rows = source.look(alloc, name)?;
+        Ok(replaced.are_numbered_as(rows.as_slice()))
+    } else {
+        Ok(false)
+    }
+}
+
+/// Reads the keys without a look-up.
+fn read_keys<'c, S: RowSource<'c>>(
+    alloc: Global,
+    source: &mut S,
+    notes: &mut Reads,
+    name: &Name,
+    keys: &[Row],
+) -> Result<(), AllocError>
+    ensures noted { OnOk result (notes.new ≡ notes.old ++ spec.keys_read name.now keys.now) }
+    ensures read { OnOk result (source.new ≡ S.after source.old (spec.keys_read name.now keys.now)) }
+    ensures state { S.state source.new ≡ S.state source.old }
+{
+    let objects = key_objects(alloc, name, keys)?;
+    source.mark(alloc, &objects)?;
+    notes.note_all(objects)
+}
+
+fn key_objects(alloc: Global, name: &Name, keys: &[Row]) -> Result<Vec<Object>, AllocError>
+    ensures { IfOk result (λ objects. objects.items ≡ spec.keys_read name.now keys.now) }
+{
+    let mut objects = Vec::with_capacity(alloc, keys.len())?;
+    for key in keys {
+        objects.push(key_object(alloc, name, key)?)?;
+    }
+    Ok(objects)
+}
+
+fn key_object(alloc: Global, name: &Name, key: &Row) -> Result<Object, AllocError>
+    ensures { IfOk result (λ object. object ≡ Object.Key name.now key.now) }
+{
+    let key = key.copy(alloc)?;
+    match name.copy() {
+        Ok(name) => Ok(Object::Key(name, key)),
+        Err(refused) => {
+            drop(key);
+            Err(refused)
+        }
+    }
+}
+
+/// Whether a row of the table that stays has one of the keys. All are looked up.
+fn have_taken<'c, S: RowSource<'c>>(
+    alloc: Global,
+    source: &mut S,
+    notes: &mut Reads,
+    name: &Name,
+    replaced: &Numbers<'_, 'c>,
     keys: &[Row],
 ) -> Result<bool, AllocError>
     ensures { Tells S.state S.after (keys_taken name.now replaced.now keys.now) source.old source.new notes.old notes.new result }
@@ -135,7 +217,7 @@ fn are_taken<'c, S: RowSource<'c>>(
 }
 
 /// Whether one of the rows stays.
-fn stays_any(replaced: &Replaced<'_, '_>, rows: &[Lent<'_>]) -> bool
+fn stays_any(replaced: &Numbers<'_, '_>, rows: &[Lent<'_>]) -> bool
     ensures { result ≡ spec.stays_any replaced.now rows.now }
 {
     rows.iter().any(|row| !replaced.has(row.id()))

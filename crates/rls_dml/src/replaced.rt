@@ -1,6 +1,7 @@
 //! The rows that a statement replaces.
 
 ghost use Rattle.std.specs.Prelude.{◌≡◌, [], map, IfOk};
+ghost use Rattle.rls_dml.specs.Numbers as spec;
 ghost use Rattle.rls_dml.specs.Numbers.{has_number, AreNumbers};
 
 use rls_catalog::Lent;
@@ -9,14 +10,68 @@ use std::alloc::{AllocError, Global};
 use std::collections::BTreeSet;
 use std::marker::Model;
 
-/// The rows that a statement replaces, by whose numbers one is found fast.
+/// The rows that a statement replaces.
 #[derive(Drop)]
 pub struct Replaced<'r, 'c> {
+    rows: &'r [&'r Lent<'c>],
+    may_be_all: bool,
+}
+
+impl<'r, 'c> Model for Replaced<'r, 'c> {
+    ghost use Rattle.std.specs.Prelude.{List, map};
+    ghost use Rattle.rls_catalog.specs.declared.stored.Stored.{Stored as Seen};
+
+    ghost Value = { List Seen };
+
+    ghost view = { λ it. map (λ row. row.now) it.rows.now };
+}
+
+impl<'r, 'c> Replaced<'r, 'c> {
+    /// Whoever made them says whether they may be all rows of the table, so that it is worth a look whether they are.
+    pub fn new(rows: &'r [&'r Lent<'c>], may_be_all: bool) -> Replaced<'r, 'c>
+        ensures { result ≡ map (λ row. row.now) rows.now }
+    {
+        Replaced { rows, may_be_all }
+    }
+
+    pub fn rows(&self) -> &'r [&'r Lent<'c>]
+        ensures { map (λ row. row.now) result.now ≡ self.now }
+    {
+        self.rows
+    }
+
+    /// What was said of them. It tells where to look, and no answer hangs on it.
+    pub fn may_be_all(&self) -> bool {
+        self.may_be_all
+    }
+
+    /// Whether the rows have the numbers of these, one by one.
+    pub fn are_numbered_as(&self, rows: &[Lent<'_>]) -> bool
+        ensures { result ≡ spec.are_numbered_as rows.now self.now }
+    {
+        are_numbered_as(rows, self.rows)
+    }
+
+    /// Their numbers.
+    pub fn numbers(&self, alloc: Global) -> Result<Numbers<'r, 'c>, AllocError>
+        ensures { IfOk result (λ numbers. numbers ≡ self.now) }
+    {
+        let numbers = numbers_of(alloc, self.rows)?;
+        Ok(Numbers {
+            rows: self.rows,
+            numbers,
+        })
+    }
+}
+
+/// Rows, by whose numbers one is found fast.
+#[derive(Drop)]
+pub struct Numbers<'r, 'c> {
     rows: &'r [&'r Lent<'c>],
     numbers: BTreeSet<RowId>,
 }
 
-impl<'r, 'c> Model for Replaced<'r, 'c> {
+impl<'r, 'c> Model for Numbers<'r, 'c> {
     ghost use Rattle.std.specs.Prelude.{List, map};
     ghost use Rattle.rls_catalog.specs.declared.stored.Stored.{Stored as Seen};
     ghost use Rattle.rls_dml.specs.Numbers.{AreNumbers};
@@ -28,20 +83,32 @@ impl<'r, 'c> Model for Replaced<'r, 'c> {
     ghost invariant = { λ it. AreNumbers it.numbers.keys (map (λ row. row.now) it.rows.now) };
 }
 
-impl<'r, 'c> Replaced<'r, 'c> {
-    pub fn new(alloc: Global, rows: &'r [&'r Lent<'c>]) -> Result<Replaced<'r, 'c>, AllocError>
-        ensures { IfOk result (λ replaced. replaced ≡ map (λ row. row.now) rows.now) }
-    {
-        let numbers = numbers_of(alloc, rows)?;
-        Ok(Replaced { rows, numbers })
-    }
-
+impl<'r, 'c> Numbers<'r, 'c> {
     /// Whether the row of that number is one of them.
     pub fn has(&self, id: RowId) -> bool
         ensures { result ≡ has_number self.now id }
     {
         self.numbers.contains(&id)
     }
+}
+
+/// Whether the rows have the numbers of the others, one by one; there may be more of the others.
+fn are_numbered_as(rows: &[Lent<'_>], others: &[&Lent<'_>]) -> bool
+    ensures { result ≡ spec.are_numbered_as rows.now (map (λ row. row.now) others.now) }
+{
+    let mut left = others;
+    for row in rows {
+        match left {
+            [other, rest @ ..] => {
+                if row.id() != other.id() {
+                    return false;
+                }
+                left = rest;
+            }
+            [] => return false,
+        }
+    }
+    true
 }
 
 /// The numbers of the rows, in time linear in how many they are where they ascend.

@@ -3,12 +3,9 @@
 ghost use Rattle.std.specs.Prelude.{◌≡◌, [], ◌∷◌, ◌++◌, map, IfOk, OnOk};
 ghost use Rattle.std.specs.List.{list_any};
 ghost use Rattle.rls_value.specs.Giving.{Gives};
-ghost use Rattle.rls_expr.specs.Parts.{mentions};
-ghost use Rattle.rls_expr.specs.Naming.{step_of};
-ghost use Rattle.rls_expr.specs.Placing.{names_in};
+ghost use Rattle.rls_expr.specs.{Parts.mentions, Naming.step_of, Placing.names_in};
 ghost use Rattle.rls_guard.specs.Naming.{named};
-ghost use Rattle.rls_source.specs.Answering.{Answers};
-ghost use Rattle.rls_source.specs.Sequences.{each_of};
+ghost use Rattle.rls_source.specs.{Answering.Answers, Sequences.each_of};
 ghost use Rattle.rls_dml.specs.Updating as spec;
 
 use crate::checking::{

@@ -2,24 +2,13 @@
 
 ghost use Rattle.std.specs.Prelude.{◌≡◌, ℕ, List, Some};
 ghost use Rattle.rls_expr.specs.declared.table.TableDef.{TableDef};
-ghost use Rattle.rls_catalog.specs.declared.change.Change.{Change};
-ghost use Rattle.rls_catalog.specs.Bases.{FitsAll};
-ghost use Rattle.rls_catalog.specs.Changed.{changed_all};
-ghost use Rattle.rls_catalog.specs.SoundRows.{RowsAreSound};
-ghost use Rattle.rls_catalog.specs.InOrder.{RowsInOrder};
+ghost use Rattle.rls_catalog.specs.{declared.change.Change.Change, Bases.FitsAll, Changed.changed_all, SoundRows.RowsAreSound, InOrder.RowsInOrder};
 ghost use Rattle.rls_catalog.specs.State.{State, rows_of, table_of};
-ghost use Rattle.rls_statement.specs.declared.changing.Delete.{Delete};
-ghost use Rattle.rls_statement.specs.declared.changing.Update.{Update};
-ghost use Rattle.rls_statement.specs.declared.statement.Insert.{Insert};
-ghost use Rattle.rls_statement.specs.declared.statement.Select.{Select};
+ghost use Rattle.rls_statement.specs.{declared.changing.Delete.Delete, declared.changing.Update.Update, declared.statement.Insert.Insert, declared.statement.Select.Select};
 ghost use Rattle.rls_guard.specs.Keeping.{IfDone, KeepsRowsSound, LeavesRows};
 ghost use Rattle.rls_guard.specs.declared.context.Ctx.{Ctx};
-ghost use Rattle.rls_dml.specs.Deleting.{delete};
-ghost use Rattle.rls_dml.specs.Inserting.{insert};
-ghost use Rattle.rls_dml.specs.Keys.{CarryKeys};
+ghost use Rattle.rls_dml.specs.{Deleting.delete, Inserting.insert, Keys.CarryKeys, Selecting.select, Updating.update};
 ghost use Rattle.rls_dml.specs.NextRows.{AllFree, InRange, NumberOn, next_row};
-ghost use Rattle.rls_dml.specs.Selecting.{select};
-ghost use Rattle.rls_dml.specs.Updating.{update};
 
 /// Where the rows of a state are sound, they are so with the changes of a statement on rows: keys that were unique stay
 /// unique, and each row carries its own, without a null.

@@ -2,12 +2,10 @@
 
 ghost use Rattle.std.specs.Prelude.{◌≡◌, [], ◌∷◌, false, map, IfOk};
 ghost use Rattle.rls_value.specs.Giving.{Gives};
-ghost use Rattle.rls_expr.specs.Naming.{step_of};
-ghost use Rattle.rls_expr.specs.Placing.{names_in};
+ghost use Rattle.rls_expr.specs.{Naming.step_of, Placing.names_in};
 ghost use Rattle.rls_guard.specs.Naming.{named};
 ghost use Rattle.rls_source.specs.Answering.{Answers, Tells};
-ghost use Rattle.rls_expansion.specs.Protecting.{protection_of};
-ghost use Rattle.rls_expansion.specs.Used.{tables_if};
+ghost use Rattle.rls_expansion.specs.{Protecting.protection_of, Used.tables_if};
 ghost use Rattle.rls_dml.specs.Selecting as spec;
 
 use crate::checking::{

@@ -183,9 +183,26 @@ fn update_hits<'a, 'c, 'x, S: RowSource<'c>>(
         &revision.condition,
         candidates,
     )?;
+    let replaced = replaced_of(&hits, candidates);
     update_values(
-        alloc, source, notes, protection, revision, role, from, decisions, &hits,
+        alloc,
+        source,
+        notes,
+        &*protection,
+        &*revision,
+        &*role,
+        from,
+        decisions,
+        &replaced,
     )
+}
+
+/// The rows that are hit. Where they are all of several candidates, which no key was pinned for then, they may be all rows
+/// of the table.
+fn replaced_of<'r, 'c>(hits: &'r [&'r Lent<'c>], candidates: &[Lent<'c>]) -> Replaced<'r, 'c>
+    ensures { result ≡ map (λ hit. hit.now) hits.now }
+{
+    Replaced::new(hits, hits.len() > 1 && hits.len() == candidates.len())
 }
 
 /// The new values of all rows that are hit, and then the rows.
@@ -199,9 +216,9 @@ fn update_values<'a, 'c, 'x, S: RowSource<'c>>(
     role: &'a Name,
     from: FromTable<'x>,
     decisions: Vec<Decision>,
-    hits: &[&'a Lent<'c>],
+    replaced: &Replaced<'a, 'c>,
 ) -> Result<Effect, Refusal>
-    ensures { Answers S.state S.after (spec.update_values role.now from.entry.name.now from.entry.table.now protection.now revision.now decisions.items (map (λ hit. hit.now) hits.now)) source.old source.new notes.old notes.new result }
+    ensures { Answers S.state S.after (spec.update_values role.now from.entry.name.now from.entry.table.now protection.now revision.now decisions.items replaced.now) source.old source.new notes.old notes.new result }
 {
     let nothing = Scoped::Nothing;
     let values = settings_of(
@@ -212,12 +229,12 @@ fn update_values<'a, 'c, 'x, S: RowSource<'c>>(
         role,
         &nothing,
         revision.settings.as_slice(),
-        hits,
+        replaced.rows(),
     )?;
-    let new = updated_rows(alloc, from.table, revision, hits, &values)?;
+    let new = updated_rows(alloc, from.table, revision, replaced.rows(), &values)?;
     drop(values);
     Ok(update_rows(
-        alloc, source, notes, protection, revision, role, from, decisions, hits, new,
+        alloc, source, notes, protection, revision, role, from, decisions, replaced, new,
     )?)
 }
 
@@ -286,14 +303,14 @@ fn update_rows<'a, 'c, 'x, S: RowSource<'c>>(
     role: &'a Name,
     from: FromTable<'x>,
     before: Vec<Decision>,
-    hits: &[&Lent<'c>],
+    replaced: &Replaced<'_, 'c>,
     new: Items<Stored>,
 ) -> Result<Effect, AllocError>
-    ensures { Tells S.state S.after (spec.update_rows role.now from.entry.name.now from.entry.table.now protection.now revision.now before.items (map (λ hit. hit.now) hits.now) new) source.old source.new notes.old notes.new result }
+    ensures { Tells S.state S.after (spec.update_rows role.now from.entry.name.now from.entry.table.now protection.now revision.now before.items replaced.now new) source.old source.new notes.old notes.new result }
 {
     let after = judged_under(alloc, source, notes, &*protection, &*role, &new)?;
     update_judged(
-        alloc, source, notes, revision, role, from, before, after, hits, new,
+        alloc, source, notes, revision, role, from, before, after, replaced, new,
     )
 }
 
@@ -308,10 +325,10 @@ fn update_judged<'c, 'x, S: RowSource<'c>>(
     from: FromTable<'x>,
     before: Vec<Decision>,
     after: Vec<Decision>,
-    hits: &[&Lent<'c>],
+    replaced: &Replaced<'_, 'c>,
     new: Items<Stored>,
 ) -> Result<Effect, AllocError>
-    ensures { Tells S.state S.after (spec.update_judged role.now from.entry.name.now from.entry.table.now revision.now before.items (map (λ hit. hit.now) hits.now) new after.items) source.old source.new notes.old notes.new result }
+    ensures { Tells S.state S.after (spec.update_judged role.now from.entry.name.now from.entry.table.now revision.now before.items replaced.now new after.items) source.old source.new notes.old notes.new result }
 {
     match require_updated(
         alloc,
@@ -320,10 +337,19 @@ fn update_judged<'c, 'x, S: RowSource<'c>>(
         revision,
         from,
         &after,
-        hits,
+        replaced,
         new.as_slice(),
     ) {
-        Ok(()) => updated(alloc, from.name, revision, role, before, after, hits, new),
+        Ok(()) => updated(
+            alloc,
+            from.name,
+            revision,
+            role,
+            before,
+            after,
+            replaced.rows(),
+            new,
+        ),
         Err(Refusal::NoMemory) => Err(AllocError),
         Err(refusal) => refused(refusal, before, after),
     }
@@ -337,19 +363,15 @@ fn require_updated<'c, 'x, S: RowSource<'c>>(
     revision: &Revision,
     from: FromTable<'x>,
     decisions: &[Decision],
-    hits: &[&Lent<'c>],
+    replaced: &Replaced<'_, 'c>,
     new: &[Stored],
 ) -> Result<(), Refusal>
-    ensures { Answers S.state S.after (rows_or_refused from.entry.name.now from.entry.table.now.columns (spec_order_of (spec.places_set revision.now.settings) from.entry.table.now.columns) decisions.now (map (λ hit. hit.now) hits.now) new.now) source.old source.new notes.old notes.new result }
+    ensures { Answers S.state S.after (rows_or_refused from.entry.name.now from.entry.table.now.columns (spec_order_of (spec.places_set revision.now.settings) from.entry.table.now.columns) decisions.now replaced.now new.now) source.old source.new notes.old notes.new result }
 {
     let places = places_set(alloc, revision.settings.as_slice())?;
     let order = order_of(alloc, &places, from.table.columns.as_slice())?;
     drop(places);
-    let replaced = Replaced::new(alloc, hits)?;
-    let found = require_rows(
-        alloc, source, notes, from, &order, decisions, &replaced, new,
-    );
-    drop(replaced);
+    let found = require_rows(alloc, source, notes, from, &order, decisions, replaced, new);
     drop(order);
     found
 }

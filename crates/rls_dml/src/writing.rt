@@ -1,12 +1,10 @@
 //! New rows: the values that columns are given, and what the rows are refused for.
 
 ghost use Rattle.std.specs.Prelude.{◌≡◌, map, slice_get, slice_set, Some, None, Ok, IfOk, MatchOption};
-ghost use Rattle.rls_value.specs.Giving.{Gives};
-ghost use Rattle.rls_value.specs.Values.{is_null, value_at};
+ghost use Rattle.rls_value.specs.{Giving.Gives, Values.is_null, Values.value_at};
 ghost use Rattle.rls_evaluation.specs.Scoping.{held_value};
 ghost use Rattle.rls_judging.specs.Handed.{values_held};
-ghost use Rattle.rls_source.specs.Answering.{Answers};
-ghost use Rattle.rls_source.specs.Sequences.{each_or_refused};
+ghost use Rattle.rls_source.specs.{Answering.Answers, Sequences.each_or_refused};
 ghost use Rattle.rls_dml.specs.Writing as spec;
 
 use crate::keys::require_unique;

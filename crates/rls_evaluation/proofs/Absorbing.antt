@@ -1,30 +1,16 @@
 -- What is noted already adds nothing, and stays noted.
-use Rattle.std.specs.Prelude.{◌≡◌, refl, ℕ, List, [], ◌∷◌, Bool, true, false, ◌||◌, Option, Some, None, Ok, nat_eq, if◌then◌else◌}
-use Rattle.std.specs.List.{AllByRecursion}
-use Rattle.std.specs.List.Sorted.{IsStrictlySortedBy}
+use Rattle.std.specs.Prelude.{◌≡◌, refl, ℕ, List, [], ◌∷◌, Bool, true, false, ◌||◌, Option, Some, None, Ok, nat_eq, if◌then◌else◌, cond}
+use Rattle.std.specs.{List.AllByRecursion, List.Sorted.IsStrictlySortedBy, declared.cmp.Ordering.Ordering, BTreeMap.is_at, Map.lookup}
 use Rattle.std.specs.Ordering.{is_eq, match_ordering}
-use Rattle.std.specs.declared.cmp.Ordering.{Ordering}
 use Rattle.std.specs.declared.cmp.Ordering.TheVariants.{Less, Equal, Greater}
 use Rattle.std.proofs.Common.{ap, sym, ◌∙◌, subst, arith}
 use Rattle.std.proofs.lemmas.Bool.{true≢false, or_left, or_right}
-use Rattle.rls_value.specs.declared.value.Value.{Value}
-use Rattle.rls_value.specs.declared.object.Object.{Object}
-use Rattle.rls_value.specs.Objects.{object_order}
-use Rattle.rls_value.specs.ObjectOrder.{objects_total}
+use Rattle.rls_value.specs.{declared.value.Value.Value, declared.object.Object.Object, Objects.object_order, ObjectOrder.objects_total}
 use Rattle.rls_catalog.specs.State.{State}
-use Rattle.rls_source.specs.Footprints.{with_object, with_reads, is_object, is_among, IsInOrder}
-use Rattle.rls_source.specs.FootprintLaws.{is_object_same, among_with_object, among_with_reads}
+use Rattle.rls_source.specs.{Footprints.with_object, Footprints.with_reads, Footprints.is_object, Footprints.is_among, Footprints.IsInOrder, FootprintLaws.is_object_same, FootprintLaws.among_with_object, FootprintLaws.among_with_reads}
 use Rattle.rls_source.proofs.FootprintOrderLaws.{with_object_in_order}
-use Rattle.rls_evaluation.specs.declared.fence.Fence.{Fence}
+use Rattle.rls_evaluation.specs.{declared.fence.Fence.Fence, declared.memo.Answer.Answer, declared.memo.Seen.Seen, declared.memo.Work.Work, Answering.IsAnswered, Answering.AreAnswered, Answering.answer_of, Holding.IsKept, Holding.Holds, Holding.Tells, Holding.at_place, Holding.found_in, Holding.shown_at}
 use Rattle.rls_expr.specs.ExprTerms.{query_of}
-use Rattle.rls_evaluation.specs.declared.memo.Answer.{Answer}
-use Rattle.rls_evaluation.specs.declared.memo.Seen.{Seen}
-use Rattle.rls_evaluation.specs.declared.memo.Work.{Work}
-use Rattle.std.specs.Prelude.{cond}
-use Rattle.std.specs.BTreeMap.{is_at}
-use Rattle.std.specs.Map.{lookup}
-use Rattle.rls_evaluation.specs.Answering.{IsAnswered, AreAnswered, answer_of}
-use Rattle.rls_evaluation.specs.Holding.{IsKept, Holds, Tells, at_place, found_in, shown_at}
 
 below_none : (x y : Object) (objects : List Object) → object_order x y ≡ Less → AllByRecursion (λ z. object_order y z ≡ Less) objects → is_among objects x ≡ false
 below_none x y [] is all = refl

@@ -2,24 +2,14 @@
 use Rattle.std.specs.Prelude.{◌≡◌, refl, ℕ, zero, suc, ◌<◌, Bool, true, false, ◌||◌, not, List, [], ◌∷◌, Option, Some, None, Result, Ok, Err, if◌then◌else◌}
 use Rattle.std.proofs.Common.{arith, ap, sym, ◌∙◌, append_assoc}
 use Rattle.std.proofs.lemmas.Bool.{and_parts, ltb-true, true≢false}
-use Rattle.rls_value.specs.declared.refusal.Refusal.{Refusal}
-use Rattle.rls_value.specs.declared.object.Object.{Object}
-use Rattle.rls_value.specs.declared.value.Value.{Value}
-use Rattle.rls_value.specs.declared.value.Value.TheVariants.{Null, Text, Bool as Flag}
-use Rattle.rls_value.specs.declared.truth.Truth.{Truth}
-use Rattle.rls_value.specs.declared.truth.Truth.TheVariants.{True, False}
-use Rattle.rls_value.specs.Giving.{and_then}
-use Rattle.rls_value.specs.Truths.{negation_of, is_true}
-use Rattle.rls_value.specs.Values.{value_of_truth, truth_in, is_null, value_at}
+use Rattle.rls_value.specs.{declared.refusal.Refusal.Refusal, declared.object.Object.Object, declared.value.Value.Value, declared.truth.Truth.Truth, Giving.and_then, declared.value.Value.TheVariants.Null, declared.value.Value.TheVariants.Text, declared.value.Value.TheVariants.Bool as Flag, declared.truth.Truth.TheVariants.True, declared.truth.Truth.TheVariants.False, Truths.negation_of, Truths.is_true, Values.value_of_truth, Values.truth_in, Values.is_null, Values.value_at}
 use Rattle.rls_expr.specs.declared.expr.Comparison.TheVariants as c
 use Rattle.rls_expr.specs.Terms.{Term, Terms, Query, Literal, Column, Place, CurrentUser, Compare, And, Or, Not, IsNull, IsNotNull, Among, NotAmong, Exists, Within, NotWithin, Scalar, Sum, End, More, Select}
 use Rattle.rls_catalog.specs.State.{State}
-use Rattle.rls_source.specs.Readings.{Reading, unread, next_reads, read_then}
-use Rattle.rls_source.specs.Askings.{Asking, known, followed_by, asked_if}
+use Rattle.rls_source.specs.{Readings.Reading, Readings.unread, Readings.next_reads, Readings.read_then, Askings.Asking, Askings.known, Askings.followed_by, Askings.asked_if}
 use Rattle.rls_evaluation.specs.Alone.{stays_within, stay_within, query_within, is_alone, with_item, items_seen, asked_query, any_equal, is_some}
-use Rattle.rls_evaluation.specs.Environments.{Environment, inside, row_at, compared}
+use Rattle.rls_evaluation.specs.{Environments.Environment, Environments.inside, Environments.row_at, Environments.compared, Gathering.gathered}
 use Rattle.rls_evaluation.specs.Eval.{Shows, and_value, or_value, or_equal, or_item, item_or, item_if, value_of, together, has_row, meets, among_items, first_item, item_of}
-use Rattle.rls_evaluation.specs.Gathering.{gathered}
 use Rattle.rls_evaluation.specs.Keys.{outer_value, known_value, is_column, or_else, pin_in, pin_among, pin_of, with_pin, pinned, key_of}
 
 -- ---- one reading after another

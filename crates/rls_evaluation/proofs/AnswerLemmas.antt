@@ -2,32 +2,12 @@
 use Rattle.std.specs.Prelude.{◌≡◌, refl, ℕ, zero, suc, ◌+◌, ◌<◌, ◌≤◌, List, [], ◌∷◌, ◌++◌, Bool, true, false, Option, Some, None, Result, Ok, Err, IfOk, drop, length, get_or, if◌then◌else◌}
 use Rattle.std.proofs.Common.{arith, ap, sym, ◌∙◌, subst}
 use Rattle.std.specs.declared.alloc.AllocError.{AllocError}
-use Rattle.rls_value.specs.declared.value.Value.{Value}
-use Rattle.rls_value.specs.declared.value.Value.TheVariants.{Null, Bool as Flag}
-use Rattle.rls_value.specs.declared.truth.Truth.{Truth}
-use Rattle.rls_value.specs.declared.object.Object.{Object}
-use Rattle.rls_expr.specs.ExprTerms.{query_of}
-use Rattle.rls_expr.specs.Terms.{Terms, Query, Select, Exists}
-use Rattle.rls_expr.specs.declared.expr.FromItem.{FromItem}
-use Rattle.rls_expr.specs.declared.expr.Selects.{Selects}
+use Rattle.rls_value.specs.{declared.value.Value.Value, declared.truth.Truth.Truth, declared.object.Object.Object, declared.value.Value.TheVariants.Null, declared.value.Value.TheVariants.Bool as Flag}
+use Rattle.rls_expr.specs.{ExprTerms.query_of, declared.expr.FromItem.FromItem, declared.expr.Selects.Selects, Terms.Terms, Terms.Query, Terms.Select, Terms.Exists}
 use Rattle.rls_catalog.specs.State.{State}
-use Rattle.rls_source.specs.Footprints.{with_reads, IsInOrder}
-use Rattle.rls_source.specs.Askings.{Asking, known, asked_if, followed_by}
-use Rattle.rls_evaluation.specs.declared.fence.Fence.{Fence}
-use Rattle.rls_evaluation.specs.declared.memo.Answer.{Answer}
-use Rattle.rls_evaluation.specs.declared.memo.Work.{Work}
-use Rattle.rls_evaluation.specs.declared.value_set.ValueSet.{ValueSet}
-use Rattle.rls_evaluation.specs.Alone.{is_alone, items_seen, asked_query, items_for, with_item, any_equal, is_some}
-use Rattle.rls_evaluation.specs.Answering.{IsFor, FoundAt, NoneBelow, IsOneMore, IsAnswered, AreAnswered, Comes, answer_of}
-use Rattle.rls_evaluation.specs.Environments.{Environment, alone, inside}
-use Rattle.rls_evaluation.specs.Eval.{Shows, value_of, among_items, has_row, ranged_over, item_if, item_of, meets}
-use Rattle.rls_evaluation.specs.Gathering.{gathered}
-use Rattle.rls_evaluation.specs.Showing.{shows}
-use Rattle.rls_evaluation.specs.ValueSets.{IsSetOf}
-use Rattle.rls_evaluation.specs.Holding.{Holds, IsKept, Tells, found_in}
-use Rattle.rls_evaluation.proofs.Absorbing.{noted_absorbed}
-use Rattle.rls_evaluation.proofs.AloneLemmas.{among_items_seen, has_row_seen, alone_same, bare_alone}
-use Rattle.rls_evaluation.proofs.Telling.{tells_same, tells_map, tells_as, tells_then, tells_result}
+use Rattle.rls_source.specs.{Footprints.with_reads, Footprints.IsInOrder, Askings.Asking, Askings.known, Askings.asked_if, Askings.followed_by}
+use Rattle.rls_evaluation.specs.{declared.fence.Fence.Fence, declared.memo.Answer.Answer, declared.memo.Work.Work, declared.value_set.ValueSet.ValueSet, Gathering.gathered, Showing.shows, ValueSets.IsSetOf, Alone.is_alone, Alone.items_seen, Alone.asked_query, Alone.items_for, Alone.with_item, Alone.any_equal, Alone.is_some, Answering.IsFor, Answering.FoundAt, Answering.NoneBelow, Answering.IsOneMore, Answering.IsAnswered, Answering.AreAnswered, Answering.Comes, Answering.answer_of, Environments.Environment, Environments.alone, Environments.inside, Holding.Holds, Holding.IsKept, Holding.Tells, Holding.found_in, Eval.Shows, Eval.value_of, Eval.among_items, Eval.has_row, Eval.ranged_over, Eval.item_if, Eval.item_of, Eval.meets}
+use Rattle.rls_evaluation.proofs.{Absorbing.noted_absorbed, AloneLemmas.among_items_seen, AloneLemmas.has_row_seen, AloneLemmas.alone_same, AloneLemmas.bare_alone, Telling.tells_same, Telling.tells_map, Telling.tells_as, Telling.tells_then, Telling.tells_result}
 
 -- ---- a further answer
 

@@ -1,24 +1,14 @@
 -- One policy more decides on a row.
 use Rattle.std.specs.Prelude.{◌≡◌, refl, ℕ, List, [], ◌∷◌, ◌++◌, Bool, true, false, Option, Some, None, Result, Ok, Err, map, filter, if◌then◌else◌, drop, length, get_or, ◌<◌, ◌+◌}
 use Rattle.std.proofs.Common.{ap, ◌∙◌, append-nil}
-use Rattle.rls_value.specs.declared.value.Value.{Value}
-use Rattle.rls_value.specs.declared.truth.Truth.{Truth}
-use Rattle.rls_value.specs.declared.truth.Truth.TheVariants.{True, False, Unknown}
-use Rattle.rls_value.specs.declared.object.Object.{Object}
-use Rattle.rls_value.specs.declared.refusal.Refusal.{Refusal}
-use Rattle.rls_value.specs.Values.{truth_in, value_of_truth}
-use Rattle.rls_expr.specs.declared.policy.Policy.{Policy}
-use Rattle.rls_expr.specs.Terms.{Term}
-use Rattle.rls_catalog.specs.State.{State}
-use Rattle.rls_catalog.specs.declared.verdict.Verdict.{Verdict}
+use Rattle.rls_value.specs.{declared.value.Value.Value, declared.truth.Truth.Truth, declared.object.Object.Object, declared.refusal.Refusal.Refusal}
+use Rattle.rls_value.specs.{declared.truth.Truth.TheVariants.True, declared.truth.Truth.TheVariants.False, declared.truth.Truth.TheVariants.Unknown, Values.truth_in, Values.value_of_truth}
+use Rattle.rls_expr.specs.{declared.policy.Policy.Policy, Terms.Term}
+use Rattle.rls_catalog.specs.{State.State, declared.verdict.Verdict.Verdict}
 use Rattle.rls_catalog.specs.Verdict.{is_such, names_where, lesser, least, verdict_by}
-use Rattle.rls_source.specs.Readings.{unread, read_then}
-use Rattle.rls_source.specs.Askings.{Asking, known, followed_by}
-use Rattle.rls_evaluation.specs.Environments.{over}
+use Rattle.rls_source.specs.{Readings.unread, Readings.read_then, Askings.Asking, Askings.known, Askings.followed_by}
+use Rattle.rls_evaluation.specs.{Environments.over, Plain.IsPlainly, Showing.judgements_on, Deciding.named_if}
 use Rattle.rls_evaluation.specs.Eval.{Shows, value_of}
-use Rattle.rls_evaluation.specs.Plain.{IsPlainly}
-use Rattle.rls_evaluation.specs.Showing.{judgements_on}
-use Rattle.rls_evaluation.specs.Deciding.{named_if}
 use Rattle.rls_evaluation.proofs.Telling.{drop_at}
 
 -- what these policies say of the row together with the least names of others

@@ -3,19 +3,11 @@ use Rattle.std.specs.Prelude.{◌≡◌, refl, ℕ, List, [], ◌∷◌, Bool, t
 use Rattle.std.specs.declared.alloc.AllocError.{AllocError}
 use Rattle.std.proofs.Common.{ap, sym, subst, ◌∙◌}
 use Rattle.std.proofs.lemmas.Bool.{true≢false}
-use Rattle.rls_value.specs.declared.object.Object.{Object}
+use Rattle.rls_value.specs.{declared.object.Object.Object, declared.value.Value.Value}
 use Rattle.rls_value.specs.declared.object.Object.TheVariants as o
-use Rattle.rls_value.specs.declared.value.Value.{Value}
 use Rattle.rls_catalog.specs.State.{State}
-use Rattle.rls_source.specs.Askings.{Asking, known}
-use Rattle.rls_source.specs.Readings.{unread, read_then}
-use Rattle.rls_evaluation.specs.declared.fence.Fence.{Fence}
-use Rattle.rls_evaluation.specs.declared.fence.Guard.{Guard}
-use Rattle.rls_evaluation.specs.declared.fence.Guard.TheVariants.{Exempt, Policies}
-use Rattle.rls_evaluation.specs.Eval.{Shows}
-use Rattle.rls_evaluation.specs.Gathering.{kept, with_row}
-use Rattle.rls_evaluation.specs.Holding.{Tells, asked_of, shown_at, shown_of}
-use Rattle.rls_evaluation.specs.Showing.{asked_for, is_allowed, is_exempt, shown, shows}
+use Rattle.rls_source.specs.{Askings.Asking, Askings.known, Readings.unread, Readings.read_then}
+use Rattle.rls_evaluation.specs.{declared.fence.Fence.Fence, declared.fence.Guard.Guard, Eval.Shows, declared.fence.Guard.TheVariants.Exempt, declared.fence.Guard.TheVariants.Policies, Gathering.kept, Gathering.with_row, Holding.Tells, Holding.asked_of, Holding.shown_at, Holding.shown_of, Showing.asked_for, Showing.is_allowed, Showing.is_exempt, Showing.shown, Showing.shows}
 use Rattle.rls_evaluation.proofs.Telling.{tells_on, tells_result, tells_unread}
 
 -- each row is kept

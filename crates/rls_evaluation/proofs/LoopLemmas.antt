@@ -3,24 +3,13 @@ use Rattle.std.specs.Prelude.{◌≡◌, refl, ℕ, zero, suc, ◌+◌, ◌-◌,
 use Rattle.std.proofs.Common.{arith, ap, sym, subst, ◌∙◌, append-nil, append_assoc}
 use Rattle.std.proofs.lemmas.List.{take_all}
 use native.Mathlib.Numerals.{unary_clauses}
-use Rattle.rls_value.specs.declared.value.Value.{Value}
-use Rattle.rls_value.specs.declared.object.Object.{Object}
-use Rattle.rls_value.specs.declared.truth.Truth.{Truth}
-use Rattle.rls_value.specs.declared.truth.Truth.TheVariants.{True, False, Unknown}
-use Rattle.rls_value.specs.Truths.{conjunction_of, disjunction_of}
+use Rattle.rls_value.specs.{declared.value.Value.Value, declared.object.Object.Object, declared.truth.Truth.Truth, declared.truth.Truth.TheVariants.True, declared.truth.Truth.TheVariants.False, declared.truth.Truth.TheVariants.Unknown, Truths.conjunction_of, Truths.disjunction_of}
 use Rattle.std.specs.declared.alloc.AllocError.{AllocError}
-use Rattle.rls_expr.specs.declared.expr.Sign.{Sign}
-use Rattle.rls_expr.specs.declared.expr.Sign.TheVariants.{Plus}
-use Rattle.rls_expr.specs.Terms.{Term, More, terms_of}
-use Rattle.rls_expr.specs.declared.policy.Policy.{Policy}
+use Rattle.rls_expr.specs.{declared.expr.Sign.Sign, declared.expr.Sign.TheVariants.Plus, declared.policy.Policy.Policy, Terms.Term, Terms.More, Terms.terms_of}
 use Rattle.rls_catalog.specs.State.{State}
 use Rattle.rls_source.specs.Askings.{Asking, followed_by}
-use Rattle.rls_evaluation.specs.Alone.{with_item}
-use Rattle.rls_evaluation.specs.Environments.{Environment, joined, number_or_null}
-use Rattle.rls_evaluation.specs.Gathering.{gathered, with_row}
-use Rattle.rls_evaluation.specs.Keys.{or_else}
+use Rattle.rls_evaluation.specs.{Alone.with_item, Keys.or_else, Holding.Tells, Environments.Environment, Environments.joined, Environments.number_or_null, Gathering.gathered, Gathering.with_row}
 use Rattle.rls_evaluation.specs.Eval.{Shows, value_of, together, item_or, sum_of, sum_from}
-use Rattle.rls_evaluation.specs.Holding.{Tells}
 use Rattle.rls_evaluation.proofs.Telling.{Leads, turn, tells_on, drop_at}
 
 -- AND is associative

@@ -4,21 +4,13 @@ use Rattle.std.proofs.Common.{ap, sym, ◌∙◌, subst, append-nil}
 use Rattle.std.proofs.lemmas.List.{drop_more}
 use Rattle.std.specs.declared.alloc.AllocError.{AllocError}
 use Rattle.std.specs.List.{list_any}
-use Rattle.rls_value.specs.declared.refusal.Refusal.{Refusal}
-use Rattle.rls_value.specs.declared.value.Value.{Value}
+use Rattle.rls_value.specs.{declared.refusal.Refusal.Refusal, declared.value.Value.Value, Values.is_null, declared.object.Object.Object, Giving.and_then}
 use Rattle.rls_value.specs.declared.object.Object.TheVariants as o
-use Rattle.rls_value.specs.Values.{is_null}
 use Rattle.rls_catalog.specs.State.{State, rows_of, rows_with_key}
 use Rattle.rls_source.specs.Asked.{rows_at, keyed_at, asked_key}
-use Rattle.rls_evaluation.specs.Eval.{item_if}
-use Rattle.rls_evaluation.specs.Showing.{values_of}
-use Rattle.rls_value.specs.declared.object.Object.{Object}
-use Rattle.rls_value.specs.Giving.{and_then}
-use Rattle.rls_source.specs.Footprints.{with_object, with_reads}
-use Rattle.rls_source.specs.FootprintLaws.{with_reads_more}
-use Rattle.rls_source.specs.Readings.{unread, next_reads}
+use Rattle.rls_evaluation.specs.{Eval.item_if, Showing.values_of, Holding.Tells, Holding.asked_of}
+use Rattle.rls_source.specs.{Footprints.with_object, Footprints.with_reads, FootprintLaws.with_reads_more, Readings.unread, Readings.next_reads}
 use Rattle.rls_source.specs.Askings.{Asking, known, asked_if, followed_by}
-use Rattle.rls_evaluation.specs.Holding.{Tells, asked_of}
 
 -- one call after another
 pub tells_then : {A B : Type 0} (first : Asking A) (next : A → Asking B) (before mid after : State) (old between new : List Object) (a : A) (b : B)

@@ -9,16 +9,8 @@ use Rattle.std.specs.declared.cmp.Ordering.TheVariants.{Less, Equal, Greater}
 use Rattle.std.specs.Str.{bytes_eq}
 use Rattle.std.proofs.lemmas.List.Folds.{list_any-append}
 use Rattle.std.proofs.lemmas.Map.Text.{is_eq-slice_cmp}
-use Rattle.rls_value.specs.declared.value.Value.{Value}
-use Rattle.rls_value.specs.declared.value.Value.TheVariants.{Null, Int, Text, Bool as Flag}
-use Rattle.rls_value.specs.declared.truth.Truth.{Truth}
-use Rattle.rls_value.specs.declared.truth.Truth.TheVariants.{True, False, Unknown}
-use Rattle.rls_value.specs.Truths.{disjunction_of, is_true, truth_of}
-use Rattle.rls_value.specs.Values.{equal_values, listed, same_flag}
-use Rattle.rls_value.specs.Listing.{listed_total}
-use Rattle.rls_evaluation.specs.declared.value_set.ValueSet.{ValueSet}
-use Rattle.rls_evaluation.specs.Alone.{any_equal, is_some}
-use Rattle.rls_evaluation.specs.ValueSets.{IsSetOf, finds, lets_open, is_number, is_text, is_flag, three}
+use Rattle.rls_value.specs.{declared.value.Value.Value, declared.truth.Truth.Truth, Listing.listed_total, declared.truth.Truth.TheVariants.True, declared.truth.Truth.TheVariants.False, declared.truth.Truth.TheVariants.Unknown, Truths.disjunction_of, Truths.is_true, Truths.truth_of, Values.equal_values, Values.listed, Values.same_flag, declared.value.Value.TheVariants.Null, declared.value.Value.TheVariants.Int, declared.value.Value.TheVariants.Text, declared.value.Value.TheVariants.Bool as Flag}
+use Rattle.rls_evaluation.specs.{declared.value_set.ValueSet.ValueSet, Alone.any_equal, Alone.is_some, ValueSets.IsSetOf, ValueSets.finds, ValueSets.lets_open, ValueSets.is_number, ValueSets.is_text, ValueSets.is_flag, ValueSets.three}
 
 -- ---- any_equal by two tests
 

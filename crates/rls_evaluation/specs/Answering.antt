@@ -1,19 +1,11 @@
 -- What is kept of subqueries that name no column further out.
 use Rattle.std.specs.Prelude.{◌≡◌, ℕ, ◌<◌, List, [], ◌∷◌, ◌++◌, Bool, true, Ok, drop, length, get_or}
-use Rattle.rls_value.specs.declared.value.Value.{Value}
-use Rattle.rls_value.specs.declared.object.Object.{Object}
-use Rattle.rls_expr.specs.ExprTerms.{query_of}
-use Rattle.rls_expr.specs.Terms.{Query}
+use Rattle.rls_value.specs.{declared.value.Value.Value, declared.object.Object.Object}
+use Rattle.rls_expr.specs.{ExprTerms.query_of, Terms.Query}
 use Rattle.rls_catalog.specs.State.{State}
-use Rattle.rls_source.specs.Footprints.{with_reads}
-use Rattle.rls_source.specs.Askings.{Asking}
-use Rattle.rls_evaluation.specs.declared.fence.Fence.{Fence}
-use Rattle.rls_evaluation.specs.declared.memo.Answer.{Answer}
-use Rattle.rls_evaluation.specs.declared.value_set.ValueSet.{ValueSet}
+use Rattle.rls_source.specs.{Footprints.with_reads, Askings.Asking}
+use Rattle.rls_evaluation.specs.{declared.fence.Fence.Fence, declared.memo.Answer.Answer, declared.value_set.ValueSet.ValueSet, Environments.alone, Showing.shows, ValueSets.IsSetOf}
 use Rattle.rls_evaluation.specs.Alone.{is_alone, items_seen, asked_query}
-use Rattle.rls_evaluation.specs.Environments.{alone}
-use Rattle.rls_evaluation.specs.Showing.{shows}
-use Rattle.rls_evaluation.specs.ValueSets.{IsSetOf}
 
 -- the answer is one of that subquery, with its items or without, over the fences from one on
 pub record IsFor (answer : Answer) (from : ℕ) (has_items : Bool) (q : Query) : Type 0 where

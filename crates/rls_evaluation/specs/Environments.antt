@@ -1,17 +1,11 @@
 -- What a term is evaluated in, and how values are compared and added (PostgreSQL manual, 9.1 and 9.2).
 use Rattle.std.specs.Prelude.{ℕ, ℤ, ◌+ℤ◌, ◌-ℤ◌, List, [], ◌∷◌, Result, Ok, Err, slice_get, unwrap_or, if◌then◌else◌}
-use Rattle.rls_value.specs.declared.refusal.Refusal.{Refusal}
-use Rattle.rls_value.specs.declared.refusal.Refusal.TheVariants.{Range}
-use Rattle.rls_value.specs.declared.value.Value.{Value}
+use Rattle.rls_value.specs.{declared.refusal.Refusal.Refusal, declared.refusal.Refusal.TheVariants.Range, declared.value.Value.Value, declared.truth.Truth.Truth, Truths.negation_of}
 use Rattle.rls_value.specs.declared.value.Value.TheVariants.{Null, Int}
-use Rattle.rls_value.specs.declared.truth.Truth.{Truth}
-use Rattle.rls_value.specs.Truths.{negation_of}
 use Rattle.rls_value.specs.Values.{equal_values, less_values, fits_type}
-use Rattle.rls_expr.specs.declared.expr.Comparison.{Comparison}
+use Rattle.rls_expr.specs.{declared.expr.Comparison.Comparison, declared.expr.Sign.Sign, declared.table.Column.Column as ColumnOf}
 use Rattle.rls_expr.specs.declared.expr.Comparison.TheVariants as c
-use Rattle.rls_expr.specs.declared.expr.Sign.{Sign}
 use Rattle.rls_expr.specs.declared.expr.Sign.TheVariants.{Plus, Minus}
-use Rattle.rls_expr.specs.declared.table.Column.{Column as ColumnOf}
 
 -- what a term is evaluated in: the current role, and the rows in scope, the innermost first
 pub record Environment : Type 0 where

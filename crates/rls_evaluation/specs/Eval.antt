@@ -2,9 +2,8 @@
 -- NOT are Kleene's, IN is the OR of equalities, a sum is a whole number without a range, and a subquery has one row more
 -- in scope. Each part is evaluated.
 use Rattle.std.specs.Prelude.{ℕ, List, [], ◌∷◌, Bool, true, false, ◌||◌, not, Option, Some, None, Ok}
-use Rattle.rls_value.specs.declared.value.Value.{Value}
+use Rattle.rls_value.specs.{declared.value.Value.Value, declared.truth.Truth.Truth}
 use Rattle.rls_value.specs.declared.value.Value.TheVariants.{Null, Text, Bool as Flag}
-use Rattle.rls_value.specs.declared.truth.Truth.{Truth}
 use Rattle.rls_value.specs.declared.truth.Truth.TheVariants.{True, False}
 use Rattle.rls_value.specs.Truths.{conjunction_of, disjunction_of, negation_of, is_true}
 use Rattle.rls_value.specs.Values.{equal_values, value_of_truth, truth_in, is_null, value_at}
@@ -12,8 +11,7 @@ use Rattle.rls_expr.specs.declared.expr.Sign.{Sign}
 use Rattle.rls_expr.specs.Terms.{Term, Terms, Query, Literal, Column, Place, CurrentUser, Compare, And, Or, Not, IsNull, IsNotNull, Among, NotAmong, Exists, Within, NotWithin, Scalar, Sum, End, More, Select}
 use Rattle.rls_source.specs.Askings.{Asking, known, asked_if, followed_by}
 use Rattle.rls_evaluation.specs.Environments.{Environment, inside, row_at, compared, joined, number_or_null}
-use Rattle.rls_evaluation.specs.Gathering.{gathered}
-use Rattle.rls_evaluation.specs.Keys.{key_of}
+use Rattle.rls_evaluation.specs.{Gathering.gathered, Keys.key_of}
 
 -- what the table of that name shows: its rows with the key or, without one, all of them
 abbrev pub Shows : Type 0

@@ -3,18 +3,13 @@ use Rattle.std.specs.Prelude.{◌≡◌, ℕ, List, [], Bool, true, false, Optio
 use Rattle.std.specs.BTreeMap.{is_at}
 use Rattle.std.specs.Map.{lookup}
 use Rattle.std.specs.declared.alloc.AllocError.{AllocError}
-use Rattle.rls_value.specs.Objects.{object_order}
-use Rattle.rls_value.specs.declared.value.Value.{Value}
-use Rattle.rls_value.specs.declared.object.Object.{Object}
+use Rattle.rls_value.specs.{Objects.object_order, declared.value.Value.Value, declared.object.Object.Object}
 use Rattle.rls_value.specs.declared.object.Object.TheVariants as o
 use Rattle.rls_catalog.specs.State.{State}
 use Rattle.rls_source.specs.Footprints.{with_reads, IsInOrder}
 use Rattle.rls_source.specs.Askings.{Asking, known}
-use Rattle.rls_evaluation.specs.declared.fence.Fence.{Fence}
-use Rattle.rls_evaluation.specs.declared.memo.Seen.{Seen}
-use Rattle.rls_evaluation.specs.declared.memo.Work.{Work}
+use Rattle.rls_evaluation.specs.{declared.fence.Fence.Fence, declared.memo.Seen.Seen, declared.memo.Work.Work, Answering.AreAnswered}
 use Rattle.rls_evaluation.specs.Showing.{asked_for, shown_first}
-use Rattle.rls_evaluation.specs.Answering.{AreAnswered}
 
 -- a call answers what is asked, unless memory ran out: what is read is added to the notes, each object once, and the
 -- source stands as before

@@ -3,23 +3,14 @@
 use Rattle.std.specs.Prelude.{ℕ, suc, List, [], ◌∷◌, Bool, true, false, Option, Some, None, Ok, map, if◌then◌else◌}
 use Rattle.std.specs.List.{list_any}
 use Rattle.std.specs.Str.{bytes_eq}
-use Rattle.rls_value.specs.declared.value.Value.{Value}
-use Rattle.rls_value.specs.declared.truth.Truth.{Truth}
-use Rattle.rls_value.specs.Values.{truth_in, is_null}
-use Rattle.rls_expr.specs.declared.policy.Policy.{Policy}
-use Rattle.rls_expr.specs.Terms.{Term}
-use Rattle.rls_catalog.specs.declared.stored.Stored.{Stored}
-use Rattle.rls_catalog.specs.declared.verdict.Verdict.{Verdict}
+use Rattle.rls_value.specs.{declared.value.Value.Value, declared.truth.Truth.Truth, Values.truth_in, Values.is_null}
+use Rattle.rls_expr.specs.{declared.policy.Policy.Policy, Terms.Term}
+use Rattle.rls_catalog.specs.{declared.stored.Stored.Stored, declared.verdict.Verdict.Verdict, Verdict.verdict_of}
 use Rattle.rls_catalog.specs.declared.verdict.Verdict.TheVariants as v
-use Rattle.rls_catalog.specs.Verdict.{verdict_of}
 use Rattle.rls_source.specs.Askings.{Asking, known, asked_if, followed_by}
 use Rattle.rls_source.specs.Asked.{asked_rows, asked_key}
-use Rattle.rls_evaluation.specs.declared.fence.Guard.{Guard}
-use Rattle.rls_evaluation.specs.declared.fence.Guard.TheVariants.{Exempt, Policies}
-use Rattle.rls_evaluation.specs.declared.fence.Fence.{Fence}
-use Rattle.rls_evaluation.specs.Environments.{over}
-use Rattle.rls_evaluation.specs.Gathering.{gathered, kept}
-use Rattle.rls_evaluation.specs.Eval.{Shows, value_of}
+use Rattle.rls_evaluation.specs.{declared.fence.Guard.Guard, declared.fence.Fence.Fence, Environments.over}
+use Rattle.rls_evaluation.specs.{declared.fence.Guard.TheVariants.Exempt, declared.fence.Guard.TheVariants.Policies, Gathering.gathered, Gathering.kept, Eval.Shows, Eval.value_of}
 
 -- the values of each
 abbrev pub values_of : List Stored → List (List Value)

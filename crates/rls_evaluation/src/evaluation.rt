@@ -1,23 +1,12 @@
 //! The value of a placed expression, with its subqueries.
 
 ghost use Rattle.std.specs.Prelude.{◌≡◌, [], ◌++◌, ◌||◌, false, true, Some, None, drop, IfOk, OnOk, if◌then◌else◌};
-ghost use Rattle.rls_value.specs.declared.truth.Truth.TheVariants.{True, False};
-ghost use Rattle.rls_value.specs.declared.value.Value.TheVariants.{Null};
-ghost use Rattle.rls_value.specs.Truths.{disjunction_of};
+ghost use Rattle.rls_value.specs.{declared.truth.Truth.TheVariants.True, declared.truth.Truth.TheVariants.False, declared.value.Value.TheVariants.Null, Truths.disjunction_of};
 ghost use Rattle.rls_expr.specs.Terms as t;
-ghost use Rattle.rls_expr.specs.Terms.{maybe_term, terms_of};
-ghost use Rattle.rls_expr.specs.ExprTerms.{query_of};
-ghost use Rattle.rls_evaluation.specs.Alone.{is_alone, items_seen, items_for, asked_query, with_item};
-ghost use Rattle.rls_evaluation.specs.Answering.{Comes};
-ghost use Rattle.rls_evaluation.specs.Environments.{inside};
-ghost use Rattle.rls_evaluation.specs.Gathering.{gathered, kept, with_row};
-ghost use Rattle.rls_evaluation.specs.Keys.{or_else};
+ghost use Rattle.rls_expr.specs.{Terms.maybe_term, Terms.terms_of, ExprTerms.query_of};
+ghost use Rattle.rls_evaluation.specs.{Alone.is_alone, Alone.items_seen, Alone.items_for, Alone.asked_query, Alone.with_item, Scoping.env_of, Scoping.held_value, Scoping.held_now, Scoping.maybe_held, Scoping.maybe_now, Scoping.number_value, Holding.Holds, Holding.Tells, Holding.shown_at, Holding.object_for, Holding.asked_of, Holding.is_key, Holding.put_in, Answering.Comes, Environments.inside, Keys.or_else, Gathering.gathered, Gathering.kept, Gathering.with_row, Showing.shows, Showing.judgements_on, Showing.is_allowed, Eval.value_of, Eval.together, Eval.and_value, Eval.or_value, Eval.or_equal, Eval.among_items, Eval.item_equals, Eval.item_of, Eval.item_or, Eval.meets, Eval.or_item, Eval.ranged_over};
 ghost use Rattle.rls_evaluation.specs.Eval as means;
-ghost use Rattle.rls_evaluation.specs.Eval.{value_of, together, and_value, or_value, or_equal, among_items, item_equals, item_of, item_or, meets, or_item, ranged_over};
 ghost use Rattle.rls_evaluation.specs.Showing as spec;
-ghost use Rattle.rls_evaluation.specs.Showing.{shows, judgements_on, is_allowed};
-ghost use Rattle.rls_evaluation.specs.Scoping.{env_of, held_value, held_now, maybe_held, maybe_now, number_value};
-ghost use Rattle.rls_evaluation.specs.Holding.{Holds, Tells, shown_at, object_for, asked_of, is_key, put_in};
 
 use crate::alone::is_alone;
 use crate::deciding::deciding_on;

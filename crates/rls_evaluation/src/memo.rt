@@ -1,15 +1,12 @@
 //! What is kept while a statement is evaluated.
 
 ghost use Rattle.std.specs.Prelude.{◌≡◌, ℕ, List, [], Some, None, true, false, cond, length, IfOk, IfSome, OnOk};
-ghost use Rattle.std.specs.BTreeMap.{is_at};
-ghost use Rattle.std.specs.Map.{lookup};
+ghost use Rattle.std.specs.{BTreeMap.is_at, Map.lookup};
 ghost use Rattle.rls_value.specs.Objects.{object_order};
 ghost use Rattle.rls_source.specs.Footprints.{is_object, IsInOrder};
 ghost use Rattle.rls_expr.specs.ExprTerms.{query_of};
 ghost use Rattle.rls_catalog.specs.State.{State};
-ghost use Rattle.rls_evaluation.specs.declared.fence.Fence.{Fence};
-ghost use Rattle.rls_evaluation.specs.Holding.{Holds, found_in};
-ghost use Rattle.rls_evaluation.specs.Answering.{IsFor, FoundAt, IsOneMore, NoneBelow};
+ghost use Rattle.rls_evaluation.specs.{declared.fence.Fence.Fence, Holding.Holds, Holding.found_in, Answering.IsFor, Answering.FoundAt, Answering.IsOneMore, Answering.NoneBelow};
 
 use crate::noted::Noted;
 use crate::value_set::ValueSet;

@@ -1,12 +1,9 @@
 //! The values of a list, to be asked whether one of them is equal to another.
 
 ghost use Rattle.std.specs.Prelude.{◌≡◌, ◌||◌, List, IfOk, OnOk, []};
-ghost use Rattle.rls_value.specs.declared.value.Value.{Value as Datum};
-ghost use Rattle.rls_evaluation.specs.Alone.{any_equal, is_some};
-ghost use Rattle.rls_evaluation.specs.Scoping.{held_value};
+ghost use Rattle.rls_value.specs.{declared.value.Value.Value as Datum, Values.listed, Values.rank_of};
+ghost use Rattle.rls_evaluation.specs.{Alone.any_equal, Alone.is_some, Scoping.held_value, Wides.wide_value};
 ghost use Rattle.rls_value.specs.declared.value.Value.TheVariants as v;
-ghost use Rattle.rls_value.specs.Values.{listed, rank_of};
-ghost use Rattle.rls_evaluation.specs.Wides.{wide_value};
 ghost use Rattle.rls_evaluation.specs.ValueSets.{IsSetOf, IsSetWith, finds, is_flag, is_number, is_text, lets_open, three};
 
 use crate::held::Held;

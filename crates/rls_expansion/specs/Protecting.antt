@@ -2,26 +2,16 @@
 -- for its type of command and, where it reads, for SELECT; and, through the subqueries of the statement and of policies, those
 -- for SELECT of every table that these lead to. A chain of policies that never ends is refused (42P17).
 use Rattle.std.specs.Prelude.{ℕ, List, [], ◌∷◌, ◌++◌, Bool, true, false, Option, Some, None, Result, Ok, Err, if◌then◌else◌}
-use Rattle.rls_value.specs.declared.refusal.Refusal.{Refusal}
-use Rattle.rls_value.specs.declared.verb.Kind.{Kind}
+use Rattle.rls_value.specs.{declared.refusal.Refusal.Refusal, declared.verb.Kind.Kind, Giving.and_then}
 use Rattle.rls_value.specs.declared.verb.Kind.TheVariants as k
-use Rattle.rls_value.specs.Giving.{and_then}
-use Rattle.rls_expr.specs.declared.policy.Policy.{Policy}
-use Rattle.rls_expr.specs.declared.table.TableDef.{TableDef}
-use Rattle.rls_expr.specs.Scopes.{InScope}
+use Rattle.rls_expr.specs.{declared.policy.Policy.Policy, declared.table.TableDef.TableDef, Scopes.InScope}
 use Rattle.rls_catalog.specs.declared.verdict.Side.{Side}
 use Rattle.rls_catalog.specs.declared.verdict.Side.TheVariants as side
 use Rattle.rls_source.specs.Askings.{Asking, known, followed_by}
-use Rattle.rls_guard.specs.declared.standing.Standing.{Standing}
-use Rattle.rls_guard.specs.declared.guard.Watch.{Watch}
-use Rattle.rls_guard.specs.Guards.{watches_by}
-use Rattle.rls_recursion.specs.declared.room.Room.{Room}
-use Rattle.rls_recursion.specs.declared.searching.Reached.{Reached}
-use Rattle.rls_recursion.specs.Searching.{ordered_by}
-use Rattle.rls_expansion.specs.declared.protection.Protection.{Protection}
+use Rattle.rls_guard.specs.{declared.standing.Standing.Standing, declared.guard.Watch.Watch, Guards.watches_by}
+use Rattle.rls_recursion.specs.{declared.room.Room.Room, declared.searching.Reached.Reached, Searching.ordered_by}
+use Rattle.rls_expansion.specs.{declared.protection.Protection.Protection, Policies.policies_for, Rooms.rooms_of}
 use Rattle.rls_expansion.specs.Fences.{known_in, fences_of}
-use Rattle.rls_expansion.specs.Policies.{policies_for}
-use Rattle.rls_expansion.specs.Rooms.{rooms_of}
 use Rattle.rls_expansion.specs.Used.{Ask, tables_used}
 
 -- the command judges rows as they stand

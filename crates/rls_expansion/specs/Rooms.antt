@@ -4,21 +4,13 @@ use Rattle.std.specs.List.{list_any}
 use Rattle.std.proofs.Common.{ap, subst}
 use Rattle.rls_value.specs.declared.refusal.Refusal.{Refusal}
 use Rattle.rls_value.specs.declared.verb.Kind.TheVariants as k
-use Rattle.rls_expr.specs.declared.table.TableDef.{TableDef}
-use Rattle.rls_expr.specs.declared.policy.Policy.{Policy}
+use Rattle.rls_expr.specs.{declared.table.TableDef.TableDef, declared.policy.Policy.Policy}
 use Rattle.rls_catalog.specs.declared.verdict.Side.TheVariants as side
-use Rattle.rls_catalog.specs.Membership.{fresh, Within}
-use Rattle.rls_catalog.specs.State.{State}
-use Rattle.rls_catalog.specs.Verdict.{chosen, exempts}
-use Rattle.rls_source.specs.Asked.{asked_policies, asked_table, policies_at, table_at}
-use Rattle.rls_source.specs.Askings.{Asking, asked_if, followed_by, known}
-use Rattle.rls_guard.specs.declared.standing.Standing.{Standing}
-use Rattle.rls_guard.specs.Standings.{has_owner}
+use Rattle.rls_catalog.specs.{Membership.fresh, Membership.Within, State.State, Verdict.chosen, Verdict.exempts}
+use Rattle.rls_source.specs.{Asked.asked_policies, Asked.asked_table, Asked.policies_at, Asked.table_at, Askings.Asking, Askings.asked_if, Askings.followed_by, Askings.known}
+use Rattle.rls_guard.specs.{declared.standing.Standing.Standing, Standings.has_owner}
 use Rattle.rls_recursion.specs.declared.room.Room.{Room}
-use Rattle.rls_expansion.specs.Enough.{LeadsWithin, asked_all}
-use Rattle.rls_expansion.specs.Leading.{named, none_within, used_named}
-use Rattle.rls_expansion.specs.Policies.{policies_for}
-use Rattle.rls_expansion.specs.Used.{Ask, holds_subquery, tables_used}
+use Rattle.rls_expansion.specs.{Enough.LeadsWithin, Enough.asked_all, Policies.policies_for, Leading.named, Leading.none_within, Leading.used_named, Used.Ask, Used.holds_subquery, Used.tables_used}
 
 -- who reads a table judges its rows for SELECT
 abbrev pub reading : List Ask

@@ -1,18 +1,13 @@
 -- The tables of the subqueries in the expressions that policies are asked for.
 use Rattle.std.specs.Prelude.{ℕ, List, [], ◌∷◌, ◌++◌, Option, Some, None, Bool, true, false, ◌&&◌, ◌||◌, if◌then◌else◌, is_some}
 use Rattle.std.specs.List.{list_any}
-use Rattle.rls_value.specs.declared.verb.Kind.{Kind}
+use Rattle.rls_value.specs.{declared.verb.Kind.Kind, declared.verb.PolicyKind.PolicyKind}
 use Rattle.rls_value.specs.declared.verb.Kind.TheVariants as k
-use Rattle.rls_value.specs.declared.verb.PolicyKind.{PolicyKind}
 use Rattle.rls_value.specs.declared.verb.PolicyKind.TheVariants as pk
-use Rattle.rls_expr.specs.declared.policy.Policy.{Policy}
+use Rattle.rls_expr.specs.{declared.policy.Policy.Policy, Parts.has_query, Terms.Term}
 use Rattle.rls_expr.specs.Naming.{Step, Look, Enter, Leave, names_of}
-use Rattle.rls_expr.specs.Parts.{has_query}
-use Rattle.rls_expr.specs.Terms.{Term}
-use Rattle.rls_catalog.specs.declared.verdict.Side.{Side}
+use Rattle.rls_catalog.specs.{declared.verdict.Side.Side, Privileges.includes, Verdict.is_for_kind}
 use Rattle.rls_catalog.specs.declared.verdict.Side.TheVariants as side
-use Rattle.rls_catalog.specs.Privileges.{includes}
-use Rattle.rls_catalog.specs.Verdict.{is_for_kind}
 
 -- ---- the tables in an expression
 

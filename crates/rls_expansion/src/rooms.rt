@@ -1,8 +1,7 @@
 //! The tables that chains of policies meet, each once, with what is read for them.
 
 ghost use Rattle.std.specs.Prelude.{◌≡◌, [], ◌∷◌, ◌++◌, Some, slice_get, IfOk, OnOk};
-ghost use Rattle.std.specs.List.{list_any};
-ghost use Rattle.std.specs.Option.{option_copied};
+ghost use Rattle.std.specs.{List.list_any, Option.option_copied};
 ghost use Rattle.rls_catalog.specs.Membership.{fresh};
 ghost use Rattle.rls_source.specs.Answering.{Tells};
 ghost use Rattle.rls_expansion.specs.Rooms as spec;

@@ -57,7 +57,7 @@ pub struct Place {
 }
 
 /// The type of an expression. Whole numbers of 32 and of 64 bits are one type.
-#[derive(Clone, Copy, Debug, PartialEq, Eq)]
+#[derive(Clone, Copy, PartialEq, Eq)]
 pub enum Category {
     Number,
     Text,

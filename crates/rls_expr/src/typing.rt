@@ -11,7 +11,7 @@ use crate::table::category_of;
 use rls_value::{ColType, Value};
 
 /// What typing finds: types that don't fit, a null, which goes with each type, or a type.
-#[derive(Clone, Copy, Debug, PartialEq, Eq)]
+#[derive(Clone, Copy, PartialEq, Eq)]
 pub enum Typing {
     Fault,
     Null,

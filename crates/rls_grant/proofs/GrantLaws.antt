@@ -3,16 +3,12 @@ use Rattle.std.specs.Prelude.{◌≡◌, refl, ◌↔◌, ℕ, List, Bool, true,
 use Rattle.std.specs.List.{list_any}
 use Rattle.std.proofs.Common.{sym}
 use Rattle.std.proofs.lemmas.Bool.{true≢false}
-use Rattle.rls_value.specs.Names.{one_of}
-use Rattle.rls_value.specs.declared.verb.Privilege.{Privilege}
-use Rattle.rls_catalog.specs.declared.grant.Grant.{Grant}
+use Rattle.rls_value.specs.{Names.one_of, declared.verb.Privilege.Privilege}
+use Rattle.rls_catalog.specs.{declared.grant.Grant.Grant, Privileges.Options}
 use Rattle.rls_catalog.specs.GrantOptions.{GoesBack, HasDependents, LeftAfterRevoke, without_options_of}
-use Rattle.rls_catalog.specs.Privileges.{Options}
 use Rattle.rls_catalog.proofs.Revoking.{has_dependents_is, left_by_is}
-use Rattle.rls_grant.specs.Granting.{goes_back}
-use Rattle.rls_grant.specs.Holders.{holders_of}
+use Rattle.rls_grant.specs.{Granting.goes_back, Holders.holders_of, Revoking.stays}
 use Rattle.rls_grant.proofs.HolderLaws.{holders_are}
-use Rattle.rls_grant.specs.Revoking.{stays}
 
 no_test : (b : Bool) {P : Type 0} → (P → b ≡ true) → not b ≡ true → P → ⊥
 no_test true from fails holds = true≢false (sym fails)

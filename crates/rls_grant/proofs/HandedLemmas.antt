@@ -6,14 +6,10 @@ use Rattle.std.specs.Map.{lookup, set_value}
 use Rattle.std.specs.Str.{bytes_eq}
 use Rattle.std.proofs.Common.{ap, sym, ◌∙◌, subst, append_assoc}
 use Rattle.std.proofs.lemmas.Cmp.{eq_by_cmp_equiv, nat_list_cmp_total}
-use Rattle.std.proofs.lemmas.Map.{lookup-set_value}
-use Rattle.std.proofs.lemmas.Map.Text.{is_eq-slice_cmp}
+use Rattle.std.proofs.{lemmas.Map.lookup-set_value, lemmas.Map.Text.is_eq-slice_cmp}
 use Rattle.rls_value.specs.declared.verb.Privilege.{Privilege}
 use Rattle.rls_expr.specs.declared.policy.Grantee.{Grantee}
-use Rattle.rls_expr.specs.declared.policy.Grantee.TheVariants as g
-use Rattle.rls_catalog.specs.declared.grant.Grant.{Grant}
-use Rattle.rls_catalog.specs.Privileges.{is_same_privilege, is_option_by, optioned_by, roles_in}
-use Rattle.rls_catalog.specs.State.{name_order, or_none}
+use Rattle.rls_catalog.specs.{declared.grant.Grant.Grant, State.name_order, State.or_none, Privileges.is_same_privilege, Privileges.is_option_by, Privileges.optioned_by, Privileges.roles_in}
 use Rattle.rls_grant.specs.Handed.{handed_to, role_in, under}
 
 -- ---- one entry more
@@ -63,10 +59,10 @@ roles_of grants = flat_map (λ grant. roles_in grant.grantee) grants
 by_tests : (option alike same : Bool) (grantee : Grantee) (grant : Grant) (kept : List Grant) (found : Option (List ℕ)) → grant.grantee ≡ grantee
     → (if option && alike then role_in grantee else None) ≡ found
     → roles_of (cond (option && (alike && same)) (grant ∷ kept) kept) ≡ with_found found same (roles_of kept)
-by_tests true true true g.Public grant kept found to is = ap (λ one. roles_in one ++ roles_of kept) to ∙ ap (λ some. with_found some true (roles_of kept)) is
-by_tests true true true (g.Role name) grant kept found to is = ap (λ one. roles_in one ++ roles_of kept) to ∙ ap (λ some. with_found some true (roles_of kept)) is
-by_tests true true false g.Public grant kept found to is = ap (λ some. with_found some false (roles_of kept)) is
-by_tests true true false (g.Role name) grant kept found to is = ap (λ some. with_found some false (roles_of kept)) is
+by_tests true true true Grantee.Public grant kept found to is = ap (λ one. roles_in one ++ roles_of kept) to ∙ ap (λ some. with_found some true (roles_of kept)) is
+by_tests true true true (Grantee.Role name) grant kept found to is = ap (λ one. roles_in one ++ roles_of kept) to ∙ ap (λ some. with_found some true (roles_of kept)) is
+by_tests true true false Grantee.Public grant kept found to is = ap (λ some. with_found some false (roles_of kept)) is
+by_tests true true false (Grantee.Role name) grant kept found to is = ap (λ some. with_found some false (roles_of kept)) is
 by_tests true false same grantee grant kept found to is = ap (λ some. with_found some same (roles_of kept)) is
 by_tests false alike same grantee grant kept found to is = ap (λ some. with_found some same (roles_of kept)) is
 

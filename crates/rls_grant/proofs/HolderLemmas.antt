@@ -2,16 +2,11 @@
 use Rattle.std.specs.Prelude.{◌≡◌, refl, ℕ, List, Bool, true, false}
 use Rattle.std.specs.BTreeSet.{BTreeSet, contains}
 use Rattle.std.proofs.Common.{sym}
-use Rattle.rls_value.specs.Names.{one_of}
-use Rattle.rls_value.specs.declared.verb.Privilege.{Privilege}
-use Rattle.rls_catalog.specs.declared.grant.Grant.{Grant}
-use Rattle.rls_catalog.specs.State.{name_order}
+use Rattle.rls_value.specs.{Names.one_of, declared.verb.Privilege.Privilege}
+use Rattle.rls_catalog.specs.{declared.grant.Grant.Grant, State.name_order}
 use Rattle.rls_role.specs.declared.reach.Reach.{Reach}
-use Rattle.rls_grant.specs.Grantors.{grantor_by}
-use Rattle.rls_grant.specs.Holders.{holders_of}
+use Rattle.rls_grant.specs.{Grantors.grantor_by, Holders.holders_of, Optioned.AreHolders, Revoking.left_or_refused}
 use Rattle.rls_grant.proofs.HolderLaws.{holders_are}
-use Rattle.rls_grant.specs.Optioned.{AreHolders}
-use Rattle.rls_grant.specs.Revoking.{left_or_refused}
 
 same_truth : (a b : Bool) → (a ≡ true → b ≡ true) → (b ≡ true → a ≡ true) → a ≡ b
 same_truth true b to from = sym (to refl)

@@ -4,47 +4,29 @@ use Rattle.std.specs.List.{flat_map, list_any}
 use Rattle.std.specs.Ordering.{nat_cmp, ordering_then, is_eq, is_lt}
 use Rattle.std.specs.declared.cmp.Ordering.{Ordering}
 use Rattle.std.specs.declared.cmp.Ordering.TheVariants.{Less, Equal, Greater}
-use Rattle.rls_value.specs.Giving.{and_then}
-use Rattle.rls_value.specs.Names.{one_of}
-use Rattle.rls_value.specs.declared.verb.Privilege.{Privilege}
-use Rattle.rls_value.specs.declared.verb.Privilege.TheVariants as p
-use Rattle.rls_value.specs.declared.refusal.Refusal.{Refusal}
-use Rattle.rls_value.specs.declared.refusal.Refusal.TheVariants.{GrantOp}
-use Rattle.rls_value.specs.declared.refusal.GrantFault.TheVariants.{PublicOption, Back}
-use Rattle.rls_expr.specs.declared.table.TableDef.{TableDef}
-use Rattle.rls_expr.specs.declared.policy.Grantee.{Grantee}
-use Rattle.rls_expr.specs.declared.policy.Grantee.TheVariants as g
-use Rattle.rls_catalog.specs.declared.change.Change.{Change}
-use Rattle.rls_catalog.specs.declared.change.Change.TheVariants as change
-use Rattle.rls_catalog.specs.declared.grant.Grant.{Grant}
-use Rattle.rls_catalog.specs.GrantOptions.{without_options_of}
-use Rattle.rls_catalog.specs.State.{name_order}
-use Rattle.rls_source.specs.Asked.{asked_grants}
-use Rattle.rls_source.specs.Askings.{Asking, known, followed_by}
-use Rattle.rls_source.specs.Named.{table_or_undefined, grantees_or_undefined}
-use Rattle.rls_source.specs.Sequences.{each_or_refused, put_before}
+use Rattle.rls_value.specs.{Giving.and_then, Names.one_of, declared.verb.Privilege.Privilege, declared.refusal.Refusal.Refusal, declared.refusal.Refusal.TheVariants.GrantOp, declared.refusal.GrantFault.TheVariants.PublicOption, declared.refusal.GrantFault.TheVariants.Back}
+use Rattle.rls_expr.specs.{declared.table.TableDef.TableDef, declared.policy.Grantee.Grantee}
+use Rattle.rls_catalog.specs.{declared.change.Change.Change, declared.grant.Grant.Grant, GrantOptions.without_options_of, State.name_order}
+use Rattle.rls_source.specs.{Asked.asked_grants, Named.table_or_undefined, Named.grantees_or_undefined, Sequences.each_or_refused, Sequences.put_before, Askings.Asking, Askings.known, Askings.followed_by}
 use Rattle.rls_statement.specs.declared.statement.GrantPrivileges.{GrantPrivileges}
-use Rattle.rls_role.specs.Reaching.{reach_of}
-use Rattle.rls_role.specs.declared.reach.Reach.{Reach}
-use Rattle.rls_grant.specs.declared.grantors.Grantor.{Grantor}
-use Rattle.rls_grant.specs.Grantors.{all_privileges, grantors}
-use Rattle.rls_grant.specs.Holders.{holders_of}
+use Rattle.rls_role.specs.{Reaching.reach_of, declared.reach.Reach.Reach}
+use Rattle.rls_grant.specs.{declared.grantors.Grantor.Grantor, Holders.holders_of, Grantors.all_privileges, Grantors.grantors}
 
 -- ---- where a grant stands among the others
 
 -- the place of a privilege among the four
 abbrev pub place_of : Privilege → ℕ
-place_of p.Select = 0
-place_of p.Insert = 1
-place_of p.Update = 2
-place_of p.Delete = 3
+place_of Privilege.Select = 0
+place_of Privilege.Insert = 1
+place_of Privilege.Update = 2
+place_of Privilege.Delete = 3
 
 -- PUBLIC stands before every role
 abbrev pub grantee_order : Grantee → Grantee → Ordering
-grantee_order g.Public g.Public = Equal
-grantee_order g.Public (g.Role name) = Less
-grantee_order (g.Role name) g.Public = Greater
-grantee_order (g.Role name) (g.Role other) = name_order name other
+grantee_order Grantee.Public Grantee.Public = Equal
+grantee_order Grantee.Public (Grantee.Role name) = Less
+grantee_order (Grantee.Role name) Grantee.Public = Greater
+grantee_order (Grantee.Role name) (Grantee.Role other) = name_order name other
 
 -- by privilege, then by grantee, then by grantor
 abbrev pub grant_order : Grant → Grant → Ordering
@@ -78,7 +60,7 @@ new_grant option privilege grantee grantor = record { privilege = privilege; gra
 
 -- the owner's own grants, which a table has from the start
 abbrev pub own_grant : List ℕ → Privilege → Grant
-own_grant owner privilege = new_grant false privilege (g.Role owner) owner
+own_grant owner privilege = new_grant false privilege (Grantee.Role owner) owner
 
 -- the owner's own grants of all privileges
 abbrev pub own_grants : List ℕ → List Grant
@@ -100,8 +82,8 @@ forth_or_refused owner grants grantee grantor = if goes_back owner grants granto
 
 -- not to PUBLIC, and not back to whom one of the grantors has it from
 abbrev pub optioned_or_refused : List ℕ → List Grant → List Grantor → Grantee → Result (Unit {0}) Refusal
-optioned_or_refused owner grants by g.Public = Err (GrantOp PublicOption)
-optioned_or_refused owner grants by (g.Role name) = each_or_refused (forth_or_refused owner grants name) by
+optioned_or_refused owner grants by Grantee.Public = Err (GrantOp PublicOption)
+optioned_or_refused owner grants by (Grantee.Role name) = each_or_refused (forth_or_refused owner grants name) by
 
 -- the grantees in order, by the grants that are there
 abbrev pub options_or_refused : Bool → List ℕ → List Grant → List Grantor → List Grantee → Result (Unit {0}) Refusal
@@ -111,7 +93,7 @@ options_or_refused option owner grants by grantees = if option then each_or_refu
 
 -- all grants on the table, as they are from now on
 abbrev pub grants_written : List ℕ → List Grant → List Change
-grants_written table grants = change.Grants table grants ∷ []
+grants_written table grants = Change.Grants table grants ∷ []
 
 -- the grants that are there, with each privilege to each grantee
 abbrev pub grants_with : List Grant → List Grantor → GrantPrivileges → List Change

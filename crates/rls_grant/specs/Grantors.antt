@@ -1,19 +1,13 @@
 -- Who grants and revokes privileges on a table (PostgreSQL manual, GRANT and REVOKE): each privilege has its own grantor.
 use Rattle.std.specs.Prelude.{ℕ, List, [], ◌∷◌, Option, Some, None, Bool, ◌||◌, Result, Ok, Err, if◌then◌else◌, filter}
-use Rattle.rls_value.specs.Names.{one_of}
-use Rattle.rls_value.specs.declared.verb.Privilege.{Privilege}
+use Rattle.rls_value.specs.{Names.one_of, declared.verb.Privilege.Privilege, declared.refusal.Refusal.Refusal, declared.refusal.Refusal.TheVariants.Denied, declared.refusal.Why.TheVariants.GrantOption}
 use Rattle.rls_value.specs.declared.verb.Privilege.TheVariants as p
-use Rattle.rls_value.specs.declared.refusal.Refusal.{Refusal}
-use Rattle.rls_value.specs.declared.refusal.Refusal.TheVariants.{Denied}
-use Rattle.rls_value.specs.declared.refusal.Why.TheVariants.{GrantOption}
 use Rattle.rls_expr.specs.declared.table.TableDef.{TableDef}
-use Rattle.rls_catalog.specs.declared.grant.Grant.{Grant}
-use Rattle.rls_catalog.specs.Verdict.{least}
+use Rattle.rls_catalog.specs.{declared.grant.Grant.Grant, Verdict.least}
 use Rattle.rls_source.specs.Sequences.{each_of}
 use Rattle.rls_statement.specs.declared.statement.Privileges.{Privileges}
 use Rattle.rls_role.specs.declared.reach.Reach.{Reach}
-use Rattle.rls_grant.specs.declared.grantors.Grantor.{Grantor}
-use Rattle.rls_grant.specs.Holders.{holders_of}
+use Rattle.rls_grant.specs.{declared.grantors.Grantor.Grantor, Holders.holders_of}
 
 -- in this order they are granted, revoked and refused
 abbrev pub all_privileges : List Privilege

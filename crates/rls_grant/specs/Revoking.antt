@@ -2,27 +2,16 @@
 -- options. What is left then has to have grantors who hold the grant option: CASCADE takes the rest too.
 use Rattle.std.specs.Prelude.{ℕ, List, [], ◌∷◌, Bool, ◌||◌, not, Result, Ok, Err, if◌then◌else◌, map, filter}
 use Rattle.std.specs.List.{list_any}
-use Rattle.rls_value.specs.Giving.{and_then}
-use Rattle.rls_value.specs.Names.{one_of}
-use Rattle.rls_value.specs.declared.verb.Privilege.{Privilege}
-use Rattle.rls_value.specs.declared.refusal.Refusal.{Refusal}
-use Rattle.rls_value.specs.declared.refusal.Refusal.TheVariants.{Dependent}
-use Rattle.rls_expr.specs.declared.table.TableDef.{TableDef}
-use Rattle.rls_expr.specs.declared.policy.Grantee.{Grantee}
-use Rattle.rls_catalog.specs.declared.change.Change.{Change}
-use Rattle.rls_catalog.specs.declared.grant.Grant.{Grant}
+use Rattle.rls_value.specs.{Giving.and_then, Names.one_of, declared.verb.Privilege.Privilege, declared.refusal.Refusal.Refusal, declared.refusal.Refusal.TheVariants.Dependent}
+use Rattle.rls_expr.specs.{declared.table.TableDef.TableDef, declared.policy.Grantee.Grantee}
+use Rattle.rls_catalog.specs.{declared.change.Change.Change, declared.grant.Grant.Grant, Privileges.is_same_privilege}
 use Rattle.rls_catalog.specs.GrantOptions.{is_grant_of, unmarked}
-use Rattle.rls_catalog.specs.Privileges.{is_same_privilege}
 use Rattle.rls_source.specs.Asked.{asked_grants}
 use Rattle.rls_source.specs.Askings.{Asking, known, followed_by}
 use Rattle.rls_source.specs.Named.{table_or_undefined, grantees_or_undefined}
 use Rattle.rls_statement.specs.declared.statement.RevokePrivileges.{RevokePrivileges}
-use Rattle.rls_role.specs.Reaching.{reach_of}
-use Rattle.rls_role.specs.declared.reach.Reach.{Reach}
-use Rattle.rls_grant.specs.declared.grantors.Grantor.{Grantor}
-use Rattle.rls_grant.specs.Granting.{grants_written}
-use Rattle.rls_grant.specs.Grantors.{grantors}
-use Rattle.rls_grant.specs.Holders.{holders_of}
+use Rattle.rls_role.specs.{Reaching.reach_of, declared.reach.Reach.Reach}
+use Rattle.rls_grant.specs.{declared.grantors.Grantor.Grantor, Granting.grants_written, Grantors.grantors, Holders.holders_of}
 
 -- ---- what is taken
 

@@ -2,12 +2,9 @@
 
 ghost use Rattle.std.specs.Prelude.{◌≡◌, [], ◌∷◌, ◌++◌, ◌↔◌, ℕ, List, true, IfOk, OnOk};
 ghost use Rattle.std.specs.List.{flat_map};
-ghost use Rattle.rls_value.specs.Giving.{Gives};
-ghost use Rattle.rls_value.specs.declared.verb.Privilege.{Privilege as Kind};
-ghost use Rattle.rls_catalog.specs.GrantOptions.{GoesBack};
-ghost use Rattle.rls_catalog.specs.declared.grant.Grant.{Grant as Given};
-ghost use Rattle.rls_source.specs.Answering.{Answers};
-ghost use Rattle.rls_source.specs.Sequences.{each_or_refused};
+ghost use Rattle.rls_value.specs.{Giving.Gives, declared.verb.Privilege.Privilege as Kind};
+ghost use Rattle.rls_catalog.specs.{GrantOptions.GoesBack, declared.grant.Grant.Grant as Given};
+ghost use Rattle.rls_source.specs.{Answering.Answers, Sequences.each_or_refused};
 ghost use Rattle.rls_grant.specs.Granting as spec;
 ghost use Rattle.rls_grant.specs.Granting.{goes_back, grant_on, granted, grants_by, grants_made, grants_with};
 

@@ -1,16 +1,12 @@
 //! Who grants and revokes privileges.
 
 ghost use Rattle.std.specs.Prelude.{◌≡◌, None, filter, IfOk};
-ghost use Rattle.std.specs.BTreeSet.{contains};
-ghost use Rattle.std.specs.Option.{option_copied};
-ghost use Rattle.rls_value.specs.Giving.{Gives};
-ghost use Rattle.rls_value.specs.Names.{one_of};
-ghost use Rattle.rls_catalog.specs.State.{name_order};
-ghost use Rattle.rls_catalog.specs.Verdict.{least};
+ghost use Rattle.std.specs.{BTreeSet.contains, Option.option_copied};
+ghost use Rattle.rls_value.specs.{Giving.Gives, Names.one_of};
+ghost use Rattle.rls_catalog.specs.{State.name_order, Verdict.least};
 ghost use Rattle.rls_source.specs.Sequences.{each_of};
 ghost use Rattle.rls_grant.specs.Grantors as spec;
-ghost use Rattle.rls_grant.specs.Grantors.{grantor_by};
-ghost use Rattle.rls_grant.specs.Holders.{holders_of};
+ghost use Rattle.rls_grant.specs.{Grantors.grantor_by, Holders.holders_of};
 
 use crate::optioning::options;
 use rls_catalog::Grant;

@@ -1,22 +1,14 @@
 //! Who holds a grant option.
 
 ghost use Rattle.std.specs.Prelude.{◌≡◌, ◌↔◌, ◌++◌, ◌∷◌, [], ℕ, List, None, true, cond, slice_get, IfOk, OnOk};
-ghost use Rattle.std.specs.BTreeMap.{is_at};
-ghost use Rattle.std.specs.BTreeSet.{contains};
-ghost use Rattle.std.specs.Map.{lookup};
-ghost use Rattle.std.specs.Option.{option_copied};
+ghost use Rattle.std.specs.{BTreeMap.is_at, BTreeSet.contains, Map.lookup, Option.option_copied};
 ghost use Rattle.rls_value.specs.declared.verb.Privilege.{Privilege as Kind};
 ghost use Rattle.rls_catalog.specs.GrantOptions as given;
-ghost use Rattle.rls_catalog.specs.GrantOptions.{without_options_of};
-ghost use Rattle.rls_catalog.specs.Membership.{fresh};
-ghost use Rattle.rls_catalog.specs.State.{State, AgreesOn, name_order};
-ghost use Rattle.rls_catalog.specs.declared.grant.Grant.{Grant as Given};
+ghost use Rattle.rls_catalog.specs.{GrantOptions.without_options_of, Membership.fresh, declared.grant.Grant.Grant as Given, State.State, State.AgreesOn, State.name_order};
 ghost use Rattle.rls_role.specs.Seen.{IsSetOf};
 ghost use Rattle.rls_grant.specs.Considered as seen;
-ghost use Rattle.rls_grant.specs.Considered.{considered, considered_one};
+ghost use Rattle.rls_grant.specs.{Considered.considered, Considered.considered_one, Handed.HandsOn, Handed.under, Optioned.AreHolders, Optioned.HoldsOption, Optioned.HoldsOn, Optioned.option_reads};
 ghost use Rattle.rls_grant.specs.Handed as handed;
-ghost use Rattle.rls_grant.specs.Handed.{HandsOn, under};
-ghost use Rattle.rls_grant.specs.Optioned.{AreHolders, HoldsOption, HoldsOn, option_reads};
 
 use crate::holding::is_same_privilege;
 use rls_catalog::Grant;

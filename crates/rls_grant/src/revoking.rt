@@ -1,18 +1,12 @@
 //! REVOKE of privileges on a table.
 
 ghost use Rattle.std.specs.Prelude.{◌≡◌, ◌↔◌, ℕ, List, true, not, map, filter, IfOk};
-ghost use Rattle.std.specs.BTreeSet.{contains};
-ghost use Rattle.std.specs.List.{list_any};
-ghost use Rattle.rls_value.specs.Giving.{Gives};
-ghost use Rattle.rls_value.specs.Names.{one_of};
-ghost use Rattle.rls_value.specs.declared.verb.Privilege.{Privilege as Kind};
-ghost use Rattle.rls_catalog.specs.GrantOptions.{HasDependents, LeftAfterRevoke, is_grant_of};
-ghost use Rattle.rls_catalog.specs.State.{name_order};
-ghost use Rattle.rls_catalog.specs.declared.grant.Grant.{Grant as Given};
+ghost use Rattle.std.specs.{BTreeSet.contains, List.list_any};
+ghost use Rattle.rls_value.specs.{Giving.Gives, Names.one_of, declared.verb.Privilege.Privilege as Kind};
+ghost use Rattle.rls_catalog.specs.{GrantOptions.HasDependents, GrantOptions.LeftAfterRevoke, GrantOptions.is_grant_of, State.name_order, declared.grant.Grant.Grant as Given};
 ghost use Rattle.rls_source.specs.Answering.{Answers};
-ghost use Rattle.rls_grant.specs.Holders.{holders_of};
+ghost use Rattle.rls_grant.specs.{Holders.holders_of, Revoking.grants_revoked, Revoking.is_by, Revoking.is_taken, Revoking.left_after, Revoking.left_or_refused, Revoking.revoke_on, Revoking.without_mark, Revoking.without_taken};
 ghost use Rattle.rls_grant.specs.Revoking as spec;
-ghost use Rattle.rls_grant.specs.Revoking.{grants_revoked, is_by, is_taken, left_after, left_or_refused, revoke_on, without_mark, without_taken};
 
 use crate::granting::write_grants;
 use crate::grantors::{Grantor, grantors_of};

@@ -1,40 +1,14 @@
 -- In a state whose rows are sound a subquery that pins the key of its table ranges over one row at most.
 use Rattle.std.specs.Prelude.{◌≡◌, refl, ℕ, ◌≤◌, List, [], ◌∷◌, Bool, true, false, cond, Option, Some, None, Result, Ok, Err, IfOk, is_some, length, map}
-use Rattle.std.specs.BTreeMap.{is_at}
-use Rattle.std.specs.Cmp.{IsTotalOrder}
-use Rattle.std.specs.List.{AllByRecursion, list_any}
-use Rattle.std.specs.List.Sorted.{IsStrictlySortedBy}
-use Rattle.std.specs.Map.{lookup, keys_of}
-use Rattle.std.specs.Ordering.{is_eq, ordering_reverse}
-use Rattle.std.specs.Str.{bytes_eq}
-use Rattle.std.specs.declared.cmp.Ordering.TheVariants.{Less}
-use Rattle.std.proofs.Common.{ap, sym, subst, ◌∙◌, arith}
-use Rattle.std.proofs.lemmas.Bool.{true≢false}
-use Rattle.std.proofs.lemmas.Cmp.{tied_itself, on_total, then_total, nat_cmp_total}
-use Rattle.rls_value.specs.declared.refusal.Refusal.{Refusal}
-use Rattle.rls_value.specs.declared.row.RowId.{RowId}
-use Rattle.rls_value.specs.declared.value.Value.{Value}
-use Rattle.rls_value.specs.Giving.{and_then}
-use Rattle.rls_value.specs.Values.{is_null}
-use Rattle.rls_expr.specs.declared.expr.FromItem.{FromItem}
-use Rattle.rls_expr.specs.declared.expr.Selects.{Selects}
-use Rattle.rls_expr.specs.declared.table.TableDef.{TableDef}
-use Rattle.rls_expr.specs.Terms.{Terms, End, More, Select}
-use Rattle.rls_catalog.specs.declared.stored.Keyed.{Keyed}
-use Rattle.rls_catalog.specs.declared.stored.Stored.{Stored}
-use Rattle.rls_catalog.specs.InOrder.{Ascend}
-use Rattle.rls_catalog.specs.State.{entries_of, State, id_order, is_same_id, is_same_row, rows_with_key, stored_of, table_of, with_key}
+use Rattle.std.specs.{BTreeMap.is_at, Cmp.IsTotalOrder, List.Sorted.IsStrictlySortedBy, Str.bytes_eq, declared.cmp.Ordering.TheVariants.Less}
+use Rattle.std.specs.{List.AllByRecursion, List.list_any, Map.lookup, Map.keys_of, Ordering.is_eq, Ordering.ordering_reverse}
+use Rattle.std.proofs.{Common.ap, Common.sym, Common.subst, Common.◌∙◌, Common.arith, lemmas.Bool.true≢false, lemmas.Cmp.tied_itself, lemmas.Cmp.on_total, lemmas.Cmp.then_total, lemmas.Cmp.nat_cmp_total}
+use Rattle.rls_value.specs.{declared.refusal.Refusal.Refusal, declared.row.RowId.RowId, declared.value.Value.Value, Giving.and_then, Values.is_null}
+use Rattle.rls_expr.specs.{declared.expr.FromItem.FromItem, declared.expr.Selects.Selects, declared.table.TableDef.TableDef, Terms.Terms, Terms.End, Terms.More, Terms.Select}
+use Rattle.rls_catalog.specs.{declared.stored.Keyed.Keyed, declared.stored.Stored.Stored, InOrder.Ascend, SoundRows.AreSound, SoundRows.AreSoundIn, SoundRows.KeysAreUnique, SoundRows.RowsAreSound, SoundRows.StandsAt, State.entries_of, State.State, State.id_order, State.is_same_id, State.is_same_row, State.rows_with_key, State.stored_of, State.table_of, State.with_key}
 use Rattle.rls_catalog.proofs.SameRows.{same_row}
-use Rattle.rls_catalog.specs.SoundRows.{AreSound, AreSoundIn, KeysAreUnique, RowsAreSound, StandsAt}
-use Rattle.rls_source.specs.Asked.{asked_key, keyed_at}
-use Rattle.rls_source.specs.Askings.{Asking, asked_if, followed_by, known}
-use Rattle.rls_evaluation.specs.declared.fence.Fence.{Fence}
-use Rattle.rls_evaluation.specs.declared.fence.Guard.{Guard}
-use Rattle.rls_evaluation.specs.Environments.{Environment}
-use Rattle.rls_evaluation.specs.Eval.{Shows, ranged_over}
-use Rattle.rls_evaluation.specs.Gathering.{kept, with_row}
-use Rattle.rls_evaluation.specs.Keys.{key_of}
-use Rattle.rls_evaluation.specs.Showing.{asked_for, is_allowed, shown, shows, values_of}
+use Rattle.rls_source.specs.{Asked.asked_key, Asked.keyed_at, Askings.Asking, Askings.asked_if, Askings.followed_by, Askings.known}
+use Rattle.rls_evaluation.specs.{declared.fence.Fence.Fence, declared.fence.Guard.Guard, Environments.Environment, Keys.key_of, Eval.Shows, Eval.ranged_over, Gathering.kept, Gathering.with_row, Showing.asked_for, Showing.is_allowed, Showing.shown, Showing.shows, Showing.values_of}
 use Rattle.rls_guard.specs.Support.{pins_key}
 use Rattle.rls_guard.proofs.PinnedLaws.{pinned_means}
 

@@ -6,12 +6,10 @@ use Rattle.std.proofs.Math.Dec.{eqb-suc-zero}
 use Rattle.std.proofs.lemmas.Bool.{true≢false}
 use Rattle.rls_value.specs.declared.value.Value.{Value}
 use Rattle.rls_expr.specs.declared.expr.Comparison.TheVariants as c
-use Rattle.rls_expr.specs.declared.expr.FromItem.{FromItem}
-use Rattle.rls_expr.specs.declared.expr.Selects.{Selects}
+use Rattle.rls_expr.specs.{declared.expr.FromItem.FromItem, declared.expr.Selects.Selects}
 use Rattle.rls_expr.specs.Terms.{Term, Terms, Literal, Place, CurrentUser, Compare, And, Scalar, End, More, Select}
-use Rattle.rls_evaluation.specs.Environments.{Environment}
+use Rattle.rls_evaluation.specs.{Environments.Environment, Keys.key_of}
 use Rattle.rls_evaluation.specs.Keys as keys
-use Rattle.rls_evaluation.specs.Keys.{key_of}
 use Rattle.rls_guard.specs.Support.{is_known, is_column, is_unsupported, pins_among, pins_by, pins_column, pins_columns, pins_in, pins_key, query_unsupported}
 
 -- a column further out has a value, one of the subquery's own has none

@@ -3,28 +3,14 @@ use Rattle.std.specs.Prelude.{◌≡◌, ℕ, ◌≤◌, List, [], ◌∷◌, �
 use Rattle.std.specs.Str.{bytes_eq}
 use Rattle.std.proofs.Common.{ap, sym, refl, subst, ◌∙◌}
 use Rattle.std.proofs.lemmas.Option.{none-some}
-use Rattle.rls_value.specs.declared.refusal.Refusal.{Refusal}
-use Rattle.rls_value.specs.declared.refusal.Refusal.TheVariants.{Undefined}
-use Rattle.rls_value.specs.declared.refusal.NameKind.TheVariants as kind
-use Rattle.rls_value.specs.Giving.{and_then}
-use Rattle.rls_expr.specs.declared.table.TableDef.{TableDef}
-use Rattle.rls_expr.specs.Naming.{Step, Look, Enter, Leave}
-use Rattle.rls_expr.specs.Placing.{Names, definition_of, inside, items_of, placed, placed_all, query_over, query_placed}
-use Rattle.rls_expr.specs.Scopes.{InScope, known_table, place_in}
-use Rattle.rls_expr.specs.Terms.{Query, Scalar, Select, qualifier_of}
-use Rattle.rls_catalog.specs.SoundRows.{RowsAreSound}
-use Rattle.rls_catalog.specs.State.{State, table_of}
+use Rattle.rls_value.specs.{declared.refusal.Refusal.Refusal, declared.refusal.Refusal.TheVariants.Undefined, Giving.and_then, declared.refusal.NameKind.NameKind}
+use Rattle.rls_expr.specs.{declared.table.TableDef.TableDef, Scopes.InScope, Scopes.known_table, Scopes.place_in, Naming.Step, Naming.Look, Naming.Enter, Naming.Leave, Terms.Query, Terms.Scalar, Terms.Select, Terms.qualifier_of, Placing.Names, Placing.definition_of, Placing.inside, Placing.items_of, Placing.placed, Placing.placed_all, Placing.query_over, Placing.query_placed}
+use Rattle.rls_catalog.specs.{SoundRows.RowsAreSound, State.State, State.table_of}
 use Rattle.rls_catalog.proofs.Walks.{bytes_same}
-use Rattle.rls_source.specs.Asked.{table_at}
-use Rattle.rls_source.specs.Named.{found_or, table_or_undefined}
-use Rattle.rls_evaluation.specs.declared.fence.Fence.{Fence}
-use Rattle.rls_evaluation.specs.Environments.{Environment}
-use Rattle.rls_evaluation.specs.Eval.{ranged_over}
-use Rattle.rls_evaluation.specs.Showing.{shows}
-use Rattle.rls_guard.specs.Naming.{AreTablesOf, named, there_or_undefined}
-use Rattle.rls_guard.specs.Support.{is_unsupported, pins_key, query_unsupported}
-use Rattle.rls_guard.proofs.OneRowLaws.{one_row}
-use Rattle.rls_guard.proofs.PinnedLaws.{first_holds}
+use Rattle.rls_source.specs.{Asked.table_at, Named.found_or, Named.table_or_undefined}
+use Rattle.rls_evaluation.specs.{declared.fence.Fence.Fence, Environments.Environment, Eval.ranged_over, Showing.shows}
+use Rattle.rls_guard.specs.{Naming.AreTablesOf, Naming.named, Naming.there_or_undefined, Support.is_unsupported, Support.pins_key, Support.query_unsupported}
+use Rattle.rls_guard.proofs.{OneRowLaws.one_row, PinnedLaws.first_holds}
 
 -- ---- the tables that are found are those of the state
 
@@ -53,7 +39,7 @@ found_known s (Look name ∷ steps) tables found are =
 found_known s (Enter from ∷ steps) tables found are =
     known_then s ((table_or_undefined from.table).in_state s).gives (λ table. ((named steps ((qualifier_of from, table) ∷ tables) (found ++ (from.table, table) ∷ [])).in_state s).gives)
     (λ table is. found_known s steps ((qualifier_of from, table) ∷ tables) (found ++ (from.table, table) ∷ [])
-    (one_more s found (from.table, table) are (found_there (Undefined kind.Relation from.table) (table_of s from.table) table is)))
+    (one_more s found (from.table, table) are (found_there (Undefined NameKind.Relation from.table) (table_of s from.table) table is)))
 found_known s (Leave ∷ steps) tables found are = found_known s steps (drop 1 tables) found are
 
 -- the tables that the names of a statement lead to are those of the state

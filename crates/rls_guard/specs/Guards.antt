@@ -2,17 +2,12 @@
 use Rattle.std.specs.Prelude.{ℕ, List, [], ◌∷◌, Bool, Option, Some, None, if◌then◌else◌}
 use Rattle.rls_value.specs.declared.verb.Kind.{Kind}
 use Rattle.rls_value.specs.declared.verb.Kind.TheVariants as kinds
-use Rattle.rls_expr.specs.declared.policy.Policy.{Policy}
-use Rattle.rls_expr.specs.Scopes.{InScope}
-use Rattle.rls_expr.specs.Terms.{Term}
-use Rattle.rls_expr.specs.Placing.{placed}
+use Rattle.rls_expr.specs.{declared.policy.Policy.Policy, Scopes.InScope, Terms.Term, Placing.placed}
 use Rattle.rls_catalog.specs.declared.verdict.Side.{Side}
 use Rattle.rls_catalog.specs.Verdict.{chosen, expression_of}
 use Rattle.rls_evaluation.specs.declared.fence.Guard.{Guard}
 use Rattle.rls_evaluation.specs.declared.fence.Guard.TheVariants.{Exempt, Policies}
-use Rattle.rls_guard.specs.declared.standing.Standing.{Standing}
-use Rattle.rls_guard.specs.declared.guard.Watch.{Watch}
-use Rattle.rls_guard.specs.Naming.{names_over}
+use Rattle.rls_guard.specs.{declared.standing.Standing.Standing, declared.guard.Watch.Watch, Naming.names_over}
 
 -- the policy with its condition in front of the others, where it has one; its names mean columns of the table, and of the
 -- tables that its subqueries name

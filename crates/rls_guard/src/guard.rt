@@ -2,9 +2,8 @@
 
 ghost use Rattle.std.specs.Prelude.{◌≡◌, IfOk};
 ghost use Rattle.std.specs.Option.{option_copied};
-ghost use Rattle.rls_expr.specs.Placing.{placed};
+ghost use Rattle.rls_expr.specs.{Placing.placed, Scopes.in_scope};
 ghost use Rattle.rls_guard.specs.Naming.{names_over};
-ghost use Rattle.rls_expr.specs.Scopes.{in_scope};
 ghost use Rattle.rls_guard.specs.Guards as spec;
 
 use crate::standing::Standing;

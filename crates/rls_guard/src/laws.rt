@@ -2,29 +2,16 @@
 
 ghost use Rattle.std.specs.Prelude.{◌≡◌, ◌≤◌, ◌||◌, ℕ, List, [], Bool, true, false, Some, IfOk, length};
 ghost use Rattle.std.specs.Option.{is_some};
-ghost use Rattle.rls_value.specs.declared.verb.Kind.{Kind};
-ghost use Rattle.rls_value.specs.declared.verb.Privilege.{Privilege};
-ghost use Rattle.rls_expr.specs.declared.expr.FromItem.{FromItem};
-ghost use Rattle.rls_expr.specs.declared.expr.Selects.{Selects};
-ghost use Rattle.rls_expr.specs.Naming.{Step};
+ghost use Rattle.rls_value.specs.{declared.verb.Kind.Kind, declared.verb.Privilege.Privilege};
+ghost use Rattle.rls_expr.specs.{declared.expr.FromItem.FromItem, declared.expr.Selects.Selects, Naming.Step, Scopes.InScope, declared.table.TableDef.TableDef};
 ghost use Rattle.rls_expr.specs.Placing.{Names, definition_of, placed, query_placed};
-ghost use Rattle.rls_expr.specs.Scopes.{InScope};
 ghost use Rattle.rls_expr.specs.Terms.{Query, Terms, Scalar, Select};
-ghost use Rattle.rls_expr.specs.declared.table.TableDef.{TableDef};
-ghost use Rattle.rls_catalog.specs.declared.verdict.Side.{Side};
-ghost use Rattle.rls_catalog.specs.Membership.{attributes_of, has_privileges_of};
-ghost use Rattle.rls_catalog.specs.Privileges.{holds};
-ghost use Rattle.rls_catalog.specs.SoundRows.{RowsAreSound};
+ghost use Rattle.rls_catalog.specs.{declared.verdict.Side.Side, Privileges.holds, SoundRows.RowsAreSound, Membership.attributes_of, Membership.has_privileges_of};
 ghost use Rattle.rls_catalog.specs.State.{State, grants_of, policies_of, table_of};
 ghost use Rattle.rls_catalog.specs.Verdict.{exempts, is_exempt, chosen, applying_of};
-ghost use Rattle.rls_evaluation.specs.declared.fence.Fence.{Fence};
-ghost use Rattle.rls_evaluation.specs.Environments.{Environment};
-ghost use Rattle.rls_evaluation.specs.Eval.{ranged_over};
-ghost use Rattle.rls_evaluation.specs.Keys.{key_of};
-ghost use Rattle.rls_evaluation.specs.Showing.{shows};
-ghost use Rattle.rls_guard.specs.Naming.{AreTablesOf, named};
+ghost use Rattle.rls_evaluation.specs.{declared.fence.Fence.Fence, Environments.Environment, Eval.ranged_over, Keys.key_of, Showing.shows};
+ghost use Rattle.rls_guard.specs.{Naming.AreTablesOf, Naming.named, Support.is_unsupported, Support.pins_key};
 ghost use Rattle.rls_guard.specs.Standings.{standing_in, has_owner, is_granted};
-ghost use Rattle.rls_guard.specs.Support.{is_unsupported, pins_key};
 
 /// What the standing of a role tells is what the rules over a state say: whose privileges it has, which privileges it
 /// holds, where it is exempt, which policies apply.

@@ -1,30 +1,16 @@
 -- What is told of rows, one after another.
-use Rattle.std.specs.Borrow.{Bor}
+use Rattle.std.specs.{Borrow.Bor, declared.alloc.AllocError.AllocError}
 use Rattle.std.specs.Prelude.{◌≡◌, refl, ℕ, List, [], ◌∷◌, ◌++◌, Bool, true, false, ◌&&◌, Result, Ok, Err, OnOk, map, drop, length, get_or, ◌<◌, ◌+◌}
 use Rattle.std.proofs.Common.{ap, sym, ◌∙◌, subst, append-nil, append_assoc}
 use Rattle.std.proofs.lemmas.Bool.{true≢false}
-use Rattle.std.specs.declared.alloc.AllocError.{AllocError}
-use Rattle.rls_value.specs.declared.refusal.Refusal.{Refusal}
-use Rattle.rls_value.specs.declared.object.Object.{Object}
-use Rattle.rls_value.specs.declared.value.Value.{Value}
-use Rattle.rls_value.specs.Giving.{and_then}
+use Rattle.rls_value.specs.{declared.refusal.Refusal.Refusal, declared.object.Object.Object, declared.value.Value.Value, Giving.and_then}
 use Rattle.rls_expr.specs.Terms.{Terms}
-use Rattle.rls_catalog.specs.State.{State}
-use Rattle.rls_catalog.specs.declared.stored.Stored.{Stored}
-use Rattle.rls_source.specs.Footprints.{with_reads, footprint_of}
-use Rattle.rls_source.specs.Readings.{unread, next_reads}
-use Rattle.rls_source.specs.Askings.{Asking, known, followed_by}
-use Rattle.rls_source.specs.Once.{each_once}
-use Rattle.rls_source.specs.Answering.{Tells as Reading}
-use Rattle.rls_evaluation.specs.Eval.{Shows}
-use Rattle.rls_evaluation.specs.Showing.{allows}
-use Rattle.rls_evaluation.specs.Gathering.{gathered}
-use Rattle.rls_evaluation.specs.Holding.{Tells}
+use Rattle.rls_catalog.specs.{State.State, declared.stored.Stored.Stored}
+use Rattle.rls_source.specs.{Footprints.with_reads, Footprints.footprint_of, Readings.unread, Readings.next_reads, Once.each_once, Answering.Tells as Reading, Askings.Asking, Askings.known, Askings.followed_by}
+use Rattle.rls_evaluation.specs.{Eval.Shows, Showing.allows, Gathering.gathered, Holding.Tells}
 use Rattle.rls_evaluation.proofs.Telling.{Leads, turn, tells_then, tells_map, leads_whole, leads_map, drop_at}
-use Rattle.rls_guard.specs.declared.guard.Watch.{Watch}
-use Rattle.rls_guard.specs.declared.reply.Decision.{Decision}
-use Rattle.rls_judging.specs.Judging.{decisions_on, are_allowed, hit_if, judged_old, hit_row, with_judged}
-use Rattle.rls_judging.specs.Handed.{beside, allowing, behind}
+use Rattle.rls_guard.specs.{declared.guard.Watch.Watch, declared.reply.Decision.Decision}
+use Rattle.rls_judging.specs.{Judging.decisions_on, Judging.are_allowed, Judging.hit_if, Judging.judged_old, Judging.hit_row, Judging.with_judged, Handed.beside, Handed.allowing, Handed.behind}
 
 -- ---- what is told of a call, of which more is made
 

@@ -4,18 +4,12 @@ use Rattle.std.specs.Prelude.{List, [], ◌∷◌, ◌++◌, Bool, Result, Ok, E
 use Rattle.std.specs.declared.vec.Vec.{Vec}
 use Rattle.std.proofs.Common.{Global}
 use Rattle.std.specs.declared.alloc.AllocError.{AllocError}
-use Rattle.rls_value.specs.declared.object.Object.{Object}
-use Rattle.rls_catalog.specs.State.{State}
-use Rattle.rls_evaluation.specs.Holding.{Tells}
-use Rattle.rls_value.specs.declared.value.Value.{Value}
-use Rattle.rls_catalog.specs.declared.stored.Stored.{Stored}
+use Rattle.rls_value.specs.{declared.object.Object.Object, declared.value.Value.Value}
+use Rattle.rls_catalog.specs.{State.State, declared.stored.Stored.Stored}
+use Rattle.rls_evaluation.specs.{Holding.Tells, declared.held.Held.Held, Eval.Shows, Scoping.held_value}
 use Rattle.rls_expr.specs.Terms.{Terms}
 use Rattle.rls_source.specs.Askings.{Asking, known, followed_by}
-use Rattle.rls_evaluation.specs.declared.held.Held.{Held}
-use Rattle.rls_evaluation.specs.Eval.{Shows}
-use Rattle.rls_evaluation.specs.Scoping.{held_value}
-use Rattle.rls_guard.specs.declared.guard.Watch.{Watch}
-use Rattle.rls_guard.specs.declared.reply.Decision.{Decision}
+use Rattle.rls_guard.specs.{declared.guard.Watch.Watch, declared.reply.Decision.Decision}
 use Rattle.rls_judging.specs.Judging.{decisions_on, judged_old, are_allowed}
 
 -- what a call leaves behind, beside what it gives

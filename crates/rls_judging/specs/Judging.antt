@@ -2,19 +2,15 @@
 -- rows that a statement hits. What is read for all of them is read once.
 use Rattle.std.specs.Prelude.{ℕ, List, [], ◌∷◌, ◌++◌, Bool, true, false, Option, Ok}
 use Rattle.std.specs.List.{list_all}
-use Rattle.rls_value.specs.declared.row.RowId.{RowId}
-use Rattle.rls_value.specs.declared.value.Value.{Value}
+use Rattle.rls_value.specs.{declared.row.RowId.RowId, declared.value.Value.Value}
 use Rattle.rls_expr.specs.Terms.{Term, Terms, maybe_term}
 use Rattle.rls_catalog.specs.declared.stored.Stored.{Stored}
 use Rattle.rls_source.specs.Askings.{Asking, known, followed_by, asked_if}
 use Rattle.rls_source.specs.Once.{each_once}
-use Rattle.rls_evaluation.specs.declared.fence.Fence.{Fence}
-use Rattle.rls_evaluation.specs.Environments.{over}
-use Rattle.rls_evaluation.specs.Gathering.{gathered}
+use Rattle.rls_evaluation.specs.{declared.fence.Fence.Fence, Environments.over, Gathering.gathered}
 use Rattle.rls_evaluation.specs.Eval.{Shows, meets}
 use Rattle.rls_evaluation.specs.Showing.{shows, verdict_on, allows}
-use Rattle.rls_guard.specs.declared.guard.Watch.{Watch}
-use Rattle.rls_guard.specs.declared.reply.Decision.{Decision}
+use Rattle.rls_guard.specs.{declared.guard.Watch.Watch, declared.reply.Decision.Decision}
 
 -- what row security says of the row for one type of command
 abbrev pub decision_by : Shows → List ℕ → RowId → List Value → Watch → Asking Decision

@@ -2,10 +2,8 @@
 
 ghost use Rattle.std.specs.Prelude.{◌≡◌, ◌++◌, ◌&&◌, OnOk};
 ghost use Rattle.rls_expr.specs.Terms.{maybe_term};
-ghost use Rattle.rls_source.specs.Answering.{Tells as Reading};
-ghost use Rattle.rls_source.specs.Askings.{followed_by, known};
-ghost use Rattle.rls_evaluation.specs.Holding.{Holds, Tells};
-ghost use Rattle.rls_evaluation.specs.Showing.{shows};
+ghost use Rattle.rls_source.specs.{Answering.Tells as Reading, Askings.followed_by, Askings.known};
+ghost use Rattle.rls_evaluation.specs.{Holding.Holds, Holding.Tells, Showing.shows};
 ghost use Rattle.rls_judging.specs.Handed.{TellsAt, allowing, behind, beside, items_now, judged_now, rows_lent};
 ghost use Rattle.rls_judging.specs.Judging as spec;
 

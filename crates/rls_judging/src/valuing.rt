@@ -2,9 +2,7 @@
 
 ghost use Rattle.std.specs.Prelude.{◌≡◌, [], OnOk, map};
 ghost use Rattle.rls_source.specs.Answering.{Tells as Reading};
-ghost use Rattle.rls_evaluation.specs.Holding.{Holds, Tells};
-ghost use Rattle.rls_evaluation.specs.Scoping.{env_of, rows_in};
-ghost use Rattle.rls_evaluation.specs.Showing.{shows};
+ghost use Rattle.rls_evaluation.specs.{Holding.Holds, Holding.Tells, Scoping.env_of, Scoping.rows_in, Showing.shows};
 ghost use Rattle.rls_judging.specs.Handed.{TellsAt, held_all, held_each};
 ghost use Rattle.rls_judging.specs.Valuing as spec;
 

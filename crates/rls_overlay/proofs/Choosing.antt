@@ -6,17 +6,11 @@ use Rattle.std.specs.Ordering.{is_eq, ordering_reverse}
 use Rattle.std.specs.declared.cmp.Ordering.{Ordering}
 use Rattle.std.specs.declared.cmp.Ordering.TheVariants.{Less, Equal, Greater}
 use Rattle.std.proofs.Common.{ap, sym, ◌∙◌}
-use Rattle.rls_value.specs.declared.row.RowId.{RowId}
-use Rattle.rls_value.specs.declared.value.Value.{Value}
-use Rattle.rls_catalog.specs.declared.stored.Keyed.{Keyed}
-use Rattle.rls_catalog.specs.declared.stored.Stored.{Stored}
-use Rattle.rls_catalog.specs.Bases.{has_key}
-use Rattle.rls_catalog.specs.State.{id_order, with_key, is_same_row}
-use Rattle.rls_overlay.specs.Indexed.{own_with_key, is_written, not_written}
-use Rattle.rls_overlay.specs.Merged.{own_row, merged}
+use Rattle.rls_value.specs.{declared.row.RowId.RowId, declared.value.Value.Value}
+use Rattle.rls_catalog.specs.{declared.stored.Keyed.Keyed, declared.stored.Stored.Stored, Bases.has_key, State.id_order, State.with_key, State.is_same_row}
+use Rattle.rls_overlay.specs.{Indexed.own_with_key, Indexed.is_written, Indexed.not_written, Merged.own_row, Merged.merged}
 use Rattle.rls_overlay.proofs.StoredRows.{Above, Ascending, id_total, turned, behind, over_all, own_above}
-use Rattle.rls_overlay.proofs.MergedLaws.{OwnAbove, OwnAscending, own_over_all, merged_front, merged_past}
-use Rattle.rls_overlay.proofs.Keying.{if_key, keyed_own, beside, keyed_merged}
+use Rattle.rls_overlay.proofs.{MergedLaws.OwnAbove, MergedLaws.OwnAscending, MergedLaws.own_over_all, MergedLaws.merged_front, MergedLaws.merged_past, Keying.if_key, Keying.keyed_own, Keying.beside, Keying.keyed_merged}
 
 -- ---- rows that pass a test
 

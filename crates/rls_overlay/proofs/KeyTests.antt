@@ -6,15 +6,10 @@ use Rattle.std.specs.Ordering.{is_eq, int_eq, int_cmp, ordering_then}
 use Rattle.std.specs.declared.cmp.Ordering.{Ordering}
 use Rattle.std.specs.declared.cmp.Ordering.TheVariants.{Less, Equal, Greater}
 use Rattle.std.proofs.Common.{ap, sym, ◌∙◌, ℤ}
-use Rattle.std.proofs.lemmas.Bool.{true≢false}
-use Rattle.std.proofs.lemmas.Bool.Decides.{Decides-int_eq}
+use Rattle.std.proofs.{lemmas.Bool.true≢false, lemmas.Bool.Decides.Decides-int_eq, lemmas.Map.Text.is_eq-slice_cmp}
 use Rattle.std.proofs.lemmas.Cmp.{int_cmp_total, tied_itself}
-use Rattle.std.proofs.lemmas.Map.Text.{is_eq-slice_cmp}
-use Rattle.rls_value.specs.declared.value.Value.{Value}
-use Rattle.rls_value.specs.declared.value.Value.TheVariants as v
-use Rattle.rls_value.specs.Values.{listed}
-use Rattle.rls_catalog.specs.KeyIndex.{key_order}
-use Rattle.rls_catalog.specs.State.{is_same_value, is_same_row}
+use Rattle.rls_value.specs.{declared.value.Value.Value, Values.listed}
+use Rattle.rls_catalog.specs.{KeyIndex.key_order, State.is_same_value, State.is_same_row}
 
 equal_if : (o : Ordering) → is_eq o ≡ true → o ≡ Equal
 equal_if Less is = absurd (true≢false (sym is))
@@ -33,25 +28,25 @@ same_int a b =
     (λ is. (Decides-int_eq a b).1 (int_cmp-IsAntisymmetric a b (equal_if (int_cmp a b) is)))
 
 same_value : (a b : Value) → is_same_value a b ≡ is_eq (listed a b)
-same_value (v.Int a) (v.Int b) = same_int a b
-same_value (v.Text a) (v.Text b) = sym (is_eq-slice_cmp a b)
-same_value (v.Bool true) (v.Bool true) = refl
-same_value (v.Bool true) (v.Bool false) = refl
-same_value (v.Bool false) (v.Bool true) = refl
-same_value (v.Bool false) (v.Bool false) = refl
-same_value v.Null v.Null = refl
-same_value v.Null (v.Int b) = refl
-same_value v.Null (v.Text b) = refl
-same_value v.Null (v.Bool b) = refl
-same_value (v.Int a) v.Null = refl
-same_value (v.Int a) (v.Text b) = refl
-same_value (v.Int a) (v.Bool b) = refl
-same_value (v.Text a) v.Null = refl
-same_value (v.Text a) (v.Int b) = refl
-same_value (v.Text a) (v.Bool b) = refl
-same_value (v.Bool a) v.Null = refl
-same_value (v.Bool a) (v.Int b) = refl
-same_value (v.Bool a) (v.Text b) = refl
+same_value (Value.Int a) (Value.Int b) = same_int a b
+same_value (Value.Text a) (Value.Text b) = sym (is_eq-slice_cmp a b)
+same_value (Value.Bool true) (Value.Bool true) = refl
+same_value (Value.Bool true) (Value.Bool false) = refl
+same_value (Value.Bool false) (Value.Bool true) = refl
+same_value (Value.Bool false) (Value.Bool false) = refl
+same_value Value.Null Value.Null = refl
+same_value Value.Null (Value.Int b) = refl
+same_value Value.Null (Value.Text b) = refl
+same_value Value.Null (Value.Bool b) = refl
+same_value (Value.Int a) Value.Null = refl
+same_value (Value.Int a) (Value.Text b) = refl
+same_value (Value.Int a) (Value.Bool b) = refl
+same_value (Value.Text a) Value.Null = refl
+same_value (Value.Text a) (Value.Int b) = refl
+same_value (Value.Text a) (Value.Bool b) = refl
+same_value (Value.Bool a) Value.Null = refl
+same_value (Value.Bool a) (Value.Int b) = refl
+same_value (Value.Bool a) (Value.Text b) = refl
 
 both_tie : (o p : Ordering) → (is_eq o && is_eq p) ≡ is_eq (ordering_then o p)
 both_tie Less p = refl

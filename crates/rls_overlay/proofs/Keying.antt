@@ -4,10 +4,8 @@ use Rattle.std.specs.Ordering.{match_ordering}
 use Rattle.std.specs.declared.cmp.Ordering.{Ordering}
 use Rattle.std.specs.declared.cmp.Ordering.TheVariants.{Less, Equal, Greater}
 use Rattle.std.proofs.Common.{ap, sym, ◌∙◌}
-use Rattle.rls_value.specs.declared.row.RowId.{RowId}
-use Rattle.rls_value.specs.declared.value.Value.{Value}
-use Rattle.rls_catalog.specs.declared.stored.Keyed.{Keyed}
-use Rattle.rls_catalog.specs.declared.stored.Stored.{Stored}
+use Rattle.rls_value.specs.{declared.row.RowId.RowId, declared.value.Value.Value}
+use Rattle.rls_catalog.specs.{declared.stored.Keyed.Keyed, declared.stored.Stored.Stored}
 use Rattle.rls_catalog.specs.State.{id_order, with_key, is_same_row, stored_of}
 use Rattle.rls_overlay.specs.Merged.{own_row, merged}
 use Rattle.rls_overlay.proofs.StoredRows.{Above, Ascending, over_all, own_above}

@@ -5,12 +5,8 @@ use Rattle.std.specs.Map.{lookup, set_value}
 use Rattle.std.proofs.Common.{ap, sym, ◌∙◌, subst, append_assoc}
 use Rattle.std.proofs.lemmas.Cmp.{eq_by_cmp_equiv}
 use Rattle.std.proofs.lemmas.Map.{lookup-set_value}
-use Rattle.rls_value.specs.declared.row.RowId.{RowId}
-use Rattle.rls_value.specs.declared.value.Value.{Value}
-use Rattle.rls_value.specs.Listing.{rows_total}
-use Rattle.rls_catalog.specs.declared.stored.Keyed.{Keyed}
-use Rattle.rls_catalog.specs.KeyIndex.{key_order}
-use Rattle.rls_catalog.specs.State.{or_none}
+use Rattle.rls_value.specs.{declared.row.RowId.RowId, declared.value.Value.Value, Listing.rows_total}
+use Rattle.rls_catalog.specs.{declared.stored.Keyed.Keyed, KeyIndex.key_order, State.or_none}
 use Rattle.rls_overlay.specs.Indexed.{own_with_key, under}
 use Rattle.rls_overlay.proofs.KeyTests.{same_key}
 

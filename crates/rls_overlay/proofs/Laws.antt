@@ -4,30 +4,13 @@ use Rattle.std.specs.BTreeMap.{is_at, insert_entry}
 use Rattle.std.proofs.Common.{ap, sym, ◌∙◌, subst}
 use Rattle.std.proofs.lemmas.Cmp.{eq_by_cmp_equiv, nat_list_cmp_total}
 use Rattle.std.proofs.lemmas.Map.{lookup-set_value}
-use Rattle.rls_value.specs.declared.row.RowId.{RowId}
-use Rattle.rls_value.specs.declared.value.Value.{Value}
-use Rattle.rls_expr.specs.declared.table.TableDef.{TableDef}
-use Rattle.rls_expr.specs.declared.policy.Policy.{Policy}
-use Rattle.rls_catalog.specs.declared.role.RoleDef.{RoleDef}
-use Rattle.rls_catalog.specs.declared.role.Membership.{Membership}
-use Rattle.rls_catalog.specs.declared.grant.Grant.{Grant}
-use Rattle.rls_catalog.specs.declared.stored.Keyed.{Keyed}
-use Rattle.rls_catalog.specs.declared.stored.Stored.{Stored}
-use Rattle.rls_catalog.specs.declared.change.Change.{Change}
+use Rattle.rls_value.specs.{declared.row.RowId.RowId, declared.value.Value.Value}
+use Rattle.rls_expr.specs.{declared.table.TableDef.TableDef, declared.policy.Policy.Policy}
+use Rattle.rls_catalog.specs.{declared.role.RoleDef.RoleDef, declared.role.Membership.Membership, declared.grant.Grant.Grant, declared.stored.Keyed.Keyed, declared.stored.Stored.Stored, declared.change.Change.Change, declared.change.RowChange.RowChange, InOrder.RowsInOrder, Changed.changed, Changed.changed_all, Changed.with_row, State.State, State.name_order, State.at, State.or_none, State.role_of, State.members_of, State.table_of, State.grants_of, State.policies_of, State.rows_of, State.rows_with_key, State.with_key, State.stored_of, State.entries_of}
 use Rattle.rls_catalog.specs.declared.change.Change.TheVariants as c
-use Rattle.rls_catalog.specs.declared.change.RowChange.{RowChange}
-use Rattle.rls_catalog.specs.State.{State, name_order, at, or_none, role_of, members_of, table_of, grants_of, policies_of, rows_of, rows_with_key, with_key, stored_of, entries_of}
-use Rattle.rls_catalog.specs.Changed.{changed, changed_all, with_row}
-use Rattle.rls_overlay.specs.Written.{Own}
-use Rattle.rls_catalog.proofs.ContentsLaws.{is_name, same_name, at_put, role_of_changed, members_of_changed, table_of_changed, grants_of_changed, policies_of_changed}
-use Rattle.rls_catalog.specs.InOrder.{RowsInOrder}
-use Rattle.rls_catalog.proofs.RowsChanged.{entries_of_changed}
-use Rattle.rls_overlay.specs.Written.{with_own, with_own_in, with_own_row, with_change, with_changes, unwritten, written, rows_written, over, list_over}
-use Rattle.rls_overlay.specs.Indexed.{own_with_key, not_written}
-use Rattle.rls_overlay.specs.Merged.{merged}
-use Rattle.rls_overlay.proofs.StoredRows.{Ascending, with_stored, ascend_stored, ascend_entries, with_row_stored, ascending_with}
-use Rattle.rls_overlay.proofs.MergedLaws.{OwnAscending, own_ascending_with, merged_none, merged_with}
-use Rattle.rls_overlay.proofs.Choosing.{keyed_chosen}
+use Rattle.rls_overlay.specs.{Written.Own, Written.with_own, Written.with_own_in, Written.with_own_row, Written.with_change, Written.with_changes, Written.unwritten, Written.written, Written.rows_written, Written.over, Written.list_over, Indexed.own_with_key, Indexed.not_written, Merged.merged}
+use Rattle.rls_catalog.proofs.{ContentsLaws.is_name, ContentsLaws.same_name, ContentsLaws.at_put, ContentsLaws.role_of_changed, ContentsLaws.members_of_changed, ContentsLaws.table_of_changed, ContentsLaws.grants_of_changed, ContentsLaws.policies_of_changed, RowsChanged.entries_of_changed}
+use Rattle.rls_overlay.proofs.{StoredRows.Ascending, StoredRows.with_stored, StoredRows.ascend_stored, StoredRows.ascend_entries, StoredRows.with_row_stored, StoredRows.ascending_with, MergedLaws.OwnAscending, MergedLaws.own_ascending_with, MergedLaws.merged_none, MergedLaws.merged_with, Choosing.keyed_chosen}
 
 -- ---- contents under names
 

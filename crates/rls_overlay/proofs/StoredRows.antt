@@ -2,20 +2,13 @@
 use Rattle.std.specs.Prelude.{◌≡◌, refl, List, [], ◌∷◌, ◌++◌, Option, Some, None, Bool, true, false, cond, map}
 use Rattle.std.specs.BTreeMap.{is_at, insert_entry}
 use Rattle.std.specs.Map.{remove_entry, keys_of}
-use Rattle.std.specs.List.{AllByRecursion}
-use Rattle.std.specs.List.Sorted.{IsStrictlySortedBy}
+use Rattle.std.specs.{List.AllByRecursion, List.Sorted.IsStrictlySortedBy, Cmp.IsTotalOrder, declared.cmp.Ordering.Ordering}
 use Rattle.std.specs.Ordering.{is_eq, match_ordering, ordering_reverse}
-use Rattle.std.specs.Cmp.{IsTotalOrder}
-use Rattle.std.specs.declared.cmp.Ordering.{Ordering}
 use Rattle.std.specs.declared.cmp.Ordering.TheVariants.{Less, Equal, Greater}
 use Rattle.std.proofs.Common.{ap, sym, ◌∙◌, subst}
 use Rattle.std.proofs.lemmas.Cmp.{on_total, then_total, nat_cmp_total}
 use Rattle.rls_value.specs.declared.row.RowId.{RowId}
-use Rattle.rls_catalog.specs.declared.stored.Keyed.{Keyed}
-use Rattle.rls_catalog.specs.declared.stored.Stored.{Stored}
-use Rattle.rls_catalog.specs.State.{id_order, stored_of}
-use Rattle.rls_catalog.specs.Changed.{with_row}
-use Rattle.rls_catalog.specs.InOrder.{Ascend}
+use Rattle.rls_catalog.specs.{declared.stored.Keyed.Keyed, declared.stored.Stored.Stored, Changed.with_row, InOrder.Ascend, State.id_order, State.stored_of}
 use Rattle.rls_catalog.proofs.RowsChanged.{same_id}
 use Rattle.rls_overlay.specs.Merged.{own_row}
 

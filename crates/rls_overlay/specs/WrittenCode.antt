@@ -1,21 +1,15 @@
 -- The code of what was written, by which proofs tell it apart.
-use Rattle.std.specs.Prelude.{ℕ, List, Option, refl}
-use Rattle.std.specs.Coded.{Coded, code_by, coded×, coded_list, coded_option}
+use Rattle.std.{specs.Prelude.ℕ, specs.Prelude.List, specs.Prelude.Option, specs.Prelude.refl, specs.Coded.Coded, specs.Coded.code_by, specs.Coded.coded×, specs.Coded.coded_list, specs.Coded.coded_option}
 use Rattle.rls_value.specs.declared.row.RowId.{RowId}
 use Rattle.rls_value.specs.contracts.row.RowId as id
-use Rattle.rls_expr.specs.declared.table.TableDef.{TableDef}
+use Rattle.rls_expr.specs.{declared.table.TableDef.TableDef, declared.policy.Policy.Policy}
 use Rattle.rls_expr.specs.contracts.table.TableDef as table
-use Rattle.rls_expr.specs.declared.policy.Policy.{Policy}
 use Rattle.rls_expr.specs.contracts.policy.Policy as policy
-use Rattle.rls_catalog.specs.declared.role.RoleDef.{RoleDef}
-use Rattle.rls_catalog.specs.declared.role.Membership.{Membership}
-use Rattle.rls_catalog.specs.declared.grant.Grant.{Grant}
-use Rattle.rls_catalog.specs.declared.stored.Keyed.{Keyed}
+use Rattle.rls_catalog.specs.{declared.role.RoleDef.RoleDef, declared.role.Membership.Membership, declared.grant.Grant.Grant, declared.stored.Keyed.Keyed, StateCode.under_names}
 use Rattle.rls_catalog.specs.contracts.role.RoleDef as role
 use Rattle.rls_catalog.specs.contracts.role.Membership as membership
 use Rattle.rls_catalog.specs.contracts.grant.Grant as grant
 use Rattle.rls_catalog.specs.contracts.stored.Keyed as keyed
-use Rattle.rls_catalog.specs.StateCode.{under_names}
 use Rattle.rls_overlay.specs.Written.{Own}
 
 -- what it consists of

@@ -2,8 +2,7 @@
 
 ghost use Rattle.std.specs.Prelude.{◌≡◌, IfOk};
 ghost use Rattle.std.specs.Option.{option_copied};
-ghost use Rattle.rls_catalog.specs.State.{at};
-ghost use Rattle.rls_catalog.specs.PolicyLists.{InNameOrder};
+ghost use Rattle.rls_catalog.specs.{State.at, PolicyLists.InNameOrder};
 ghost use Rattle.rls_overlay.specs.Indexed.{own_with_key, not_written};
 ghost use Rattle.rls_overlay.specs.Merged.{merged};
 ghost use Rattle.rls_overlay.specs.Written.{written as what_they_wrote, rows_written, over, list_over};

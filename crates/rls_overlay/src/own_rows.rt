@@ -3,8 +3,7 @@
 ghost use Rattle.std.specs.Prelude.{◌≡◌, [], ◌∷◌, not, IfOk, OnOk};
 ghost use Rattle.rls_catalog.specs.Bases as bases;
 ghost use Rattle.rls_overlay.specs.Indexed.{own_with_key, is_written, not_written};
-ghost use Rattle.rls_overlay.specs.Merged.{merged};
-ghost use Rattle.rls_overlay.specs.Written.{with_own};
+ghost use Rattle.rls_overlay.specs.{Merged.merged, Written.with_own};
 
 use crate::merging::merge;
 use crate::own_keys::keys_of;

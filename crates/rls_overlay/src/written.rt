@@ -3,11 +3,8 @@
 ghost use Rattle.std.specs.Prelude.{◌≡◌, None, IfOk, OnOk};
 ghost use Rattle.std.specs.Option.{option_copied};
 ghost use Rattle.std.specs.BTreeMap.{insert_entry};
-ghost use Rattle.rls_catalog.specs.State.{at, name_order, or_none};
-ghost use Rattle.rls_catalog.specs.PolicyLists.{InNameOrder};
-ghost use Rattle.rls_overlay.specs.Indexed.{own_with_key, not_written};
-ghost use Rattle.rls_overlay.specs.Merged.{merged};
-ghost use Rattle.rls_overlay.specs.Written.{with_change, with_changes, with_own_row, unwritten, over, list_over};
+ghost use Rattle.rls_catalog.specs.{State.at, State.name_order, State.or_none, PolicyLists.InNameOrder};
+ghost use Rattle.rls_overlay.specs.{Indexed.own_with_key, Indexed.not_written, Merged.merged, Written.with_change, Written.with_changes, Written.with_own_row, Written.unwritten, Written.over, Written.list_over};
 
 use crate::own_rows::OwnRows;
 use rls_catalog::{Change, Grant, Lent, Membership, PolicyList, RoleDef, RowChange};

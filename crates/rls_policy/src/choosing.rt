@@ -3,9 +3,7 @@
 ghost use Rattle.std.specs.Prelude.{◌≡◌, Some, filter, IfOk, OnOk};
 ghost use Rattle.std.specs.Option.{option_copied};
 ghost use Rattle.std.specs.List.{list_any, list_all};
-ghost use Rattle.rls_catalog.specs.Privileges.{includes};
-ghost use Rattle.rls_catalog.specs.Applying.{applying_on, applying_to, applying_on_reads, applying_to_reads};
-ghost use Rattle.rls_catalog.specs.State.{State, AgreesOn};
+ghost use Rattle.rls_catalog.specs.{Privileges.includes, State.State, State.AgreesOn, Applying.applying_on, Applying.applying_to, Applying.applying_on_reads, Applying.applying_to_reads};
 ghost use Rattle.rls_catalog.specs.Verdict as spec;
 
 use crate::exemption::is_exempt;

@@ -2,27 +2,14 @@
 use Rattle.std.proofs.Common.{ℕ, ◌≤◌, false, List, [], ◌∷◌, Option, Some, None, sym, subst, arith}
 use Rattle.std.specs.Prelude.{codes}
 use Rattle.rls_expr.specs.Terms.{Term, Literal, Column, CurrentUser, terms_of}
-use Rattle.rls_statement.specs.declared.changing.Update.{Update}
-use Rattle.rls_statement.specs.declared.changing.Delete.{Delete}
-use Rattle.rls_statement.specs.declared.statement.Insert.{Insert}
-use Rattle.rls_statement.specs.declared.statement.Select.{Select}
-use Rattle.rls_statement.specs.declared.statement.Selected.{Selected}
+use Rattle.rls_statement.specs.{declared.changing.Update.Update, declared.changing.Delete.Delete, declared.statement.Insert.Insert, declared.statement.Select.Select, declared.statement.Selected.Selected, declared.statement.Statement.Statement}
 use Rattle.rls_statement.specs.declared.statement.Selected.TheVariants as chosen
-use Rattle.rls_statement.specs.declared.statement.Statement.{Statement}
 use Rattle.rls_statement.specs.declared.statement.Statement.TheVariants as st
 use Rattle.rls_text.specs.declared.token.Symbol.TheVariants as s
-use Rattle.rls_text.specs.declared.token.Token.{Token}
+use Rattle.rls_text.specs.{declared.token.Token.Token, Cut.Cut, Cutting.tree_of, Grammar.Spells, Rule.with_comma, FirstSets.expr_heads, FirstSets.expr_more, Heights.height, Heights.heights, Writes.joined, Writes.or_else, Writes.many_writes}
 use Rattle.rls_text.specs.declared.token.Token.TheVariants as t
-use Rattle.rls_text.specs.Cut.{Cut}
-use Rattle.rls_text.specs.Cutting.{tree_of}
-use Rattle.rls_text.specs.FirstSets.{expr_heads, expr_more}
 use Rattle.rls_text.specs.Grammar as g
-use Rattle.rls_text.specs.Grammar.{Spells}
-use Rattle.rls_text.specs.Heights.{height, heights}
-use Rattle.rls_text.specs.Rule.{with_comma}
-use Rattle.rls_text.specs.Writes.{joined, or_else, many_writes}
-use Rattle.rls_printing.proofs.Writing.{There, there_parts}
-use Rattle.rls_printing.proofs.SpelledStatements.{spelled_written}
+use Rattle.rls_printing.proofs.{Writing.There, Writing.there_parts, SpelledStatements.spelled_written}
 
 -- the highest of the items
 abbrev pub chosen_height : Selected → ℕ

@@ -1,30 +1,16 @@
 -- What is on the page at the end, and what it is read as.
 use Rattle.std.proofs.Common.{◌≡◌, ℕ, Bool, true, false, nat_lt, if◌then◌else◌, List, ◌++◌, Option, Some, None, Result, Ok, Err, String, Global, string_bytes, refl, ap, sym, subst, ◌∙◌}
 use Rattle.std.specs.Str.{chars}
-use Rattle.rls_value.specs.declared.refusal.Limit.{Limit}
+use Rattle.rls_value.specs.{declared.refusal.Limit.Limit, declared.refusal.Refusal.Refusal}
 use Rattle.rls_value.specs.declared.refusal.Limit.TheVariants as l
-use Rattle.rls_value.specs.declared.refusal.Refusal.{Refusal}
 use Rattle.rls_value.specs.declared.refusal.Refusal.TheVariants as refusal
 use Rattle.rls_statement.specs.declared.statement.Statement.{Statement}
-use Rattle.rls_text.specs.declared.token.Token.{Token}
-use Rattle.rls_text.specs.Answers.{Answers, IsSpelled, first_limit, limited, columns_of}
+use Rattle.rls_text.specs.{declared.token.Token.Token, Grammar.Spells, Nested.subqueries_of, Printing.IsWritten, Words.words_of, Writes.some_is, Answers.Answers, Answers.IsSpelled, Answers.first_limit, Answers.limited, Answers.columns_of, Heights.height, Heights.height_of}
 use Rattle.rls_expr.specs.Terms.{Term}
 use Rattle.rls_text.specs.Grammar as g
-use Rattle.rls_text.specs.Grammar.{Spells}
-use Rattle.rls_text.specs.Heights.{height, height_of}
-use Rattle.rls_text.specs.Nested.{subqueries_of}
-use Rattle.rls_text.specs.Printing.{IsWritten}
-use Rattle.rls_text.specs.Words.{words_of}
-use Rattle.rls_text.specs.Writes.{some_is}
-use Rattle.rls_printing.specs.Pieces.{Piece, tokens_of}
-use Rattle.rls_printing.specs.ReadBack.{IsReadAs}
-use Rattle.rls_printing.specs.Sheets.{Sheet, blank, are_fit, pieces_text, put_all, text_of}
+use Rattle.rls_printing.specs.{Pieces.Piece, Pieces.tokens_of, ReadBack.IsReadAs, Sheets.Sheet, Sheets.blank, Sheets.are_fit, Sheets.pieces_text, Sheets.put_all, Sheets.text_of}
 use Rattle.rls_printing.specs.StatementForms as form
-use Rattle.rls_printing.proofs.Reading.{put_text, words_told, fit_tokens}
-use Rattle.rls_printing.proofs.Shallow.{within_words}
-use Rattle.rls_printing.proofs.SpelledExprs.{expr_written}
-use Rattle.rls_printing.proofs.SpelledStatements.{spelled_written}
-use Rattle.rls_printing.proofs.Stating.{written_told}
+use Rattle.rls_printing.proofs.{Reading.put_text, Reading.words_told, Reading.fit_tokens, Shallow.within_words, SpelledExprs.expr_written, SpelledStatements.spelled_written, Stating.written_told}
 
 -- the text of the words that were put on an empty page
 pub text_is : (ps : List Piece) (a b : Sheet) (text : String Global) → a ≡ blank → put_all (Some a) ps ≡ Some b → text_of text ≡ b.0 → chars (string_bytes text) ≡ pieces_text true ps

@@ -1,25 +1,15 @@
 -- The words of a printed text are those that were printed.
 use Rattle.std.proofs.Common.{◌≡◌, ℕ, zero, suc, ◌+◌, ◌-◌, ◌*◌, ◌^◌, ◌<◌, ◌≤◌, min, length, get_or, Bool, true, false, ◌&&◌, ◌||◌, not, nat_eq, nat_le, if◌then◌else◌, List, [], ◌∷◌, ◌++◌, Option, Some, None, refl, ap, sym, subst, ◌∙◌, append_assoc, append-nil, arith, rules, eqb-true, leb-true, inl, inr}
 use Rattle.std.specs.Prelude.{pos, negsuc, codes, ◌⊎◌}
-use Rattle.std.specs.Char.{encode_utf8, to_ascii_lowercase}
-use Rattle.std.specs.List.{list_all, flat_map}
-use Rattle.std.specs.Str.{chars, is_utf8}
+use Rattle.std.specs.{Char.encode_utf8, Char.to_ascii_lowercase, List.list_all, List.flat_map, Str.chars, Str.is_utf8, Fmt.decimal}
 use Rattle.std.proofs.lemmas.Bool.{false_from_ne_true, ne_eqb, both_ways, or_cases, and_parts}
 use Rattle.std.proofs.lemmas.Str.{chars-IsAscii, encodes-chars, IsUtf8-from_is_utf8}
-use Rattle.std.specs.Fmt.{decimal}
 use Rattle.std.proofs.lemmas.Fmt.{digits_decimal, digits_value-decimal, decimal_nonempty}
 use Rattle.std.proofs.lemmas.Str.Parse.{IsNumeralModel, numerals_by_fold}
 use lib.Utf8.{encodes}
 use Rattle.rls_value.specs.Names.{folded, is_word, is_name_text, is_letter, is_letter_or_digit, is_between}
-use Rattle.rls_text.specs.declared.token.Symbol.TheVariants as s
-use Rattle.rls_text.specs.declared.token.Token.{Token}
-use Rattle.rls_text.specs.declared.token.Token.TheVariants as t
-use Rattle.rls_text.specs.Words.{words_of, words_in, next_word, word_from, word_of, word_and_more, is_bad, is_blank, begins_comment, letters, behind_letters, is_digit, number_from, quoted, quoted_in, text_from, next_quoted, with_content, behind_quote, single, double}
-use Rattle.rls_text.specs.Writes.{joined, some_is}
-use Rattle.rls_printing.specs.declared.page.Mark.{Mark}
-use Rattle.rls_printing.specs.declared.page.Mark.TheVariants as m
-use Rattle.rls_printing.specs.Pieces.{Piece, Word, Qualified, Number, Text, Marked, Count, piece_text, piece_tokens, word_token, tokens_of, doubled, mark_text, symbol_of}
-use Rattle.rls_printing.specs.Sheets.{Sheet, space, opens, closes, is_fit, are_fit, pieces_text, put, put_all, with_piece}
+use Rattle.rls_text.specs.{declared.token.Symbol.Symbol, declared.token.Token.Token, Writes.joined, Writes.some_is, Words.words_of, Words.words_in, Words.next_word, Words.word_from, Words.word_of, Words.word_and_more, Words.is_bad, Words.is_blank, Words.begins_comment, Words.letters, Words.behind_letters, Words.is_digit, Words.number_from, Words.quoted, Words.quoted_in, Words.text_from, Words.next_quoted, Words.with_content, Words.behind_quote, Words.single, Words.double}
+use Rattle.rls_printing.specs.{declared.page.Mark.Mark, Pieces.Piece, Pieces.Word, Pieces.Qualified, Pieces.Number, Pieces.Text, Pieces.Marked, Pieces.Count, Pieces.piece_text, Pieces.piece_tokens, Pieces.word_token, Pieces.tokens_of, Pieces.doubled, Pieces.mark_text, Pieces.symbol_of, Sheets.Sheet, Sheets.space, Sheets.opens, Sheets.closes, Sheets.is_fit, Sheets.are_fit, Sheets.pieces_text, Sheets.put, Sheets.put_all, Sheets.with_piece}
 
 -- ---- words with enough turns
 
@@ -130,15 +120,15 @@ letter_word : (c : ℕ) (cs : List ℕ) → is_letter c ≡ true → word_from c
 unfolding word_from
 letter_word c cs h = rw (differs is_letter c 39 h refl, h) refl
 
-word_next : (w rest : List ℕ) → is_name_text w ≡ true → no_letter rest ≡ true → next_word (w ++ rest) ≡ Some (t.Word (folded w), rest)
+word_next : (w rest : List ℕ) → is_name_text w ≡ true → no_letter rest ≡ true → next_word (w ++ rest) ≡ Some (Token.Word (folded w), rest)
 word_next [] rest h k = cc
 word_next (c ∷ w) rest h k =
     let x = and_parts (is_letter c) (list_all is_letter_or_digit (c ∷ w)) h in
     let y = and_parts (is_letter_or_digit c) (list_all is_letter_or_digit w) x.1 in
     begins_word c (w ++ rest) (no_blank is_letter c x.0 refl refl refl refl) (no_comment c (w ++ rest) (differs is_letter c 45 x.0 refl))
     ∙ ap (λ z. Some z) (letter_word c (w ++ rest) x.0)
-    ∙ ap (λ z. Some (t.Word (to_ascii_lowercase c ∷ z), behind_letters (w ++ rest))) (letters_all w rest y.1 k)
-    ∙ ap (λ z. Some (t.Word (folded (c ∷ w)), z)) (letters_behind w rest y.1 k)
+    ∙ ap (λ z. Some (Token.Word (to_ascii_lowercase c ∷ z), behind_letters (w ++ rest))) (letters_all w rest y.1 k)
+    ∙ ap (λ z. Some (Token.Word (folded (c ∷ w)), z)) (letters_behind w rest y.1 k)
 
 longer : (c : ℕ) (w rest : List ℕ) → length rest < length ((c ∷ w) ++ rest)
 longer c [] rest = omega arith
@@ -148,8 +138,8 @@ word_longer : (w rest : List ℕ) → is_name_text w ≡ true → length rest < 
 word_longer [] rest h = cc
 word_longer (c ∷ w) rest h = longer c w rest
 
-reads_name : (w rest : List ℕ) (ts : List Token) → is_name_text w ≡ true → no_letter rest ≡ true → Reads rest ts → Reads (w ++ rest) (t.Word (folded w) ∷ ts)
-reads_name w rest ts h k again = reads_word (w ++ rest) rest (t.Word (folded w)) ts (word_next w rest h k) refl (word_longer w rest h) again
+reads_name : (w rest : List ℕ) (ts : List Token) → is_name_text w ≡ true → no_letter rest ≡ true → Reads rest ts → Reads (w ++ rest) (Token.Word (folded w) ∷ ts)
+reads_name w rest ts h k again = reads_word (w ++ rest) rest (Token.Word (folded w)) ts (word_next w rest h k) refl (word_longer w rest h) again
 
 small_between : (low high c : ℕ) → high < 128 → is_between low high c ≡ true → c < 128
 small_between low high c h e = let x = and_parts (nat_le low c) (nat_le c high) e in omega (arith, h, leb-true c high x.1)
@@ -191,7 +181,7 @@ read_on_more n (d ∷ ds) = let h = read_on_more (n * 10 + (d - 48)) ds in omega
 min_left : (a b : ℕ) → a ≤ b → min a b ≡ a
 min_left a b h = omega (arith, h)
 
-number_read : (n : ℕ) (ds rest : List ℕ) → all_digits ds ≡ true → ends rest ≡ true → read_on n ds ≤ 18446744073709551615 → number_from n (ds ++ rest) ≡ (t.Number (read_on n ds), rest)
+number_read : (n : ℕ) (ds rest : List ℕ) → all_digits ds ≡ true → ends rest ≡ true → read_on n ds ≤ 18446744073709551615 → number_from n (ds ++ rest) ≡ (Token.Number (read_on n ds), rest)
 number_read n [] [] h k small = refl
 number_read n [] (c ∷ cs) h k small = rw (stop_false is_digit c k refl refl refl) refl
 number_read n (d ∷ ds) rest h k small =
@@ -212,7 +202,7 @@ digit_word : (c : ℕ) (cs : List ℕ) → is_digit c ≡ true → word_from c c
 unfolding word_from
 digit_word c cs h = rw (differs is_digit c 39 h refl, digit_no_letter c h, h) refl
 
-number_next : (d : ℕ) (ds rest : List ℕ) → all_digits (d ∷ ds) ≡ true → ends rest ≡ true → read_on 0 (d ∷ ds) ≤ 18446744073709551615 → next_word ((d ∷ ds) ++ rest) ≡ Some (t.Number (read_on 0 (d ∷ ds)), rest)
+number_next : (d : ℕ) (ds rest : List ℕ) → all_digits (d ∷ ds) ≡ true → ends rest ≡ true → read_on 0 (d ∷ ds) ≤ 18446744073709551615 → next_word ((d ∷ ds) ++ rest) ≡ Some (Token.Number (read_on 0 (d ∷ ds)), rest)
 number_next d ds rest h k small =
     let x = and_parts (is_digit d) (all_digits ds) h in
     let e : 0 * 10 + (d - 48) ≡ d - 48 = omega arith in
@@ -222,14 +212,14 @@ number_next d ds rest h k small =
 own : IsNumeralModel (λ ds. all_digits ds ≡ true) (read_on 0)
 own = numerals_by_fold _ (search rules) read_on (search rules)
 
-reads_decimal : (n : ℕ) (rest : List ℕ) (ts : List Token) → n < 2 ^ 64 → ends rest ≡ true → Reads rest ts → Reads (decimal n ++ rest) (t.Number n ∷ ts)
+reads_decimal : (n : ℕ) (rest : List ℕ) (ts : List Token) → n < 2 ^ 64 → ends rest ≡ true → Reads rest ts → Reads (decimal n ++ rest) (Token.Number n ∷ ts)
 reads_decimal n rest ts h k again = go (decimal n) (digits_decimal own n h) (digits_value-decimal own n h) (decimal_nonempty n h)
   where
-    go : (ds : List ℕ) → all_digits ds ≡ true → read_on 0 ds ≡ n → 0 < length ds → Reads (ds ++ rest) (t.Number n ∷ ts)
+    go : (ds : List ℕ) → all_digits ds ≡ true → read_on 0 ds ≡ n → 0 < length ds → Reads (ds ++ rest) (Token.Number n ∷ ts)
     go [] a b l = absurd (omega (arith, l))
     go (d ∷ ds) a b l =
-        reads_word ((d ∷ ds) ++ rest) rest (t.Number n) ts
-        (number_next d ds rest a k (omega (arith, b, h)) ∙ ap (λ z. Some (t.Number z, rest)) b) refl (longer d ds rest) again
+        reads_word ((d ∷ ds) ++ rest) rest (Token.Number n) ts
+        (number_next d ds rest a k (omega (arith, b, h)) ∙ ap (λ z. Some (Token.Number z, rest)) b) refl (longer d ds rest) again
 
 -- ---- texts
 
@@ -259,7 +249,7 @@ quote_no_blank : is_blank 39 ≡ false
 unfolding is_blank
 quote_no_blank = refl
 
-text_next : (cs rest : List ℕ) → ends rest ≡ true → next_word (39 ∷ (flat_map doubled cs ++ 39 ∷ rest)) ≡ Some (t.Text (encodes cs), rest)
+text_next : (cs rest : List ℕ) → ends rest ≡ true → next_word (39 ∷ (flat_map doubled cs ++ 39 ∷ rest)) ≡ Some (Token.Text (encodes cs), rest)
 unfolding word_from quoted
 text_next cs rest h =
     begins_word 39 (flat_map doubled cs ++ 39 ∷ rest) quote_no_blank (no_comment 39 (flat_map doubled cs ++ 39 ∷ rest) refl)
@@ -269,12 +259,12 @@ rest_short : (cs rest : List ℕ) → length rest < length (cs ++ 39 ∷ rest)
 rest_short [] rest = omega arith
 rest_short (c ∷ cs) rest = let h = rest_short cs rest in omega (arith, h)
 
-reads_text : (x rest : List ℕ) (ts : List Token) → is_utf8 x ≡ true → ends rest ≡ true → Reads rest ts → Reads ((39 ∷ (flat_map doubled (chars x) ++ 39 ∷ [])) ++ rest) (t.Text x ∷ ts)
+reads_text : (x rest : List ℕ) (ts : List Token) → is_utf8 x ≡ true → ends rest ≡ true → Reads rest ts → Reads ((39 ∷ (flat_map doubled (chars x) ++ 39 ∷ [])) ++ rest) (Token.Text x ∷ ts)
 reads_text x rest ts u h again =
     let cs = chars x in
     let same : encodes cs ≡ x = encodes-chars x (IsUtf8-from_is_utf8 x u) in
-    subst (λ z. Reads z (t.Text x ∷ ts)) (ap (λ z. 39 ∷ z) (sym (append_assoc (flat_map doubled cs) (39 ∷ []) rest)))
-    (reads_word (39 ∷ (flat_map doubled cs ++ 39 ∷ rest)) rest (t.Text x) ts (text_next cs rest h ∙ ap (λ z. Some (t.Text z, rest)) same) refl (let l = rest_short (flat_map doubled cs) rest in omega (arith, l)) again)
+    subst (λ z. Reads z (Token.Text x ∷ ts)) (ap (λ z. 39 ∷ z) (sym (append_assoc (flat_map doubled cs) (39 ∷ []) rest)))
+    (reads_word (39 ∷ (flat_map doubled cs ++ 39 ∷ rest)) rest (Token.Text x) ts (text_next cs rest h ∙ ap (λ z. Some (Token.Text z, rest)) same) refl (let l = rest_short (flat_map doubled cs) rest in omega (arith, l)) again)
 
 -- ---- marks
 
@@ -289,56 +279,56 @@ sign_alone c (e ∷ rest) b q l d h =
     and_false true = refl
     and_false false = refl
 
-not_equal : (rest : List ℕ) → next_word (60 ∷ 62 ∷ rest) ≡ Some (t.Symbol s.NotEqual, rest)
+not_equal : (rest : List ℕ) → next_word (60 ∷ 62 ∷ rest) ≡ Some (Token.Symbol Symbol.NotEqual, rest)
 unfolding word_from next_word begins_comment double is_blank
 not_equal rest = refl
 
-less_or_equal : (rest : List ℕ) → next_word (60 ∷ 61 ∷ rest) ≡ Some (t.Symbol s.LessOrEqual, rest)
+less_or_equal : (rest : List ℕ) → next_word (60 ∷ 61 ∷ rest) ≡ Some (Token.Symbol Symbol.LessOrEqual, rest)
 unfolding word_from next_word begins_comment double is_blank
 less_or_equal rest = refl
 
-greater_or_equal : (rest : List ℕ) → next_word (62 ∷ 61 ∷ rest) ≡ Some (t.Symbol s.GreaterOrEqual, rest)
+greater_or_equal : (rest : List ℕ) → next_word (62 ∷ 61 ∷ rest) ≡ Some (Token.Symbol Symbol.GreaterOrEqual, rest)
 unfolding word_from next_word begins_comment double is_blank
 greater_or_equal rest = refl
 
-mark_next : (m : Mark) → (rest : List ℕ) → ends rest ≡ true → next_word (mark_text m ++ rest) ≡ Some (t.Symbol (symbol_of m), rest)
+mark_next : (m : Mark) → (rest : List ℕ) → ends rest ≡ true → next_word (mark_text m ++ rest) ≡ Some (Token.Symbol (symbol_of m), rest)
 unfolding is_blank single
-mark_next m.Open rest h = sign_alone 40 rest refl refl refl refl h
-mark_next m.Close rest h = sign_alone 41 rest refl refl refl refl h
-mark_next m.Comma rest h = sign_alone 44 rest refl refl refl refl h
-mark_next m.Star rest h = sign_alone 42 rest refl refl refl refl h
-mark_next m.Plus rest h = sign_alone 43 rest refl refl refl refl h
-mark_next m.Minus rest h = sign_alone 45 rest refl refl refl refl h
-mark_next m.Equal rest h = sign_alone 61 rest refl refl refl refl h
-mark_next m.Less rest h = sign_alone 60 rest refl refl refl refl h
-mark_next m.Greater rest h = sign_alone 62 rest refl refl refl refl h
-mark_next m.NotEqual rest h = not_equal rest
-mark_next m.LessOrEqual rest h = less_or_equal rest
-mark_next m.GreaterOrEqual rest h = greater_or_equal rest
+mark_next Mark.Open rest h = sign_alone 40 rest refl refl refl refl h
+mark_next Mark.Close rest h = sign_alone 41 rest refl refl refl refl h
+mark_next Mark.Comma rest h = sign_alone 44 rest refl refl refl refl h
+mark_next Mark.Star rest h = sign_alone 42 rest refl refl refl refl h
+mark_next Mark.Plus rest h = sign_alone 43 rest refl refl refl refl h
+mark_next Mark.Minus rest h = sign_alone 45 rest refl refl refl refl h
+mark_next Mark.Equal rest h = sign_alone 61 rest refl refl refl refl h
+mark_next Mark.Less rest h = sign_alone 60 rest refl refl refl refl h
+mark_next Mark.Greater rest h = sign_alone 62 rest refl refl refl refl h
+mark_next Mark.NotEqual rest h = not_equal rest
+mark_next Mark.LessOrEqual rest h = less_or_equal rest
+mark_next Mark.GreaterOrEqual rest h = greater_or_equal rest
 
 -- an open parenthesis before anything
-open_next : (rest : List ℕ) → next_word (40 ∷ rest) ≡ Some (t.Symbol s.LParen, rest)
+open_next : (rest : List ℕ) → next_word (40 ∷ rest) ≡ Some (Token.Symbol Symbol.LParen, rest)
 unfolding word_from next_word begins_comment double is_blank single
 open_next [] = refl
 open_next (c ∷ rest) = refl
 
-star_next : (rest : List ℕ) → next_word (42 ∷ rest) ≡ Some (t.Symbol s.Star, rest)
+star_next : (rest : List ℕ) → next_word (42 ∷ rest) ≡ Some (Token.Symbol Symbol.Star, rest)
 unfolding word_from next_word begins_comment double is_blank single
 star_next [] = refl
 star_next (c ∷ rest) = refl
 
-close_next : (rest : List ℕ) → next_word (41 ∷ rest) ≡ Some (t.Symbol s.RParen, rest)
+close_next : (rest : List ℕ) → next_word (41 ∷ rest) ≡ Some (Token.Symbol Symbol.RParen, rest)
 unfolding word_from next_word begins_comment double is_blank single
 close_next [] = refl
 close_next (c ∷ rest) = refl
 
-dot_next : (rest : List ℕ) → next_word (46 ∷ rest) ≡ Some (t.Symbol s.Dot, rest)
+dot_next : (rest : List ℕ) → next_word (46 ∷ rest) ≡ Some (Token.Symbol Symbol.Dot, rest)
 unfolding word_from next_word begins_comment double is_blank single
 dot_next [] = refl
 dot_next (c ∷ rest) = refl
 
 -- a minus before a digit
-minus_next : (d : ℕ) (ds : List ℕ) → is_digit d ≡ true → next_word (45 ∷ d ∷ ds) ≡ Some (t.Symbol s.Minus, d ∷ ds)
+minus_next : (d : ℕ) (ds : List ℕ) → is_digit d ≡ true → next_word (45 ∷ d ∷ ds) ≡ Some (Token.Symbol Symbol.Minus, d ∷ ds)
 unfolding word_from next_word begins_comment double is_blank single
 minus_next d ds h = rw (differs is_digit d 45 h refl) refl
 
@@ -346,68 +336,68 @@ reads_sign : (c : ℕ) (rest : List ℕ) (token : Token) (ts : List Token) → n
 reads_sign c rest token ts e b again = reads_word (c ∷ rest) rest token ts e b (omega arith) again
 
 mark_longer : (m : Mark) (rest : List ℕ) → length rest < length (mark_text m ++ rest)
-mark_longer m.Open rest = omega arith
-mark_longer m.Close rest = omega arith
-mark_longer m.Comma rest = omega arith
-mark_longer m.Star rest = omega arith
-mark_longer m.Plus rest = omega arith
-mark_longer m.Minus rest = omega arith
-mark_longer m.Equal rest = omega arith
-mark_longer m.NotEqual rest = omega arith
-mark_longer m.Less rest = omega arith
-mark_longer m.LessOrEqual rest = omega arith
-mark_longer m.Greater rest = omega arith
-mark_longer m.GreaterOrEqual rest = omega arith
+mark_longer Mark.Open rest = omega arith
+mark_longer Mark.Close rest = omega arith
+mark_longer Mark.Comma rest = omega arith
+mark_longer Mark.Star rest = omega arith
+mark_longer Mark.Plus rest = omega arith
+mark_longer Mark.Minus rest = omega arith
+mark_longer Mark.Equal rest = omega arith
+mark_longer Mark.NotEqual rest = omega arith
+mark_longer Mark.Less rest = omega arith
+mark_longer Mark.LessOrEqual rest = omega arith
+mark_longer Mark.Greater rest = omega arith
+mark_longer Mark.GreaterOrEqual rest = omega arith
 
 -- ---- pieces
 
-reads_negative : (n : ℕ) (rest : List ℕ) (ts : List Token) → suc n ≤ 2 ^ 63 → ends rest ≡ true → Reads rest ts → Reads ((45 ∷ decimal (suc n)) ++ rest) (t.Symbol s.Minus ∷ t.Number (suc n) ∷ ts)
+reads_negative : (n : ℕ) (rest : List ℕ) (ts : List Token) → suc n ≤ 2 ^ 63 → ends rest ≡ true → Reads rest ts → Reads ((45 ∷ decimal (suc n)) ++ rest) (Token.Symbol Symbol.Minus ∷ Token.Number (suc n) ∷ ts)
 reads_negative n rest ts h e again =
     let small : suc n < 2 ^ 64 = omega (arith, h) in
     go (decimal (suc n)) (digits_decimal own (suc n) small) (decimal_nonempty (suc n) small) (reads_decimal (suc n) rest ts small e again)
   where
-    go : (ds : List ℕ) → all_digits ds ≡ true → 0 < length ds → Reads (ds ++ rest) (t.Number (suc n) ∷ ts) → Reads ((45 ∷ ds) ++ rest) (t.Symbol s.Minus ∷ t.Number (suc n) ∷ ts)
+    go : (ds : List ℕ) → all_digits ds ≡ true → 0 < length ds → Reads (ds ++ rest) (Token.Number (suc n) ∷ ts) → Reads ((45 ∷ ds) ++ rest) (Token.Symbol Symbol.Minus ∷ Token.Number (suc n) ∷ ts)
     go [] a l r = absurd (omega (arith, l))
-    go (d ∷ ds) a l r = reads_sign 45 ((d ∷ ds) ++ rest) (t.Symbol s.Minus) (t.Number (suc n) ∷ ts) (minus_next d (ds ++ rest) (and_parts (is_digit d) (all_digits ds) a).0) refl r
+    go (d ∷ ds) a l r = reads_sign 45 ((d ∷ ds) ++ rest) (Token.Symbol Symbol.Minus) (Token.Number (suc n) ∷ ts) (minus_next d (ds ++ rest) (and_parts (is_digit d) (all_digits ds) a).0) refl r
 
-reads_column : (q n rest : List ℕ) (us : List Token) → is_name_text q ≡ true → is_name_text n ≡ true → ends rest ≡ true → Reads rest us → Reads ((chars q ++ 46 ∷ chars n) ++ rest) (t.Word (folded q) ∷ t.Symbol s.Dot ∷ t.Word (folded n) ∷ us)
+reads_column : (q n rest : List ℕ) (us : List Token) → is_name_text q ≡ true → is_name_text n ≡ true → ends rest ≡ true → Reads rest us → Reads ((chars q ++ 46 ∷ chars n) ++ rest) (Token.Word (folded q) ∷ Token.Symbol Symbol.Dot ∷ Token.Word (folded n) ∷ us)
 reads_column q n rest us h k e again =
     rw (chars_name q h, chars_name n k, append_assoc q (46 ∷ n) rest)
-    (reads_name q (46 ∷ (n ++ rest)) (t.Symbol s.Dot ∷ t.Word (folded n) ∷ us) h refl
-    (reads_sign 46 (n ++ rest) (t.Symbol s.Dot) (t.Word (folded n) ∷ us) (dot_next (n ++ rest)) refl (reads_name n rest us k (ends_no_letter rest e) again)))
+    (reads_name q (46 ∷ (n ++ rest)) (Token.Symbol Symbol.Dot ∷ Token.Word (folded n) ∷ us) h refl
+    (reads_sign 46 (n ++ rest) (Token.Symbol Symbol.Dot) (Token.Word (folded n) ∷ us) (dot_next (n ++ rest)) refl (reads_name n rest us k (ends_no_letter rest e) again)))
 
 piece_reads : (p : Piece) (ts us : List Token) (rest : List ℕ) → piece_tokens p ≡ Some ts → is_fit p ≡ true → opens p ≡ false → ends rest ≡ true → Reads rest us → Reads (piece_text p ++ rest) (ts ++ us)
 piece_reads (Word w) ts us rest h f o e again = go (is_name_text w) refl h
   where
-    go : (b : Bool) → is_name_text w ≡ b → (if b then Some (t.Word (folded w) ∷ []) else None) ≡ Some ts → Reads (chars w ++ rest) (ts ++ us)
-    go true k i = rw (chars_name w k) (subst (λ z. Reads (w ++ rest) (z ++ us)) (some_is (t.Word (folded w) ∷ []) ts i) (reads_name w rest us k (ends_no_letter rest e) again))
+    go : (b : Bool) → is_name_text w ≡ b → (if b then Some (Token.Word (folded w) ∷ []) else None) ≡ Some ts → Reads (chars w ++ rest) (ts ++ us)
+    go true k i = rw (chars_name w k) (subst (λ z. Reads (w ++ rest) (z ++ us)) (some_is (Token.Word (folded w) ∷ []) ts i) (reads_name w rest us k (ends_no_letter rest e) again))
     go false k i = cc
 piece_reads (Qualified q n) ts us rest h f o e again = go (is_name_text q) (is_name_text n) refl refl h
   where
     go : (a b : Bool) → is_name_text q ≡ a → is_name_text n ≡ b
-        → joined (if a then Some (t.Word (folded q) ∷ []) else None) (joined (Some (t.Symbol s.Dot ∷ [])) (if b then Some (t.Word (folded n) ∷ []) else None)) ≡ Some ts → Reads ((chars q ++ 46 ∷ chars n) ++ rest) (ts ++ us)
-    go true true k l i = subst (λ z. Reads ((chars q ++ 46 ∷ chars n) ++ rest) (z ++ us)) (some_is (t.Word (folded q) ∷ t.Symbol s.Dot ∷ t.Word (folded n) ∷ []) ts i) (reads_column q n rest us k l e again)
+        → joined (if a then Some (Token.Word (folded q) ∷ []) else None) (joined (Some (Token.Symbol Symbol.Dot ∷ [])) (if b then Some (Token.Word (folded n) ∷ []) else None)) ≡ Some ts → Reads ((chars q ++ 46 ∷ chars n) ++ rest) (ts ++ us)
+    go true true k l i = subst (λ z. Reads ((chars q ++ 46 ∷ chars n) ++ rest) (z ++ us)) (some_is (Token.Word (folded q) ∷ Token.Symbol Symbol.Dot ∷ Token.Word (folded n) ∷ []) ts i) (reads_column q n rest us k l e again)
     go true false k l i = cc
     go false b k l i = cc
 piece_reads (Number (pos n)) ts us rest h f o e again = go (nat_le n (2 ^ 63 - 1)) refl h
   where
-    go : (b : Bool) → nat_le n (2 ^ 63 - 1) ≡ b → (if b then Some (t.Number n ∷ []) else None) ≡ Some ts → Reads (decimal n ++ rest) (ts ++ us)
-    go true k i = subst (λ z. Reads (decimal n ++ rest) (z ++ us)) (some_is (t.Number n ∷ []) ts i) (reads_decimal n rest us (omega (arith, leb-true n (2 ^ 63 - 1) k)) e again)
+    go : (b : Bool) → nat_le n (2 ^ 63 - 1) ≡ b → (if b then Some (Token.Number n ∷ []) else None) ≡ Some ts → Reads (decimal n ++ rest) (ts ++ us)
+    go true k i = subst (λ z. Reads (decimal n ++ rest) (z ++ us)) (some_is (Token.Number n ∷ []) ts i) (reads_decimal n rest us (omega (arith, leb-true n (2 ^ 63 - 1) k)) e again)
     go false k i = cc
 piece_reads (Number (negsuc n)) ts us rest h f o e again = go (nat_le (suc n) (2 ^ 63)) refl h
   where
-    go : (b : Bool) → nat_le (suc n) (2 ^ 63) ≡ b → (if b then Some (t.Symbol s.Minus ∷ t.Number (suc n) ∷ []) else None) ≡ Some ts → Reads ((45 ∷ decimal (suc n)) ++ rest) (ts ++ us)
-    go true k i = subst (λ z. Reads ((45 ∷ decimal (suc n)) ++ rest) (z ++ us)) (some_is (t.Symbol s.Minus ∷ t.Number (suc n) ∷ []) ts i) (reads_negative n rest us (leb-true (suc n) (2 ^ 63) k) e again)
+    go : (b : Bool) → nat_le (suc n) (2 ^ 63) ≡ b → (if b then Some (Token.Symbol Symbol.Minus ∷ Token.Number (suc n) ∷ []) else None) ≡ Some ts → Reads ((45 ∷ decimal (suc n)) ++ rest) (ts ++ us)
+    go true k i = subst (λ z. Reads ((45 ∷ decimal (suc n)) ++ rest) (z ++ us)) (some_is (Token.Symbol Symbol.Minus ∷ Token.Number (suc n) ∷ []) ts i) (reads_negative n rest us (leb-true (suc n) (2 ^ 63) k) e again)
     go false k i = cc
-piece_reads (Text x) ts us rest h f o e again = subst (λ z. Reads (piece_text (Text x) ++ rest) (z ++ us)) (some_is (t.Text x ∷ []) ts h) (reads_text x rest us f e again)
+piece_reads (Text x) ts us rest h f o e again = subst (λ z. Reads (piece_text (Text x) ++ rest) (z ++ us)) (some_is (Token.Text x ∷ []) ts h) (reads_text x rest us f e again)
 piece_reads (Marked m) ts us rest h f o e again =
-    subst (λ z. Reads (mark_text m ++ rest) (z ++ us)) (some_is (t.Symbol (symbol_of m) ∷ []) ts h) (reads_word (mark_text m ++ rest) rest (t.Symbol (symbol_of m)) us (mark_next m rest e) refl (mark_longer m rest) again)
+    subst (λ z. Reads (mark_text m ++ rest) (z ++ us)) (some_is (Token.Symbol (symbol_of m) ∷ []) ts h) (reads_word (mark_text m ++ rest) rest (Token.Symbol (symbol_of m)) us (mark_next m rest e) refl (mark_longer m rest) again)
 piece_reads Count ts us rest h f o e again =
-    subst (λ z. Reads (codes "COUNT(*)" ++ rest) (z ++ us)) (some_is (t.Word (codes "count") ∷ t.Symbol s.LParen ∷ t.Symbol s.Star ∷ t.Symbol s.RParen ∷ []) ts h)
-    (reads_name (codes "COUNT") (40 ∷ 42 ∷ 41 ∷ rest) (t.Symbol s.LParen ∷ t.Symbol s.Star ∷ t.Symbol s.RParen ∷ us) refl refl
-    (reads_sign 40 (42 ∷ 41 ∷ rest) (t.Symbol s.LParen) (t.Symbol s.Star ∷ t.Symbol s.RParen ∷ us) (open_next (42 ∷ 41 ∷ rest)) refl
-    (reads_sign 42 (41 ∷ rest) (t.Symbol s.Star) (t.Symbol s.RParen ∷ us) (star_next (41 ∷ rest)) refl
-    (reads_sign 41 rest (t.Symbol s.RParen) us (close_next rest) refl again))))
+    subst (λ z. Reads (codes "COUNT(*)" ++ rest) (z ++ us)) (some_is (Token.Word (codes "count") ∷ Token.Symbol Symbol.LParen ∷ Token.Symbol Symbol.Star ∷ Token.Symbol Symbol.RParen ∷ []) ts h)
+    (reads_name (codes "COUNT") (40 ∷ 42 ∷ 41 ∷ rest) (Token.Symbol Symbol.LParen ∷ Token.Symbol Symbol.Star ∷ Token.Symbol Symbol.RParen ∷ us) refl refl
+    (reads_sign 40 (42 ∷ 41 ∷ rest) (Token.Symbol Symbol.LParen) (Token.Symbol Symbol.Star ∷ Token.Symbol Symbol.RParen ∷ us) (open_next (42 ∷ 41 ∷ rest)) refl
+    (reads_sign 42 (41 ∷ rest) (Token.Symbol Symbol.Star) (Token.Symbol Symbol.RParen ∷ us) (star_next (41 ∷ rest)) refl
+    (reads_sign 41 rest (Token.Symbol Symbol.RParen) us (close_next rest) refl again))))
 
 -- what follows a word begins with a space, or closes
 ends_next : (ps : List Piece) → ends (pieces_text false ps) ≡ true
@@ -417,39 +407,39 @@ ends_next (Qualified q n ∷ ps) = refl
 ends_next (Number z ∷ ps) = refl
 ends_next (Text x ∷ ps) = refl
 ends_next (Count ∷ ps) = refl
-ends_next (Marked m.Open ∷ ps) = refl
-ends_next (Marked m.Close ∷ ps) = refl
-ends_next (Marked m.Comma ∷ ps) = refl
-ends_next (Marked m.Star ∷ ps) = refl
-ends_next (Marked m.Plus ∷ ps) = refl
-ends_next (Marked m.Minus ∷ ps) = refl
-ends_next (Marked m.Equal ∷ ps) = refl
-ends_next (Marked m.NotEqual ∷ ps) = refl
-ends_next (Marked m.Less ∷ ps) = refl
-ends_next (Marked m.LessOrEqual ∷ ps) = refl
-ends_next (Marked m.Greater ∷ ps) = refl
-ends_next (Marked m.GreaterOrEqual ∷ ps) = refl
+ends_next (Marked Mark.Open ∷ ps) = refl
+ends_next (Marked Mark.Close ∷ ps) = refl
+ends_next (Marked Mark.Comma ∷ ps) = refl
+ends_next (Marked Mark.Star ∷ ps) = refl
+ends_next (Marked Mark.Plus ∷ ps) = refl
+ends_next (Marked Mark.Minus ∷ ps) = refl
+ends_next (Marked Mark.Equal ∷ ps) = refl
+ends_next (Marked Mark.NotEqual ∷ ps) = refl
+ends_next (Marked Mark.Less ∷ ps) = refl
+ends_next (Marked Mark.LessOrEqual ∷ ps) = refl
+ends_next (Marked Mark.Greater ∷ ps) = refl
+ends_next (Marked Mark.GreaterOrEqual ∷ ps) = refl
 
 -- a word and those behind it
 word_and_others : (p : Piece) (ps : List Piece) (ts us : List Token) → piece_tokens p ≡ Some ts → is_fit p ≡ true → ((tight : Bool) → Reads (pieces_text tight ps) us) → Reads (piece_text p ++ pieces_text (opens p) ps) (ts ++ us)
-word_and_others (Marked m.Open) ps ts us h f again =
-    subst (λ z. Reads (40 ∷ pieces_text true ps) (z ++ us)) (some_is (t.Symbol s.LParen ∷ []) ts h) (reads_sign 40 (pieces_text true ps) (t.Symbol s.LParen) us (open_next (pieces_text true ps)) refl (again true))
+word_and_others (Marked Mark.Open) ps ts us h f again =
+    subst (λ z. Reads (40 ∷ pieces_text true ps) (z ++ us)) (some_is (Token.Symbol Symbol.LParen ∷ []) ts h) (reads_sign 40 (pieces_text true ps) (Token.Symbol Symbol.LParen) us (open_next (pieces_text true ps)) refl (again true))
 word_and_others (Word w) ps ts us h f again = piece_reads (Word w) ts us (pieces_text false ps) h f refl (ends_next ps) (again false)
 word_and_others (Qualified q n) ps ts us h f again = piece_reads (Qualified q n) ts us (pieces_text false ps) h f refl (ends_next ps) (again false)
 word_and_others (Number z) ps ts us h f again = piece_reads (Number z) ts us (pieces_text false ps) h f refl (ends_next ps) (again false)
 word_and_others (Text x) ps ts us h f again = piece_reads (Text x) ts us (pieces_text false ps) h f refl (ends_next ps) (again false)
 word_and_others Count ps ts us h f again = piece_reads Count ts us (pieces_text false ps) h f refl (ends_next ps) (again false)
-word_and_others (Marked m.Close) ps ts us h f again = piece_reads (Marked m.Close) ts us (pieces_text false ps) h f refl (ends_next ps) (again false)
-word_and_others (Marked m.Comma) ps ts us h f again = piece_reads (Marked m.Comma) ts us (pieces_text false ps) h f refl (ends_next ps) (again false)
-word_and_others (Marked m.Star) ps ts us h f again = piece_reads (Marked m.Star) ts us (pieces_text false ps) h f refl (ends_next ps) (again false)
-word_and_others (Marked m.Plus) ps ts us h f again = piece_reads (Marked m.Plus) ts us (pieces_text false ps) h f refl (ends_next ps) (again false)
-word_and_others (Marked m.Minus) ps ts us h f again = piece_reads (Marked m.Minus) ts us (pieces_text false ps) h f refl (ends_next ps) (again false)
-word_and_others (Marked m.Equal) ps ts us h f again = piece_reads (Marked m.Equal) ts us (pieces_text false ps) h f refl (ends_next ps) (again false)
-word_and_others (Marked m.NotEqual) ps ts us h f again = piece_reads (Marked m.NotEqual) ts us (pieces_text false ps) h f refl (ends_next ps) (again false)
-word_and_others (Marked m.Less) ps ts us h f again = piece_reads (Marked m.Less) ts us (pieces_text false ps) h f refl (ends_next ps) (again false)
-word_and_others (Marked m.LessOrEqual) ps ts us h f again = piece_reads (Marked m.LessOrEqual) ts us (pieces_text false ps) h f refl (ends_next ps) (again false)
-word_and_others (Marked m.Greater) ps ts us h f again = piece_reads (Marked m.Greater) ts us (pieces_text false ps) h f refl (ends_next ps) (again false)
-word_and_others (Marked m.GreaterOrEqual) ps ts us h f again = piece_reads (Marked m.GreaterOrEqual) ts us (pieces_text false ps) h f refl (ends_next ps) (again false)
+word_and_others (Marked Mark.Close) ps ts us h f again = piece_reads (Marked Mark.Close) ts us (pieces_text false ps) h f refl (ends_next ps) (again false)
+word_and_others (Marked Mark.Comma) ps ts us h f again = piece_reads (Marked Mark.Comma) ts us (pieces_text false ps) h f refl (ends_next ps) (again false)
+word_and_others (Marked Mark.Star) ps ts us h f again = piece_reads (Marked Mark.Star) ts us (pieces_text false ps) h f refl (ends_next ps) (again false)
+word_and_others (Marked Mark.Plus) ps ts us h f again = piece_reads (Marked Mark.Plus) ts us (pieces_text false ps) h f refl (ends_next ps) (again false)
+word_and_others (Marked Mark.Minus) ps ts us h f again = piece_reads (Marked Mark.Minus) ts us (pieces_text false ps) h f refl (ends_next ps) (again false)
+word_and_others (Marked Mark.Equal) ps ts us h f again = piece_reads (Marked Mark.Equal) ts us (pieces_text false ps) h f refl (ends_next ps) (again false)
+word_and_others (Marked Mark.NotEqual) ps ts us h f again = piece_reads (Marked Mark.NotEqual) ts us (pieces_text false ps) h f refl (ends_next ps) (again false)
+word_and_others (Marked Mark.Less) ps ts us h f again = piece_reads (Marked Mark.Less) ts us (pieces_text false ps) h f refl (ends_next ps) (again false)
+word_and_others (Marked Mark.LessOrEqual) ps ts us h f again = piece_reads (Marked Mark.LessOrEqual) ts us (pieces_text false ps) h f refl (ends_next ps) (again false)
+word_and_others (Marked Mark.Greater) ps ts us h f again = piece_reads (Marked Mark.Greater) ts us (pieces_text false ps) h f refl (ends_next ps) (again false)
+word_and_others (Marked Mark.GreaterOrEqual) ps ts us h f again = piece_reads (Marked Mark.GreaterOrEqual) ts us (pieces_text false ps) h f refl (ends_next ps) (again false)
 
 spaced_reads : (none : Bool) (cs : List ℕ) (ts : List Token) → Reads cs ts → Reads (space none ++ cs) ts
 spaced_reads true cs ts h = h
@@ -475,21 +465,21 @@ pub words_told : (bytes : List ℕ) (ps : List Piece) (ts : List Token) → char
 words_told bytes ps ts e f h = rw e (pieces_read ps ts h f true (length (pieces_text true ps)) (omega arith))
 
 -- a word's token
-fit_word : (w : List ℕ) → is_word w ≡ true → word_token w ≡ Some (t.Word (folded w) ∷ [])
+fit_word : (w : List ℕ) → is_word w ≡ true → word_token w ≡ Some (Token.Word (folded w) ∷ [])
 fit_word w f = rw ((and_parts (is_name_text w) (nat_le (length w) 63) f).0) refl
 
 -- what is fit has tokens
 fit_piece : (p : Piece) → is_fit p ≡ true → (ts : List Token) × (piece_tokens p ≡ Some ts)
-fit_piece (Word w) f = (t.Word (folded w) ∷ [], fit_word w f)
+fit_piece (Word w) f = (Token.Word (folded w) ∷ [], fit_word w f)
 fit_piece (Qualified q n) f = (
-  t.Word (folded q) ∷ t.Symbol s.Dot ∷ t.Word (folded n) ∷ [],
+  Token.Word (folded q) ∷ Token.Symbol Symbol.Dot ∷ Token.Word (folded n) ∷ [],
   let both = and_parts (is_word q) (is_word n) f in rw (fit_word q both.0, fit_word n both.1) refl,
 )
-fit_piece (Number (pos n)) f = (t.Number n ∷ [], rw f refl)
-fit_piece (Number (negsuc n)) f = (t.Symbol s.Minus ∷ t.Number (suc n) ∷ [], rw f refl)
-fit_piece (Text x) f = (t.Text x ∷ [], refl)
-fit_piece (Marked m) f = (t.Symbol (symbol_of m) ∷ [], refl)
-fit_piece Count f = (t.Word (codes "count") ∷ t.Symbol s.LParen ∷ t.Symbol s.Star ∷ t.Symbol s.RParen ∷ [], refl)
+fit_piece (Number (pos n)) f = (Token.Number n ∷ [], rw f refl)
+fit_piece (Number (negsuc n)) f = (Token.Symbol Symbol.Minus ∷ Token.Number (suc n) ∷ [], rw f refl)
+fit_piece (Text x) f = (Token.Text x ∷ [], refl)
+fit_piece (Marked m) f = (Token.Symbol (symbol_of m) ∷ [], refl)
+fit_piece Count f = (Token.Word (codes "count") ∷ Token.Symbol Symbol.LParen ∷ Token.Symbol Symbol.Star ∷ Token.Symbol Symbol.RParen ∷ [], refl)
 
 -- so have all of them
 pub fit_tokens : (ps : List Piece) → are_fit ps ≡ true → (ts : List Token) × (tokens_of ps ≡ Some ts)

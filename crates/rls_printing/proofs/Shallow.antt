@@ -1,60 +1,13 @@
 -- The words that are printed for a statement pass no limit: no word is too long, and never are too many parentheses open at one time.
-use Rattle.std.proofs.Common.{◌≡◌, ℕ, ◌+◌, ◌-◌, ◌*◌, ◌≤◌, Bool, true, false, ◌&&◌, length, nat_le, nat_lt, if◌then◌else◌, List, [], ◌∷◌, ◌++◌, Option, Some, None, Result, Ok, Err, refl, ap, sym, ◌∙◌, append_assoc, append-nil, arith}
+use Rattle.std.proofs.{Common.◌≡◌, Common.ℕ, Common.◌+◌, Common.◌-◌, Common.◌*◌, Common.◌≤◌, Common.Bool, Common.true, Common.false, Common.◌&&◌, Common.length, Common.nat_le, Common.nat_lt, Common.if◌then◌else◌, Common.List, Common.[], Common.◌∷◌, Common.◌++◌, Common.Option, Common.Some, Common.None, Common.Result, Common.Ok, Common.Err, Common.refl, Common.ap, Common.sym, Common.◌∙◌, Common.append_assoc, Common.append-nil, Common.arith, lemmas.Bool.and_parts, lemmas.Bool.and_from, lemmas.Bool.leb-true, lemmas.Bool.ltb-false, lemmas.Bool.le-ltb, lemmas.Bool.lt-leb, lemmas.List.length-map}
 use Rattle.std.specs.Prelude.{codes, is_some, max, ℤ, pos, negsuc, suc, ◌^◌, ◌||◌}
 use Rattle.std.specs.Char.{to_ascii_lowercase}
-use Rattle.std.proofs.lemmas.Bool.{and_parts, and_from, leb-true, ltb-false, le-ltb, lt-leb}
-use Rattle.std.proofs.lemmas.List.{length-map}
-use Rattle.rls_value.specs.Names.{folded, is_name_text}
-use Rattle.rls_value.specs.declared.refusal.Limit.{Limit}
-use Rattle.rls_value.specs.declared.refusal.Limit.TheVariants as l
-use Rattle.rls_value.specs.declared.refusal.Refusal.{Refusal}
-use Rattle.rls_value.specs.declared.refusal.Refusal.TheVariants as refusal
-use Rattle.rls_value.specs.declared.value.ColType.{ColType}
-use Rattle.rls_value.specs.declared.value.ColType.TheVariants as k
-use Rattle.rls_value.specs.declared.value.Value.{Value}
-use Rattle.rls_value.specs.declared.value.Value.TheVariants as v
-use Rattle.rls_value.specs.declared.verb.Kind.TheVariants as command
-use Rattle.rls_value.specs.declared.verb.PolicyKind.{PolicyKind}
-use Rattle.rls_value.specs.declared.verb.PolicyKind.TheVariants as kind
-use Rattle.rls_expr.specs.Terms.{Term, Terms, Query, Literal, Column, Place, CurrentUser, Compare, And, Or, Not, IsNull, IsNotNull, Among, NotAmong, Exists, Within, NotWithin, Scalar, Sum, End, More, Select, terms_of, maybe_term}
-use Rattle.rls_expr.specs.declared.expr.Comparison.{Comparison}
-use Rattle.rls_expr.specs.declared.expr.Comparison.TheVariants as c
-use Rattle.rls_expr.specs.declared.expr.Selects.{Selects}
-use Rattle.rls_expr.specs.declared.expr.Selects.TheVariants as selects
-use Rattle.rls_expr.specs.declared.expr.Sign.{Sign}
-use Rattle.rls_expr.specs.declared.expr.Sign.TheVariants as part
-use Rattle.rls_expr.specs.declared.policy.Grantee.{Grantee}
-use Rattle.rls_expr.specs.declared.policy.Grantee.TheVariants as to
-use Rattle.rls_expr.specs.declared.policy.Policy.{Policy}
-use Rattle.rls_statement.specs.declared.changing.Setting.{Setting}
-use Rattle.rls_statement.specs.declared.statement.Attributes.{Attributes}
-use Rattle.rls_statement.specs.declared.statement.MarkedColumn.{MarkedColumn}
-use Rattle.rls_statement.specs.declared.statement.MembershipOption.{MembershipOption}
-use Rattle.rls_statement.specs.declared.statement.MembershipOption.TheVariants as o
-use Rattle.rls_statement.specs.declared.statement.MembershipOptions.{MembershipOptions}
-use Rattle.rls_statement.specs.declared.statement.Privileges.{Privileges}
-use Rattle.rls_statement.specs.declared.statement.RowSecurity.{RowSecurity}
-use Rattle.rls_statement.specs.declared.statement.RowSecurity.TheVariants as change
-use Rattle.rls_statement.specs.declared.statement.Selected.{Selected}
-use Rattle.rls_statement.specs.declared.statement.Selected.TheVariants as chosen
-use Rattle.rls_statement.specs.declared.statement.SetRole.{SetRole}
-use Rattle.rls_statement.specs.declared.statement.SetRole.TheVariants as sr
-use Rattle.rls_statement.specs.declared.statement.Statement.{Statement}
-use Rattle.rls_statement.specs.declared.statement.Statement.TheVariants as st
-use Rattle.rls_text.specs.declared.token.Symbol.TheVariants as s
-use Rattle.rls_text.specs.declared.token.Token.{Token}
-use Rattle.rls_text.specs.declared.token.Token.TheVariants as t
-use Rattle.rls_text.specs.Answers.{limit_from, first_limit, or_next, limited, columns_of}
-use Rattle.rls_text.specs.Grammar.{Spells}
-use Rattle.rls_text.specs.Heights.{height, heights, query_height, height_if, highest, set_values, height_of}
-use Rattle.rls_text.specs.Nested.{subqueries_of}
-use Rattle.rls_text.specs.Writes.{joined, some_is}
-use Rattle.rls_printing.specs.declared.page.Mark.{Mark}
-use Rattle.rls_printing.specs.declared.page.Mark.TheVariants as m
+use Rattle.rls_value.specs.{Names.folded, Names.is_name_text, Names.is_word, declared.refusal.Limit.Limit, declared.refusal.Refusal.Refusal, declared.value.ColType.ColType, declared.value.Value.Value, declared.verb.PolicyKind.PolicyKind, declared.verb.Kind.Kind}
+use Rattle.rls_expr.specs.{Terms.Term, Terms.Terms, Terms.Query, Terms.Literal, Terms.Column, Terms.Place, Terms.CurrentUser, Terms.Compare, Terms.And, Terms.Or, Terms.Not, Terms.IsNull, Terms.IsNotNull, Terms.Among, Terms.NotAmong, Terms.Exists, Terms.Within, Terms.NotWithin, Terms.Scalar, Terms.Sum, Terms.End, Terms.More, Terms.Select, Terms.terms_of, Terms.maybe_term, declared.expr.Comparison.Comparison, declared.expr.Selects.Selects, declared.expr.Sign.Sign, declared.policy.Grantee.Grantee, declared.policy.Policy.Policy}
+use Rattle.rls_statement.specs.{declared.changing.Setting.Setting, declared.statement.Attributes.Attributes, declared.statement.MarkedColumn.MarkedColumn, declared.statement.MembershipOption.MembershipOption, declared.statement.MembershipOptions.MembershipOptions, declared.statement.Privileges.Privileges, declared.statement.RowSecurity.RowSecurity, declared.statement.Selected.Selected, declared.statement.SetRole.SetRole, declared.statement.Statement.Statement}
+use Rattle.rls_text.specs.{declared.token.Symbol.Symbol, declared.token.Token.Token, Grammar.Spells, Nested.subqueries_of, Writes.joined, Writes.some_is, Answers.limit_from, Answers.first_limit, Answers.or_next, Answers.limited, Answers.columns_of, Heights.height, Heights.heights, Heights.query_height, Heights.height_if, Heights.highest, Heights.set_values, Heights.height_of}
+use Rattle.rls_printing.specs.{declared.page.Mark.Mark, Sheets.is_fit, Sheets.are_fit, Pieces.Piece, Pieces.Word, Pieces.Qualified, Pieces.Number, Pieces.Text, Pieces.Marked, Pieces.Count, Pieces.piece_tokens, Pieces.tokens_of, Pieces.word_token}
 use Rattle.rls_printing.specs.ExprForms as expr_form
-use Rattle.rls_printing.specs.Pieces.{Piece, Word, Qualified, Number, Text, Marked, Count, piece_tokens, tokens_of, word_token}
-use Rattle.rls_value.specs.Names.{is_word}
-use Rattle.rls_printing.specs.Sheets.{is_fit, are_fit}
 use Rattle.rls_printing.specs.StatementForms as form
 use Rattle.rls_printing.proofs.FlatItems.{chosen_height, returned_height, items_height, items_flat}
 
@@ -125,7 +78,7 @@ if_passes false unclosed these tokens rest h k = cc
 
 word_passes : (w : List ℕ) (unclosed : ℕ) (tokens rest : List Token) → is_word w ≡ true → word_token w ≡ Some tokens → limit_from unclosed (tokens ++ rest) ≡ limit_from unclosed rest
 word_passes w unclosed tokens rest h e =
-    if_passes (is_name_text w) unclosed (t.Word (folded w) ∷ []) tokens rest e (skipped (nat_lt 63 (length (folded w))) l.Name (limit_from unclosed rest) short)
+    if_passes (is_name_text w) unclosed (Token.Word (folded w) ∷ []) tokens rest e (skipped (nat_lt 63 (length (folded w))) Limit.Name (limit_from unclosed rest) short)
   where
     short : nat_lt 63 (length (folded w)) ≡ false
     short = le-ltb 63 (length (folded w)) (omega (arith, length-map w to_ascii_lowercase, leb-true (length w) 63 (and_parts (is_name_text w) (nat_le (length w) 63) h).1))
@@ -160,15 +113,15 @@ enclosed_low inner room ps le h = record { passes = λ unclosed tokens rest low 
   where
     go : (unclosed : ℕ) (tokens rest : List Token) → unclosed + room ≤ 256 → are_fit (expr_form.enclosed ps) ≡ true → tokens_of (expr_form.enclosed ps) ≡ Some tokens → limit_from unclosed (tokens ++ rest) ≡ limit_from unclosed rest
     go unclosed tokens rest low f e =
-        let a = parts (Some (t.Symbol s.LParen ∷ [])) (tokens_of (ps ++ Marked m.Close ∷ [])) tokens e in
-        let b = tokens_parts ps (Marked m.Close ∷ []) a.behind a.second in
-        let fit = fit_parts ps (Marked m.Close ∷ []) f in
+        let a = parts (Some (Token.Symbol Symbol.LParen ∷ [])) (tokens_of (ps ++ Marked Mark.Close ∷ [])) tokens e in
+        let b = tokens_parts ps (Marked Mark.Close ∷ []) a.behind a.second in
+        let fit = fit_parts ps (Marked Mark.Close ∷ []) f in
         moved unclosed a.front a.behind tokens rest a.whole
-        ∙ given unclosed (t.Symbol s.LParen ∷ []) a.front (a.behind ++ rest) a.first
-        ∙ skipped (nat_le 256 unclosed) l.Parentheses (limit_from (unclosed + 1) (a.behind ++ rest)) (room_left unclosed (omega (arith, le, low)))
+        ∙ given unclosed (Token.Symbol Symbol.LParen ∷ []) a.front (a.behind ++ rest) a.first
+        ∙ skipped (nat_le 256 unclosed) Limit.Parentheses (limit_from (unclosed + 1) (a.behind ++ rest)) (room_left unclosed (omega (arith, le, low)))
         ∙ moved (unclosed + 1) b.front b.behind a.behind rest b.whole
         ∙ h.passes (unclosed + 1) b.front (b.behind ++ rest) (omega (arith, le, low)) fit.0 b.first
-        ∙ given (unclosed + 1) (t.Symbol s.RParen ∷ []) b.behind rest b.second
+        ∙ given (unclosed + 1) (Token.Symbol Symbol.RParen ∷ []) b.behind rest b.second
         ∙ closed_again unclosed rest
 
 -- one word
@@ -181,49 +134,49 @@ word_low room w = one_low room (Word w) (λ unclosed tokens rest low f e. word_p
 qualified_low : (room : ℕ) (q n : List ℕ) → StaysLow room (Qualified q n ∷ [])
 qualified_low room q n = one_low room (Qualified q n) (λ unclosed tokens rest low f e. go unclosed tokens rest f e)
   where
-    go : (unclosed : ℕ) (tokens rest : List Token) → (is_word q && is_word n) ≡ true → joined (word_token q) (joined (Some (t.Symbol s.Dot ∷ [])) (word_token n)) ≡ Some tokens → limit_from unclosed (tokens ++ rest) ≡ limit_from unclosed rest
+    go : (unclosed : ℕ) (tokens rest : List Token) → (is_word q && is_word n) ≡ true → joined (word_token q) (joined (Some (Token.Symbol Symbol.Dot ∷ [])) (word_token n)) ≡ Some tokens → limit_from unclosed (tokens ++ rest) ≡ limit_from unclosed rest
     go unclosed tokens rest f e =
         let fit = and_parts (is_word q) (is_word n) f in
-        let a = parts (word_token q) (joined (Some (t.Symbol s.Dot ∷ [])) (word_token n)) tokens e in
-        let b = parts (Some (t.Symbol s.Dot ∷ [])) (word_token n) a.behind a.second in
+        let a = parts (word_token q) (joined (Some (Token.Symbol Symbol.Dot ∷ [])) (word_token n)) tokens e in
+        let b = parts (Some (Token.Symbol Symbol.Dot ∷ [])) (word_token n) a.behind a.second in
         moved unclosed a.front a.behind tokens rest a.whole
         ∙ word_passes q unclosed a.front (a.behind ++ rest) fit.0 a.first
         ∙ moved unclosed b.front b.behind a.behind rest b.whole
-        ∙ given unclosed (t.Symbol s.Dot ∷ []) b.front (b.behind ++ rest) b.first
+        ∙ given unclosed (Token.Symbol Symbol.Dot ∷ []) b.front (b.behind ++ rest) b.first
         ∙ word_passes n unclosed b.behind rest fit.1 b.second
 
 number_low : (room : ℕ) (z : ℤ) → StaysLow room (Number z ∷ [])
-number_low room (pos n) = one_low room (Number (pos n)) (λ unclosed tokens rest low f e. if_passes (nat_le n (2 ^ 63 - 1)) unclosed (t.Number n ∷ []) tokens rest e refl)
-number_low room (negsuc n) = one_low room (Number (negsuc n)) (λ unclosed tokens rest low f e. if_passes (nat_le (suc n) (2 ^ 63)) unclosed (t.Symbol s.Minus ∷ t.Number (suc n) ∷ []) tokens rest e refl)
+number_low room (pos n) = one_low room (Number (pos n)) (λ unclosed tokens rest low f e. if_passes (nat_le n (2 ^ 63 - 1)) unclosed (Token.Number n ∷ []) tokens rest e refl)
+number_low room (negsuc n) = one_low room (Number (negsuc n)) (λ unclosed tokens rest low f e. if_passes (nat_le (suc n) (2 ^ 63)) unclosed (Token.Symbol Symbol.Minus ∷ Token.Number (suc n) ∷ []) tokens rest e refl)
 
 text_low : (room : ℕ) (x : List ℕ) → StaysLow room (Text x ∷ [])
-text_low room x = one_low room (Text x) (λ unclosed tokens rest low f e. given unclosed (t.Text x ∷ []) tokens rest e)
+text_low room x = one_low room (Text x) (λ unclosed tokens rest low f e. given unclosed (Token.Text x ∷ []) tokens rest e)
 
 -- a mark that is no parenthesis
 abbrev is_flat : Mark → Bool
-is_flat m.Open = false
-is_flat m.Close = false
+is_flat Mark.Open = false
+is_flat Mark.Close = false
 is_flat _ = true
 
 mark_low : (room : ℕ) (x : Mark) → is_flat x ≡ true → StaysLow room (Marked x ∷ [])
-mark_low room m.Open h = cc
-mark_low room m.Close h = cc
-mark_low room m.Comma h = one_low room (Marked m.Comma) (λ unclosed tokens rest low f e. given unclosed (t.Symbol s.Comma ∷ []) tokens rest e)
-mark_low room m.Star h = one_low room (Marked m.Star) (λ unclosed tokens rest low f e. given unclosed (t.Symbol s.Star ∷ []) tokens rest e)
-mark_low room m.Plus h = one_low room (Marked m.Plus) (λ unclosed tokens rest low f e. given unclosed (t.Symbol s.Plus ∷ []) tokens rest e)
-mark_low room m.Minus h = one_low room (Marked m.Minus) (λ unclosed tokens rest low f e. given unclosed (t.Symbol s.Minus ∷ []) tokens rest e)
-mark_low room m.Equal h = one_low room (Marked m.Equal) (λ unclosed tokens rest low f e. given unclosed (t.Symbol s.Equal ∷ []) tokens rest e)
-mark_low room m.NotEqual h = one_low room (Marked m.NotEqual) (λ unclosed tokens rest low f e. given unclosed (t.Symbol s.NotEqual ∷ []) tokens rest e)
-mark_low room m.Less h = one_low room (Marked m.Less) (λ unclosed tokens rest low f e. given unclosed (t.Symbol s.Less ∷ []) tokens rest e)
-mark_low room m.LessOrEqual h = one_low room (Marked m.LessOrEqual) (λ unclosed tokens rest low f e. given unclosed (t.Symbol s.LessOrEqual ∷ []) tokens rest e)
-mark_low room m.Greater h = one_low room (Marked m.Greater) (λ unclosed tokens rest low f e. given unclosed (t.Symbol s.Greater ∷ []) tokens rest e)
-mark_low room m.GreaterOrEqual h = one_low room (Marked m.GreaterOrEqual) (λ unclosed tokens rest low f e. given unclosed (t.Symbol s.GreaterOrEqual ∷ []) tokens rest e)
+mark_low room Mark.Open h = cc
+mark_low room Mark.Close h = cc
+mark_low room Mark.Comma h = one_low room (Marked Mark.Comma) (λ unclosed tokens rest low f e. given unclosed (Token.Symbol Symbol.Comma ∷ []) tokens rest e)
+mark_low room Mark.Star h = one_low room (Marked Mark.Star) (λ unclosed tokens rest low f e. given unclosed (Token.Symbol Symbol.Star ∷ []) tokens rest e)
+mark_low room Mark.Plus h = one_low room (Marked Mark.Plus) (λ unclosed tokens rest low f e. given unclosed (Token.Symbol Symbol.Plus ∷ []) tokens rest e)
+mark_low room Mark.Minus h = one_low room (Marked Mark.Minus) (λ unclosed tokens rest low f e. given unclosed (Token.Symbol Symbol.Minus ∷ []) tokens rest e)
+mark_low room Mark.Equal h = one_low room (Marked Mark.Equal) (λ unclosed tokens rest low f e. given unclosed (Token.Symbol Symbol.Equal ∷ []) tokens rest e)
+mark_low room Mark.NotEqual h = one_low room (Marked Mark.NotEqual) (λ unclosed tokens rest low f e. given unclosed (Token.Symbol Symbol.NotEqual ∷ []) tokens rest e)
+mark_low room Mark.Less h = one_low room (Marked Mark.Less) (λ unclosed tokens rest low f e. given unclosed (Token.Symbol Symbol.Less ∷ []) tokens rest e)
+mark_low room Mark.LessOrEqual h = one_low room (Marked Mark.LessOrEqual) (λ unclosed tokens rest low f e. given unclosed (Token.Symbol Symbol.LessOrEqual ∷ []) tokens rest e)
+mark_low room Mark.Greater h = one_low room (Marked Mark.Greater) (λ unclosed tokens rest low f e. given unclosed (Token.Symbol Symbol.Greater ∷ []) tokens rest e)
+mark_low room Mark.GreaterOrEqual h = one_low room (Marked Mark.GreaterOrEqual) (λ unclosed tokens rest low f e. given unclosed (Token.Symbol Symbol.GreaterOrEqual ∷ []) tokens rest e)
 
 -- COUNT(*)
 count_low : (room : ℕ) → 1 ≤ room → StaysLow room (Count ∷ [])
 count_low room le = one_low room Count (λ unclosed tokens rest low f e.
-    given unclosed (t.Word (codes "count") ∷ t.Symbol s.LParen ∷ t.Symbol s.Star ∷ t.Symbol s.RParen ∷ []) tokens rest e
-    ∙ skipped (nat_le 256 unclosed) l.Parentheses (limit_from (unclosed + 1 - 1) rest) (room_left unclosed (omega (arith, le, low)))
+    given unclosed (Token.Word (codes "count") ∷ Token.Symbol Symbol.LParen ∷ Token.Symbol Symbol.Star ∷ Token.Symbol Symbol.RParen ∷ []) tokens rest e
+    ∙ skipped (nat_le 256 unclosed) Limit.Parentheses (limit_from (unclosed + 1 - 1) rest) (room_left unclosed (omega (arith, le, low)))
     ∙ closed_again unclosed rest)
 
 -- behind a word
@@ -237,27 +190,27 @@ behind_mark room x ps e h = both_low room (Marked x ∷ []) ps (mark_low room x 
 -- ---- expressions
 
 literal_low : (room : ℕ) (x : Value) → StaysLow room (expr_form.literal x ∷ [])
-literal_low room v.Null = word_low room (codes "NULL")
-literal_low room (v.Int z) = number_low room z
-literal_low room (v.Text x) = text_low room x
-literal_low room (v.Bool true) = word_low room (codes "TRUE")
-literal_low room (v.Bool false) = word_low room (codes "FALSE")
+literal_low room Value.Null = word_low room (codes "NULL")
+literal_low room (Value.Int z) = number_low room z
+literal_low room (Value.Text x) = text_low room x
+literal_low room (Value.Bool true) = word_low room (codes "TRUE")
+literal_low room (Value.Bool false) = word_low room (codes "FALSE")
 
 named_low : (room : ℕ) (q : Option (List ℕ)) (n : List ℕ) → StaysLow room (expr_form.named q n ∷ [])
 named_low room None n = word_low room n
 named_low room (Some q) n = qualified_low room q n
 
 comparison_flat : (x : Comparison) → is_flat (expr_form.comparison x) ≡ true
-comparison_flat c.Equal = refl
-comparison_flat c.NotEqual = refl
-comparison_flat c.Less = refl
-comparison_flat c.LessOrEqual = refl
-comparison_flat c.Greater = refl
-comparison_flat c.GreaterOrEqual = refl
+comparison_flat Comparison.Equal = refl
+comparison_flat Comparison.NotEqual = refl
+comparison_flat Comparison.Less = refl
+comparison_flat Comparison.LessOrEqual = refl
+comparison_flat Comparison.Greater = refl
+comparison_flat Comparison.GreaterOrEqual = refl
 
 sign_flat : (x : Sign) → is_flat (expr_form.sign x) ≡ true
-sign_flat part.Plus = refl
-sign_flat part.Minus = refl
+sign_flat Sign.Plus = refl
+sign_flat Sign.Minus = refl
 
 bare_low : (b : Bool) (inner room : ℕ) (ps : List Piece) → inner + 1 ≤ room → StaysLow inner ps → StaysLow room (expr_form.bare_if b ps)
 bare_low true inner room ps le h = roomier inner room ps (omega (arith, le)) h
@@ -271,9 +224,9 @@ from_low : (room : ℕ) (table : List ℕ) (x : Option (List ℕ)) → StaysLow 
 from_low room table x = behind_word room (codes "FROM") (Word table ∷ expr_form.alias x) (behind_word room table (expr_form.alias x) (alias_low room x))
 
 selected_low : (room : ℕ) (x : Selects) (items : List Piece) → 1 ≤ room → StaysLow room items → StaysLow room (expr_form.selected x items)
-selected_low room selects.All items le h = mark_low room m.Star refl
-selected_low room selects.Count items le h = count_low room le
-selected_low room selects.Items items le h = h
+selected_low room Selects.All items le h = mark_low room Mark.Star refl
+selected_low room Selects.Count items le h = count_low room le
+selected_low room Selects.Items items le h = h
 
 -- where an expression stays low, so do it as an operand, the list between parentheses, and the subquery
 abbrev operand : Term → List Piece
@@ -353,7 +306,7 @@ mutual
   more_low : (ts : Terms) (room : ℕ) → 2 * heights ts + 1 ≤ room → StaysLow room (expr_form.more ts)
   more_low End room le = none_low room
   more_low (More x ts) room le =
-      behind_mark room m.Comma (expr_form.expr x ++ expr_form.more ts) refl (both_low room (expr_form.expr x) (expr_form.more ts) (expr_low x room (omega (arith, le))) (more_low ts room (omega (arith, le))))
+      behind_mark room Mark.Comma (expr_form.expr x ++ expr_form.more ts) refl (both_low room (expr_form.expr x) (expr_form.more ts) (expr_low x room (omega (arith, le))) (more_low ts room (omega (arith, le))))
 
   query_low : (q : Query) (room : ℕ) → 2 * query_height q ≤ room → StaysLow room (expr_form.query q)
   query_low (Select from key chosen items condition) room le =
@@ -375,7 +328,7 @@ condition_low (Some x) room le = behind_word room (codes "WHERE") (expr_form.exp
 
 also_low : {A : Type 0} (room : ℕ) (item : A → List Piece) → ((x : A) → StaysLow room (item x)) → (xs : List A) → StaysLow room (form.also item xs)
 also_low room item h [] = none_low room
-also_low room item h (x ∷ xs) = behind_mark room m.Comma (item x ++ form.also item xs) refl (both_low room (item x) (form.also item xs) (h x) (also_low room item h xs))
+also_low room item h (x ∷ xs) = behind_mark room Mark.Comma (item x ++ form.also item xs) refl (both_low room (item x) (form.also item xs) (h x) (also_low room item h xs))
 
 listed_low : {A : Type 0} (room : ℕ) (item : A → List Piece) → ((x : A) → StaysLow room (item x)) → (xs : List A) → StaysLow room (form.listed item xs)
 listed_low room item h [] = none_low room
@@ -385,8 +338,8 @@ names_low : (room : ℕ) (xs : List (List ℕ)) → StaysLow room (form.listed f
 names_low room xs = listed_low room form.name (λ x. word_low room x) xs
 
 grantee_low : (room : ℕ) (x : Grantee) → StaysLow room (form.grantee x)
-grantee_low room to.Public = word_low room (codes "PUBLIC")
-grantee_low room (to.Role x) = word_low room x
+grantee_low room Grantee.Public = word_low room (codes "PUBLIC")
+grantee_low room (Grantee.Role x) = word_low room x
 
 grantees_low : (room : ℕ) (xs : List Grantee) → StaysLow room (form.listed form.grantee xs)
 grantees_low room xs = listed_low room form.grantee (λ x. grantee_low room x) xs
@@ -403,28 +356,28 @@ tuple_low xs room le = choices_low (terms_of xs) room (list_low (terms_of xs)) l
 more_tuples : (xs : List (List Term)) (room : ℕ) → 2 * highest xs + 2 ≤ room → StaysLow room (form.also form.tuple xs)
 more_tuples [] room le = none_low room
 more_tuples (x ∷ xs) room le =
-    behind_mark room m.Comma (form.tuple x ++ form.also form.tuple xs) refl (both_low room (form.tuple x) (form.also form.tuple xs) (tuple_low x room (omega (arith, le))) (more_tuples xs room (omega (arith, le))))
+    behind_mark room Mark.Comma (form.tuple x ++ form.also form.tuple xs) refl (both_low room (form.tuple x) (form.also form.tuple xs) (tuple_low x room (omega (arith, le))) (more_tuples xs room (omega (arith, le))))
 
 tuples_low : (xs : List (List Term)) (room : ℕ) → 2 * highest xs + 2 ≤ room → StaysLow room (form.listed form.tuple xs)
 tuples_low [] room le = none_low room
 tuples_low (x ∷ xs) room le = both_low room (form.tuple x) (form.also form.tuple xs) (tuple_low x room (omega (arith, le))) (more_tuples xs room (omega (arith, le)))
 
 setting_low : (x : Setting) (room : ℕ) → 2 * height x.value + 1 ≤ room → StaysLow room (form.setting x)
-setting_low x room le = behind_word room x.column (Marked m.Equal ∷ expr_form.expr x.value) (behind_mark room m.Equal (expr_form.expr x.value) refl (expr_low x.value room le))
+setting_low x room le = behind_word room x.column (Marked Mark.Equal ∷ expr_form.expr x.value) (behind_mark room Mark.Equal (expr_form.expr x.value) refl (expr_low x.value room le))
 
 more_settings : (xs : List Setting) (room : ℕ) → 2 * heights (terms_of (set_values xs)) + 1 ≤ room → StaysLow room (form.also form.setting xs)
 more_settings [] room le = none_low room
 more_settings (x ∷ xs) room le =
-    behind_mark room m.Comma (form.setting x ++ form.also form.setting xs) refl (both_low room (form.setting x) (form.also form.setting xs) (setting_low x room (omega (arith, le))) (more_settings xs room (omega (arith, le))))
+    behind_mark room Mark.Comma (form.setting x ++ form.also form.setting xs) refl (both_low room (form.setting x) (form.also form.setting xs) (setting_low x room (omega (arith, le))) (more_settings xs room (omega (arith, le))))
 
 settings_low : (xs : List Setting) (room : ℕ) → 2 * heights (terms_of (set_values xs)) + 1 ≤ room → StaysLow room (form.listed form.setting xs)
 settings_low [] room le = none_low room
 settings_low (x ∷ xs) room le = both_low room (form.setting x) (form.also form.setting xs) (setting_low x room (omega (arith, le))) (more_settings xs room (omega (arith, le)))
 
 items_low : (x : Selected) (room : ℕ) → 2 * chosen_height x + 1 ≤ room → StaysLow room (form.selected_items x)
-items_low chosen.All room le = mark_low room m.Star refl
-items_low (chosen.Items xs) room le = list_low (terms_of xs) room le
-items_low chosen.Count room le = count_low room (omega (arith, le))
+items_low Selected.All room le = mark_low room Mark.Star refl
+items_low (Selected.Items xs) room le = list_low (terms_of xs) room le
+items_low Selected.Count room le = count_low room (omega (arith, le))
 
 returning_low : (x : Option Selected) (room : ℕ) → 2 * returned_height x + 1 ≤ room → StaysLow room (form.returning x)
 returning_low None room le = none_low room
@@ -451,10 +404,10 @@ attributes_low room x =
 -- ---- tables
 
 type_low : (room : ℕ) (x : ColType) → StaysLow room (form.column_type x ∷ [])
-type_low room k.Integer = word_low room (codes "INTEGER")
-type_low room k.BigInt = word_low room (codes "BIGINT")
-type_low room k.Text = word_low room (codes "TEXT")
-type_low room k.Boolean = word_low room (codes "BOOLEAN")
+type_low room ColType.Integer = word_low room (codes "INTEGER")
+type_low room ColType.BigInt = word_low room (codes "BIGINT")
+type_low room ColType.Text = word_low room (codes "TEXT")
+type_low room ColType.Boolean = word_low room (codes "BOOLEAN")
 
 not_null_low : (room : ℕ) (x : Bool) → StaysLow room (form.not_null x)
 not_null_low room true = behind_word room (codes "NOT") (Word (codes "NULL") ∷ []) (word_low room (codes "NULL"))
@@ -473,15 +426,15 @@ column_low room x =
 key_low : (room : ℕ) (x : Option (List (List ℕ))) → 1 ≤ room → StaysLow room (form.key x)
 key_low room None le = none_low room
 key_low room (Some names) le =
-    behind_mark room m.Comma (Word (codes "PRIMARY") ∷ Word (codes "KEY") ∷ expr_form.enclosed (form.listed form.name names)) refl
+    behind_mark room Mark.Comma (Word (codes "PRIMARY") ∷ Word (codes "KEY") ∷ expr_form.enclosed (form.listed form.name names)) refl
     (behind_word room (codes "PRIMARY") (Word (codes "KEY") ∷ expr_form.enclosed (form.listed form.name names))
     (behind_word room (codes "KEY") (expr_form.enclosed (form.listed form.name names)) (enclosed_names room names le)))
 
 change_low : (room : ℕ) (x : RowSecurity) → StaysLow room (form.row_change x)
-change_low room change.Enable = word_low room (codes "ENABLE")
-change_low room change.Disable = word_low room (codes "DISABLE")
-change_low room change.Force = word_low room (codes "FORCE")
-change_low room change.NoForce = behind_word room (codes "NO") (Word (codes "FORCE") ∷ []) (word_low room (codes "FORCE"))
+change_low room RowSecurity.Enable = word_low room (codes "ENABLE")
+change_low room RowSecurity.Disable = word_low room (codes "DISABLE")
+change_low room RowSecurity.Force = word_low room (codes "FORCE")
+change_low room RowSecurity.NoForce = behind_word room (codes "NO") (Word (codes "FORCE") ∷ []) (word_low room (codes "FORCE"))
 
 -- ---- policies
 
@@ -493,11 +446,11 @@ permissive_low room true = word_low room (codes "PERMISSIVE")
 permissive_low room false = word_low room (codes "RESTRICTIVE")
 
 kind_low : (room : ℕ) (x : PolicyKind) → StaysLow room (form.policy_kind x ∷ [])
-kind_low room kind.All = word_low room (codes "ALL")
-kind_low room (kind.Only command.Select) = word_low room (codes "SELECT")
-kind_low room (kind.Only command.Insert) = word_low room (codes "INSERT")
-kind_low room (kind.Only command.Update) = word_low room (codes "UPDATE")
-kind_low room (kind.Only command.Delete) = word_low room (codes "DELETE")
+kind_low room PolicyKind.All = word_low room (codes "ALL")
+kind_low room (PolicyKind.Only Kind.Select) = word_low room (codes "SELECT")
+kind_low room (PolicyKind.Only Kind.Insert) = word_low room (codes "INSERT")
+kind_low room (PolicyKind.Only Kind.Update) = word_low room (codes "UPDATE")
+kind_low room (PolicyKind.Only Kind.Delete) = word_low room (codes "DELETE")
 
 -- an expression between parentheses
 enclosed_expr : (x : Term) (room : ℕ) → 2 * height x + 2 ≤ room → StaysLow room (expr_form.enclosed (expr_form.expr x))
@@ -531,7 +484,7 @@ description_low x room le =
 -- ---- GRANT and REVOKE
 
 comma_low : (room : ℕ) (x : Bool) → StaysLow room (form.comma_if x)
-comma_low room true = mark_low room m.Comma refl
+comma_low room true = mark_low room Mark.Comma refl
 comma_low room false = none_low room
 
 privilege_low : (room : ℕ) (there before : Bool) (w : List ℕ) → StaysLow room (form.privilege_if there before w)
@@ -586,9 +539,9 @@ options_low room x =
     if_low room (is_some x.admin || (is_some x.inherit || is_some x.set)) (Word (codes "WITH") ∷ form.some_options x) [] (behind_word room (codes "WITH") (form.some_options x) (some_options_low room x)) (none_low room)
 
 option_word_low : (room : ℕ) (x : MembershipOption) → StaysLow room (form.option_word x ∷ [])
-option_word_low room o.Admin = word_low room (codes "ADMIN")
-option_word_low room o.Inherit = word_low room (codes "INHERIT")
-option_word_low room o.Set = word_low room (codes "SET")
+option_word_low room MembershipOption.Admin = word_low room (codes "ADMIN")
+option_word_low room MembershipOption.Inherit = word_low room (codes "INHERIT")
+option_word_low room MembershipOption.Set = word_low room (codes "SET")
 
 option_for_low : (room : ℕ) (x : Option MembershipOption) → StaysLow room (form.option_for x)
 option_for_low room None = none_low room
@@ -596,9 +549,9 @@ option_for_low room (Some x) =
     both_low room (form.option_word x ∷ []) (Word (codes "OPTION") ∷ Word (codes "FOR") ∷ []) (option_word_low room x) (behind_word room (codes "OPTION") (Word (codes "FOR") ∷ []) (word_low room (codes "FOR")))
 
 set_role_low : (room : ℕ) (x : SetRole) → StaysLow room (form.set_role x)
-set_role_low room (sr.To x) = behind_word room (codes "SET") (Word (codes "ROLE") ∷ Word x ∷ []) (behind_word room (codes "ROLE") (Word x ∷ []) (word_low room x))
-set_role_low room sr.None = behind_word room (codes "SET") (Word (codes "ROLE") ∷ Word (codes "NONE") ∷ []) (behind_word room (codes "ROLE") (Word (codes "NONE") ∷ []) (word_low room (codes "NONE")))
-set_role_low room sr.Reset = behind_word room (codes "RESET") (Word (codes "ROLE") ∷ []) (word_low room (codes "ROLE"))
+set_role_low room (SetRole.To x) = behind_word room (codes "SET") (Word (codes "ROLE") ∷ Word x ∷ []) (behind_word room (codes "ROLE") (Word x ∷ []) (word_low room x))
+set_role_low room SetRole.None = behind_word room (codes "SET") (Word (codes "ROLE") ∷ Word (codes "NONE") ∷ []) (behind_word room (codes "ROLE") (Word (codes "NONE") ∷ []) (word_low room (codes "NONE")))
+set_role_low room SetRole.Reset = behind_word room (codes "RESET") (Word (codes "ROLE") ∷ []) (word_low room (codes "ROLE"))
 
 -- ---- statements
 
@@ -612,67 +565,67 @@ behind_three room w u x ps h = behind_word room w (Word u ∷ Word x ∷ ps) (be
 
 -- The words of a statement whose expressions are no higher than 64, and whose items are leaves.
 pub statement_low : (x : Statement) (room : ℕ) → 2 * height_of x + 3 ≤ room → items_height x ≤ 1 → StaysLow room (form.statement x)
-statement_low (st.Select x) room le flat =
+statement_low (Statement.Select x) room le flat =
     behind_word room (codes "SELECT") (form.selected_items x.items ++ (expr_form.from_ x.table x.alias ++ expr_form.where_ (maybe_term x.condition)))
     (both_low room (form.selected_items x.items) (expr_form.from_ x.table x.alias ++ expr_form.where_ (maybe_term x.condition)) (items_low x.items room (omega (arith, le, flat)))
     (both_low room (expr_form.from_ x.table x.alias) (expr_form.where_ (maybe_term x.condition)) (from_low room x.table x.alias) (condition_low x.condition room (omega (arith, le)))))
-statement_low (st.Insert x) room le flat =
+statement_low (Statement.Insert x) room le flat =
     behind_three room (codes "INSERT") (codes "INTO") x.table (form.columns_if_any x.columns ++ Word (codes "VALUES") ∷ (form.listed form.tuple x.tuples ++ form.returning x.returning))
     (both_low room (form.columns_if_any x.columns) (Word (codes "VALUES") ∷ (form.listed form.tuple x.tuples ++ form.returning x.returning)) (columns_low room x.columns (omega (arith, le)))
     (behind_word room (codes "VALUES") (form.listed form.tuple x.tuples ++ form.returning x.returning)
     (both_low room (form.listed form.tuple x.tuples) (form.returning x.returning) (tuples_low x.tuples room (omega (arith, le))) (returning_low x.returning room (omega (arith, le, flat))))))
-statement_low (st.Update x) room le flat =
+statement_low (Statement.Update x) room le flat =
     behind_three room (codes "UPDATE") x.table (codes "SET") (form.listed form.setting x.settings ++ (expr_form.where_ (maybe_term x.condition) ++ form.returning x.returning))
     (both_low room (form.listed form.setting x.settings) (expr_form.where_ (maybe_term x.condition) ++ form.returning x.returning) (settings_low x.settings room (omega (arith, le)))
     (both_low room (expr_form.where_ (maybe_term x.condition)) (form.returning x.returning) (condition_low x.condition room (omega (arith, le))) (returning_low x.returning room (omega (arith, le, flat)))))
-statement_low (st.Delete x) room le flat =
+statement_low (Statement.Delete x) room le flat =
     behind_three room (codes "DELETE") (codes "FROM") x.table (expr_form.where_ (maybe_term x.condition) ++ form.returning x.returning)
     (both_low room (expr_form.where_ (maybe_term x.condition)) (form.returning x.returning) (condition_low x.condition room (omega (arith, le))) (returning_low x.returning room (omega (arith, le, flat))))
-statement_low (st.CreateRole x) room le flat = behind_three room (codes "CREATE") (codes "ROLE") x.name (form.attributes x.attributes) (attributes_low room x.attributes)
-statement_low (st.AlterRole x) room le flat = behind_three room (codes "ALTER") (codes "ROLE") x.name (form.attributes x.attributes) (attributes_low room x.attributes)
-statement_low (st.CreateTable x) room le flat =
+statement_low (Statement.CreateRole x) room le flat = behind_three room (codes "CREATE") (codes "ROLE") x.name (form.attributes x.attributes) (attributes_low room x.attributes)
+statement_low (Statement.AlterRole x) room le flat = behind_three room (codes "ALTER") (codes "ROLE") x.name (form.attributes x.attributes) (attributes_low room x.attributes)
+statement_low (Statement.CreateTable x) room le flat =
     behind_three room (codes "CREATE") (codes "TABLE") x.name (expr_form.enclosed (form.listed form.column x.columns ++ form.key x.key))
     (enclosed_low 1 room (form.listed form.column x.columns ++ form.key x.key) (omega (arith, le))
     (both_low 1 (form.listed form.column x.columns) (form.key x.key) (listed_low 1 form.column (λ y. column_low 1 y) x.columns) (key_low 1 x.key (omega arith))))
-statement_low (st.AlterTable x) room le flat =
+statement_low (Statement.AlterTable x) room le flat =
     behind_three room (codes "ALTER") (codes "TABLE") x.table (form.row_change x.change ++ Word (codes "ROW") ∷ Word (codes "LEVEL") ∷ Word (codes "SECURITY") ∷ [])
     (both_low room (form.row_change x.change) (Word (codes "ROW") ∷ Word (codes "LEVEL") ∷ Word (codes "SECURITY") ∷ []) (change_low room x.change)
     (behind_three room (codes "ROW") (codes "LEVEL") (codes "SECURITY") [] (none_low room)))
-statement_low (st.CreatePolicy x) room le flat =
+statement_low (Statement.CreatePolicy x) room le flat =
     behind_two room (codes "CREATE") (codes "POLICY") (form.policy_on x.policy.name x.table ++ form.description x.policy)
     (both_low room (form.policy_on x.policy.name x.table) (form.description x.policy) (policy_on_low room x.policy.name x.table) (description_low x.policy room (omega (arith, le))))
-statement_low (st.AlterPolicy x) room le flat =
+statement_low (Statement.AlterPolicy x) room le flat =
     behind_two room (codes "ALTER") (codes "POLICY") (form.policy_on x.name x.table ++ (form.to_if_any x.to ++ (form.using_ x.using ++ form.check_ x.check)))
     (both_low room (form.policy_on x.name x.table) (form.to_if_any x.to ++ (form.using_ x.using ++ form.check_ x.check)) (policy_on_low room x.name x.table)
     (both_low room (form.to_if_any x.to) (form.using_ x.using ++ form.check_ x.check) (to_low room x.to) (conditions_low x.using x.check room (omega (arith, le)))))
-statement_low (st.DropPolicy x) room le flat = behind_two room (codes "DROP") (codes "POLICY") (form.policy_on x.name x.table) (policy_on_low room x.name x.table)
-statement_low (st.Grant x) room le flat =
+statement_low (Statement.DropPolicy x) room le flat = behind_two room (codes "DROP") (codes "POLICY") (form.policy_on x.name x.table) (policy_on_low room x.name x.table)
+statement_low (Statement.Grant x) room le flat =
     behind_word room (codes "GRANT") (form.privileges x.privileges ++ Word (codes "ON") ∷ Word x.table ∷ Word (codes "TO") ∷ (form.listed form.grantee x.to ++ form.with_option x.with_option))
     (both_low room (form.privileges x.privileges) (Word (codes "ON") ∷ Word x.table ∷ Word (codes "TO") ∷ (form.listed form.grantee x.to ++ form.with_option x.with_option)) (privileges_low room x.privileges)
     (behind_three room (codes "ON") x.table (codes "TO") (form.listed form.grantee x.to ++ form.with_option x.with_option)
     (both_low room (form.listed form.grantee x.to) (form.with_option x.with_option) (grantees_low room x.to) (with_option_low room x.with_option))))
-statement_low (st.Revoke x) room le flat =
+statement_low (Statement.Revoke x) room le flat =
     behind_word room (codes "REVOKE") (form.option_only x.option_only ++ (form.privileges x.privileges ++ Word (codes "ON") ∷ Word x.table ∷ Word (codes "FROM") ∷ (form.listed form.grantee x.from ++ form.cascade x.cascade)))
     (both_low room (form.option_only x.option_only) (form.privileges x.privileges ++ Word (codes "ON") ∷ Word x.table ∷ Word (codes "FROM") ∷ (form.listed form.grantee x.from ++ form.cascade x.cascade)) (option_only_low room x.option_only)
     (both_low room (form.privileges x.privileges) (Word (codes "ON") ∷ Word x.table ∷ Word (codes "FROM") ∷ (form.listed form.grantee x.from ++ form.cascade x.cascade)) (privileges_low room x.privileges)
     (behind_three room (codes "ON") x.table (codes "FROM") (form.listed form.grantee x.from ++ form.cascade x.cascade)
     (both_low room (form.listed form.grantee x.from) (form.cascade x.cascade) (grantees_low room x.from) (cascade_low room x.cascade)))))
-statement_low (st.GrantRoles x) room le flat =
+statement_low (Statement.GrantRoles x) room le flat =
     behind_word room (codes "GRANT") (form.listed form.name x.roles ++ Word (codes "TO") ∷ (form.listed form.name x.to ++ form.options x.options))
     (both_low room (form.listed form.name x.roles) (Word (codes "TO") ∷ (form.listed form.name x.to ++ form.options x.options)) (names_low room x.roles)
     (behind_word room (codes "TO") (form.listed form.name x.to ++ form.options x.options) (both_low room (form.listed form.name x.to) (form.options x.options) (names_low room x.to) (options_low room x.options))))
-statement_low (st.RevokeRoles x) room le flat =
+statement_low (Statement.RevokeRoles x) room le flat =
     behind_word room (codes "REVOKE") (form.option_for x.option ++ (form.listed form.name x.roles ++ Word (codes "FROM") ∷ form.listed form.name x.from))
     (both_low room (form.option_for x.option) (form.listed form.name x.roles ++ Word (codes "FROM") ∷ form.listed form.name x.from) (option_for_low room x.option)
     (both_low room (form.listed form.name x.roles) (Word (codes "FROM") ∷ form.listed form.name x.from) (names_low room x.roles) (behind_word room (codes "FROM") (form.listed form.name x.from) (names_low room x.from))))
-statement_low (st.SetRole x) room le flat = set_role_low room x
+statement_low (Statement.SetRole x) room le flat = set_role_low room x
 
 -- a statement within the limits is no higher than 64
 height_within : (x : Statement) → limited x ≡ Ok x → height_of x ≤ 64
 height_within x h = go (nat_lt 64 (columns_of x)) (nat_lt 64 (height_of x)) refl (nat_lt 8 (subqueries_of x)) h
   where
     go : (a b : Bool) → nat_lt 64 (height_of x) ≡ b → (c : Bool)
-        → if◌then◌else◌ {A = Result Statement Refusal} a (Err (refusal.Limit l.Columns)) (if◌then◌else◌ {A = Result Statement Refusal} b (Err (refusal.Limit l.Nesting)) (if◌then◌else◌ {A = Result Statement Refusal} c (Err (refusal.Limit l.Subqueries)) (Ok x))) ≡ Ok x → height_of x ≤ 64
+        → if◌then◌else◌ {A = Result Statement Refusal} a (Err (Refusal.Limit Limit.Columns)) (if◌then◌else◌ {A = Result Statement Refusal} b (Err (Refusal.Limit Limit.Nesting)) (if◌then◌else◌ {A = Result Statement Refusal} c (Err (Refusal.Limit Limit.Subqueries)) (Ok x))) ≡ Ok x → height_of x ≤ 64
     go true b e c k = cc
     go false true e c k = cc
     go false false e c k = ltb-false 64 (height_of x) e

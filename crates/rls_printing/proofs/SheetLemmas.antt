@@ -10,10 +10,7 @@ use Rattle.std.proofs.lemmas.Str.{chars-append, IsUtf8-string_bytes, chars_past_
 use lib.Signed.{mag}
 use native.Mathlib.Numerals.{unary_clauses}
 use Rattle.rls_expr.specs.Terms.{Term, More, terms_of}
-use Rattle.rls_printing.specs.declared.page.Mark.{Mark}
-use Rattle.rls_printing.specs.declared.page.Mark.TheVariants as m
-use Rattle.rls_printing.specs.Pieces.{Piece, piece_text, mark_text, doubled}
-use Rattle.rls_printing.specs.Sheets.{Sheet, put, put_all, with_piece, space, is_fit, opens, closes, is_number, text_of}
+use Rattle.rls_printing.specs.{declared.page.Mark.Mark, Pieces.Piece, Pieces.piece_text, Pieces.mark_text, Pieces.doubled, Sheets.Sheet, Sheets.put, Sheets.put_all, Sheets.with_piece, Sheets.space, Sheets.is_fit, Sheets.opens, Sheets.closes, Sheets.is_number, Sheets.text_of}
 
 pub put_both : (sheet : Option Sheet) (ps qs : List Piece) → put_all sheet (ps ++ qs) ≡ put_all (put_all sheet ps) qs
 put_both sheet [] qs = refl
@@ -89,18 +86,18 @@ chars_count = refl
 
 pub chars_mark : (m : Mark) → chars (mark_text m) ≡ mark_text m
 unfolding chars
-chars_mark m.Open = refl
-chars_mark m.Close = refl
-chars_mark m.Comma = refl
-chars_mark m.Star = refl
-chars_mark m.Plus = refl
-chars_mark m.Minus = refl
-chars_mark m.Equal = refl
-chars_mark m.NotEqual = refl
-chars_mark m.Less = refl
-chars_mark m.LessOrEqual = refl
-chars_mark m.Greater = refl
-chars_mark m.GreaterOrEqual = refl
+chars_mark Mark.Open = refl
+chars_mark Mark.Close = refl
+chars_mark Mark.Comma = refl
+chars_mark Mark.Star = refl
+chars_mark Mark.Plus = refl
+chars_mark Mark.Minus = refl
+chars_mark Mark.Equal = refl
+chars_mark Mark.NotEqual = refl
+chars_mark Mark.Less = refl
+chars_mark Mark.LessOrEqual = refl
+chars_mark Mark.Greater = refl
+chars_mark Mark.GreaterOrEqual = refl
 
 -- words, and those behind them
 pub put_on : {E : Type 0} (s : Option Sheet) (a b : List Piece) (t u : Option Sheet) (r : Result (Unit {0}) E) → put_all s a ≡ t → OnOk r (put_all t b ≡ u) → OnOk r (put_all s (a ++ b) ≡ u)

@@ -1,27 +1,15 @@
 -- What is spelled is written: names, literals, items, and what a SELECT selects. The combinators are those of the grammar.
-use Rattle.std.proofs.Common.{◌≡◌, ℕ, zero, suc, Bool, true, false, ◌&&◌, not, length, nat_le, if◌then◌else◌, List, [], ◌∷◌, Option, Some, None, refl, sym, inl, inr, subst, arith}
+use Rattle.std.proofs.{Common.◌≡◌, Common.ℕ, Common.zero, Common.suc, Common.Bool, Common.true, Common.false, Common.◌&&◌, Common.not, Common.length, Common.nat_le, Common.if◌then◌else◌, Common.List, Common.[], Common.◌∷◌, Common.Option, Common.Some, Common.None, Common.refl, Common.sym, Common.inl, Common.inr, Common.subst, Common.arith, lemmas.Bool.and_parts, lemmas.Bool.lt-ltb, lemmas.Slice.Eq.bytes_eq-Decides, lemmas.Str.Ascii.lowercase-lowercase}
 use Rattle.std.specs.Prelude.{pos, negsuc, codes, nat_lt, ◌-ℤ◌, ◌-◌, ◌^◌}
-use Rattle.std.specs.Char.{to_ascii_lowercase}
-use Rattle.std.specs.List.{list_all}
-use Rattle.std.specs.Str.{bytes_eq}
-use Rattle.std.proofs.lemmas.Bool.{and_parts, lt-ltb}
-use Rattle.std.proofs.lemmas.Slice.Eq.{bytes_eq-Decides}
-use Rattle.std.proofs.lemmas.Str.Ascii.{lowercase-lowercase}
+use Rattle.std.specs.{Char.to_ascii_lowercase, List.list_all, Str.bytes_eq}
 use native.Mathlib.Numerals.{unary_clauses}
-use Rattle.rls_value.specs.Names.{reserved, is_name_text, is_letter, is_letter_or_digit, folded}
-use Rattle.rls_value.specs.declared.value.Value.TheVariants as v
+use Rattle.rls_value.specs.{Names.reserved, Names.is_name_text, Names.is_letter, Names.is_letter_or_digit, Names.folded, declared.value.Value.Value}
 use Rattle.rls_expr.specs.Terms.{Term}
 use Rattle.rls_expr.specs.Terms as e
-use Rattle.rls_text.specs.declared.token.Symbol.TheVariants as s
-use Rattle.rls_text.specs.declared.token.Token.{Token}
-use Rattle.rls_text.specs.declared.token.Token.TheVariants as t
+use Rattle.rls_text.specs.{declared.token.Symbol.Symbol, declared.token.Token.Token, Heads.Head, Writes.joined, Writes.or_else, Writes.written_if, Writes.alone_if, Writes.some_is, Writes.many_writes, Writes.perhaps_writes, Lang.only, Lang.Both, Lang.Mapped, Lang.Either, Lang.Perhaps, Lang.Many, Lang.Checked, Lang.One, Lang.After, Lang.Before, Rule.Rule, Rule.in_parentheses, Rule.word, Rule.sign, Rule.after, Rule.with_comma, Rule.listed, Rule.as_list, Rule.given_if, Rule.Telling}
 use Rattle.rls_text.specs.Grammar as g
-use Rattle.rls_text.specs.Heads.{Head}
-use Rattle.rls_text.specs.Lang.{only, Both, Mapped, Either, Perhaps, Many, Checked, One, After, Before}
-use Rattle.rls_text.specs.Rule.{Rule, in_parentheses, word, sign, after, with_comma, listed, as_list, given_if, Telling}
 use Rattle.rls_text.specs.Values as values
 use Rattle.rls_text.specs.WaysBack as back
-use Rattle.rls_text.specs.Writes.{joined, or_else, written_if, alone_if, some_is, many_writes, perhaps_writes}
 use Rattle.rls_printing.proofs.Writing.{There, there_both}
 
 -- ---- the combinators
@@ -107,7 +95,7 @@ module _ {A : Type 0} (test : A → Bool) (p : List Token → A → Type 0) (w :
 
 pub comma_full : {A : Type 0} {hp mp : List Head} (P : Rule A hp mp false) → Full P.spells P.prints.writes → Full (with_comma P).spells (with_comma P).prints.writes
 unfolding with_comma
-comma_full P h = after_full (only (t.Symbol s.Comma)) (λ z. Some (t.Symbol s.Comma ∷ [])) P.spells P.prints.writes tt tt h
+comma_full P h = after_full (only (Token.Symbol Symbol.Comma)) (λ z. Some (Token.Symbol Symbol.Comma ∷ [])) P.spells P.prints.writes tt tt h
 
 pub listed_full : {A : Type 0} {hp : List Head} (P : Rule A hp [] false) → Full P.spells P.prints.writes → Full (listed P).spells (listed P).prints.writes
 listed_full P h =
@@ -152,22 +140,22 @@ if_some true x y h = (refl, some_is x y h)
 if_some false x y h = cc
 
 -- the name of a word is its own name
-named_again : (w a : List ℕ) → values.named w ≡ Some a → values.name_of (t.Word a) ≡ Some a
+named_again : (w a : List ℕ) → values.named w ≡ Some a → values.name_of (Token.Word a) ≡ Some a
 named_again w a h =
     let x = if_some ((is_name_text w && not (reserved (folded w))) && nat_le (length w) 63) (folded w) a h in
     let y = and_parts (is_name_text w && not (reserved (folded w))) (nat_le (length w) 63) x.0 in
     let z = and_parts (is_name_text w) (not (reserved (folded w))) y.0 in
-    subst (λ n. values.name_of (t.Word n) ≡ Some n) x.1
+    subst (λ n. values.name_of (Token.Word n) ≡ Some n) x.1
     (rw (folded_again w, not_true (reserved (folded w)) z.1, name_text_folded w z.0, folded_length w, y.1) refl)
 
 name_found : (token : Token) (a : List ℕ) → values.name_of token ≡ Some a → There (alone_if (back.as_name a))
-name_found (t.Word w) a h = go (reserved w) h
+name_found (Token.Word w) a h = go (reserved w) h
   where
     go : (b : Bool) → if◌then◌else◌ {A = Option (List ℕ)} b None (values.named w) ≡ Some a → There (alone_if (back.as_name a))
     go true k = cc
     go false k =
         let same : bytes_eq a a ≡ true = (bytes_eq-Decides a a).1 refl in
-        subst (λ o. There (alone_if (back.word_if o a))) (sym (named_again w a k)) (subst (λ b. There (alone_if (given_if b (t.Word a)))) (sym same) tt)
+        subst (λ o. There (alone_if (back.word_if o a))) (sym (named_again w a k)) (subst (λ b. There (alone_if (given_if b (Token.Word a)))) (sym same) tt)
 name_found _ a h = cc
 
 pub name_full : Full g.name.spells g.name.prints.writes
@@ -191,20 +179,20 @@ stands_full T x p w same there = made_full (λ _. x) (λ y. given_if (T.are_same
 
 constant_full : Full g.constant.spells g.constant.prints.writes
 unfolding g.constant
-constant_full = either_full _ _ _ _ (stands_full back.constants (v.Bool true) _ _ refl tt) (either_full _ _ _ _ (stands_full back.constants (v.Bool false) _ _ refl tt) (stands_full back.constants v.Null _ _ refl tt))
+constant_full = either_full _ _ _ _ (stands_full back.constants (Value.Bool true) _ _ refl tt) (either_full _ _ _ _ (stands_full back.constants (Value.Bool false) _ _ refl tt) (stands_full back.constants Value.Null _ _ refl tt))
 
 text_full : Full g.text.spells g.text.prints.writes
 unfolding g.text
-text_full = mapped_full v.Text back.as_text _ _ (λ x. refl) (one_full values.text_of back.as_quoted (λ token x h. tt))
+text_full = mapped_full Value.Text back.as_text _ _ (λ x. refl) (one_full values.text_of back.as_quoted (λ token x h. tt))
 
 below_zero : (n : ℕ) → negsuc n ≡ pos 0 -ℤ pos (suc n)
 below_zero n = let t : nat_lt 0 (suc n) ≡ true = lt-ltb 0 (suc n) (omega arith) in simp (unary_clauses, t) refl
 
 number_there : (a : Option (Unit {0}) × ℕ) → values.in_range a ≡ true → There (g.number.prints.writes (values.signed a))
 unfolding g.number g.digits
-number_there (None, n) h = there_if (nat_le n (2 ^ 63 - 1)) (Some (t.Number n ∷ [])) h tt
+number_there (None, n) h = there_if (nat_le n (2 ^ 63 - 1)) (Some (Token.Number n ∷ [])) h tt
 number_there (Some x, zero) h = tt
-number_there (Some x, suc n) h = subst (λ z. There (g.number.prints.writes (v.Int z))) (below_zero n) (there_if (nat_le (suc n) (2 ^ 63)) (Some (t.Symbol s.Minus ∷ t.Number (suc n) ∷ [])) h tt)
+number_there (Some x, suc n) h = subst (λ z. There (g.number.prints.writes (Value.Int z))) (below_zero n) (there_if (nat_le (suc n) (2 ^ 63)) (Some (Token.Symbol Symbol.Minus ∷ Token.Number (suc n) ∷ [])) h tt)
 
 number_full : Full g.number.spells g.number.prints.writes
 unfolding g.number
@@ -216,7 +204,7 @@ literal_full = either_full _ _ _ _ constant_full (either_full _ _ _ _ text_full 
 
 dot_full : Full g.behind_dot.spells g.behind_dot.prints.writes
 unfolding g.behind_dot
-dot_full = perhaps_full (after (sign s.Dot) g.name refl) (after_full (only (t.Symbol s.Dot)) (λ z. Some (t.Symbol s.Dot ∷ [])) g.name.spells g.name.prints.writes tt tt name_full)
+dot_full = perhaps_full (after (sign Symbol.Dot) g.name refl) (after_full (only (Token.Symbol Symbol.Dot)) (λ z. Some (Token.Symbol Symbol.Dot ∷ [])) g.name.spells g.name.prints.writes tt tt name_full)
 
 column_full : Full g.column.spells g.column.prints.writes
 unfolding g.column
@@ -230,7 +218,7 @@ pub item_full : Full g.item.spells g.item.prints.writes
 unfolding g.item
 item_full = either_full _ _ _ _ (mapped_full e.Literal back.as_literal g.literal.spells g.literal.prints.writes (λ x. refl) literal_full)
     (either_full _ _ _ _ (mapped_full e.Column back.as_column g.column.spells g.column.prints.writes (λ x. refl) column_full)
-    (mapped_full (λ _. e.CurrentUser) back.as_user _ _ (λ x. refl) (only_full (t.Word (codes "current_user")))))
+    (mapped_full (λ _. e.CurrentUser) back.as_user _ _ (λ x. refl) (only_full (Token.Word (codes "current_user")))))
 
 -- ---- what a SELECT selects, and its table
 
@@ -263,19 +251,19 @@ returned_full = record {
 
 pub returning_full : Full g.returning.spells g.returning.prints.writes
 unfolding g.returning
-returning_full = perhaps_full (after (word (codes "returning")) g.returned refl) (after_full (only (t.Word (codes "returning"))) (λ z. Some (t.Word (codes "returning") ∷ [])) g.returned.spells g.returned.prints.writes tt tt returned_full)
+returning_full = perhaps_full (after (word (codes "returning")) g.returned refl) (after_full (only (Token.Word (codes "returning"))) (λ z. Some (Token.Word (codes "returning") ∷ [])) g.returned.spells g.returned.prints.writes tt tt returned_full)
 
 pub columns_full : Full g.columns_if_any.spells g.columns_if_any.prints.writes
 unfolding g.columns_if_any
 columns_full = perhaps_full (in_parentheses g.distinct_names refl)
-    (after_full (only (t.Symbol s.LParen)) (λ z. Some (t.Symbol s.LParen ∷ [])) (Before g.distinct_names.spells (only (t.Symbol s.RParen))) (λ x. joined (g.distinct_names.prints.writes x) (Some (t.Symbol s.RParen ∷ []))) tt tt
-    (before_full g.distinct_names.spells g.distinct_names.prints.writes (only (t.Symbol s.RParen)) (λ z. Some (t.Symbol s.RParen ∷ [])) tt tt distinct_full))
+    (after_full (only (Token.Symbol Symbol.LParen)) (λ z. Some (Token.Symbol Symbol.LParen ∷ [])) (Before g.distinct_names.spells (only (Token.Symbol Symbol.RParen))) (λ x. joined (g.distinct_names.prints.writes x) (Some (Token.Symbol Symbol.RParen ∷ []))) tt tt
+    (before_full g.distinct_names.spells g.distinct_names.prints.writes (only (Token.Symbol Symbol.RParen)) (λ z. Some (Token.Symbol Symbol.RParen ∷ [])) tt tt distinct_full))
 
 alias_full : Full g.alias.spells g.alias.prints.writes
 unfolding g.alias
-alias_full = after_full (Perhaps (only (t.Word (codes "as")))) (λ z. Some (t.Word (codes "as") ∷ [])) g.name.spells g.name.prints.writes (Some tt) tt name_full
+alias_full = after_full (Perhaps (only (Token.Word (codes "as")))) (λ z. Some (Token.Word (codes "as") ∷ [])) g.name.spells g.name.prints.writes (Some tt) tt name_full
 
 pub from_full : Full g.from_table.spells g.from_table.prints.writes
 unfolding g.from_table g.alias_if_any
-from_full = after_full (only (t.Word (codes "from"))) (λ z. Some (t.Word (codes "from") ∷ [])) (Both g.name.spells (Perhaps g.alias.spells)) (λ r. joined (g.name.prints.writes r.0) (perhaps_writes g.alias.spells g.alias.prints r.1)) tt tt
+from_full = after_full (only (Token.Word (codes "from"))) (λ z. Some (Token.Word (codes "from") ∷ [])) (Both g.name.spells (Perhaps g.alias.spells)) (λ r. joined (g.name.prints.writes r.0) (perhaps_writes g.alias.spells g.alias.prints r.1)) tt tt
     (both_full g.name.spells g.name.prints.writes (Perhaps g.alias.spells) (perhaps_writes g.alias.spells g.alias.prints) name_full (perhaps_full g.alias alias_full))

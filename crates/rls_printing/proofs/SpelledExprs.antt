@@ -1,28 +1,16 @@
 -- What is spelled as an expression is written, within as many parentheses as it is high.
 use Rattle.std.proofs.Common.{◌≡◌, ℕ, zero, suc, ◌+◌, ◌≤◌, false, List, [], ◌∷◌, Option, Some, None, refl, ap, sym, inl, inr, subst, arith, le_refl}
 use Rattle.std.specs.Prelude.{codes}
-use Rattle.rls_expr.specs.Terms.{Term, Literal, Column, CurrentUser, Compare, And, Or, Not, IsNull, IsNotNull, Among, NotAmong, Exists, Within, NotWithin, Scalar, Select, terms_of}
-use Rattle.rls_expr.specs.declared.expr.Comparison.{Comparison}
-use Rattle.rls_expr.specs.declared.expr.Comparison.TheVariants as c
-use Rattle.rls_expr.specs.declared.expr.Sign.{Sign}
-use Rattle.rls_expr.specs.declared.expr.Sign.TheVariants as part
+use Rattle.rls_expr.specs.{Terms.Term, Terms.Literal, Terms.Column, Terms.CurrentUser, Terms.Compare, Terms.And, Terms.Or, Terms.Not, Terms.IsNull, Terms.IsNotNull, Terms.Among, Terms.NotAmong, Terms.Exists, Terms.Within, Terms.NotWithin, Terms.Scalar, Terms.Select, Terms.terms_of, declared.expr.Comparison.Comparison, declared.expr.Sign.Sign}
 use Rattle.rls_statement.specs.declared.statement.Selected.TheVariants as chosen
 use Rattle.rls_text.specs.declared.token.Symbol.TheVariants as s
-use Rattle.rls_text.specs.declared.token.Token.{Token}
+use Rattle.rls_text.specs.{declared.token.Token.Token, Cut.Cut, Cutting.tree_of, FirstSets.expr_heads, FirstSets.expr_more, Values.SelectParts, Values.Choices, Heights.height, Heights.heights, Heights.query_height, Heights.height_if, Writes.joined, Writes.or_else, Writes.written_if, Writes.many_writes, Writes.perhaps_writes, Lang.only, Lang.Both, Lang.Mapped, Lang.Either, Lang.Perhaps, Lang.Many, Lang.After, Lang.Before, Lang.put_in}
 use Rattle.rls_text.specs.declared.token.Token.TheVariants as t
-use Rattle.rls_text.specs.Cut.{Cut}
 use Rattle.rls_text.specs.Cut as cut
-use Rattle.rls_text.specs.Cutting.{tree_of}
-use Rattle.rls_text.specs.FirstSets.{expr_heads, expr_more}
 use Rattle.rls_text.specs.Grammar as g
-use Rattle.rls_text.specs.Heights.{height, heights, query_height, height_if}
-use Rattle.rls_text.specs.Lang.{only, Both, Mapped, Either, Perhaps, Many, After, Before, put_in}
-use Rattle.rls_text.specs.Values.{SelectParts, Choices}
 use Rattle.rls_text.specs.Values as values
 use Rattle.rls_text.specs.WaysBack as back
-use Rattle.rls_text.specs.Writes.{joined, or_else, written_if, many_writes, perhaps_writes}
-use Rattle.rls_printing.proofs.Writing.{There, there_both, parens, w, P, alone, own, prim_is, expr_is}
-use Rattle.rls_printing.proofs.Spelled.{there_first, there_last, there_of, item_full, items_full, from_full}
+use Rattle.rls_printing.proofs.{Writing.There, Writing.there_both, Writing.parens, Writing.w, Writing.P, Writing.alone, Writing.own, Writing.prim_is, Writing.expr_is, Spelled.there_first, Spelled.there_last, Spelled.there_of, Spelled.item_full, Spelled.items_full, Spelled.from_full}
 
 -- ---- what is known of the values that are spelled
 
@@ -181,8 +169,8 @@ scalar_reached r h =
 
 sign_there : (x : Sign) → There (g.part_sign.prints.writes x)
 unfolding g.part_sign
-sign_there part.Plus = tt
-sign_there part.Minus = tt
+sign_there Sign.Plus = tt
+sign_there Sign.Minus = tt
 
 signed_again : (parts : List (Sign × Term)) → back.signed_parts (values.signs_of parts) (terms_of (values.parts_of parts)) ≡ Some parts
 signed_again [] = refl
@@ -259,12 +247,12 @@ among_reached a (Some (Some z, inr r)) x y = own_reached (NotWithin a (values.qu
 
 comparison_there : (how : Comparison) → There (g.comparison.prints.writes how)
 unfolding g.comparison
-comparison_there c.Equal = tt
-comparison_there c.NotEqual = tt
-comparison_there c.Less = tt
-comparison_there c.LessOrEqual = tt
-comparison_there c.Greater = tt
-comparison_there c.GreaterOrEqual = tt
+comparison_there Comparison.Equal = tt
+comparison_there Comparison.NotEqual = tt
+comparison_there Comparison.Less = tt
+comparison_there Comparison.LessOrEqual = tt
+comparison_there Comparison.Greater = tt
+comparison_there Comparison.GreaterOrEqual = tt
 
 compared_reached : (a : Term) (r : Option (Comparison × Term)) → Reached a → If (λ z. Unit {0} × Reached z.1) r → Reached (values.compared a r)
 compared_reached a None x y = x

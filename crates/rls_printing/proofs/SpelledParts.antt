@@ -1,44 +1,16 @@
 -- What is spelled is written: roles, tables, privileges and memberships, which have no expressions.
 use Rattle.std.proofs.Common.{◌≡◌, ℕ, Bool, true, false, ◌||◌, if◌then◌else◌, List, [], ◌∷◌, ◌++◌, map, Option, Some, None, refl, ap, sym, ◌∙◌, inl, inr, subst}
 use Rattle.std.specs.Prelude.{codes, is_some}
-use Rattle.rls_value.specs.declared.value.ColType.{ColType}
-use Rattle.rls_value.specs.declared.value.ColType.TheVariants as k
-use Rattle.rls_value.specs.declared.verb.Kind.TheVariants as command
-use Rattle.rls_value.specs.declared.verb.PolicyKind.{PolicyKind}
-use Rattle.rls_value.specs.declared.verb.PolicyKind.TheVariants as kind
-use Rattle.rls_value.specs.declared.verb.Privilege.{Privilege}
-use Rattle.rls_value.specs.declared.verb.Privilege.TheVariants as p
+use Rattle.rls_value.specs.{declared.value.ColType.ColType, declared.verb.PolicyKind.PolicyKind, declared.verb.Privilege.Privilege, declared.verb.Kind.Kind}
 use Rattle.rls_expr.specs.declared.policy.Grantee.{Grantee}
-use Rattle.rls_expr.specs.declared.policy.Grantee.TheVariants as to
-use Rattle.rls_statement.specs.declared.statement.Attributes.{Attributes}
-use Rattle.rls_statement.specs.declared.statement.MarkedColumn.{MarkedColumn}
-use Rattle.rls_statement.specs.declared.statement.MembershipOption.{MembershipOption}
-use Rattle.rls_statement.specs.declared.statement.MembershipOption.TheVariants as m
-use Rattle.rls_statement.specs.declared.statement.MembershipOptions.{MembershipOptions}
-use Rattle.rls_statement.specs.declared.statement.Privileges.{Privileges}
-use Rattle.rls_statement.specs.declared.statement.RowSecurity.{RowSecurity}
-use Rattle.rls_statement.specs.declared.statement.RowSecurity.TheVariants as change
-use Rattle.rls_statement.specs.declared.statement.SetRole.TheVariants as sr
-use Rattle.rls_statement.specs.declared.statement.Statement.TheVariants as st
-use Rattle.rls_text.specs.declared.attributes.RoleAttribute.{RoleAttribute}
-use Rattle.rls_text.specs.declared.attributes.RoleAttribute.TheVariants as a
-use Rattle.rls_text.specs.declared.tables.TableElement.{TableElement}
-use Rattle.rls_text.specs.declared.tables.TableElement.TheVariants as element
-use Rattle.rls_text.specs.declared.tables.TableElements.{TableElements}
-use Rattle.rls_text.specs.declared.token.Symbol.TheVariants as s
-use Rattle.rls_text.specs.declared.token.Token.{Token}
+use Rattle.rls_statement.specs.{declared.statement.Attributes.Attributes, declared.statement.MarkedColumn.MarkedColumn, declared.statement.MembershipOption.MembershipOption, declared.statement.MembershipOptions.MembershipOptions, declared.statement.Privileges.Privileges, declared.statement.RowSecurity.RowSecurity, declared.statement.SetRole.SetRole, declared.statement.Statement.Statement}
+use Rattle.rls_text.specs.{declared.attributes.RoleAttribute.RoleAttribute, declared.tables.TableElement.TableElement, declared.tables.TableElements.TableElements, declared.token.Token.Token, Elements.key_if, Lang.only, Lang.Perhaps, Lang.After, Lang.Before, Lang.put_in, Rule.with_comma, Rule.in_parentheses, Writes.joined, Writes.many_writes, declared.token.Symbol.Symbol}
 use Rattle.rls_text.specs.declared.token.Token.TheVariants as t
-use Rattle.rls_text.specs.Elements.{key_if}
 use Rattle.rls_text.specs.Grammar as g
-use Rattle.rls_text.specs.Lang.{only, Perhaps, After, Before, put_in}
-use Rattle.rls_text.specs.Rule.{with_comma, in_parentheses}
 use Rattle.rls_text.specs.Values as values
 use Rattle.rls_text.specs.WaysBack as back
 use Rattle.rls_text.specs.TablesBack as tables
-use Rattle.rls_text.specs.Writes.{joined, many_writes}
-use Rattle.rls_printing.proofs.Writing.{There, there_both, parens}
-use Rattle.rls_printing.proofs.Spelled.{Full, there_first, there_if, each_full, only_full, both_full, after_full, before_full, mapped_full, either_full, perhaps_full, listed_full, name_full, names_full, distinct_full}
-use Rattle.rls_printing.proofs.SpelledExprs.{there_parens, Says, If, Each, after_says, many_say, perhaps_says}
+use Rattle.rls_printing.proofs.{Writing.There, Writing.there_both, Writing.parens, SpelledExprs.there_parens, SpelledExprs.Says, SpelledExprs.If, SpelledExprs.Each, SpelledExprs.after_says, SpelledExprs.many_say, SpelledExprs.perhaps_says, Spelled.Full, Spelled.there_first, Spelled.there_if, Spelled.each_full, Spelled.only_full, Spelled.both_full, Spelled.after_full, Spelled.before_full, Spelled.mapped_full, Spelled.either_full, Spelled.perhaps_full, Spelled.listed_full, Spelled.name_full, Spelled.names_full, Spelled.distinct_full}
 
 -- ---- words and parentheses
 
@@ -47,10 +19,10 @@ pub word_full : {B : Type 0} (x : List ℕ) (q : List Token → B → Type 0) (u
 word_full x q u h = after_full (only (t.Word x)) (λ z. Some (t.Word x ∷ [])) q u tt tt h
 
 -- "(" .. ")"
-pub enclosed_full : {A : Type 0} (p : List Token → A → Type 0) (w : A → Option (List Token)) → Full p w → Full (After (only (t.Symbol s.LParen)) (Before p (only (t.Symbol s.RParen)))) (λ x. parens (w x))
+pub enclosed_full : {A : Type 0} (p : List Token → A → Type 0) (w : A → Option (List Token)) → Full p w → Full (After (only (t.Symbol Symbol.LParen)) (Before p (only (t.Symbol Symbol.RParen)))) (λ x. parens (w x))
 enclosed_full p w h =
-    after_full (only (t.Symbol s.LParen)) (λ z. Some (t.Symbol s.LParen ∷ [])) (Before p (only (t.Symbol s.RParen))) (λ x. joined (w x) (Some (t.Symbol s.RParen ∷ []))) tt tt
-    (before_full p w (only (t.Symbol s.RParen)) (λ z. Some (t.Symbol s.RParen ∷ [])) tt tt h)
+    after_full (only (t.Symbol Symbol.LParen)) (λ z. Some (t.Symbol Symbol.LParen ∷ [])) (Before p (only (t.Symbol Symbol.RParen))) (λ x. joined (w x) (Some (t.Symbol Symbol.RParen ∷ []))) tt tt
+    (before_full p w (only (t.Symbol Symbol.RParen)) (λ z. Some (t.Symbol Symbol.RParen ∷ [])) tt tt h)
 
 or_true : (b c : Bool) → c ≡ true → (b || c) ≡ true
 or_true true c h = refl
@@ -60,12 +32,12 @@ or_true false c h = h
 
 attribute_there : (x : RoleAttribute) → There (g.attribute.prints.writes x)
 unfolding g.attribute
-attribute_there (a.Superuser true) = tt
-attribute_there (a.Superuser false) = tt
-attribute_there (a.Login true) = tt
-attribute_there (a.Login false) = tt
-attribute_there (a.BypassRls true) = tt
-attribute_there (a.BypassRls false) = tt
+attribute_there (RoleAttribute.Superuser true) = tt
+attribute_there (RoleAttribute.Superuser false) = tt
+attribute_there (RoleAttribute.Login true) = tt
+attribute_there (RoleAttribute.Login false) = tt
+attribute_there (RoleAttribute.BypassRls true) = tt
+attribute_there (RoleAttribute.BypassRls false) = tt
 
 more_attributes : (xs : List RoleAttribute) → There (many_writes g.attribute.spells g.attribute.prints xs)
 more_attributes [] = tt
@@ -79,7 +51,7 @@ list_there x xs h =
 
 -- the attributes in their order
 abbrev ordered : Option Bool → Option Bool → Option Bool → List RoleAttribute
-ordered s l b = back.one_if a.Superuser s ++ back.one_if a.Login l ++ back.one_if a.BypassRls b
+ordered s l b = back.one_if RoleAttribute.Superuser s ++ back.one_if RoleAttribute.Login l ++ back.one_if RoleAttribute.BypassRls b
 
 ordered_once : (s l b : Option Bool) → values.each_once (ordered s l b) ≡ true
 ordered_once None None None = refl
@@ -113,9 +85,9 @@ abbrev has_some : Attributes → Bool
 has_some b = is_some b.superuser || (is_some b.login || is_some b.bypass_rls)
 
 has_that : (b : Attributes) (x : RoleAttribute) → has_some (values.with_attribute b x) ≡ true
-has_that b (a.Superuser flag) = refl
-has_that b (a.Login flag) = or_true (is_some b.superuser) true refl
-has_that b (a.BypassRls flag) = or_true (is_some b.superuser) (is_some b.login || true) (or_true (is_some b.login) true refl)
+has_that b (RoleAttribute.Superuser flag) = refl
+has_that b (RoleAttribute.Login flag) = or_true (is_some b.superuser) true refl
+has_that b (RoleAttribute.BypassRls flag) = or_true (is_some b.superuser) (is_some b.login || true) (or_true (is_some b.login) true refl)
 
 still_has : (b : Attributes) (xs : List RoleAttribute) → has_some b ≡ true → has_some (put_in values.with_attribute b xs) ≡ true
 still_has b [] h = h
@@ -124,10 +96,10 @@ still_has b (x ∷ xs) h = still_has (values.with_attribute b x) xs (has_that b 
 written_there : (s l b : Option Bool) → has_some record { superuser = s; login = l; bypass_rls = b } ≡ true → There (g.written_attributes.prints.writes record { superuser = s; login = l; bypass_rls = b })
 unfolding g.written_attributes
 written_there None None None h = cc
-written_there None None (Some z) h = there_both (Some []) (g.attributes.prints.writes (a.BypassRls z ∷ [])) tt (list_there (a.BypassRls z) [] refl)
-written_there None (Some y) None h = there_both (Some []) (g.attributes.prints.writes (a.Login y ∷ [])) tt (list_there (a.Login y) [] refl)
-written_there None (Some y) (Some z) h = there_both (Some []) (g.attributes.prints.writes (a.Login y ∷ a.BypassRls z ∷ [])) tt (list_there (a.Login y) (a.BypassRls z ∷ []) refl)
-written_there (Some x) l b h = there_both (Some []) (g.attributes.prints.writes (ordered (Some x) l b)) tt (list_there (a.Superuser x) (back.one_if a.Login l ++ back.one_if a.BypassRls b) (ordered_once (Some x) l b))
+written_there None None (Some z) h = there_both (Some []) (g.attributes.prints.writes (RoleAttribute.BypassRls z ∷ [])) tt (list_there (RoleAttribute.BypassRls z) [] refl)
+written_there None (Some y) None h = there_both (Some []) (g.attributes.prints.writes (RoleAttribute.Login y ∷ [])) tt (list_there (RoleAttribute.Login y) [] refl)
+written_there None (Some y) (Some z) h = there_both (Some []) (g.attributes.prints.writes (RoleAttribute.Login y ∷ RoleAttribute.BypassRls z ∷ [])) tt (list_there (RoleAttribute.Login y) (RoleAttribute.BypassRls z ∷ []) refl)
+written_there (Some x) l b h = there_both (Some []) (g.attributes.prints.writes (ordered (Some x) l b)) tt (list_there (RoleAttribute.Superuser x) (back.one_if RoleAttribute.Login l ++ back.one_if RoleAttribute.BypassRls b) (ordered_once (Some x) l b))
 
 written_full : Full g.written_attributes.spells g.written_attributes.prints.writes
 unfolding g.written_attributes g.attributes g.first_and_more
@@ -148,10 +120,10 @@ altered_role_full = mapped_full values.altering_of back.as_altering _ _ (λ r. r
 
 type_there : (x : ColType) → There (g.column_type.prints.writes x)
 unfolding g.column_type
-type_there k.Integer = tt
-type_there k.BigInt = tt
-type_there k.Text = tt
-type_there k.Boolean = tt
+type_there ColType.Integer = tt
+type_there ColType.BigInt = tt
+type_there ColType.Text = tt
+type_there ColType.Boolean = tt
 
 marks_there : (not_null is_key : Bool) → There (g.column_marks.prints.writes (tables.as_marks not_null is_key))
 unfolding g.column_marks g.all_marks g.column_mark
@@ -178,32 +150,32 @@ key_full = word_full (codes "primary") _ _ (word_full (codes "key") _ _ (enclose
 
 comma_there : (x : TableElement) → There (g.table_element.prints.writes x) → There ((with_comma g.table_element).prints.writes x)
 unfolding with_comma
-comma_there x h = there_both (Some (t.Symbol s.Comma ∷ [])) (g.table_element.prints.writes x) tt h
+comma_there x h = there_both (Some (t.Symbol Symbol.Comma ∷ [])) (g.table_element.prints.writes x) tt h
 
-column_there : (x : MarkedColumn) → There (g.column_definition.prints.writes x) → There (g.table_element.prints.writes (element.Column x))
+column_there : (x : MarkedColumn) → There (g.column_definition.prints.writes x) → There (g.table_element.prints.writes (TableElement.Column x))
 unfolding g.table_element
 column_there x h = there_first (g.column_definition.prints.writes x) None h
 
-key_there : (x : List (List ℕ)) → There (g.primary_key.prints.writes x) → There (g.table_element.prints.writes (element.Key x))
+key_there : (x : List (List ℕ)) → There (g.primary_key.prints.writes x) → There (g.table_element.prints.writes (TableElement.Key x))
 unfolding g.table_element
 key_there x h = h
 
 elements_there : (xs : List MarkedColumn) (key : Option (List (List ℕ))) → Each (λ x. There (g.column_definition.prints.writes x)) xs → If (λ x. There (g.primary_key.prints.writes x)) key
-    → There (many_writes (with_comma g.table_element).spells (with_comma g.table_element).prints (map element.Column xs ++ key_if key))
+    → There (many_writes (with_comma g.table_element).spells (with_comma g.table_element).prints (map TableElement.Column xs ++ key_if key))
 elements_there [] None h k = tt
-elements_there [] (Some names) h k = there_both ((with_comma g.table_element).prints.writes (element.Key names)) (Some []) (comma_there (element.Key names) (key_there names k)) tt
+elements_there [] (Some names) h k = there_both ((with_comma g.table_element).prints.writes (TableElement.Key names)) (Some []) (comma_there (TableElement.Key names) (key_there names k)) tt
 elements_there (x ∷ xs) key h k =
-    there_both ((with_comma g.table_element).prints.writes (element.Column x)) (many_writes (with_comma g.table_element).spells (with_comma g.table_element).prints (map element.Column xs ++ key_if key))
-    (comma_there (element.Column x) (column_there x h.0)) (elements_there xs key h.1 k)
+    there_both ((with_comma g.table_element).prints.writes (TableElement.Column x)) (many_writes (with_comma g.table_element).spells (with_comma g.table_element).prints (map TableElement.Column xs ++ key_if key))
+    (comma_there (TableElement.Column x) (column_there x h.0)) (elements_there xs key h.1 k)
 
 -- columns that are spelled
 columns_say : Says (with_comma g.column_definition).spells (λ x. There (g.column_definition.prints.writes x))
 unfolding with_comma
-columns_say = after_says (only (t.Symbol s.Comma)) g.column_definition.spells (λ x. There (g.column_definition.prints.writes x)) (record { says = λ ts x h. definition_full.written ts x h })
+columns_say = after_says (only (t.Symbol Symbol.Comma)) g.column_definition.spells (λ x. There (g.column_definition.prints.writes x)) (record { says = λ ts x h. definition_full.written ts x h })
 
 keys_say : Says (with_comma g.primary_key).spells (λ x. There (g.primary_key.prints.writes x))
 unfolding with_comma
-keys_say = after_says (only (t.Symbol s.Comma)) g.primary_key.spells (λ x. There (g.primary_key.prints.writes x)) (record { says = λ ts x h. key_full.written ts x h })
+keys_say = after_says (only (t.Symbol Symbol.Comma)) g.primary_key.spells (λ x. There (g.primary_key.prints.writes x)) (record { says = λ ts x h. key_full.written ts x h })
 
 -- the columns, the key behind them
 listed_there : (ts : List Token) (x : TableElements) → g.ColumnsAndKey ts x → There (g.columns_and_key.prints.writes (values.elements_with (x.columns, x.key)))
@@ -217,7 +189,7 @@ listed_there ts x h =
     let columns : x.columns ≡ first ∷ more = ap (λ e. e.columns) h.value ∙ z.value in
     let same : x.key ≡ key = ap (λ e. e.key) h.value in
     rw (columns, same)
-    (there_both (g.column_definition.prints.writes first) (many_writes (with_comma g.table_element).spells (with_comma g.table_element).prints (map element.Column more ++ key_if key))
+    (there_both (g.column_definition.prints.writes first) (many_writes (with_comma g.table_element).spells (with_comma g.table_element).prints (map TableElement.Column more ++ key_if key))
     (definition_full.written z.spelled.front first z.spelled.one)
     (elements_there more key ((many_say _ _ columns_say).says z.spelled.rest more z.spelled.other) ((perhaps_says _ _ keys_say).says y.rest key y.other)))
 
@@ -249,10 +221,10 @@ table_full = record {
 
 change_there : (x : RowSecurity) → There (g.row_change.prints.writes x)
 unfolding g.row_change
-change_there change.Enable = tt
-change_there change.Disable = tt
-change_there change.Force = tt
-change_there change.NoForce = tt
+change_there RowSecurity.Enable = tt
+change_there RowSecurity.Disable = tt
+change_there RowSecurity.Force = tt
+change_there RowSecurity.NoForce = tt
 
 pub altered_table_full : Full g.altered_table.spells g.altered_table.prints.writes
 unfolding g.altered_table
@@ -272,11 +244,11 @@ permissive_there false = tt
 
 commands_there : (x : PolicyKind) → There (g.for_commands.prints.writes x)
 unfolding g.for_commands g.policy_kind g.command_type
-commands_there kind.All = tt
-commands_there (kind.Only command.Select) = tt
-commands_there (kind.Only command.Insert) = tt
-commands_there (kind.Only command.Update) = tt
-commands_there (kind.Only command.Delete) = tt
+commands_there PolicyKind.All = tt
+commands_there (PolicyKind.Only Kind.Select) = tt
+commands_there (PolicyKind.Only Kind.Insert) = tt
+commands_there (PolicyKind.Only Kind.Update) = tt
+commands_there (PolicyKind.Only Kind.Delete) = tt
 
 pub options_full : Full g.policy_options.spells g.policy_options.prints.writes
 unfolding g.policy_options
@@ -284,7 +256,7 @@ options_full = both_full g.permissive.spells g.permissive.prints.writes g.for_co
 
 grantee_full : Full g.grantee.spells g.grantee.prints.writes
 unfolding g.grantee
-grantee_full = either_full _ _ _ _ (mapped_full (λ z. to.Public) tables.as_public _ _ (λ x. refl) (only_full (t.Word (codes "public")))) (mapped_full to.Role tables.as_grantee g.name.spells g.name.prints.writes (λ x. refl) name_full)
+grantee_full = either_full _ _ _ _ (mapped_full (λ z. Grantee.Public) tables.as_public _ _ (λ x. refl) (only_full (t.Word (codes "public")))) (mapped_full Grantee.Role tables.as_grantee g.name.spells g.name.prints.writes (λ x. refl) name_full)
 
 grantees_full : Full g.grantees.spells g.grantees.prints.writes
 unfolding g.grantees
@@ -294,7 +266,7 @@ to_full : Full g.to_grantees.spells g.to_grantees.prints.writes
 unfolding g.to_grantees
 to_full = word_full (codes "to") g.grantees.spells g.grantees.prints.writes grantees_full
 
-public_there : There (g.to_grantees.prints.writes (to.Public ∷ []))
+public_there : There (g.to_grantees.prints.writes (Grantee.Public ∷ []))
 unfolding g.to_grantees g.grantees g.grantee
 public_there = tt
 
@@ -322,10 +294,10 @@ has_privilege b = b.select || (b.insert || (b.update || b.delete))
 
 has_it : (b : Privileges) (x : Privilege) → has_privilege (values.with_privilege b x) ≡ true
 unfolding values.with_privilege
-has_it b p.Select = refl
-has_it b p.Insert = or_true b.select true refl
-has_it b p.Update = or_true b.select (b.insert || true) (or_true b.insert true refl)
-has_it b p.Delete = or_true b.select (b.insert || (b.update || true)) (or_true b.insert (b.update || true) (or_true b.update true refl))
+has_it b Privilege.Select = refl
+has_it b Privilege.Insert = or_true b.select true refl
+has_it b Privilege.Update = or_true b.select (b.insert || true) (or_true b.insert true refl)
+has_it b Privilege.Delete = or_true b.select (b.insert || (b.update || true)) (or_true b.insert (b.update || true) (or_true b.update true refl))
 
 still_has_it : (b : Privileges) (xs : List Privilege) → has_privilege b ≡ true → has_privilege (put_in values.with_privilege b xs) ≡ true
 still_has_it b [] h = h
@@ -405,9 +377,9 @@ revoked_privileges_full = mapped_full values.revoke_of back.as_revoke _ _ (λ r.
 
 option_there : (x : MembershipOption) → There (g.option.prints.writes x)
 unfolding g.option
-option_there m.Admin = tt
-option_there m.Inherit = tt
-option_there m.Set = tt
+option_there MembershipOption.Admin = tt
+option_there MembershipOption.Inherit = tt
+option_there MembershipOption.Set = tt
 
 flag_there : (x : Bool) → There (g.flag.prints.writes x)
 unfolding g.flag
@@ -422,8 +394,8 @@ more_settings : (xs : List values.Setting) → There (many_writes (with_comma g.
 unfolding with_comma
 more_settings [] = tt
 more_settings (x ∷ xs) =
-    there_both (joined (Some (t.Symbol s.Comma ∷ [])) (g.setting.prints.writes x)) (many_writes (with_comma g.setting).spells (with_comma g.setting).prints xs)
-    (there_both (Some (t.Symbol s.Comma ∷ [])) (g.setting.prints.writes x) tt (setting_there x)) (more_settings xs)
+    there_both (joined (Some (t.Symbol Symbol.Comma ∷ [])) (g.setting.prints.writes x)) (many_writes (with_comma g.setting).spells (with_comma g.setting).prints xs)
+    (there_both (Some (t.Symbol Symbol.Comma ∷ [])) (g.setting.prints.writes x) tt (setting_there x)) (more_settings xs)
 
 settings_there : (xs : List values.Setting) → values.set_once xs ≡ true → There (g.settings_if_any.prints.writes (back.if_any xs))
 unfolding g.settings_if_any g.settings g.all_settings
@@ -433,7 +405,7 @@ settings_there (x ∷ xs) h =
     (there_if (values.set_once (x ∷ xs)) (joined (g.setting.prints.writes x) (many_writes (with_comma g.setting).spells (with_comma g.setting).prints xs)) h
     (there_both (g.setting.prints.writes x) (many_writes (with_comma g.setting).spells (with_comma g.setting).prints xs) (setting_there x) (more_settings xs)))
 
-settings_once : (x y z : Option Bool) → values.set_once (back.setting_if m.Admin x ++ back.setting_if m.Inherit y ++ back.setting_if m.Set z) ≡ true
+settings_once : (x y z : Option Bool) → values.set_once (back.setting_if MembershipOption.Admin x ++ back.setting_if MembershipOption.Inherit y ++ back.setting_if MembershipOption.Set z) ≡ true
 settings_once None None None = refl
 settings_once None None (Some z) = refl
 settings_once None (Some y) None = refl
@@ -445,7 +417,7 @@ settings_once (Some x) (Some y) (Some z) = refl
 
 membership_there : (b : MembershipOptions) → There (g.options.prints.writes b)
 unfolding g.options
-membership_there b = settings_there (back.setting_if m.Admin b.admin ++ back.setting_if m.Inherit b.inherit ++ back.setting_if m.Set b.set) (settings_once b.admin b.inherit b.set)
+membership_there b = settings_there (back.setting_if MembershipOption.Admin b.admin ++ back.setting_if MembershipOption.Inherit b.inherit ++ back.setting_if MembershipOption.Set b.set) (settings_once b.admin b.inherit b.set)
 
 granted_roles_full : Full g.granted_roles.spells g.granted_roles.prints.writes
 unfolding g.granted_roles
@@ -490,7 +462,7 @@ revoke_full = word_full (codes "revoke") _ _
 
 chosen_full : Full g.chosen_role.spells g.chosen_role.prints.writes
 unfolding g.chosen_role
-chosen_full = either_full _ _ _ _ (mapped_full (λ z. sr.None) back.as_no_role _ _ (λ x. refl) (only_full (t.Word (codes "none")))) (mapped_full sr.To back.as_chosen g.name.spells g.name.prints.writes (λ x. refl) name_full)
+chosen_full = either_full _ _ _ _ (mapped_full (λ z. SetRole.None) back.as_no_role _ _ (λ x. refl) (only_full (t.Word (codes "none")))) (mapped_full SetRole.To back.as_chosen g.name.spells g.name.prints.writes (λ x. refl) name_full)
 
 role_set_full : Full g.role_set.spells g.role_set.prints.writes
 unfolding g.role_set
@@ -498,11 +470,11 @@ role_set_full = word_full (codes "set") _ _ (word_full (codes "role") g.chosen_r
 
 role_reset_full : Full g.role_reset.spells g.role_reset.prints.writes
 unfolding g.role_reset
-role_reset_full = mapped_full (λ z. sr.Reset) back.as_reset _ _ (λ x. refl) (word_full (codes "reset") _ _ (only_full (t.Word (codes "role"))))
+role_reset_full = mapped_full (λ z. SetRole.Reset) back.as_reset _ _ (λ x. refl) (word_full (codes "reset") _ _ (only_full (t.Word (codes "role"))))
 
 set_role_full : Full g.set_role.spells g.set_role.prints.writes
 unfolding g.set_role g.role_change
-set_role_full = mapped_full st.SetRole back.as_set_role _ _ (λ x. refl) (either_full g.role_set.spells g.role_reset.spells g.role_set.prints.writes g.role_reset.prints.writes role_set_full role_reset_full)
+set_role_full = mapped_full Statement.SetRole back.as_set_role _ _ (λ x. refl) (either_full g.role_set.spells g.role_reset.spells g.role_set.prints.writes g.role_reset.prints.writes role_set_full role_reset_full)
 
 -- What has no expression is written.
 pub flat_full : Full g.flat_body.spells g.flat_body.prints.writes

@@ -2,25 +2,14 @@
 use Rattle.std.proofs.Common.{◌≡◌, ℕ, ◌≤◌, true, false, List, [], ◌∷◌, Option, Some, None, refl, sym, inl, inr, subst, arith, le_refl}
 use Rattle.std.specs.Prelude.{codes, max}
 use Rattle.rls_expr.specs.Terms.{Term, terms_of}
-use Rattle.rls_statement.specs.declared.changing.Setting.{Setting}
-use Rattle.rls_statement.specs.declared.statement.Statement.{Statement}
+use Rattle.rls_statement.specs.{declared.changing.Setting.Setting, declared.statement.Statement.Statement}
 use Rattle.rls_text.specs.declared.token.Symbol.TheVariants as s
-use Rattle.rls_text.specs.declared.token.Token.{Token}
+use Rattle.rls_text.specs.{declared.token.Token.Token, Cut.Cut, Cutting.tree_of, Printing.IsWritten, FirstSets.expr_heads, FirstSets.expr_more, Lang.only, Lang.After, Writes.joined, Writes.or_else, Writes.many_writes, Heights.height, Heights.heights, Heights.height_if, Heights.highest, Heights.set_values, Heights.height_of}
 use Rattle.rls_text.specs.declared.token.Token.TheVariants as t
-use Rattle.rls_text.specs.Cut.{Cut}
 use Rattle.rls_text.specs.Cut as cut
-use Rattle.rls_text.specs.Cutting.{tree_of}
-use Rattle.rls_text.specs.FirstSets.{expr_heads, expr_more}
 use Rattle.rls_text.specs.Grammar as g
-use Rattle.rls_text.specs.Heights.{height, heights, height_if, highest, set_values, height_of}
-use Rattle.rls_text.specs.Lang.{only, After}
-use Rattle.rls_text.specs.Printing.{IsWritten}
 use Rattle.rls_text.specs.Values as values
-use Rattle.rls_text.specs.Writes.{joined, or_else, many_writes}
-use Rattle.rls_printing.proofs.Writing.{There, there_both, parens, w}
-use Rattle.rls_printing.proofs.Spelled.{there_first, there_last, there_if, name_full, returning_full, columns_full}
-use Rattle.rls_printing.proofs.SpelledExprs.{Says, If, Each, Reached, PartsReached, both_say, after_says, before_says, either_says, mapped_says, many_say, perhaps_says, enclosed_says, there_parens, parts_there, condition_there, condition_says, select_says, parts_say, expr_says}
-use Rattle.rls_printing.proofs.SpelledParts.{role_full, altered_role_full, table_full, altered_table_full, policy_on_full, options_full, for_full, grantees_if_any_full, flat_full}
+use Rattle.rls_printing.proofs.{Writing.There, Writing.there_both, Writing.parens, Writing.w, Spelled.there_first, Spelled.there_last, Spelled.there_if, Spelled.name_full, Spelled.returning_full, Spelled.columns_full, SpelledExprs.Says, SpelledExprs.If, SpelledExprs.Each, SpelledExprs.Reached, SpelledExprs.PartsReached, SpelledExprs.both_say, SpelledExprs.after_says, SpelledExprs.before_says, SpelledExprs.either_says, SpelledExprs.mapped_says, SpelledExprs.many_say, SpelledExprs.perhaps_says, SpelledExprs.enclosed_says, SpelledExprs.there_parens, SpelledExprs.parts_there, SpelledExprs.condition_there, SpelledExprs.condition_says, SpelledExprs.select_says, SpelledExprs.parts_say, SpelledExprs.expr_says, SpelledParts.role_full, SpelledParts.altered_role_full, SpelledParts.table_full, SpelledParts.altered_table_full, SpelledParts.policy_on_full, SpelledParts.options_full, SpelledParts.for_full, SpelledParts.grantees_if_any_full, SpelledParts.flat_full}
 
 -- a value that is as high is written so
 pub record WrittenFrom {A : Type 0} (high : A → ℕ) (w : ℕ → A → Option (List Token)) (a : A) : Type 0 where

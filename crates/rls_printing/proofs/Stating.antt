@@ -1,63 +1,16 @@
 -- What the grammar writes for a statement are the tokens of the words of which it is printed.
-use Rattle.std.proofs.Common.{◌≡◌, ℕ, Bool, true, false, List, [], ◌∷◌, ◌++◌, map, Option, Some, None, refl, ap, sym, ◌∙◌, append_assoc, append-nil, subst}
-use Rattle.std.specs.Prelude.{codes, is_some}
-use Rattle.rls_value.specs.declared.value.ColType.{ColType}
-use Rattle.rls_value.specs.declared.value.ColType.TheVariants as k
-use Rattle.rls_value.specs.declared.verb.Kind.TheVariants as command
-use Rattle.rls_value.specs.declared.verb.PolicyKind.{PolicyKind}
-use Rattle.rls_value.specs.declared.verb.PolicyKind.TheVariants as kind
-use Rattle.rls_expr.specs.Terms.{Term, terms_of, maybe_term}
-use Rattle.rls_expr.specs.declared.policy.Grantee.{Grantee}
-use Rattle.rls_expr.specs.declared.policy.Grantee.TheVariants as to
-use Rattle.rls_statement.specs.declared.changing.Setting.{Setting}
-use Rattle.rls_statement.specs.declared.statement.AlterPolicy.{AlterPolicy}
-use Rattle.rls_statement.specs.declared.statement.AlterRole.{AlterRole}
-use Rattle.rls_statement.specs.declared.statement.AlterTable.{AlterTable}
-use Rattle.rls_statement.specs.declared.statement.CreatePolicy.{CreatePolicy}
-use Rattle.rls_statement.specs.declared.statement.CreateRole.{CreateRole}
-use Rattle.rls_statement.specs.declared.statement.CreateTable.{CreateTable}
-use Rattle.rls_statement.specs.declared.statement.DropPolicy.{DropPolicy}
-use Rattle.rls_statement.specs.declared.statement.GrantPrivileges.{GrantPrivileges}
-use Rattle.rls_statement.specs.declared.statement.GrantRoles.{GrantRoles}
-use Rattle.rls_statement.specs.declared.statement.Insert.{Insert}
-use Rattle.rls_statement.specs.declared.changing.Update.{Update}
-use Rattle.rls_statement.specs.declared.changing.Delete.{Delete}
-use Rattle.rls_statement.specs.declared.statement.MarkedColumn.{MarkedColumn}
-use Rattle.rls_statement.specs.declared.statement.MembershipOption.{MembershipOption}
-use Rattle.rls_statement.specs.declared.statement.MembershipOption.TheVariants as o
-use Rattle.rls_statement.specs.declared.statement.Privileges.{Privileges}
-use Rattle.rls_statement.specs.declared.statement.RevokePrivileges.{RevokePrivileges}
-use Rattle.rls_statement.specs.declared.statement.RevokeRoles.{RevokeRoles}
-use Rattle.rls_statement.specs.declared.statement.RowSecurity.{RowSecurity}
-use Rattle.rls_statement.specs.declared.statement.RowSecurity.TheVariants as change
-use Rattle.rls_statement.specs.declared.statement.Select.{Select}
-use Rattle.rls_statement.specs.declared.statement.Selected.{Selected}
-use Rattle.rls_statement.specs.declared.statement.Selected.TheVariants as chosen
-use Rattle.rls_statement.specs.declared.statement.SetRole.{SetRole}
-use Rattle.rls_statement.specs.declared.statement.SetRole.TheVariants as sr
-use Rattle.rls_statement.specs.declared.statement.Statement.{Statement}
-use Rattle.rls_statement.specs.declared.statement.Statement.TheVariants as st
-use Rattle.rls_text.specs.declared.token.Symbol.TheVariants as s
-use Rattle.rls_text.specs.declared.token.Token.{Token}
-use Rattle.rls_text.specs.declared.token.Token.TheVariants as t
-use Rattle.rls_text.specs.declared.tables.TableElement.TheVariants as element
-use Rattle.rls_text.specs.Cut.{Cut}
+use Rattle.std.{proofs.Common.◌≡◌, proofs.Common.ℕ, proofs.Common.Bool, proofs.Common.true, proofs.Common.false, proofs.Common.List, proofs.Common.[], proofs.Common.◌∷◌, proofs.Common.◌++◌, proofs.Common.map, proofs.Common.Option, proofs.Common.Some, proofs.Common.None, proofs.Common.refl, proofs.Common.ap, proofs.Common.sym, proofs.Common.◌∙◌, proofs.Common.append_assoc, proofs.Common.append-nil, proofs.Common.subst, specs.Prelude.codes, specs.Prelude.is_some}
+use Rattle.rls_value.specs.{declared.value.ColType.ColType, declared.verb.PolicyKind.PolicyKind, declared.verb.Kind.Kind}
+use Rattle.rls_expr.specs.{Terms.Term, Terms.terms_of, Terms.maybe_term, declared.policy.Grantee.Grantee}
+use Rattle.rls_statement.specs.{declared.changing.Setting.Setting, declared.statement.AlterPolicy.AlterPolicy, declared.statement.AlterRole.AlterRole, declared.statement.AlterTable.AlterTable, declared.statement.CreatePolicy.CreatePolicy, declared.statement.CreateRole.CreateRole, declared.statement.CreateTable.CreateTable, declared.statement.DropPolicy.DropPolicy, declared.statement.GrantPrivileges.GrantPrivileges, declared.statement.GrantRoles.GrantRoles, declared.statement.Insert.Insert, declared.changing.Update.Update, declared.changing.Delete.Delete, declared.statement.MarkedColumn.MarkedColumn, declared.statement.MembershipOption.MembershipOption, declared.statement.Privileges.Privileges, declared.statement.RevokePrivileges.RevokePrivileges, declared.statement.RevokeRoles.RevokeRoles, declared.statement.RowSecurity.RowSecurity, declared.statement.Select.Select, declared.statement.Selected.Selected, declared.statement.SetRole.SetRole, declared.statement.Statement.Statement}
+use Rattle.rls_text.specs.{declared.token.Symbol.Symbol, declared.token.Token.Token, Cut.Cut, Cutting.tree_of, Elements.key_if, Printing.IsWritten, Rule.with_comma, FirstSets.expr_heads, FirstSets.expr_more, Writes.Writer, Writes.joined, Writes.or_else, Writes.many_writes, declared.tables.TableElement.TableElement, WaysBack.list_of as way_back_of_list}
 use Rattle.rls_text.specs.Cut as cut
-use Rattle.rls_text.specs.Cutting.{tree_of}
-use Rattle.rls_text.specs.Elements.{key_if}
-use Rattle.rls_text.specs.FirstSets.{expr_heads, expr_more}
 use Rattle.rls_text.specs.Grammar as g
-use Rattle.rls_text.specs.Printing.{IsWritten}
-use Rattle.rls_text.specs.Rule.{with_comma}
 use Rattle.rls_text.specs.Values as values
-use Rattle.rls_text.specs.WaysBack as back
 use Rattle.rls_text.specs.TablesBack as tables
-use Rattle.rls_text.specs.Writes.{Writer, joined, or_else, many_writes}
-use Rattle.rls_printing.specs.declared.page.Mark.TheVariants as m
+use Rattle.rls_printing.{specs.declared.page.Mark.Mark, specs.Pieces.Piece, specs.Pieces.Word, specs.Pieces.Marked, specs.Pieces.tokens_of, proofs.Writing.Tells, proofs.Writing.none_tells, proofs.Writing.both_tell, proofs.Writing.either_tells, proofs.Writing.if_tells, proofs.Writing.enclosed_tells, proofs.Writing.parens, proofs.Writing.name_tells, proofs.Writing.item_list_tells, proofs.Writing.condition_tells, proofs.Writing.select_tells, proofs.Writing.tuple_tells, proofs.Writing.parenthesized_tells, proofs.Writing.expr_tells}
 use Rattle.rls_printing.specs.ExprForms as expr_form
-use Rattle.rls_printing.specs.Pieces.{Piece, Word, Marked, tokens_of}
 use Rattle.rls_printing.specs.StatementForms as form
-use Rattle.rls_printing.proofs.Writing.{Tells, none_tells, both_tell, either_tells, if_tells, enclosed_tells, parens, name_tells, item_list_tells, condition_tells, select_tells, tuple_tells, parenthesized_tells, expr_tells}
 
 -- ---- pieces of rules
 
@@ -81,14 +34,14 @@ regroup u ps qs e h = subst (λ z. Tells u z) e h
 
 -- ---- lists
 
-also_tells : {A : Type 0} (p : List Token → A → Type 0) (W : Writer p) (item : A → List Piece) → ((x : A) → Tells (W.writes x) (Marked m.Comma ∷ item x)) → (xs : List A) → Tells (many_writes p W xs) (form.also item xs)
+also_tells : {A : Type 0} (p : List Token → A → Type 0) (W : Writer p) (item : A → List Piece) → ((x : A) → Tells (W.writes x) (Marked Mark.Comma ∷ item x)) → (xs : List A) → Tells (many_writes p W xs) (form.also item xs)
 also_tells p W item h [] = λ ts e. e
-also_tells p W item h (x ∷ xs) = both_tell (W.writes x) (many_writes p W xs) (Marked m.Comma ∷ item x) (form.also item xs) (h x) (also_tells p W item h xs)
+also_tells p W item h (x ∷ xs) = both_tell (W.writes x) (many_writes p W xs) (Marked Mark.Comma ∷ item x) (form.also item xs) (h x) (also_tells p W item h xs)
 
-comma_tells : (u : Option (List Token)) (ps : List Piece) → Tells u ps → Tells (joined (Some (t.Symbol s.Comma ∷ [])) u) (Marked m.Comma ∷ ps)
-comma_tells u ps h = both_tell (Some (t.Symbol s.Comma ∷ [])) u (Marked m.Comma ∷ []) ps (λ ts e. e) h
+comma_tells : (u : Option (List Token)) (ps : List Piece) → Tells u ps → Tells (joined (Some (Token.Symbol Symbol.Comma ∷ [])) u) (Marked Mark.Comma ∷ ps)
+comma_tells u ps h = both_tell (Some (Token.Symbol Symbol.Comma ∷ [])) u (Marked Mark.Comma ∷ []) ps (λ ts e. e) h
 
-comma_name : (x : List ℕ) → Tells ((with_comma g.name).prints.writes x) (Marked m.Comma ∷ form.name x)
+comma_name : (x : List ℕ) → Tells ((with_comma g.name).prints.writes x) (Marked Mark.Comma ∷ form.name x)
 unfolding with_comma
 comma_name x = comma_tells (g.name.prints.writes x) (form.name x) (name_tells x)
 
@@ -103,10 +56,10 @@ distinct_tell xs = if_tells (values.are_distinct xs) (g.names.prints.writes xs) 
 
 grantee_tells : (x : Grantee) → Tells (g.grantee.prints.writes x) (form.grantee x)
 unfolding g.grantee
-grantee_tells to.Public = λ ts e. e
-grantee_tells (to.Role x) = name_tells x
+grantee_tells Grantee.Public = λ ts e. e
+grantee_tells (Grantee.Role x) = name_tells x
 
-comma_grantee : (x : Grantee) → Tells ((with_comma g.grantee).prints.writes x) (Marked m.Comma ∷ form.grantee x)
+comma_grantee : (x : Grantee) → Tells ((with_comma g.grantee).prints.writes x) (Marked Mark.Comma ∷ form.grantee x)
 unfolding with_comma
 comma_grantee x = comma_tells (g.grantee.prints.writes x) (form.grantee x) (grantee_tells x)
 
@@ -125,21 +78,21 @@ enclosed_names xs = enclosed_tells (g.distinct_names.prints.writes xs) (form.lis
 
 returned_tells : (x : Selected) → Tells (g.returned.prints.writes x) (form.selected_items x)
 unfolding g.returned
-returned_tells chosen.All = λ ts e. e
-returned_tells (chosen.Items xs) = item_list_tells xs
-returned_tells chosen.Count = λ ts e. cc
+returned_tells Selected.All = λ ts e. e
+returned_tells (Selected.Items xs) = item_list_tells xs
+returned_tells Selected.Count = λ ts e. cc
 
 returning_tells : (x : Option Selected) → Tells (g.returning.prints.writes x) (form.returning x)
 unfolding g.returning
 returning_tells None = λ ts e. e
-returning_tells (Some x) = both_tell (Some (t.Word (codes "returning") ∷ [])) (g.returned.prints.writes x) (Word (codes "RETURNING") ∷ []) (form.selected_items x) (λ ts e. e) (returned_tells x)
+returning_tells (Some x) = both_tell (Some (Token.Word (codes "returning") ∷ [])) (g.returned.prints.writes x) (Word (codes "RETURNING") ∷ []) (form.selected_items x) (λ ts e. e) (returned_tells x)
 
 columns_tell : (x : Option (List (List ℕ))) → Tells (g.columns_if_any.prints.writes x) (form.columns_if_any x)
 unfolding g.columns_if_any
 columns_tell None = λ ts e. e
 columns_tell (Some xs) = enclosed_names xs
 
-list_back : (xs : List Term) → back.list_of (terms_of xs) ≡ xs
+list_back : (xs : List Term) → way_back_of_list (terms_of xs) ≡ xs
 list_back [] = refl
 list_back (x ∷ xs) = ap (λ z. x ∷ z) (list_back xs)
 
@@ -147,7 +100,7 @@ module _ (inner : Cut tree_of expr_heads expr_more false) (ih : (x : Term) → T
   row_tells : (xs : List Term) → Tells ((g.tuple inner).rule.prints.writes xs) (form.tuple xs)
   row_tells xs = subst (λ z. Tells ((g.tuple inner).rule.prints.writes z) (form.tuple xs)) (list_back xs) (tuple_tells inner ih (terms_of xs))
 
-  comma_row : (xs : List Term) → Tells ((cut.with_comma (g.tuple inner)).rule.prints.writes xs) (Marked m.Comma ∷ form.tuple xs)
+  comma_row : (xs : List Term) → Tells ((cut.with_comma (g.tuple inner)).rule.prints.writes xs) (Marked Mark.Comma ∷ form.tuple xs)
   unfolding cut.with_comma
   comma_row xs = comma_tells ((g.tuple inner).rule.prints.writes xs) (form.tuple xs) (row_tells xs)
 
@@ -165,16 +118,16 @@ module _ (inner : Cut tree_of expr_heads expr_more false) (ih : (x : Term) → T
   rows_tell : (names : Option (List (List ℕ))) (xs : List (List Term)) → Tells ((g.proper_rows inner).rule.prints.writes (names, xs)) (form.columns_if_any names ++ Word (codes "VALUES") ∷ form.listed form.tuple xs)
   unfolding g.proper_rows g.rows
   rows_tell names xs =
-      if_tells (values.are_as_long names xs) (joined (g.columns_if_any.prints.writes names) (joined (Some (t.Word (codes "values") ∷ [])) ((g.even_tuples inner).rule.prints.writes xs))) (form.columns_if_any names ++ Word (codes "VALUES") ∷ form.listed form.tuple xs)
-      (both_tell (g.columns_if_any.prints.writes names) (joined (Some (t.Word (codes "values") ∷ [])) ((g.even_tuples inner).rule.prints.writes xs)) (form.columns_if_any names) (Word (codes "VALUES") ∷ form.listed form.tuple xs) (columns_tell names)
-      (both_tell (Some (t.Word (codes "values") ∷ [])) ((g.even_tuples inner).rule.prints.writes xs) (Word (codes "VALUES") ∷ []) (form.listed form.tuple xs) (λ ts e. e) (even_tell xs)))
+      if_tells (values.are_as_long names xs) (joined (g.columns_if_any.prints.writes names) (joined (Some (Token.Word (codes "values") ∷ [])) ((g.even_tuples inner).rule.prints.writes xs))) (form.columns_if_any names ++ Word (codes "VALUES") ∷ form.listed form.tuple xs)
+      (both_tell (g.columns_if_any.prints.writes names) (joined (Some (Token.Word (codes "values") ∷ [])) ((g.even_tuples inner).rule.prints.writes xs)) (form.columns_if_any names) (Word (codes "VALUES") ∷ form.listed form.tuple xs) (columns_tell names)
+      (both_tell (Some (Token.Word (codes "values") ∷ [])) ((g.even_tuples inner).rule.prints.writes xs) (Word (codes "VALUES") ∷ []) (form.listed form.tuple xs) (λ ts e. e) (even_tell xs)))
 
-  insert_tells : (x : Insert) → Tells ((g.insert inner).rule.prints.writes (st.Insert x)) (form.statement (st.Insert x))
+  insert_tells : (x : Insert) → Tells ((g.insert inner).rule.prints.writes (Statement.Insert x)) (form.statement (Statement.Insert x))
   unfolding g.insert
   insert_tells x =
-      both_tell (Some (t.Word (codes "insert") ∷ [])) (joined (Some (t.Word (codes "into") ∷ [])) (joined (g.name.prints.writes x.table) (joined ((g.proper_rows inner).rule.prints.writes (x.columns, x.tuples)) (g.returning.prints.writes x.returning))))
+      both_tell (Some (Token.Word (codes "insert") ∷ [])) (joined (Some (Token.Word (codes "into") ∷ [])) (joined (g.name.prints.writes x.table) (joined ((g.proper_rows inner).rule.prints.writes (x.columns, x.tuples)) (g.returning.prints.writes x.returning))))
       (Word (codes "INSERT") ∷ []) (Word (codes "INTO") ∷ Word x.table ∷ (form.columns_if_any x.columns ++ Word (codes "VALUES") ∷ (form.listed form.tuple x.tuples ++ form.returning x.returning))) (λ ts e. e)
-      (both_tell (Some (t.Word (codes "into") ∷ [])) (joined (g.name.prints.writes x.table) (joined ((g.proper_rows inner).rule.prints.writes (x.columns, x.tuples)) (g.returning.prints.writes x.returning)))
+      (both_tell (Some (Token.Word (codes "into") ∷ [])) (joined (g.name.prints.writes x.table) (joined ((g.proper_rows inner).rule.prints.writes (x.columns, x.tuples)) (g.returning.prints.writes x.returning)))
       (Word (codes "INTO") ∷ []) (Word x.table ∷ (form.columns_if_any x.columns ++ Word (codes "VALUES") ∷ (form.listed form.tuple x.tuples ++ form.returning x.returning))) (λ ts e. e)
       (both_tell (g.name.prints.writes x.table) (joined ((g.proper_rows inner).rule.prints.writes (x.columns, x.tuples)) (g.returning.prints.writes x.returning))
       (Word x.table ∷ []) (form.columns_if_any x.columns ++ Word (codes "VALUES") ∷ (form.listed form.tuple x.tuples ++ form.returning x.returning)) (name_tells x.table)
@@ -187,10 +140,10 @@ module _ (inner : Cut tree_of expr_heads expr_more false) (ih : (x : Term) → T
   setting_tells : (x : Setting) → Tells ((g.set_column inner).rule.prints.writes x) (form.setting x)
   unfolding g.set_column
   setting_tells x =
-      both_tell (g.name.prints.writes x.column) (joined (Some (t.Symbol s.Equal ∷ [])) (inner.rule.prints.writes x.value)) (Word x.column ∷ []) (Marked m.Equal ∷ expr_form.expr x.value) (name_tells x.column)
-      (both_tell (Some (t.Symbol s.Equal ∷ [])) (inner.rule.prints.writes x.value) (Marked m.Equal ∷ []) (expr_form.expr x.value) (λ ts e. e) (ih x.value))
+      both_tell (g.name.prints.writes x.column) (joined (Some (Token.Symbol Symbol.Equal ∷ [])) (inner.rule.prints.writes x.value)) (Word x.column ∷ []) (Marked Mark.Equal ∷ expr_form.expr x.value) (name_tells x.column)
+      (both_tell (Some (Token.Symbol Symbol.Equal ∷ [])) (inner.rule.prints.writes x.value) (Marked Mark.Equal ∷ []) (expr_form.expr x.value) (λ ts e. e) (ih x.value))
 
-  comma_setting : (x : Setting) → Tells ((cut.with_comma (g.set_column inner)).rule.prints.writes x) (Marked m.Comma ∷ form.setting x)
+  comma_setting : (x : Setting) → Tells ((cut.with_comma (g.set_column inner)).rule.prints.writes x) (Marked Mark.Comma ∷ form.setting x)
   unfolding cut.with_comma
   comma_setting x = comma_tells ((g.set_column inner).rule.prints.writes x) (form.setting x) (setting_tells x)
 
@@ -209,29 +162,29 @@ module _ (inner : Cut tree_of expr_heads expr_more false) (ih : (x : Term) → T
   unfolding g.ending
   ending_tells x y = both_tell ((g.condition inner).rule.prints.writes x) (g.returning.prints.writes y) (expr_form.where_ (maybe_term x)) (form.returning y) (condition_tells inner ih x) (returning_tells y)
 
-  update_tells : (x : Update) → Tells ((g.update inner).rule.prints.writes (st.Update x)) (form.statement (st.Update x))
+  update_tells : (x : Update) → Tells ((g.update inner).rule.prints.writes (Statement.Update x)) (form.statement (Statement.Update x))
   unfolding g.update
   update_tells x =
-      both_tell (Some (t.Word (codes "update") ∷ [])) (joined (g.name.prints.writes x.table) (joined (Some (t.Word (codes "set") ∷ [])) (joined ((g.set_columns inner).rule.prints.writes x.settings) ((g.ending inner).rule.prints.writes (x.condition, x.returning)))))
+      both_tell (Some (Token.Word (codes "update") ∷ [])) (joined (g.name.prints.writes x.table) (joined (Some (Token.Word (codes "set") ∷ [])) (joined ((g.set_columns inner).rule.prints.writes x.settings) ((g.ending inner).rule.prints.writes (x.condition, x.returning)))))
       (Word (codes "UPDATE") ∷ []) (Word x.table ∷ Word (codes "SET") ∷ (form.listed form.setting x.settings ++ (expr_form.where_ (maybe_term x.condition) ++ form.returning x.returning))) (λ ts e. e)
-      (both_tell (g.name.prints.writes x.table) (joined (Some (t.Word (codes "set") ∷ [])) (joined ((g.set_columns inner).rule.prints.writes x.settings) ((g.ending inner).rule.prints.writes (x.condition, x.returning))))
+      (both_tell (g.name.prints.writes x.table) (joined (Some (Token.Word (codes "set") ∷ [])) (joined ((g.set_columns inner).rule.prints.writes x.settings) ((g.ending inner).rule.prints.writes (x.condition, x.returning))))
       (Word x.table ∷ []) (Word (codes "SET") ∷ (form.listed form.setting x.settings ++ (expr_form.where_ (maybe_term x.condition) ++ form.returning x.returning))) (name_tells x.table)
-      (both_tell (Some (t.Word (codes "set") ∷ [])) (joined ((g.set_columns inner).rule.prints.writes x.settings) ((g.ending inner).rule.prints.writes (x.condition, x.returning)))
+      (both_tell (Some (Token.Word (codes "set") ∷ [])) (joined ((g.set_columns inner).rule.prints.writes x.settings) ((g.ending inner).rule.prints.writes (x.condition, x.returning)))
       (Word (codes "SET") ∷ []) (form.listed form.setting x.settings ++ (expr_form.where_ (maybe_term x.condition) ++ form.returning x.returning)) (λ ts e. e)
       (both_tell ((g.set_columns inner).rule.prints.writes x.settings) ((g.ending inner).rule.prints.writes (x.condition, x.returning)) (form.listed form.setting x.settings) (expr_form.where_ (maybe_term x.condition) ++ form.returning x.returning)
       (settings_tell x.settings) (ending_tells x.condition x.returning))))
 
-  delete_tells : (x : Delete) → Tells ((g.delete inner).rule.prints.writes (st.Delete x)) (form.statement (st.Delete x))
+  delete_tells : (x : Delete) → Tells ((g.delete inner).rule.prints.writes (Statement.Delete x)) (form.statement (Statement.Delete x))
   unfolding g.delete
   delete_tells x =
-      both_tell (Some (t.Word (codes "delete") ∷ [])) (joined (Some (t.Word (codes "from") ∷ [])) (joined (g.name.prints.writes x.table) ((g.ending inner).rule.prints.writes (x.condition, x.returning))))
+      both_tell (Some (Token.Word (codes "delete") ∷ [])) (joined (Some (Token.Word (codes "from") ∷ [])) (joined (g.name.prints.writes x.table) ((g.ending inner).rule.prints.writes (x.condition, x.returning))))
       (Word (codes "DELETE") ∷ []) (Word (codes "FROM") ∷ Word x.table ∷ (expr_form.where_ (maybe_term x.condition) ++ form.returning x.returning)) (λ ts e. e)
-      (both_tell (Some (t.Word (codes "from") ∷ [])) (joined (g.name.prints.writes x.table) ((g.ending inner).rule.prints.writes (x.condition, x.returning)))
+      (both_tell (Some (Token.Word (codes "from") ∷ [])) (joined (g.name.prints.writes x.table) ((g.ending inner).rule.prints.writes (x.condition, x.returning)))
       (Word (codes "FROM") ∷ []) (Word x.table ∷ (expr_form.where_ (maybe_term x.condition) ++ form.returning x.returning)) (λ ts e. e)
       (both_tell (g.name.prints.writes x.table) ((g.ending inner).rule.prints.writes (x.condition, x.returning)) (Word x.table ∷ []) (expr_form.where_ (maybe_term x.condition) ++ form.returning x.returning)
       (name_tells x.table) (ending_tells x.condition x.returning)))
 
-  statement_select : (x : Select) → Tells ((g.select inner).rule.prints.writes (st.Select x)) (form.statement (st.Select x))
+  statement_select : (x : Select) → Tells ((g.select inner).rule.prints.writes (Statement.Select x)) (form.statement (Statement.Select x))
   unfolding g.select
   statement_select x = select_tells inner ih x.items x.table x.alias x.condition
 
@@ -297,22 +250,22 @@ written_tell (Some false) (Some false) None = λ ts e. e
 written_tell (Some false) (Some false) (Some true) = λ ts e. e
 written_tell (Some false) (Some false) (Some false) = λ ts e. e
 
-role_tells : (x : CreateRole) → Tells ((g.role false).prints.writes (st.CreateRole x)) (Word x.name ∷ form.attributes x.attributes)
+role_tells : (x : CreateRole) → Tells ((g.role false).prints.writes (Statement.CreateRole x)) (Word x.name ∷ form.attributes x.attributes)
 unfolding g.role
 role_tells x =
     both_tell (g.name.prints.writes x.name) ((g.attributes_of_role false).prints.writes x.attributes) (Word x.name ∷ []) (form.attributes x.attributes) (name_tells x.name)
     (attributes_tell x.attributes.superuser x.attributes.login x.attributes.bypass_rls)
 
 -- CREATE USER isn't written
-user_case : (x : CreateRole) (ps : List Piece) → Tells (joined (Some (t.Word (codes "user") ∷ [])) ((g.role true).prints.writes (st.CreateRole x))) ps
+user_case : (x : CreateRole) (ps : List Piece) → Tells (joined (Some (Token.Word (codes "user") ∷ [])) ((g.role true).prints.writes (Statement.CreateRole x))) ps
 unfolding g.role g.attributes_of_role
 user_case x ps = go (g.name.prints.writes x.name)
   where
-    go : (u : Option (List Token)) → Tells (joined (Some (t.Word (codes "user") ∷ [])) (joined u None)) ps
+    go : (u : Option (List Token)) → Tells (joined (Some (Token.Word (codes "user") ∷ [])) (joined u None)) ps
     go None = λ ts e. cc
     go (Some y) = λ ts e. cc
 
-altered_role_tells : (x : AlterRole) → Tells (g.altered_role.prints.writes (st.AlterRole x)) (Word x.name ∷ form.attributes x.attributes)
+altered_role_tells : (x : AlterRole) → Tells (g.altered_role.prints.writes (Statement.AlterRole x)) (Word x.name ∷ form.attributes x.attributes)
 unfolding g.altered_role
 altered_role_tells x =
     both_tell (g.name.prints.writes x.name) (g.written_attributes.prints.writes x.attributes) (Word x.name ∷ []) (form.attributes x.attributes) (name_tells x.name)
@@ -322,10 +275,10 @@ altered_role_tells x =
 
 type_tells : (x : ColType) → Tells (g.column_type.prints.writes x) (form.column_type x ∷ [])
 unfolding g.column_type
-type_tells k.Integer = λ ts e. e
-type_tells k.BigInt = λ ts e. e
-type_tells k.Text = λ ts e. e
-type_tells k.Boolean = λ ts e. e
+type_tells ColType.Integer = λ ts e. e
+type_tells ColType.BigInt = λ ts e. e
+type_tells ColType.Text = λ ts e. e
+type_tells ColType.Boolean = λ ts e. e
 
 marks_tell : (x y : Bool) → Tells (g.column_marks.prints.writes (tables.as_marks x y)) (form.not_null x ++ form.is_key y)
 unfolding g.column_marks g.all_marks g.column_mark
@@ -345,33 +298,33 @@ column_tells x =
 key_tells : (xs : List (List ℕ)) → Tells (g.primary_key.prints.writes xs) (Word (codes "PRIMARY") ∷ Word (codes "KEY") ∷ expr_form.enclosed (form.listed form.name xs))
 unfolding g.primary_key
 key_tells xs =
-    both_tell (Some (t.Word (codes "primary") ∷ [])) (joined (Some (t.Word (codes "key") ∷ [])) (parens (g.distinct_names.prints.writes xs))) (Word (codes "PRIMARY") ∷ []) (Word (codes "KEY") ∷ expr_form.enclosed (form.listed form.name xs)) (λ ts e. e)
-    (both_tell (Some (t.Word (codes "key") ∷ [])) (parens (g.distinct_names.prints.writes xs)) (Word (codes "KEY") ∷ []) (expr_form.enclosed (form.listed form.name xs)) (λ ts e. e) (enclosed_names xs))
+    both_tell (Some (Token.Word (codes "primary") ∷ [])) (joined (Some (Token.Word (codes "key") ∷ [])) (parens (g.distinct_names.prints.writes xs))) (Word (codes "PRIMARY") ∷ []) (Word (codes "KEY") ∷ expr_form.enclosed (form.listed form.name xs)) (λ ts e. e)
+    (both_tell (Some (Token.Word (codes "key") ∷ [])) (parens (g.distinct_names.prints.writes xs)) (Word (codes "KEY") ∷ []) (expr_form.enclosed (form.listed form.name xs)) (λ ts e. e) (enclosed_names xs))
 
-elements_tell : (xs : List MarkedColumn) (key : Option (List (List ℕ))) → Tells (many_writes (with_comma g.table_element).spells (with_comma g.table_element).prints (map element.Column xs ++ key_if key)) (form.also form.column xs ++ form.key key)
+elements_tell : (xs : List MarkedColumn) (key : Option (List (List ℕ))) → Tells (many_writes (with_comma g.table_element).spells (with_comma g.table_element).prints (map TableElement.Column xs ++ key_if key)) (form.also form.column xs ++ form.key key)
 unfolding with_comma g.table_element
 elements_tell [] None = λ ts e. e
-elements_tell [] (Some names) = behind_none (joined (Some (t.Symbol s.Comma ∷ [])) (g.primary_key.prints.writes names)) (form.key (Some names)) (comma_tells (g.primary_key.prints.writes names) (Word (codes "PRIMARY") ∷ Word (codes "KEY") ∷ expr_form.enclosed (form.listed form.name names)) (key_tells names))
+elements_tell [] (Some names) = behind_none (joined (Some (Token.Symbol Symbol.Comma ∷ [])) (g.primary_key.prints.writes names)) (form.key (Some names)) (comma_tells (g.primary_key.prints.writes names) (Word (codes "PRIMARY") ∷ Word (codes "KEY") ∷ expr_form.enclosed (form.listed form.name names)) (key_tells names))
 elements_tell (x ∷ xs) key =
-    regroup (joined (joined (Some (t.Symbol s.Comma ∷ [])) (or_else (g.column_definition.prints.writes x) None)) (many_writes (with_comma g.table_element).spells (with_comma g.table_element).prints (map element.Column xs ++ key_if key)))
-    ((Marked m.Comma ∷ form.column x) ++ (form.also form.column xs ++ form.key key)) (form.also form.column (x ∷ xs) ++ form.key key) (sym (append_assoc (Marked m.Comma ∷ form.column x) (form.also form.column xs) (form.key key)))
-    (both_tell (joined (Some (t.Symbol s.Comma ∷ [])) (or_else (g.column_definition.prints.writes x) None)) (many_writes (with_comma g.table_element).spells (with_comma g.table_element).prints (map element.Column xs ++ key_if key))
-    (Marked m.Comma ∷ form.column x) (form.also form.column xs ++ form.key key)
+    regroup (joined (joined (Some (Token.Symbol Symbol.Comma ∷ [])) (or_else (g.column_definition.prints.writes x) None)) (many_writes (with_comma g.table_element).spells (with_comma g.table_element).prints (map TableElement.Column xs ++ key_if key)))
+    ((Marked Mark.Comma ∷ form.column x) ++ (form.also form.column xs ++ form.key key)) (form.also form.column (x ∷ xs) ++ form.key key) (sym (append_assoc (Marked Mark.Comma ∷ form.column x) (form.also form.column xs) (form.key key)))
+    (both_tell (joined (Some (Token.Symbol Symbol.Comma ∷ [])) (or_else (g.column_definition.prints.writes x) None)) (many_writes (with_comma g.table_element).spells (with_comma g.table_element).prints (map TableElement.Column xs ++ key_if key))
+    (Marked Mark.Comma ∷ form.column x) (form.also form.column xs ++ form.key key)
     (comma_tells (or_else (g.column_definition.prints.writes x) None) (form.column x) (last_tells (g.column_definition.prints.writes x) (form.column x) (column_tells x))) (elements_tell xs key))
 
 all_elements_tell : (xs : List MarkedColumn) (key : Option (List (List ℕ))) → Tells (g.table_elements.prints.writes (values.elements_with (xs, key))) (form.listed form.column xs ++ form.key key)
 unfolding g.table_elements
 all_elements_tell [] key = λ ts e. cc
 all_elements_tell (x ∷ xs) key =
-    regroup (joined (g.column_definition.prints.writes x) (many_writes (with_comma g.table_element).spells (with_comma g.table_element).prints (map element.Column xs ++ key_if key)))
+    regroup (joined (g.column_definition.prints.writes x) (many_writes (with_comma g.table_element).spells (with_comma g.table_element).prints (map TableElement.Column xs ++ key_if key)))
     (form.column x ++ (form.also form.column xs ++ form.key key)) (form.listed form.column (x ∷ xs) ++ form.key key) (sym (append_assoc (form.column x) (form.also form.column xs) (form.key key)))
-    (both_tell (g.column_definition.prints.writes x) (many_writes (with_comma g.table_element).spells (with_comma g.table_element).prints (map element.Column xs ++ key_if key)) (form.column x) (form.also form.column xs ++ form.key key) (column_tells x) (elements_tell xs key))
+    (both_tell (g.column_definition.prints.writes x) (many_writes (with_comma g.table_element).spells (with_comma g.table_element).prints (map TableElement.Column xs ++ key_if key)) (form.column x) (form.also form.column xs ++ form.key key) (column_tells x) (elements_tell xs key))
 
 proper_tell : (xs : List MarkedColumn) (key : Option (List (List ℕ))) → Tells (g.proper_elements.prints.writes (values.elements_with (xs, key))) (form.listed form.column xs ++ form.key key)
 unfolding g.proper_elements g.columns_and_key g.listed_elements
 proper_tell xs key = if_tells (values.is_table (values.elements_with (xs, key))) (g.table_elements.prints.writes (values.elements_with (xs, key))) (form.listed form.column xs ++ form.key key) (all_elements_tell xs key)
 
-table_tells : (x : CreateTable) → Tells (g.table.prints.writes (st.CreateTable x)) (Word x.name ∷ expr_form.enclosed (form.listed form.column x.columns ++ form.key x.key))
+table_tells : (x : CreateTable) → Tells (g.table.prints.writes (Statement.CreateTable x)) (Word x.name ∷ expr_form.enclosed (form.listed form.column x.columns ++ form.key x.key))
 unfolding g.table
 table_tells x =
     both_tell (g.name.prints.writes x.name) (parens (g.proper_elements.prints.writes (values.elements_with (x.columns, x.key)))) (Word x.name ∷ []) (expr_form.enclosed (form.listed form.column x.columns ++ form.key x.key)) (name_tells x.name)
@@ -379,24 +332,24 @@ table_tells x =
 
 change_tells : (x : RowSecurity) → Tells (g.row_change.prints.writes x) (form.row_change x)
 unfolding g.row_change
-change_tells change.Enable = λ ts e. e
-change_tells change.Disable = λ ts e. e
-change_tells change.Force = λ ts e. e
-change_tells change.NoForce = λ ts e. e
+change_tells RowSecurity.Enable = λ ts e. e
+change_tells RowSecurity.Disable = λ ts e. e
+change_tells RowSecurity.Force = λ ts e. e
+change_tells RowSecurity.NoForce = λ ts e. e
 
-altered_table_tells : (x : AlterTable) → Tells (g.altered_table.prints.writes (st.AlterTable x)) (Word x.table ∷ (form.row_change x.change ++ Word (codes "ROW") ∷ Word (codes "LEVEL") ∷ Word (codes "SECURITY") ∷ []))
+altered_table_tells : (x : AlterTable) → Tells (g.altered_table.prints.writes (Statement.AlterTable x)) (Word x.table ∷ (form.row_change x.change ++ Word (codes "ROW") ∷ Word (codes "LEVEL") ∷ Word (codes "SECURITY") ∷ []))
 unfolding g.altered_table
 altered_table_tells x =
-    both_tell (g.name.prints.writes x.table) (joined (g.row_change.prints.writes x.change) (Some (t.Word (codes "row") ∷ t.Word (codes "level") ∷ t.Word (codes "security") ∷ []))) (Word x.table ∷ []) (form.row_change x.change ++ Word (codes "ROW") ∷ Word (codes "LEVEL") ∷ Word (codes "SECURITY") ∷ []) (name_tells x.table)
-    (both_tell (g.row_change.prints.writes x.change) (Some (t.Word (codes "row") ∷ t.Word (codes "level") ∷ t.Word (codes "security") ∷ [])) (form.row_change x.change) (Word (codes "ROW") ∷ Word (codes "LEVEL") ∷ Word (codes "SECURITY") ∷ []) (change_tells x.change) (λ ts e. e))
+    both_tell (g.name.prints.writes x.table) (joined (g.row_change.prints.writes x.change) (Some (Token.Word (codes "row") ∷ Token.Word (codes "level") ∷ Token.Word (codes "security") ∷ []))) (Word x.table ∷ []) (form.row_change x.change ++ Word (codes "ROW") ∷ Word (codes "LEVEL") ∷ Word (codes "SECURITY") ∷ []) (name_tells x.table)
+    (both_tell (g.row_change.prints.writes x.change) (Some (Token.Word (codes "row") ∷ Token.Word (codes "level") ∷ Token.Word (codes "security") ∷ [])) (form.row_change x.change) (Word (codes "ROW") ∷ Word (codes "LEVEL") ∷ Word (codes "SECURITY") ∷ []) (change_tells x.change) (λ ts e. e))
 
 -- ---- policies
 
 on_tells : (policy table : List ℕ) → Tells (g.policy_on.prints.writes (policy, table)) (form.policy_on policy table)
 unfolding g.policy_on
 on_tells policy table =
-    both_tell (g.name.prints.writes policy) (joined (Some (t.Word (codes "on") ∷ [])) (g.name.prints.writes table)) (Word policy ∷ []) (Word (codes "ON") ∷ Word table ∷ []) (name_tells policy)
-    (both_tell (Some (t.Word (codes "on") ∷ [])) (g.name.prints.writes table) (Word (codes "ON") ∷ []) (Word table ∷ []) (λ ts e. e) (name_tells table))
+    both_tell (g.name.prints.writes policy) (joined (Some (Token.Word (codes "on") ∷ [])) (g.name.prints.writes table)) (Word policy ∷ []) (Word (codes "ON") ∷ Word table ∷ []) (name_tells policy)
+    (both_tell (Some (Token.Word (codes "on") ∷ [])) (g.name.prints.writes table) (Word (codes "ON") ∷ []) (Word table ∷ []) (λ ts e. e) (name_tells table))
 
 permissive_tells : (x : Bool) → Tells (g.permissive.prints.writes x) (Word (codes "AS") ∷ form.permissive x ∷ [])
 unfolding g.permissive
@@ -405,11 +358,11 @@ permissive_tells false = λ ts e. e
 
 kind_tells : (x : PolicyKind) → Tells (g.for_commands.prints.writes x) (Word (codes "FOR") ∷ form.policy_kind x ∷ [])
 unfolding g.for_commands g.policy_kind g.command_type
-kind_tells kind.All = λ ts e. e
-kind_tells (kind.Only command.Select) = λ ts e. e
-kind_tells (kind.Only command.Insert) = λ ts e. e
-kind_tells (kind.Only command.Update) = λ ts e. e
-kind_tells (kind.Only command.Delete) = λ ts e. e
+kind_tells PolicyKind.All = λ ts e. e
+kind_tells (PolicyKind.Only Kind.Select) = λ ts e. e
+kind_tells (PolicyKind.Only Kind.Insert) = λ ts e. e
+kind_tells (PolicyKind.Only Kind.Update) = λ ts e. e
+kind_tells (PolicyKind.Only Kind.Delete) = λ ts e. e
 
 policy_options_tell : (x : Bool) (y : PolicyKind) → Tells (g.policy_options.prints.writes (x, y)) (Word (codes "AS") ∷ form.permissive x ∷ Word (codes "FOR") ∷ form.policy_kind y ∷ [])
 unfolding g.policy_options
@@ -417,7 +370,7 @@ policy_options_tell x y = both_tell (g.permissive.prints.writes x) (g.for_comman
 
 to_tells : (xs : List Grantee) → Tells (g.to_grantees.prints.writes xs) (Word (codes "TO") ∷ form.listed form.grantee xs)
 unfolding g.to_grantees
-to_tells xs = both_tell (Some (t.Word (codes "to") ∷ [])) (g.grantees.prints.writes xs) (Word (codes "TO") ∷ []) (form.listed form.grantee xs) (λ ts e. e) (grantees_tell xs)
+to_tells xs = both_tell (Some (Token.Word (codes "to") ∷ [])) (g.grantees.prints.writes xs) (Word (codes "TO") ∷ []) (form.listed form.grantee xs) (λ ts e. e) (grantees_tell xs)
 
 for_tells : (xs : List Grantee) → Tells (g.for_grantees.prints.writes xs) (Word (codes "TO") ∷ form.listed form.grantee xs)
 unfolding g.for_grantees
@@ -428,24 +381,24 @@ unfolding g.grantees_if_any
 to_if_tells None = λ ts e. e
 to_if_tells (Some xs) = to_tells xs
 
-dropped_tells : (x : DropPolicy) → Tells (g.dropped_policy.prints.writes (st.DropPolicy x)) (form.statement (st.DropPolicy x))
+dropped_tells : (x : DropPolicy) → Tells (g.dropped_policy.prints.writes (Statement.DropPolicy x)) (form.statement (Statement.DropPolicy x))
 unfolding g.dropped_policy
 dropped_tells x =
-    both_tell (Some (t.Word (codes "drop") ∷ [])) (joined (Some (t.Word (codes "policy") ∷ [])) (g.policy_on.prints.writes (x.name, x.table))) (Word (codes "DROP") ∷ []) (Word (codes "POLICY") ∷ form.policy_on x.name x.table) (λ ts e. e)
-    (both_tell (Some (t.Word (codes "policy") ∷ [])) (g.policy_on.prints.writes (x.name, x.table)) (Word (codes "POLICY") ∷ []) (form.policy_on x.name x.table) (λ ts e. e) (on_tells x.name x.table))
+    both_tell (Some (Token.Word (codes "drop") ∷ [])) (joined (Some (Token.Word (codes "policy") ∷ [])) (g.policy_on.prints.writes (x.name, x.table))) (Word (codes "DROP") ∷ []) (Word (codes "POLICY") ∷ form.policy_on x.name x.table) (λ ts e. e)
+    (both_tell (Some (Token.Word (codes "policy") ∷ [])) (g.policy_on.prints.writes (x.name, x.table)) (Word (codes "POLICY") ∷ []) (form.policy_on x.name x.table) (λ ts e. e) (on_tells x.name x.table))
 
 module _ (inner : Cut tree_of expr_heads expr_more false) (ih : (x : Term) → Tells (inner.rule.prints.writes x) (expr_form.expr x)) where
   using_tells : (x : Option Term) → Tells ((g.using inner).rule.prints.writes x) (form.using_ x)
   unfolding g.using
   using_tells None = λ ts e. e
-  using_tells (Some x) = both_tell (Some (t.Word (codes "using") ∷ [])) ((g.parenthesized inner).rule.prints.writes x) (Word (codes "USING") ∷ []) (expr_form.enclosed (expr_form.expr x)) (λ ts e. e) (parenthesized_tells inner ih x)
+  using_tells (Some x) = both_tell (Some (Token.Word (codes "using") ∷ [])) ((g.parenthesized inner).rule.prints.writes x) (Word (codes "USING") ∷ []) (expr_form.enclosed (expr_form.expr x)) (λ ts e. e) (parenthesized_tells inner ih x)
 
   check_tells : (x : Option Term) → Tells ((g.check inner).rule.prints.writes x) (form.check_ x)
   unfolding g.check
   check_tells None = λ ts e. e
   check_tells (Some x) =
-      both_tell (Some (t.Word (codes "with") ∷ [])) (joined (Some (t.Word (codes "check") ∷ [])) ((g.parenthesized inner).rule.prints.writes x)) (Word (codes "WITH") ∷ []) (Word (codes "CHECK") ∷ expr_form.enclosed (expr_form.expr x)) (λ ts e. e)
-      (both_tell (Some (t.Word (codes "check") ∷ [])) ((g.parenthesized inner).rule.prints.writes x) (Word (codes "CHECK") ∷ []) (expr_form.enclosed (expr_form.expr x)) (λ ts e. e) (parenthesized_tells inner ih x))
+      both_tell (Some (Token.Word (codes "with") ∷ [])) (joined (Some (Token.Word (codes "check") ∷ [])) ((g.parenthesized inner).rule.prints.writes x)) (Word (codes "WITH") ∷ []) (Word (codes "CHECK") ∷ expr_form.enclosed (expr_form.expr x)) (λ ts e. e)
+      (both_tell (Some (Token.Word (codes "check") ∷ [])) ((g.parenthesized inner).rule.prints.writes x) (Word (codes "CHECK") ∷ []) (expr_form.enclosed (expr_form.expr x)) (λ ts e. e) (parenthesized_tells inner ih x))
 
   conditions_tell : (x y : Option Term) → Tells ((g.conditions inner).rule.prints.writes (x, y)) (form.using_ x ++ form.check_ y)
   unfolding g.conditions
@@ -460,7 +413,7 @@ module _ (inner : Cut tree_of expr_heads expr_more false) (ih : (x : Term) → T
       (both_tell (g.policy_options.prints.writes (a, b)) (joined (g.for_grantees.prints.writes xs) ((g.conditions inner).rule.prints.writes (x, y))) (Word (codes "AS") ∷ form.permissive a ∷ Word (codes "FOR") ∷ form.policy_kind b ∷ []) (Word (codes "TO") ∷ (form.listed form.grantee xs ++ (form.using_ x ++ form.check_ y))) (policy_options_tell a b)
       (both_tell (g.for_grantees.prints.writes xs) ((g.conditions inner).rule.prints.writes (x, y)) (Word (codes "TO") ∷ form.listed form.grantee xs) (form.using_ x ++ form.check_ y) (for_tells xs) (conditions_tell x y)))
 
-  policy_tells : (x : CreatePolicy) → Tells ((g.policy inner).rule.prints.writes (st.CreatePolicy x)) (form.policy_on x.policy.name x.table ++ form.description x.policy)
+  policy_tells : (x : CreatePolicy) → Tells ((g.policy inner).rule.prints.writes (Statement.CreatePolicy x)) (form.policy_on x.policy.name x.table ++ form.description x.policy)
   unfolding g.policy
   policy_tells x =
       both_tell (g.policy_on.prints.writes (x.policy.name, x.table)) ((g.proper_description inner).rule.prints.writes ((x.policy.permissive, x.policy.kind), (x.policy.to, (x.policy.using, x.policy.check)))) (form.policy_on x.policy.name x.table) (form.description x.policy)
@@ -472,7 +425,7 @@ module _ (inner : Cut tree_of expr_heads expr_more false) (ih : (x : Term) → T
       if_tells (values.is_change (a, (x, y))) (joined (g.grantees_if_any.prints.writes a) ((g.conditions inner).rule.prints.writes (x, y))) (form.to_if_any a ++ (form.using_ x ++ form.check_ y))
       (both_tell (g.grantees_if_any.prints.writes a) ((g.conditions inner).rule.prints.writes (x, y)) (form.to_if_any a) (form.using_ x ++ form.check_ y) (to_if_tells a) (conditions_tell x y))
 
-  altered_policy_tells : (x : AlterPolicy) → Tells ((g.altered_policy inner).rule.prints.writes (st.AlterPolicy x)) (form.policy_on x.name x.table ++ (form.to_if_any x.to ++ (form.using_ x.using ++ form.check_ x.check)))
+  altered_policy_tells : (x : AlterPolicy) → Tells ((g.altered_policy inner).rule.prints.writes (Statement.AlterPolicy x)) (form.policy_on x.name x.table ++ (form.to_if_any x.to ++ (form.using_ x.using ++ form.check_ x.check)))
   unfolding g.altered_policy
   altered_policy_tells x =
       both_tell (g.policy_on.prints.writes (x.name, x.table)) ((g.proper_change inner).rule.prints.writes (x.to, (x.using, x.check))) (form.policy_on x.name x.table) (form.to_if_any x.to ++ (form.using_ x.using ++ form.check_ x.check))
@@ -502,8 +455,8 @@ privileges_tell false false false false = λ ts e. cc
 privileges_on_tell : (p : Privileges) (table : List ℕ) → Tells (g.privileges_on.prints.writes (p, table)) (form.privileges p ++ Word (codes "ON") ∷ Word table ∷ [])
 unfolding g.privileges_on g.table_name
 privileges_on_tell p table =
-    both_tell (g.privileges.prints.writes p) (joined (Some (t.Word (codes "on") ∷ [])) (joined (Some []) (g.name.prints.writes table))) (form.privileges p) (Word (codes "ON") ∷ Word table ∷ []) (privileges_tell p.select p.insert p.update p.delete)
-    (both_tell (Some (t.Word (codes "on") ∷ [])) (joined (Some []) (g.name.prints.writes table)) (Word (codes "ON") ∷ []) (Word table ∷ []) (λ ts e. e) (before_none (g.name.prints.writes table) (Word table ∷ []) (name_tells table)))
+    both_tell (g.privileges.prints.writes p) (joined (Some (Token.Word (codes "on") ∷ [])) (joined (Some []) (g.name.prints.writes table))) (form.privileges p) (Word (codes "ON") ∷ Word table ∷ []) (privileges_tell p.select p.insert p.update p.delete)
+    (both_tell (Some (Token.Word (codes "on") ∷ [])) (joined (Some []) (g.name.prints.writes table)) (Word (codes "ON") ∷ []) (Word table ∷ []) (λ ts e. e) (before_none (g.name.prints.writes table) (Word table ∷ []) (name_tells table)))
 
 with_tells : (x : Bool) → Tells (g.with_option.prints.writes x) (form.with_option x)
 unfolding g.with_option
@@ -527,10 +480,10 @@ granted_to_tells xs b = both_tell (g.to_grantees.prints.writes xs) (g.with_optio
 revoked_from_tells : (xs : List Grantee) (b : Bool) → Tells (g.revoked_from.prints.writes (xs, b)) (Word (codes "FROM") ∷ (form.listed form.grantee xs ++ form.cascade b))
 unfolding g.revoked_from
 revoked_from_tells xs b =
-    both_tell (Some (t.Word (codes "from") ∷ [])) (joined (g.grantees.prints.writes xs) (g.cascade.prints.writes b)) (Word (codes "FROM") ∷ []) (form.listed form.grantee xs ++ form.cascade b) (λ ts e. e)
+    both_tell (Some (Token.Word (codes "from") ∷ [])) (joined (g.grantees.prints.writes xs) (g.cascade.prints.writes b)) (Word (codes "FROM") ∷ []) (form.listed form.grantee xs ++ form.cascade b) (λ ts e. e)
     (both_tell (g.grantees.prints.writes xs) (g.cascade.prints.writes b) (form.listed form.grantee xs) (form.cascade b) (grantees_tell xs) (cascade_tells b))
 
-granted_tells : (x : GrantPrivileges) → Tells (g.granted_privileges.prints.writes (st.Grant x)) (form.privileges x.privileges ++ Word (codes "ON") ∷ Word x.table ∷ Word (codes "TO") ∷ (form.listed form.grantee x.to ++ form.with_option x.with_option))
+granted_tells : (x : GrantPrivileges) → Tells (g.granted_privileges.prints.writes (Statement.Grant x)) (form.privileges x.privileges ++ Word (codes "ON") ∷ Word x.table ∷ Word (codes "TO") ∷ (form.listed form.grantee x.to ++ form.with_option x.with_option))
 unfolding g.granted_privileges
 granted_tells x =
     regroup (joined (g.privileges_on.prints.writes (x.privileges, x.table)) (g.granted_to.prints.writes (x.to, x.with_option)))
@@ -540,7 +493,7 @@ granted_tells x =
     (both_tell (g.privileges_on.prints.writes (x.privileges, x.table)) (g.granted_to.prints.writes (x.to, x.with_option)) (form.privileges x.privileges ++ Word (codes "ON") ∷ Word x.table ∷ []) (Word (codes "TO") ∷ (form.listed form.grantee x.to ++ form.with_option x.with_option))
     (privileges_on_tell x.privileges x.table) (granted_to_tells x.to x.with_option))
 
-revoked_tells : (x : RevokePrivileges) → Tells (g.revoked_privileges.prints.writes (st.Revoke x))
+revoked_tells : (x : RevokePrivileges) → Tells (g.revoked_privileges.prints.writes (Statement.Revoke x))
     (form.option_only x.option_only ++ (form.privileges x.privileges ++ Word (codes "ON") ∷ Word x.table ∷ Word (codes "FROM") ∷ (form.listed form.grantee x.from ++ form.cascade x.cascade)))
 unfolding g.revoked_privileges
 revoked_tells x =
@@ -585,169 +538,169 @@ options_tell (Some false) (Some false) None = λ ts e. e
 options_tell (Some false) (Some false) (Some true) = λ ts e. e
 options_tell (Some false) (Some false) (Some false) = λ ts e. e
 
-granted_roles_tell : (x : GrantRoles) → Tells (g.granted_roles.prints.writes (st.GrantRoles x)) (form.listed form.name x.roles ++ Word (codes "TO") ∷ (form.listed form.name x.to ++ form.options x.options))
+granted_roles_tell : (x : GrantRoles) → Tells (g.granted_roles.prints.writes (Statement.GrantRoles x)) (form.listed form.name x.roles ++ Word (codes "TO") ∷ (form.listed form.name x.to ++ form.options x.options))
 unfolding g.granted_roles
 granted_roles_tell x =
-    both_tell (g.names.prints.writes x.roles) (joined (Some (t.Word (codes "to") ∷ [])) (joined (g.names.prints.writes x.to) (g.options.prints.writes x.options))) (form.listed form.name x.roles) (Word (codes "TO") ∷ (form.listed form.name x.to ++ form.options x.options)) (names_tell x.roles)
-    (both_tell (Some (t.Word (codes "to") ∷ [])) (joined (g.names.prints.writes x.to) (g.options.prints.writes x.options)) (Word (codes "TO") ∷ []) (form.listed form.name x.to ++ form.options x.options) (λ ts e. e)
+    both_tell (g.names.prints.writes x.roles) (joined (Some (Token.Word (codes "to") ∷ [])) (joined (g.names.prints.writes x.to) (g.options.prints.writes x.options))) (form.listed form.name x.roles) (Word (codes "TO") ∷ (form.listed form.name x.to ++ form.options x.options)) (names_tell x.roles)
+    (both_tell (Some (Token.Word (codes "to") ∷ [])) (joined (g.names.prints.writes x.to) (g.options.prints.writes x.options)) (Word (codes "TO") ∷ []) (form.listed form.name x.to ++ form.options x.options) (λ ts e. e)
     (both_tell (g.names.prints.writes x.to) (g.options.prints.writes x.options) (form.listed form.name x.to) (form.options x.options) (names_tell x.to) (options_tell x.options.admin x.options.inherit x.options.set)))
 
 roles_from_tell : (xs ys : List (List ℕ)) → Tells (g.roles_from.prints.writes (xs, ys)) (form.listed form.name xs ++ Word (codes "FROM") ∷ form.listed form.name ys)
 unfolding g.roles_from g.members
 roles_from_tell xs ys =
-    both_tell (g.names.prints.writes xs) (joined (Some (t.Word (codes "from") ∷ [])) (joined (g.names.prints.writes ys) (Some []))) (form.listed form.name xs) (Word (codes "FROM") ∷ form.listed form.name ys) (names_tell xs)
-    (both_tell (Some (t.Word (codes "from") ∷ [])) (joined (g.names.prints.writes ys) (Some [])) (Word (codes "FROM") ∷ []) (form.listed form.name ys) (λ ts e. e) (behind_none (g.names.prints.writes ys) (form.listed form.name ys) (names_tell ys)))
+    both_tell (g.names.prints.writes xs) (joined (Some (Token.Word (codes "from") ∷ [])) (joined (g.names.prints.writes ys) (Some []))) (form.listed form.name xs) (Word (codes "FROM") ∷ form.listed form.name ys) (names_tell xs)
+    (both_tell (Some (Token.Word (codes "from") ∷ [])) (joined (g.names.prints.writes ys) (Some [])) (Word (codes "FROM") ∷ []) (form.listed form.name ys) (λ ts e. e) (behind_none (g.names.prints.writes ys) (form.listed form.name ys) (names_tell ys)))
 
 option_for_tells : (x : MembershipOption) → Tells (g.option_for.prints.writes x) (form.option_for (Some x))
 unfolding g.option_for g.option
-option_for_tells o.Admin = λ ts e. e
-option_for_tells o.Inherit = λ ts e. e
-option_for_tells o.Set = λ ts e. e
+option_for_tells MembershipOption.Admin = λ ts e. e
+option_for_tells MembershipOption.Inherit = λ ts e. e
+option_for_tells MembershipOption.Set = λ ts e. e
 
-memberships_tell : (option : Option MembershipOption) (xs ys : List (List ℕ)) → Tells (g.revoked_memberships.prints.writes (st.RevokeRoles record { option = option; roles = xs; from = ys })) (form.option_for option ++ (form.listed form.name xs ++ Word (codes "FROM") ∷ form.listed form.name ys))
+memberships_tell : (option : Option MembershipOption) (xs ys : List (List ℕ)) → Tells (g.revoked_memberships.prints.writes (Statement.RevokeRoles record { option = option; roles = xs; from = ys })) (form.option_for option ++ (form.listed form.name xs ++ Word (codes "FROM") ∷ form.listed form.name ys))
 unfolding g.revoked_memberships g.revoked_option g.revoked_roles
 memberships_tell None xs ys = roles_from_tell xs ys
 memberships_tell (Some x) xs ys =
     last_tells (joined (g.option_for.prints.writes x) (g.roles_from.prints.writes (xs, ys))) (form.option_for (Some x) ++ (form.listed form.name xs ++ Word (codes "FROM") ∷ form.listed form.name ys))
     (both_tell (g.option_for.prints.writes x) (g.roles_from.prints.writes (xs, ys)) (form.option_for (Some x)) (form.listed form.name xs ++ Word (codes "FROM") ∷ form.listed form.name ys) (option_for_tells x) (roles_from_tell xs ys))
 
-grant_tells : (x : GrantPrivileges) → Tells (g.grant.prints.writes (st.Grant x)) (form.statement (st.Grant x))
+grant_tells : (x : GrantPrivileges) → Tells (g.grant.prints.writes (Statement.Grant x)) (form.statement (Statement.Grant x))
 unfolding g.grant g.granted_roles
 grant_tells x =
-    both_tell (Some (t.Word (codes "grant") ∷ [])) (or_else (g.granted_privileges.prints.writes (st.Grant x)) None) (Word (codes "GRANT") ∷ []) (form.privileges x.privileges ++ Word (codes "ON") ∷ Word x.table ∷ Word (codes "TO") ∷ (form.listed form.grantee x.to ++ form.with_option x.with_option)) (λ ts e. e)
-    (last_tells (g.granted_privileges.prints.writes (st.Grant x)) (form.privileges x.privileges ++ Word (codes "ON") ∷ Word x.table ∷ Word (codes "TO") ∷ (form.listed form.grantee x.to ++ form.with_option x.with_option)) (granted_tells x))
+    both_tell (Some (Token.Word (codes "grant") ∷ [])) (or_else (g.granted_privileges.prints.writes (Statement.Grant x)) None) (Word (codes "GRANT") ∷ []) (form.privileges x.privileges ++ Word (codes "ON") ∷ Word x.table ∷ Word (codes "TO") ∷ (form.listed form.grantee x.to ++ form.with_option x.with_option)) (λ ts e. e)
+    (last_tells (g.granted_privileges.prints.writes (Statement.Grant x)) (form.privileges x.privileges ++ Word (codes "ON") ∷ Word x.table ∷ Word (codes "TO") ∷ (form.listed form.grantee x.to ++ form.with_option x.with_option)) (granted_tells x))
 
-grant_roles_tell : (x : GrantRoles) → Tells (g.grant.prints.writes (st.GrantRoles x)) (form.statement (st.GrantRoles x))
+grant_roles_tell : (x : GrantRoles) → Tells (g.grant.prints.writes (Statement.GrantRoles x)) (form.statement (Statement.GrantRoles x))
 unfolding g.grant g.granted_privileges
 grant_roles_tell x =
-    both_tell (Some (t.Word (codes "grant") ∷ [])) (g.granted_roles.prints.writes (st.GrantRoles x)) (Word (codes "GRANT") ∷ []) (form.listed form.name x.roles ++ Word (codes "TO") ∷ (form.listed form.name x.to ++ form.options x.options)) (λ ts e. e) (granted_roles_tell x)
+    both_tell (Some (Token.Word (codes "grant") ∷ [])) (g.granted_roles.prints.writes (Statement.GrantRoles x)) (Word (codes "GRANT") ∷ []) (form.listed form.name x.roles ++ Word (codes "TO") ∷ (form.listed form.name x.to ++ form.options x.options)) (λ ts e. e) (granted_roles_tell x)
 
-revoke_tells : (x : RevokePrivileges) → Tells (g.revoke.prints.writes (st.Revoke x)) (form.statement (st.Revoke x))
+revoke_tells : (x : RevokePrivileges) → Tells (g.revoke.prints.writes (Statement.Revoke x)) (form.statement (Statement.Revoke x))
 unfolding g.revoke g.revoked_memberships g.revoked_option g.revoked_roles
 revoke_tells x =
-    both_tell (Some (t.Word (codes "revoke") ∷ [])) (or_else (g.revoked_privileges.prints.writes (st.Revoke x)) None) (Word (codes "REVOKE") ∷ [])
+    both_tell (Some (Token.Word (codes "revoke") ∷ [])) (or_else (g.revoked_privileges.prints.writes (Statement.Revoke x)) None) (Word (codes "REVOKE") ∷ [])
     (form.option_only x.option_only ++ (form.privileges x.privileges ++ Word (codes "ON") ∷ Word x.table ∷ Word (codes "FROM") ∷ (form.listed form.grantee x.from ++ form.cascade x.cascade))) (λ ts e. e)
-    (last_tells (g.revoked_privileges.prints.writes (st.Revoke x)) (form.option_only x.option_only ++ (form.privileges x.privileges ++ Word (codes "ON") ∷ Word x.table ∷ Word (codes "FROM") ∷ (form.listed form.grantee x.from ++ form.cascade x.cascade))) (revoked_tells x))
+    (last_tells (g.revoked_privileges.prints.writes (Statement.Revoke x)) (form.option_only x.option_only ++ (form.privileges x.privileges ++ Word (codes "ON") ∷ Word x.table ∷ Word (codes "FROM") ∷ (form.listed form.grantee x.from ++ form.cascade x.cascade))) (revoked_tells x))
 
-revoke_roles_tell : (x : RevokeRoles) → Tells (g.revoke.prints.writes (st.RevokeRoles x)) (form.statement (st.RevokeRoles x))
+revoke_roles_tell : (x : RevokeRoles) → Tells (g.revoke.prints.writes (Statement.RevokeRoles x)) (form.statement (Statement.RevokeRoles x))
 unfolding g.revoke g.revoked_privileges
 revoke_roles_tell x =
-    both_tell (Some (t.Word (codes "revoke") ∷ [])) (g.revoked_memberships.prints.writes (st.RevokeRoles x)) (Word (codes "REVOKE") ∷ []) (form.option_for x.option ++ (form.listed form.name x.roles ++ Word (codes "FROM") ∷ form.listed form.name x.from)) (λ ts e. e)
+    both_tell (Some (Token.Word (codes "revoke") ∷ [])) (g.revoked_memberships.prints.writes (Statement.RevokeRoles x)) (Word (codes "REVOKE") ∷ []) (form.option_for x.option ++ (form.listed form.name x.roles ++ Word (codes "FROM") ∷ form.listed form.name x.from)) (λ ts e. e)
     (memberships_tell x.option x.roles x.from)
 
 -- ---- SET ROLE
 
-set_tells : (x : SetRole) → Tells (g.set_role.prints.writes (st.SetRole x)) (form.set_role x)
+set_tells : (x : SetRole) → Tells (g.set_role.prints.writes (Statement.SetRole x)) (form.set_role x)
 unfolding g.set_role g.role_change g.role_set g.role_reset g.chosen_role
-set_tells (sr.To x) =
-    last_tells (joined (Some (t.Word (codes "set") ∷ [])) (joined (Some (t.Word (codes "role") ∷ [])) (g.name.prints.writes x))) (Word (codes "SET") ∷ Word (codes "ROLE") ∷ Word x ∷ [])
-    (both_tell (Some (t.Word (codes "set") ∷ [])) (joined (Some (t.Word (codes "role") ∷ [])) (g.name.prints.writes x)) (Word (codes "SET") ∷ []) (Word (codes "ROLE") ∷ Word x ∷ []) (λ ts e. e)
-    (both_tell (Some (t.Word (codes "role") ∷ [])) (g.name.prints.writes x) (Word (codes "ROLE") ∷ []) (Word x ∷ []) (λ ts e. e) (name_tells x)))
-set_tells sr.None = λ ts e. e
-set_tells sr.Reset = λ ts e. e
+set_tells (SetRole.To x) =
+    last_tells (joined (Some (Token.Word (codes "set") ∷ [])) (joined (Some (Token.Word (codes "role") ∷ [])) (g.name.prints.writes x))) (Word (codes "SET") ∷ Word (codes "ROLE") ∷ Word x ∷ [])
+    (both_tell (Some (Token.Word (codes "set") ∷ [])) (joined (Some (Token.Word (codes "role") ∷ [])) (g.name.prints.writes x)) (Word (codes "SET") ∷ []) (Word (codes "ROLE") ∷ Word x ∷ []) (λ ts e. e)
+    (both_tell (Some (Token.Word (codes "role") ∷ [])) (g.name.prints.writes x) (Word (codes "ROLE") ∷ []) (Word x ∷ []) (λ ts e. e) (name_tells x)))
+set_tells SetRole.None = λ ts e. e
+set_tells SetRole.Reset = λ ts e. e
 
 -- ---- statements
 
 module _ (inner : Cut tree_of expr_heads expr_more false) (ih : (x : Term) → Tells (inner.rule.prints.writes x) (expr_form.expr x)) where
-  body_select : (x : Select) → Tells ((g.body inner).rule.prints.writes (st.Select x)) (form.statement (st.Select x))
+  body_select : (x : Select) → Tells ((g.body inner).rule.prints.writes (Statement.Select x)) (form.statement (Statement.Select x))
   unfolding g.body g.insert g.update g.delete g.create g.alter g.flat_body g.role g.table g.policy g.altered_role g.altered_table g.altered_policy g.dropped_policy g.grant g.granted_privileges g.granted_roles g.revoke g.revoked_privileges g.revoked_memberships g.revoked_option g.revoked_roles g.set_role
-  body_select x = last_tells ((g.select inner).rule.prints.writes (st.Select x)) (form.statement (st.Select x)) (statement_select inner ih x)
+  body_select x = last_tells ((g.select inner).rule.prints.writes (Statement.Select x)) (form.statement (Statement.Select x)) (statement_select inner ih x)
 
-  body_insert : (x : Insert) → Tells ((g.body inner).rule.prints.writes (st.Insert x)) (form.statement (st.Insert x))
+  body_insert : (x : Insert) → Tells ((g.body inner).rule.prints.writes (Statement.Insert x)) (form.statement (Statement.Insert x))
   unfolding g.body g.select g.update g.delete g.create g.alter g.flat_body g.role g.table g.policy g.altered_role g.altered_table g.altered_policy g.dropped_policy g.grant g.granted_privileges g.granted_roles g.revoke g.revoked_privileges g.revoked_memberships g.revoked_option g.revoked_roles g.set_role
-  body_insert x = last_tells ((g.insert inner).rule.prints.writes (st.Insert x)) (form.statement (st.Insert x)) (insert_tells inner ih x)
+  body_insert x = last_tells ((g.insert inner).rule.prints.writes (Statement.Insert x)) (form.statement (Statement.Insert x)) (insert_tells inner ih x)
 
-  body_update : (x : Update) → Tells ((g.body inner).rule.prints.writes (st.Update x)) (form.statement (st.Update x))
+  body_update : (x : Update) → Tells ((g.body inner).rule.prints.writes (Statement.Update x)) (form.statement (Statement.Update x))
   unfolding g.body g.select g.insert g.delete g.create g.alter g.flat_body g.role g.table g.policy g.altered_role g.altered_table g.altered_policy g.dropped_policy g.grant g.granted_privileges g.granted_roles g.revoke g.revoked_privileges g.revoked_memberships g.revoked_option g.revoked_roles g.set_role
-  body_update x = last_tells ((g.update inner).rule.prints.writes (st.Update x)) (form.statement (st.Update x)) (update_tells inner ih x)
+  body_update x = last_tells ((g.update inner).rule.prints.writes (Statement.Update x)) (form.statement (Statement.Update x)) (update_tells inner ih x)
 
-  body_delete : (x : Delete) → Tells ((g.body inner).rule.prints.writes (st.Delete x)) (form.statement (st.Delete x))
+  body_delete : (x : Delete) → Tells ((g.body inner).rule.prints.writes (Statement.Delete x)) (form.statement (Statement.Delete x))
   unfolding g.body g.select g.insert g.update g.create g.alter g.flat_body g.role g.table g.policy g.altered_role g.altered_table g.altered_policy g.dropped_policy g.grant g.granted_privileges g.granted_roles g.revoke g.revoked_privileges g.revoked_memberships g.revoked_option g.revoked_roles g.set_role
-  body_delete x = last_tells ((g.delete inner).rule.prints.writes (st.Delete x)) (form.statement (st.Delete x)) (delete_tells inner ih x)
+  body_delete x = last_tells ((g.delete inner).rule.prints.writes (Statement.Delete x)) (form.statement (Statement.Delete x)) (delete_tells inner ih x)
 
-  body_role : (x : CreateRole) → Tells ((g.body inner).rule.prints.writes (st.CreateRole x)) (form.statement (st.CreateRole x))
+  body_role : (x : CreateRole) → Tells ((g.body inner).rule.prints.writes (Statement.CreateRole x)) (form.statement (Statement.CreateRole x))
   unfolding g.body g.select g.insert g.update g.delete g.create g.alter g.flat_body g.table g.policy g.altered_role g.altered_table g.altered_policy g.dropped_policy g.grant g.granted_privileges g.granted_roles g.revoke g.revoked_privileges g.revoked_memberships g.revoked_option g.revoked_roles g.set_role
   body_role x =
-      last_tells (joined (Some (t.Word (codes "create") ∷ [])) (or_else (joined (Some (t.Word (codes "role") ∷ [])) ((g.role false).prints.writes (st.CreateRole x))) (or_else (joined (Some (t.Word (codes "user") ∷ [])) ((g.role true).prints.writes (st.CreateRole x))) None))) (form.statement (st.CreateRole x))
-      (both_tell (Some (t.Word (codes "create") ∷ [])) (or_else (joined (Some (t.Word (codes "role") ∷ [])) ((g.role false).prints.writes (st.CreateRole x))) (or_else (joined (Some (t.Word (codes "user") ∷ [])) ((g.role true).prints.writes (st.CreateRole x))) None)) (Word (codes "CREATE") ∷ []) (Word (codes "ROLE") ∷ (Word x.name ∷ form.attributes x.attributes)) (λ ts e. e)
-      (either_tells (joined (Some (t.Word (codes "role") ∷ [])) ((g.role false).prints.writes (st.CreateRole x))) (or_else (joined (Some (t.Word (codes "user") ∷ [])) ((g.role true).prints.writes (st.CreateRole x))) None) (Word (codes "ROLE") ∷ (Word x.name ∷ form.attributes x.attributes)) (both_tell (Some (t.Word (codes "role") ∷ [])) ((g.role false).prints.writes (st.CreateRole x)) (Word (codes "ROLE") ∷ []) (Word x.name ∷ form.attributes x.attributes) (λ ts e. e) (role_tells x)) (last_tells (joined (Some (t.Word (codes "user") ∷ [])) ((g.role true).prints.writes (st.CreateRole x))) (Word (codes "ROLE") ∷ (Word x.name ∷ form.attributes x.attributes)) (user_case x (Word (codes "ROLE") ∷ (Word x.name ∷ form.attributes x.attributes))))))
+      last_tells (joined (Some (Token.Word (codes "create") ∷ [])) (or_else (joined (Some (Token.Word (codes "role") ∷ [])) ((g.role false).prints.writes (Statement.CreateRole x))) (or_else (joined (Some (Token.Word (codes "user") ∷ [])) ((g.role true).prints.writes (Statement.CreateRole x))) None))) (form.statement (Statement.CreateRole x))
+      (both_tell (Some (Token.Word (codes "create") ∷ [])) (or_else (joined (Some (Token.Word (codes "role") ∷ [])) ((g.role false).prints.writes (Statement.CreateRole x))) (or_else (joined (Some (Token.Word (codes "user") ∷ [])) ((g.role true).prints.writes (Statement.CreateRole x))) None)) (Word (codes "CREATE") ∷ []) (Word (codes "ROLE") ∷ (Word x.name ∷ form.attributes x.attributes)) (λ ts e. e)
+      (either_tells (joined (Some (Token.Word (codes "role") ∷ [])) ((g.role false).prints.writes (Statement.CreateRole x))) (or_else (joined (Some (Token.Word (codes "user") ∷ [])) ((g.role true).prints.writes (Statement.CreateRole x))) None) (Word (codes "ROLE") ∷ (Word x.name ∷ form.attributes x.attributes)) (both_tell (Some (Token.Word (codes "role") ∷ [])) ((g.role false).prints.writes (Statement.CreateRole x)) (Word (codes "ROLE") ∷ []) (Word x.name ∷ form.attributes x.attributes) (λ ts e. e) (role_tells x)) (last_tells (joined (Some (Token.Word (codes "user") ∷ [])) ((g.role true).prints.writes (Statement.CreateRole x))) (Word (codes "ROLE") ∷ (Word x.name ∷ form.attributes x.attributes)) (user_case x (Word (codes "ROLE") ∷ (Word x.name ∷ form.attributes x.attributes))))))
 
-  body_table : (x : CreateTable) → Tells ((g.body inner).rule.prints.writes (st.CreateTable x)) (form.statement (st.CreateTable x))
+  body_table : (x : CreateTable) → Tells ((g.body inner).rule.prints.writes (Statement.CreateTable x)) (form.statement (Statement.CreateTable x))
   unfolding g.body g.select g.insert g.update g.delete g.create g.alter g.flat_body g.role g.policy g.altered_role g.altered_table g.altered_policy g.dropped_policy g.grant g.granted_privileges g.granted_roles g.revoke g.revoked_privileges g.revoked_memberships g.revoked_option g.revoked_roles g.set_role
   body_table x =
-      last_tells (joined (Some (t.Word (codes "create") ∷ [])) (or_else (joined (Some (t.Word (codes "table") ∷ [])) (g.table.prints.writes (st.CreateTable x))) None)) (form.statement (st.CreateTable x))
-      (both_tell (Some (t.Word (codes "create") ∷ [])) (or_else (joined (Some (t.Word (codes "table") ∷ [])) (g.table.prints.writes (st.CreateTable x))) None) (Word (codes "CREATE") ∷ []) (Word (codes "TABLE") ∷ (Word x.name ∷ expr_form.enclosed (form.listed form.column x.columns ++ form.key x.key))) (λ ts e. e)
-      (last_tells (joined (Some (t.Word (codes "table") ∷ [])) (g.table.prints.writes (st.CreateTable x))) (Word (codes "TABLE") ∷ (Word x.name ∷ expr_form.enclosed (form.listed form.column x.columns ++ form.key x.key))) (both_tell (Some (t.Word (codes "table") ∷ [])) (g.table.prints.writes (st.CreateTable x)) (Word (codes "TABLE") ∷ []) (Word x.name ∷ expr_form.enclosed (form.listed form.column x.columns ++ form.key x.key)) (λ ts e. e) (table_tells x))))
+      last_tells (joined (Some (Token.Word (codes "create") ∷ [])) (or_else (joined (Some (Token.Word (codes "table") ∷ [])) (g.table.prints.writes (Statement.CreateTable x))) None)) (form.statement (Statement.CreateTable x))
+      (both_tell (Some (Token.Word (codes "create") ∷ [])) (or_else (joined (Some (Token.Word (codes "table") ∷ [])) (g.table.prints.writes (Statement.CreateTable x))) None) (Word (codes "CREATE") ∷ []) (Word (codes "TABLE") ∷ (Word x.name ∷ expr_form.enclosed (form.listed form.column x.columns ++ form.key x.key))) (λ ts e. e)
+      (last_tells (joined (Some (Token.Word (codes "table") ∷ [])) (g.table.prints.writes (Statement.CreateTable x))) (Word (codes "TABLE") ∷ (Word x.name ∷ expr_form.enclosed (form.listed form.column x.columns ++ form.key x.key))) (both_tell (Some (Token.Word (codes "table") ∷ [])) (g.table.prints.writes (Statement.CreateTable x)) (Word (codes "TABLE") ∷ []) (Word x.name ∷ expr_form.enclosed (form.listed form.column x.columns ++ form.key x.key)) (λ ts e. e) (table_tells x))))
 
-  body_policy : (x : CreatePolicy) → Tells ((g.body inner).rule.prints.writes (st.CreatePolicy x)) (form.statement (st.CreatePolicy x))
+  body_policy : (x : CreatePolicy) → Tells ((g.body inner).rule.prints.writes (Statement.CreatePolicy x)) (form.statement (Statement.CreatePolicy x))
   unfolding g.body g.select g.insert g.update g.delete g.create g.alter g.flat_body g.role g.table g.altered_role g.altered_table g.altered_policy g.dropped_policy g.grant g.granted_privileges g.granted_roles g.revoke g.revoked_privileges g.revoked_memberships g.revoked_option g.revoked_roles g.set_role
   body_policy x =
-      last_tells (joined (Some (t.Word (codes "create") ∷ [])) (joined (Some (t.Word (codes "policy") ∷ [])) ((g.policy inner).rule.prints.writes (st.CreatePolicy x)))) (form.statement (st.CreatePolicy x))
-      (both_tell (Some (t.Word (codes "create") ∷ [])) (joined (Some (t.Word (codes "policy") ∷ [])) ((g.policy inner).rule.prints.writes (st.CreatePolicy x))) (Word (codes "CREATE") ∷ []) (Word (codes "POLICY") ∷ (form.policy_on x.policy.name x.table ++ form.description x.policy)) (λ ts e. e)
-      (both_tell (Some (t.Word (codes "policy") ∷ [])) ((g.policy inner).rule.prints.writes (st.CreatePolicy x)) (Word (codes "POLICY") ∷ []) (form.policy_on x.policy.name x.table ++ form.description x.policy) (λ ts e. e) (policy_tells inner ih x)))
+      last_tells (joined (Some (Token.Word (codes "create") ∷ [])) (joined (Some (Token.Word (codes "policy") ∷ [])) ((g.policy inner).rule.prints.writes (Statement.CreatePolicy x)))) (form.statement (Statement.CreatePolicy x))
+      (both_tell (Some (Token.Word (codes "create") ∷ [])) (joined (Some (Token.Word (codes "policy") ∷ [])) ((g.policy inner).rule.prints.writes (Statement.CreatePolicy x))) (Word (codes "CREATE") ∷ []) (Word (codes "POLICY") ∷ (form.policy_on x.policy.name x.table ++ form.description x.policy)) (λ ts e. e)
+      (both_tell (Some (Token.Word (codes "policy") ∷ [])) ((g.policy inner).rule.prints.writes (Statement.CreatePolicy x)) (Word (codes "POLICY") ∷ []) (form.policy_on x.policy.name x.table ++ form.description x.policy) (λ ts e. e) (policy_tells inner ih x)))
 
-  body_alter_role : (x : AlterRole) → Tells ((g.body inner).rule.prints.writes (st.AlterRole x)) (form.statement (st.AlterRole x))
+  body_alter_role : (x : AlterRole) → Tells ((g.body inner).rule.prints.writes (Statement.AlterRole x)) (form.statement (Statement.AlterRole x))
   unfolding g.body g.select g.insert g.update g.delete g.create g.alter g.flat_body g.role g.table g.policy g.altered_table g.altered_policy g.dropped_policy g.grant g.granted_privileges g.granted_roles g.revoke g.revoked_privileges g.revoked_memberships g.revoked_option g.revoked_roles g.set_role
   body_alter_role x =
-      last_tells (joined (Some (t.Word (codes "alter") ∷ [])) (or_else (joined (Some (t.Word (codes "role") ∷ [])) (g.altered_role.prints.writes (st.AlterRole x))) None)) (form.statement (st.AlterRole x))
-      (both_tell (Some (t.Word (codes "alter") ∷ [])) (or_else (joined (Some (t.Word (codes "role") ∷ [])) (g.altered_role.prints.writes (st.AlterRole x))) None) (Word (codes "ALTER") ∷ []) (Word (codes "ROLE") ∷ (Word x.name ∷ form.attributes x.attributes)) (λ ts e. e)
-      (last_tells (joined (Some (t.Word (codes "role") ∷ [])) (g.altered_role.prints.writes (st.AlterRole x))) (Word (codes "ROLE") ∷ (Word x.name ∷ form.attributes x.attributes)) (both_tell (Some (t.Word (codes "role") ∷ [])) (g.altered_role.prints.writes (st.AlterRole x)) (Word (codes "ROLE") ∷ []) (Word x.name ∷ form.attributes x.attributes) (λ ts e. e) (altered_role_tells x))))
+      last_tells (joined (Some (Token.Word (codes "alter") ∷ [])) (or_else (joined (Some (Token.Word (codes "role") ∷ [])) (g.altered_role.prints.writes (Statement.AlterRole x))) None)) (form.statement (Statement.AlterRole x))
+      (both_tell (Some (Token.Word (codes "alter") ∷ [])) (or_else (joined (Some (Token.Word (codes "role") ∷ [])) (g.altered_role.prints.writes (Statement.AlterRole x))) None) (Word (codes "ALTER") ∷ []) (Word (codes "ROLE") ∷ (Word x.name ∷ form.attributes x.attributes)) (λ ts e. e)
+      (last_tells (joined (Some (Token.Word (codes "role") ∷ [])) (g.altered_role.prints.writes (Statement.AlterRole x))) (Word (codes "ROLE") ∷ (Word x.name ∷ form.attributes x.attributes)) (both_tell (Some (Token.Word (codes "role") ∷ [])) (g.altered_role.prints.writes (Statement.AlterRole x)) (Word (codes "ROLE") ∷ []) (Word x.name ∷ form.attributes x.attributes) (λ ts e. e) (altered_role_tells x))))
 
-  body_alter_table : (x : AlterTable) → Tells ((g.body inner).rule.prints.writes (st.AlterTable x)) (form.statement (st.AlterTable x))
+  body_alter_table : (x : AlterTable) → Tells ((g.body inner).rule.prints.writes (Statement.AlterTable x)) (form.statement (Statement.AlterTable x))
   unfolding g.body g.select g.insert g.update g.delete g.create g.alter g.flat_body g.role g.table g.policy g.altered_role g.altered_policy g.dropped_policy g.grant g.granted_privileges g.granted_roles g.revoke g.revoked_privileges g.revoked_memberships g.revoked_option g.revoked_roles g.set_role
   body_alter_table x =
-      last_tells (joined (Some (t.Word (codes "alter") ∷ [])) (or_else (joined (Some (t.Word (codes "table") ∷ [])) (g.altered_table.prints.writes (st.AlterTable x))) None)) (form.statement (st.AlterTable x))
-      (both_tell (Some (t.Word (codes "alter") ∷ [])) (or_else (joined (Some (t.Word (codes "table") ∷ [])) (g.altered_table.prints.writes (st.AlterTable x))) None) (Word (codes "ALTER") ∷ []) (Word (codes "TABLE") ∷ (Word x.table ∷ (form.row_change x.change ++ Word (codes "ROW") ∷ Word (codes "LEVEL") ∷ Word (codes "SECURITY") ∷ []))) (λ ts e. e)
-      (last_tells (joined (Some (t.Word (codes "table") ∷ [])) (g.altered_table.prints.writes (st.AlterTable x))) (Word (codes "TABLE") ∷ (Word x.table ∷ (form.row_change x.change ++ Word (codes "ROW") ∷ Word (codes "LEVEL") ∷ Word (codes "SECURITY") ∷ []))) (both_tell (Some (t.Word (codes "table") ∷ [])) (g.altered_table.prints.writes (st.AlterTable x)) (Word (codes "TABLE") ∷ []) (Word x.table ∷ (form.row_change x.change ++ Word (codes "ROW") ∷ Word (codes "LEVEL") ∷ Word (codes "SECURITY") ∷ [])) (λ ts e. e) (altered_table_tells x))))
+      last_tells (joined (Some (Token.Word (codes "alter") ∷ [])) (or_else (joined (Some (Token.Word (codes "table") ∷ [])) (g.altered_table.prints.writes (Statement.AlterTable x))) None)) (form.statement (Statement.AlterTable x))
+      (both_tell (Some (Token.Word (codes "alter") ∷ [])) (or_else (joined (Some (Token.Word (codes "table") ∷ [])) (g.altered_table.prints.writes (Statement.AlterTable x))) None) (Word (codes "ALTER") ∷ []) (Word (codes "TABLE") ∷ (Word x.table ∷ (form.row_change x.change ++ Word (codes "ROW") ∷ Word (codes "LEVEL") ∷ Word (codes "SECURITY") ∷ []))) (λ ts e. e)
+      (last_tells (joined (Some (Token.Word (codes "table") ∷ [])) (g.altered_table.prints.writes (Statement.AlterTable x))) (Word (codes "TABLE") ∷ (Word x.table ∷ (form.row_change x.change ++ Word (codes "ROW") ∷ Word (codes "LEVEL") ∷ Word (codes "SECURITY") ∷ []))) (both_tell (Some (Token.Word (codes "table") ∷ [])) (g.altered_table.prints.writes (Statement.AlterTable x)) (Word (codes "TABLE") ∷ []) (Word x.table ∷ (form.row_change x.change ++ Word (codes "ROW") ∷ Word (codes "LEVEL") ∷ Word (codes "SECURITY") ∷ [])) (λ ts e. e) (altered_table_tells x))))
 
-  body_alter_policy : (x : AlterPolicy) → Tells ((g.body inner).rule.prints.writes (st.AlterPolicy x)) (form.statement (st.AlterPolicy x))
+  body_alter_policy : (x : AlterPolicy) → Tells ((g.body inner).rule.prints.writes (Statement.AlterPolicy x)) (form.statement (Statement.AlterPolicy x))
   unfolding g.body g.select g.insert g.update g.delete g.create g.alter g.flat_body g.role g.table g.policy g.altered_role g.altered_table g.dropped_policy g.grant g.granted_privileges g.granted_roles g.revoke g.revoked_privileges g.revoked_memberships g.revoked_option g.revoked_roles g.set_role
   body_alter_policy x =
-      last_tells (joined (Some (t.Word (codes "alter") ∷ [])) (joined (Some (t.Word (codes "policy") ∷ [])) ((g.altered_policy inner).rule.prints.writes (st.AlterPolicy x)))) (form.statement (st.AlterPolicy x))
-      (both_tell (Some (t.Word (codes "alter") ∷ [])) (joined (Some (t.Word (codes "policy") ∷ [])) ((g.altered_policy inner).rule.prints.writes (st.AlterPolicy x))) (Word (codes "ALTER") ∷ []) (Word (codes "POLICY") ∷ (form.policy_on x.name x.table ++ (form.to_if_any x.to ++ (form.using_ x.using ++ form.check_ x.check)))) (λ ts e. e)
-      (both_tell (Some (t.Word (codes "policy") ∷ [])) ((g.altered_policy inner).rule.prints.writes (st.AlterPolicy x)) (Word (codes "POLICY") ∷ []) (form.policy_on x.name x.table ++ (form.to_if_any x.to ++ (form.using_ x.using ++ form.check_ x.check))) (λ ts e. e) (altered_policy_tells inner ih x)))
+      last_tells (joined (Some (Token.Word (codes "alter") ∷ [])) (joined (Some (Token.Word (codes "policy") ∷ [])) ((g.altered_policy inner).rule.prints.writes (Statement.AlterPolicy x)))) (form.statement (Statement.AlterPolicy x))
+      (both_tell (Some (Token.Word (codes "alter") ∷ [])) (joined (Some (Token.Word (codes "policy") ∷ [])) ((g.altered_policy inner).rule.prints.writes (Statement.AlterPolicy x))) (Word (codes "ALTER") ∷ []) (Word (codes "POLICY") ∷ (form.policy_on x.name x.table ++ (form.to_if_any x.to ++ (form.using_ x.using ++ form.check_ x.check)))) (λ ts e. e)
+      (both_tell (Some (Token.Word (codes "policy") ∷ [])) ((g.altered_policy inner).rule.prints.writes (Statement.AlterPolicy x)) (Word (codes "POLICY") ∷ []) (form.policy_on x.name x.table ++ (form.to_if_any x.to ++ (form.using_ x.using ++ form.check_ x.check))) (λ ts e. e) (altered_policy_tells inner ih x)))
 
-  body_drop : (x : DropPolicy) → Tells ((g.body inner).rule.prints.writes (st.DropPolicy x)) (form.statement (st.DropPolicy x))
+  body_drop : (x : DropPolicy) → Tells ((g.body inner).rule.prints.writes (Statement.DropPolicy x)) (form.statement (Statement.DropPolicy x))
   unfolding g.body g.select g.insert g.update g.delete g.create g.alter g.flat_body g.role g.table g.policy g.altered_role g.altered_table g.altered_policy g.grant g.granted_privileges g.granted_roles g.revoke g.revoked_privileges g.revoked_memberships g.revoked_option g.revoked_roles g.set_role
-  body_drop x = last_tells (g.dropped_policy.prints.writes (st.DropPolicy x)) (form.statement (st.DropPolicy x)) (dropped_tells x)
+  body_drop x = last_tells (g.dropped_policy.prints.writes (Statement.DropPolicy x)) (form.statement (Statement.DropPolicy x)) (dropped_tells x)
 
-  body_grant : (x : GrantPrivileges) → Tells ((g.body inner).rule.prints.writes (st.Grant x)) (form.statement (st.Grant x))
+  body_grant : (x : GrantPrivileges) → Tells ((g.body inner).rule.prints.writes (Statement.Grant x)) (form.statement (Statement.Grant x))
   unfolding g.body g.select g.insert g.update g.delete g.create g.alter g.flat_body g.role g.table g.policy g.altered_role g.altered_table g.altered_policy g.dropped_policy g.granted_privileges g.granted_roles g.revoke g.revoked_privileges g.revoked_memberships g.revoked_option g.revoked_roles g.set_role
-  body_grant x = last_tells (g.grant.prints.writes (st.Grant x)) (form.statement (st.Grant x)) (grant_tells x)
+  body_grant x = last_tells (g.grant.prints.writes (Statement.Grant x)) (form.statement (Statement.Grant x)) (grant_tells x)
 
-  body_grant_roles : (x : GrantRoles) → Tells ((g.body inner).rule.prints.writes (st.GrantRoles x)) (form.statement (st.GrantRoles x))
+  body_grant_roles : (x : GrantRoles) → Tells ((g.body inner).rule.prints.writes (Statement.GrantRoles x)) (form.statement (Statement.GrantRoles x))
   unfolding g.body g.select g.insert g.update g.delete g.create g.alter g.flat_body g.role g.table g.policy g.altered_role g.altered_table g.altered_policy g.dropped_policy g.granted_privileges g.granted_roles g.revoke g.revoked_privileges g.revoked_memberships g.revoked_option g.revoked_roles g.set_role
-  body_grant_roles x = last_tells (g.grant.prints.writes (st.GrantRoles x)) (form.statement (st.GrantRoles x)) (grant_roles_tell x)
+  body_grant_roles x = last_tells (g.grant.prints.writes (Statement.GrantRoles x)) (form.statement (Statement.GrantRoles x)) (grant_roles_tell x)
 
-  body_revoke : (x : RevokePrivileges) → Tells ((g.body inner).rule.prints.writes (st.Revoke x)) (form.statement (st.Revoke x))
+  body_revoke : (x : RevokePrivileges) → Tells ((g.body inner).rule.prints.writes (Statement.Revoke x)) (form.statement (Statement.Revoke x))
   unfolding g.body g.select g.insert g.update g.delete g.create g.alter g.flat_body g.role g.table g.policy g.altered_role g.altered_table g.altered_policy g.dropped_policy g.grant g.granted_privileges g.granted_roles g.revoked_privileges g.revoked_memberships g.revoked_option g.revoked_roles g.set_role
-  body_revoke x = last_tells (g.revoke.prints.writes (st.Revoke x)) (form.statement (st.Revoke x)) (revoke_tells x)
+  body_revoke x = last_tells (g.revoke.prints.writes (Statement.Revoke x)) (form.statement (Statement.Revoke x)) (revoke_tells x)
 
-  body_revoke_roles : (x : RevokeRoles) → Tells ((g.body inner).rule.prints.writes (st.RevokeRoles x)) (form.statement (st.RevokeRoles x))
+  body_revoke_roles : (x : RevokeRoles) → Tells ((g.body inner).rule.prints.writes (Statement.RevokeRoles x)) (form.statement (Statement.RevokeRoles x))
   unfolding g.body g.select g.insert g.update g.delete g.create g.alter g.flat_body g.role g.table g.policy g.altered_role g.altered_table g.altered_policy g.dropped_policy g.grant g.granted_privileges g.granted_roles g.revoked_privileges g.revoked_memberships g.revoked_option g.revoked_roles g.set_role
-  body_revoke_roles x = last_tells (g.revoke.prints.writes (st.RevokeRoles x)) (form.statement (st.RevokeRoles x)) (revoke_roles_tell x)
+  body_revoke_roles x = last_tells (g.revoke.prints.writes (Statement.RevokeRoles x)) (form.statement (Statement.RevokeRoles x)) (revoke_roles_tell x)
 
-  body_set : (x : SetRole) → Tells ((g.body inner).rule.prints.writes (st.SetRole x)) (form.statement (st.SetRole x))
+  body_set : (x : SetRole) → Tells ((g.body inner).rule.prints.writes (Statement.SetRole x)) (form.statement (Statement.SetRole x))
   unfolding g.body g.select g.insert g.update g.delete g.create g.alter g.flat_body g.role g.table g.policy g.altered_role g.altered_table g.altered_policy g.dropped_policy g.grant g.granted_privileges g.granted_roles g.revoke g.revoked_privileges g.revoked_memberships g.revoked_option g.revoked_roles
   body_set x = set_tells x
 
   body_tells : (x : Statement) → Tells ((g.body inner).rule.prints.writes x) (form.statement x)
-  body_tells (st.Select x) = body_select x
-  body_tells (st.Insert x) = body_insert x
-  body_tells (st.Update x) = body_update x
-  body_tells (st.Delete x) = body_delete x
-  body_tells (st.CreateRole x) = body_role x
-  body_tells (st.CreateTable x) = body_table x
-  body_tells (st.CreatePolicy x) = body_policy x
-  body_tells (st.AlterRole x) = body_alter_role x
-  body_tells (st.AlterTable x) = body_alter_table x
-  body_tells (st.AlterPolicy x) = body_alter_policy x
-  body_tells (st.DropPolicy x) = body_drop x
-  body_tells (st.Grant x) = body_grant x
-  body_tells (st.GrantRoles x) = body_grant_roles x
-  body_tells (st.Revoke x) = body_revoke x
-  body_tells (st.RevokeRoles x) = body_revoke_roles x
-  body_tells (st.SetRole x) = body_set x
+  body_tells (Statement.Select x) = body_select x
+  body_tells (Statement.Insert x) = body_insert x
+  body_tells (Statement.Update x) = body_update x
+  body_tells (Statement.Delete x) = body_delete x
+  body_tells (Statement.CreateRole x) = body_role x
+  body_tells (Statement.CreateTable x) = body_table x
+  body_tells (Statement.CreatePolicy x) = body_policy x
+  body_tells (Statement.AlterRole x) = body_alter_role x
+  body_tells (Statement.AlterTable x) = body_alter_table x
+  body_tells (Statement.AlterPolicy x) = body_alter_policy x
+  body_tells (Statement.DropPolicy x) = body_drop x
+  body_tells (Statement.Grant x) = body_grant x
+  body_tells (Statement.GrantRoles x) = body_grant_roles x
+  body_tells (Statement.Revoke x) = body_revoke x
+  body_tells (Statement.RevokeRoles x) = body_revoke_roles x
+  body_tells (Statement.SetRole x) = body_set x
 
 -- What is written for a statement are the tokens of its words.
 pub statement_tells : (depth : ℕ) (x : Statement) → Tells ((g.statement depth).rule.prints.writes x) (form.statement x)

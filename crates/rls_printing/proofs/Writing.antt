@@ -1,37 +1,15 @@
 -- What the grammar writes for an expression are the words of which it is printed.
-use Rattle.std.proofs.Common.{◌≡◌, ℕ, zero, suc, Bool, true, false, ◌&&◌, not, length, nat_le, if◌then◌else◌, List, [], ◌∷◌, ◌++◌, Option, Some, None, refl, ap, sym, ◌∙◌, inl, inr, append_assoc, append-nil, subst, ◌-◌, ◌^◌}
-use Rattle.std.specs.Prelude.{pos, negsuc, codes}
-use Rattle.rls_value.specs.Names.{reserved, is_name_text, folded}
-use Rattle.rls_value.specs.declared.value.Value.{Value}
-use Rattle.rls_value.specs.declared.value.Value.TheVariants as v
-use Rattle.rls_expr.specs.Terms.{Term, Terms, Query, Literal, Column, Place, CurrentUser, Compare, And, Or, Not, IsNull, IsNotNull, Among, NotAmong, Exists, Within, NotWithin, Scalar, Sum, End, More, Select, terms_of, maybe_term}
-use Rattle.rls_expr.specs.declared.column_name.ColumnName.{ColumnName}
-use Rattle.rls_expr.specs.declared.expr.FromItem.{FromItem}
-use Rattle.rls_expr.specs.declared.expr.Comparison.{Comparison}
-use Rattle.rls_expr.specs.declared.expr.Comparison.TheVariants as c
-use Rattle.rls_expr.specs.declared.expr.Selects.TheVariants as selects
-use Rattle.rls_expr.specs.declared.expr.Sign.{Sign}
-use Rattle.rls_expr.specs.declared.expr.Sign.TheVariants as part
+use Rattle.std.{proofs.Common.◌≡◌, proofs.Common.ℕ, proofs.Common.zero, proofs.Common.suc, proofs.Common.Bool, proofs.Common.true, proofs.Common.false, proofs.Common.◌&&◌, proofs.Common.not, proofs.Common.length, proofs.Common.nat_le, proofs.Common.if◌then◌else◌, proofs.Common.List, proofs.Common.[], proofs.Common.◌∷◌, proofs.Common.◌++◌, proofs.Common.Option, proofs.Common.Some, proofs.Common.None, proofs.Common.refl, proofs.Common.ap, proofs.Common.sym, proofs.Common.◌∙◌, proofs.Common.inl, proofs.Common.inr, proofs.Common.append_assoc, proofs.Common.append-nil, proofs.Common.subst, proofs.Common.◌-◌, proofs.Common.◌^◌, proofs.lemmas.Slice.Eq.bytes_eq-Decides, specs.Prelude.pos, specs.Prelude.negsuc, specs.Prelude.codes, specs.Str.bytes_eq}
+use Rattle.rls_value.specs.{Names.reserved, Names.is_name_text, Names.folded, declared.value.Value.Value}
+use Rattle.rls_expr.specs.{Terms.Term, Terms.Terms, Terms.Query, Terms.Literal, Terms.Column, Terms.Place, Terms.CurrentUser, Terms.Compare, Terms.And, Terms.Or, Terms.Not, Terms.IsNull, Terms.IsNotNull, Terms.Among, Terms.NotAmong, Terms.Exists, Terms.Within, Terms.NotWithin, Terms.Scalar, Terms.Sum, Terms.End, Terms.More, Terms.Select, Terms.terms_of, Terms.maybe_term, declared.column_name.ColumnName.ColumnName, declared.expr.FromItem.FromItem, declared.expr.Comparison.Comparison, declared.expr.Sign.Sign, declared.expr.Selects.Selects}
 use Rattle.rls_statement.specs.declared.statement.Selected.{Selected}
-use Rattle.rls_statement.specs.declared.statement.Selected.TheVariants as chosen
-use Rattle.rls_text.specs.declared.token.Symbol.TheVariants as s
-use Rattle.rls_text.specs.declared.token.Token.{Token}
-use Rattle.rls_text.specs.declared.token.Token.TheVariants as t
-use Rattle.rls_text.specs.Cut.{Cut}
+use Rattle.rls_text.specs.{declared.token.Symbol.Symbol, declared.token.Token.Token, Cut.Cut, Cutting.tree_of, FirstSets.expr_heads, FirstSets.expr_more, Rule.with_comma, Rule.given_if, Values.Choices, Values.SelectParts, Writes.Writer, Writes.joined, Writes.or_else, Writes.written_if, Writes.alone_if, Writes.some_is, Writes.many_writes, Writes.perhaps_writes}
 use Rattle.rls_text.specs.Cut as cut
-use Rattle.rls_text.specs.Cutting.{tree_of}
-use Rattle.rls_text.specs.FirstSets.{expr_heads, expr_more}
 use Rattle.rls_text.specs.Grammar as g
-use Rattle.rls_text.specs.Rule.{with_comma, given_if}
-use Rattle.std.specs.Str.{bytes_eq}
-use Rattle.std.proofs.lemmas.Slice.Eq.{bytes_eq-Decides}
-use Rattle.rls_text.specs.Values.{Choices, SelectParts}
 use Rattle.rls_text.specs.WaysBack as back
-use Rattle.rls_text.specs.Writes.{Writer, joined, or_else, written_if, alone_if, some_is, many_writes, perhaps_writes}
 use Rattle.rls_printing.specs.ExprForms as form
 use Rattle.rls_printing.specs.StatementForms as sform
-use Rattle.rls_printing.specs.Pieces.{Piece, Word, Qualified, Marked, piece_tokens, tokens_of, word_token}
-use Rattle.rls_printing.specs.declared.page.Mark.TheVariants as m
+use Rattle.rls_printing.specs.{Pieces.Piece, Pieces.Word, Pieces.Qualified, Pieces.Marked, Pieces.piece_tokens, Pieces.tokens_of, Pieces.word_token, declared.page.Mark.Mark}
 
 -- what is written, if anything is, are the tokens of the words
 abbrev pub Tells : Option (List Token) → List Piece → Type 0
@@ -64,8 +42,8 @@ pub if_tells : (b : Bool) (o : Option (List Token)) (ps : List Piece) → Tells 
 if_tells true o ps h = h
 if_tells false o ps h = none_tells ps
 
-pub enclosed_tells : (o : Option (List Token)) (ps : List Piece) → Tells o ps → Tells (joined (Some (t.Symbol s.LParen ∷ [])) (joined o (Some (t.Symbol s.RParen ∷ [])))) (form.enclosed ps)
-enclosed_tells o ps h = both_tell (Some (t.Symbol s.LParen ∷ [])) (joined o (Some (t.Symbol s.RParen ∷ []))) (Marked m.Open ∷ []) (ps ++ Marked m.Close ∷ []) (λ ts e. e) (both_tell o (Some (t.Symbol s.RParen ∷ [])) ps (Marked m.Close ∷ []) h (λ ts e. e))
+pub enclosed_tells : (o : Option (List Token)) (ps : List Piece) → Tells o ps → Tells (joined (Some (Token.Symbol Symbol.LParen ∷ [])) (joined o (Some (Token.Symbol Symbol.RParen ∷ [])))) (form.enclosed ps)
+enclosed_tells o ps h = both_tell (Some (Token.Symbol Symbol.LParen ∷ [])) (joined o (Some (Token.Symbol Symbol.RParen ∷ []))) (Marked Mark.Open ∷ []) (ps ++ Marked Mark.Close ∷ []) (λ ts e. e) (both_tell o (Some (Token.Symbol Symbol.RParen ∷ [])) ps (Marked Mark.Close ∷ []) h (λ ts e. e))
 
 -- ---- names and literals
 
@@ -84,42 +62,42 @@ name_tells x ts h = go (reserved x) (is_name_text x) refl (reserved (folded x)) 
     go false true k false false i = cc
     go false true k false true i = told (bytes_eq (folded x) x) refl i
       where
-        told : (b : Bool) → bytes_eq (folded x) x ≡ b → alone_if (given_if b (t.Word x)) ≡ Some ts → tokens_of (Word x ∷ []) ≡ Some ts
-        told true e j = rw k (ap (λ z. Some (t.Word z ∷ [])) (bytes_are (folded x) x e) ∙ j)
+        told : (b : Bool) → bytes_eq (folded x) x ≡ b → alone_if (given_if b (Token.Word x)) ≡ Some ts → tokens_of (Word x ∷ []) ≡ Some ts
+        told true e j = rw k (ap (λ z. Some (Token.Word z ∷ [])) (bytes_are (folded x) x e) ∙ j)
         told false e j = cc
 
 literal_tells : (x : Value) → Tells (g.literal.prints.writes x) (form.literal x ∷ [])
 unfolding g.literal g.constant g.text g.number g.digits
-literal_tells v.Null ts h = h
-literal_tells (v.Bool true) ts h = h
-literal_tells (v.Bool false) ts h = h
-literal_tells (v.Text x) ts h = h
-literal_tells (v.Int (pos n)) ts h = go (nat_le n (2 ^ 63 - 1)) h
+literal_tells Value.Null ts h = h
+literal_tells (Value.Bool true) ts h = h
+literal_tells (Value.Bool false) ts h = h
+literal_tells (Value.Text x) ts h = h
+literal_tells (Value.Int (pos n)) ts h = go (nat_le n (2 ^ 63 - 1)) h
   where
-    go : (b : Bool) → (if b then Some (t.Number n ∷ []) else None) ≡ Some ts → joined (if b then Some (t.Number n ∷ []) else None) (Some []) ≡ Some ts
+    go : (b : Bool) → (if b then Some (Token.Number n ∷ []) else None) ≡ Some ts → joined (if b then Some (Token.Number n ∷ []) else None) (Some []) ≡ Some ts
     go true i = i
     go false i = cc
-literal_tells (v.Int (negsuc n)) ts h = go (nat_le (suc n) (2 ^ 63)) h
+literal_tells (Value.Int (negsuc n)) ts h = go (nat_le (suc n) (2 ^ 63)) h
   where
-    go : (b : Bool) → (if b then Some (t.Symbol s.Minus ∷ t.Number (suc n) ∷ []) else None) ≡ Some ts → joined (if b then Some (t.Symbol s.Minus ∷ t.Number (suc n) ∷ []) else None) (Some []) ≡ Some ts
+    go : (b : Bool) → (if b then Some (Token.Symbol Symbol.Minus ∷ Token.Number (suc n) ∷ []) else None) ≡ Some ts → joined (if b then Some (Token.Symbol Symbol.Minus ∷ Token.Number (suc n) ∷ []) else None) (Some []) ≡ Some ts
     go true i = i
     go false i = cc
 
 word_is : (x : List ℕ) (ts : List Token) → tokens_of (Word x ∷ []) ≡ Some ts → word_token x ≡ Some ts
 word_is x ts h = go (is_name_text x) h
   where
-    go : (b : Bool) → joined (if b then Some (t.Word (folded x) ∷ []) else None) (Some []) ≡ Some ts → (if b then Some (t.Word (folded x) ∷ []) else None) ≡ Some ts
+    go : (b : Bool) → joined (if b then Some (Token.Word (folded x) ∷ []) else None) (Some []) ≡ Some ts → (if b then Some (Token.Word (folded x) ∷ []) else None) ≡ Some ts
     go true i = i
     go false i = cc
 
-qualified_tells : (q n : List ℕ) → Tells (joined (g.name.prints.writes q) (joined (Some (t.Symbol s.Dot ∷ [])) (g.name.prints.writes n))) (Qualified q n ∷ [])
+qualified_tells : (q n : List ℕ) → Tells (joined (g.name.prints.writes q) (joined (Some (Token.Symbol Symbol.Dot ∷ [])) (g.name.prints.writes n))) (Qualified q n ∷ [])
 qualified_tells q n ts h = go (g.name.prints.writes q) refl (g.name.prints.writes n) refl h
   where
-    go : (o : Option (List Token)) → g.name.prints.writes q ≡ o → (u : Option (List Token)) → g.name.prints.writes n ≡ u → joined o (joined (Some (t.Symbol s.Dot ∷ [])) u) ≡ Some ts
-        → joined (joined (word_token q) (joined (Some (t.Symbol s.Dot ∷ [])) (word_token n))) (Some []) ≡ Some ts
+    go : (o : Option (List Token)) → g.name.prints.writes q ≡ o → (u : Option (List Token)) → g.name.prints.writes n ≡ u → joined o (joined (Some (Token.Symbol Symbol.Dot ∷ [])) u) ≡ Some ts
+        → joined (joined (word_token q) (joined (Some (Token.Symbol Symbol.Dot ∷ [])) (word_token n))) (Some []) ≡ Some ts
     go None a u b i = cc
     go (Some x) a None b i = cc
-    go (Some x) a (Some y) b i = rw (word_is q x (name_tells q x a), word_is n y (name_tells n y b)) (ap (λ z. Some z) (append-nil (x ++ t.Symbol s.Dot ∷ y)) ∙ i)
+    go (Some x) a (Some y) b i = rw (word_is q x (name_tells q x a), word_is n y (name_tells n y b)) (ap (λ z. Some z) (append-nil (x ++ Token.Symbol Symbol.Dot ∷ y)) ∙ i)
 
 column_tells : (x : ColumnName) → Tells (g.column.prints.writes x) (form.named x.qualifier x.name ∷ [])
 unfolding g.column g.behind_dot
@@ -141,8 +119,8 @@ item_tells _ = λ ts e. cc
 more_items_tell : (xs : List Term) → Tells (many_writes (with_comma g.item).spells (with_comma g.item).prints xs) (form.more (terms_of xs))
 unfolding with_comma
 more_items_tell [] = λ ts e. e
-more_items_tell (x ∷ xs) = both_tell (joined (Some (t.Symbol s.Comma ∷ [])) (g.item.prints.writes x)) (many_writes (with_comma g.item).spells (with_comma g.item).prints xs) (Marked m.Comma ∷ form.expr x) (form.more (terms_of xs))
-    (both_tell (Some (t.Symbol s.Comma ∷ [])) (g.item.prints.writes x) (Marked m.Comma ∷ []) (form.expr x) (λ ts e. e) (item_tells x)) (more_items_tell xs)
+more_items_tell (x ∷ xs) = both_tell (joined (Some (Token.Symbol Symbol.Comma ∷ [])) (g.item.prints.writes x)) (many_writes (with_comma g.item).spells (with_comma g.item).prints xs) (Marked Mark.Comma ∷ form.expr x) (form.more (terms_of xs))
+    (both_tell (Some (Token.Symbol Symbol.Comma ∷ [])) (g.item.prints.writes x) (Marked Mark.Comma ∷ []) (form.expr x) (λ ts e. e) (item_tells x)) (more_items_tell xs)
 
 pub item_list_tells : (xs : List Term) → Tells (g.item_list.prints.writes xs) (form.list (terms_of xs))
 unfolding g.item_list
@@ -151,23 +129,23 @@ item_list_tells (x ∷ xs) = both_tell (g.item.prints.writes x) (many_writes (wi
 
 pub items_tell : (x : Selected) → Tells (g.items.prints.writes x) (sform.selected_items x)
 unfolding g.items g.count g.selected_items
-items_tell chosen.All = λ ts e. e
-items_tell (chosen.Items xs) = item_list_tells xs
-items_tell chosen.Count = λ ts e. e
+items_tell Selected.All = λ ts e. e
+items_tell (Selected.Items xs) = item_list_tells xs
+items_tell Selected.Count = λ ts e. e
 
 pub from_tells : (table : List ℕ) (a : Option (List ℕ)) → Tells (g.from_table.prints.writes (table, a)) (form.from_ table a)
 unfolding g.from_table g.alias_if_any g.alias
-from_tells table None = both_tell (Some (t.Word (codes "from") ∷ [])) (joined (g.name.prints.writes table) (Some [])) (Word (codes "FROM") ∷ []) (Word table ∷ []) (λ ts e. e)
+from_tells table None = both_tell (Some (Token.Word (codes "from") ∷ [])) (joined (g.name.prints.writes table) (Some [])) (Word (codes "FROM") ∷ []) (Word table ∷ []) (λ ts e. e)
     (both_tell (g.name.prints.writes table) (Some []) (Word table ∷ []) [] (name_tells table) (λ ts e. e))
-from_tells table (Some x) = both_tell (Some (t.Word (codes "from") ∷ [])) (joined (g.name.prints.writes table) (joined (Some (t.Word (codes "as") ∷ [])) (g.name.prints.writes x))) (Word (codes "FROM") ∷ []) (Word table ∷ Word (codes "AS") ∷ Word x ∷ []) (λ ts e. e)
-    (both_tell (g.name.prints.writes table) (joined (Some (t.Word (codes "as") ∷ [])) (g.name.prints.writes x)) (Word table ∷ []) (Word (codes "AS") ∷ Word x ∷ []) (name_tells table)
-    (both_tell (Some (t.Word (codes "as") ∷ [])) (g.name.prints.writes x) (Word (codes "AS") ∷ []) (Word x ∷ []) (λ ts e. e) (name_tells x)))
+from_tells table (Some x) = both_tell (Some (Token.Word (codes "from") ∷ [])) (joined (g.name.prints.writes table) (joined (Some (Token.Word (codes "as") ∷ [])) (g.name.prints.writes x))) (Word (codes "FROM") ∷ []) (Word table ∷ Word (codes "AS") ∷ Word x ∷ []) (λ ts e. e)
+    (both_tell (g.name.prints.writes table) (joined (Some (Token.Word (codes "as") ∷ [])) (g.name.prints.writes x)) (Word table ∷ []) (Word (codes "AS") ∷ Word x ∷ []) (name_tells table)
+    (both_tell (Some (Token.Word (codes "as") ∷ [])) (g.name.prints.writes x) (Word (codes "AS") ∷ []) (Word x ∷ []) (λ ts e. e) (name_tells x)))
 
 -- ---- expressions
 
 -- between parentheses
 abbrev pub parens : Option (List Token) → Option (List Token)
-parens o = joined (Some (t.Symbol s.LParen ∷ [])) (joined o (Some (t.Symbol s.RParen ∷ [])))
+parens o = joined (Some (Token.Symbol Symbol.LParen ∷ [])) (joined o (Some (Token.Symbol Symbol.RParen ∷ [])))
 
 -- something is written
 abbrev pub There : Option (List Token) → Type 0
@@ -185,17 +163,17 @@ parens_or (Some x) u = refl
 
 comparison_tells : (how : Comparison) → Tells (g.comparison.prints.writes how) (Marked (form.comparison how) ∷ [])
 unfolding g.comparison
-comparison_tells c.Equal = λ ts e. e
-comparison_tells c.NotEqual = λ ts e. e
-comparison_tells c.Less = λ ts e. e
-comparison_tells c.LessOrEqual = λ ts e. e
-comparison_tells c.Greater = λ ts e. e
-comparison_tells c.GreaterOrEqual = λ ts e. e
+comparison_tells Comparison.Equal = λ ts e. e
+comparison_tells Comparison.NotEqual = λ ts e. e
+comparison_tells Comparison.Less = λ ts e. e
+comparison_tells Comparison.LessOrEqual = λ ts e. e
+comparison_tells Comparison.Greater = λ ts e. e
+comparison_tells Comparison.GreaterOrEqual = λ ts e. e
 
 sign_tells : (x : Sign) → Tells (g.part_sign.prints.writes x) (Marked (form.sign x) ∷ [])
 unfolding g.part_sign
-sign_tells part.Plus = λ ts e. e
-sign_tells part.Minus = λ ts e. e
+sign_tells Sign.Plus = λ ts e. e
+sign_tells Sign.Minus = λ ts e. e
 
 not_tells : Tells (g.nots.prints.writes 1) (Word (codes "NOT") ∷ [])
 unfolding g.nots
@@ -262,40 +240,40 @@ module _ (inner : Cut tree_of expr_heads expr_more false) (ih : (x : Term) → T
   pub condition_tells : (x : Option Term) → Tells ((g.condition inner).rule.prints.writes x) (form.where_ (maybe_term x))
   unfolding g.condition
   condition_tells None = λ ts e. e
-  condition_tells (Some x) = both_tell (Some (t.Word (codes "where") ∷ [])) (inner.rule.prints.writes x) (Word (codes "WHERE") ∷ []) (form.expr x) (λ ts e. e) (ih x)
+  condition_tells (Some x) = both_tell (Some (Token.Word (codes "where") ∷ [])) (inner.rule.prints.writes x) (Word (codes "WHERE") ∷ []) (form.expr x) (λ ts e. e) (ih x)
 
   pub select_tells : (x : Selected) (table : List ℕ) (a : Option (List ℕ)) (y : Option Term)
       → Tells ((g.select_parts inner).rule.prints.writes (x, ((table, a), y))) (Word (codes "SELECT") ∷ (sform.selected_items x ++ (form.from_ table a ++ form.where_ (maybe_term y))))
   unfolding g.select_parts
   select_tells x table a y =
-      both_tell (Some (t.Word (codes "select") ∷ [])) (joined (g.items.prints.writes x) (joined (g.from_table.prints.writes (table, a)) ((g.condition inner).rule.prints.writes y)))
+      both_tell (Some (Token.Word (codes "select") ∷ [])) (joined (g.items.prints.writes x) (joined (g.from_table.prints.writes (table, a)) ((g.condition inner).rule.prints.writes y)))
       (Word (codes "SELECT") ∷ []) (sform.selected_items x ++ (form.from_ table a ++ form.where_ (maybe_term y))) (λ ts e. e)
       (both_tell (g.items.prints.writes x) (joined (g.from_table.prints.writes (table, a)) ((g.condition inner).rule.prints.writes y)) (sform.selected_items x) (form.from_ table a ++ form.where_ (maybe_term y)) (items_tell x)
       (both_tell (g.from_table.prints.writes (table, a)) ((g.condition inner).rule.prints.writes y) (form.from_ table a) (form.where_ (maybe_term y)) (from_tells table a) (condition_tells y)))
 
   -- the items of a subquery, as it holds them
   items_query : (from : FromItem) (items condition : Terms) (y : Option Term) → maybe_term y ≡ condition
-      → Tells ((g.select_parts inner).rule.prints.writes (chosen.Items (back.list_of items), ((from.table, from.alias), y))) (form.query (Select from [] selects.Items items condition))
+      → Tells ((g.select_parts inner).rule.prints.writes (Selected.Items (back.list_of items), ((from.table, from.alias), y))) (form.query (Select from [] Selects.Items items condition))
   items_query from items condition y e =
-      subst (λ z. Tells ((g.select_parts inner).rule.prints.writes (chosen.Items (back.list_of items), ((from.table, from.alias), y))) (Word (codes "SELECT") ∷ (form.list z ++ (form.from_ from.table from.alias ++ form.where_ condition)))) (back.terms_back items)
-      (subst (λ z. Tells ((g.select_parts inner).rule.prints.writes (chosen.Items (back.list_of items), ((from.table, from.alias), y))) (Word (codes "SELECT") ∷ (form.list (terms_of (back.list_of items)) ++ (form.from_ from.table from.alias ++ form.where_ z)))) e
-      (select_tells (chosen.Items (back.list_of items)) from.table from.alias y))
+      subst (λ z. Tells ((g.select_parts inner).rule.prints.writes (Selected.Items (back.list_of items), ((from.table, from.alias), y))) (Word (codes "SELECT") ∷ (form.list z ++ (form.from_ from.table from.alias ++ form.where_ condition)))) (back.terms_back items)
+      (subst (λ z. Tells ((g.select_parts inner).rule.prints.writes (Selected.Items (back.list_of items), ((from.table, from.alias), y))) (Word (codes "SELECT") ∷ (form.list (terms_of (back.list_of items)) ++ (form.from_ from.table from.alias ++ form.where_ z)))) e
+      (select_tells (Selected.Items (back.list_of items)) from.table from.alias y))
 
   query_tells : (q : Query) → Tells (written_if (g.select_parts inner).rule.prints.writes (back.as_query q)) (form.query q)
-  query_tells (Select from [] selects.All End End) = select_tells chosen.All from.table from.alias None
-  query_tells (Select from [] selects.All End (More x End)) = select_tells chosen.All from.table from.alias (Some x)
-  query_tells (Select from [] selects.Count End End) = select_tells chosen.Count from.table from.alias None
-  query_tells (Select from [] selects.Count End (More x End)) = select_tells chosen.Count from.table from.alias (Some x)
-  query_tells (Select from [] selects.Items items End) = items_query from items End None refl
-  query_tells (Select from [] selects.Items items (More x End)) = items_query from items (More x End) (Some x) refl
+  query_tells (Select from [] Selects.All End End) = select_tells Selected.All from.table from.alias None
+  query_tells (Select from [] Selects.All End (More x End)) = select_tells Selected.All from.table from.alias (Some x)
+  query_tells (Select from [] Selects.Count End End) = select_tells Selected.Count from.table from.alias None
+  query_tells (Select from [] Selects.Count End (More x End)) = select_tells Selected.Count from.table from.alias (Some x)
+  query_tells (Select from [] Selects.Items items End) = items_query from items End None refl
+  query_tells (Select from [] Selects.Items items (More x End)) = items_query from items (More x End) (Some x) refl
   query_tells _ = λ ts e. cc
 
   more_parts_tell : (xs : Terms) → Tells (many_writes (cut.with_comma inner).rule.spells (cut.with_comma inner).rule.prints (back.list_of xs)) (form.more xs)
   unfolding cut.with_comma
   more_parts_tell End = λ ts e. e
   more_parts_tell (More x xs) =
-      both_tell (joined (Some (t.Symbol s.Comma ∷ [])) (inner.rule.prints.writes x)) (many_writes (cut.with_comma inner).rule.spells (cut.with_comma inner).rule.prints (back.list_of xs)) (Marked m.Comma ∷ form.expr x) (form.more xs)
-      (both_tell (Some (t.Symbol s.Comma ∷ [])) (inner.rule.prints.writes x) (Marked m.Comma ∷ []) (form.expr x) (λ ts e. e) (ih x)) (more_parts_tell xs)
+      both_tell (joined (Some (Token.Symbol Symbol.Comma ∷ [])) (inner.rule.prints.writes x)) (many_writes (cut.with_comma inner).rule.spells (cut.with_comma inner).rule.prints (back.list_of xs)) (Marked Mark.Comma ∷ form.expr x) (form.more xs)
+      (both_tell (Some (Token.Symbol Symbol.Comma ∷ [])) (inner.rule.prints.writes x) (Marked Mark.Comma ∷ []) (form.expr x) (λ ts e. e) (ih x)) (more_parts_tell xs)
 
   parts_tell : (xs : Terms) → Tells ((g.parts inner).rule.prints.writes (back.list_of xs)) (form.list xs)
   unfolding g.parts
@@ -315,9 +293,9 @@ module _ (inner : Cut tree_of expr_heads expr_more false) (ih : (x : Term) → T
   exists_tells q = go (back.as_query q) (query_tells q)
     where
       go : (o : Option SelectParts) → Tells (written_if (g.select_parts inner).rule.prints.writes o) (form.query q)
-          → Tells (written_if (λ r. joined (Some (t.Word (codes "exists") ∷ [])) (parens ((g.select_parts inner).rule.prints.writes r))) o) (Word (codes "EXISTS") ∷ form.enclosed (form.query q))
+          → Tells (written_if (λ r. joined (Some (Token.Word (codes "exists") ∷ [])) (parens ((g.select_parts inner).rule.prints.writes r))) o) (Word (codes "EXISTS") ∷ form.enclosed (form.query q))
       go None h = λ ts e. cc
-      go (Some r) h = both_tell (Some (t.Word (codes "exists") ∷ [])) (parens ((g.select_parts inner).rule.prints.writes r)) (Word (codes "EXISTS") ∷ []) (form.enclosed (form.query q)) (λ ts e. e) (enclosed_tells ((g.select_parts inner).rule.prints.writes r) (form.query q) h)
+      go (Some r) h = both_tell (Some (Token.Word (codes "exists") ∷ [])) (parens ((g.select_parts inner).rule.prints.writes r)) (Word (codes "EXISTS") ∷ []) (form.enclosed (form.query q)) (λ ts e. e) (enclosed_tells ((g.select_parts inner).rule.prints.writes r) (form.query q) h)
 
   scalar_tells : (q : Query) → Tells (parens ((g.scalar inner).rule.prints.writes (Scalar q))) (form.expr (Scalar q))
   unfolding g.scalar
@@ -384,17 +362,17 @@ module _ (inner : Cut tree_of expr_heads expr_more false) (ih : (x : Term) → T
     unfolding g.and_next
     further_and End = λ ts e. e
     further_and (More x xs) =
-        both_tell (joined (Some (t.Word (codes "and") ∷ [])) (P inner x)) (many_writes (g.and_next inner).rule.spells (g.and_next inner).rule.prints (back.list_of xs))
+        both_tell (joined (Some (Token.Word (codes "and") ∷ [])) (P inner x)) (many_writes (g.and_next inner).rule.spells (g.and_next inner).rule.prints (back.list_of xs))
         (Word (codes "AND") ∷ form.bare_if (form.stands_alone x) (form.expr x)) (form.further (Word (codes "AND")) xs)
-        (both_tell (Some (t.Word (codes "and") ∷ [])) (P inner x) (Word (codes "AND") ∷ []) (form.bare_if (form.stands_alone x) (form.expr x)) (λ ts e. e) (operand_tells x)) (further_and xs)
+        (both_tell (Some (Token.Word (codes "and") ∷ [])) (P inner x) (Word (codes "AND") ∷ []) (form.bare_if (form.stands_alone x) (form.expr x)) (λ ts e. e) (operand_tells x)) (further_and xs)
 
     further_or : (xs : Terms) → Tells (many_writes (g.or_next inner).rule.spells (g.or_next inner).rule.prints (back.list_of xs)) (form.further (Word (codes "OR")) xs)
     unfolding g.or_next
     further_or End = λ ts e. e
     further_or (More x xs) =
-        both_tell (joined (Some (t.Word (codes "or") ∷ [])) (P inner x)) (many_writes (g.or_next inner).rule.spells (g.or_next inner).rule.prints (back.list_of xs))
+        both_tell (joined (Some (Token.Word (codes "or") ∷ [])) (P inner x)) (many_writes (g.or_next inner).rule.spells (g.or_next inner).rule.prints (back.list_of xs))
         (Word (codes "OR") ∷ form.bare_if (form.stands_alone x) (form.expr x)) (form.further (Word (codes "OR")) xs)
-        (both_tell (Some (t.Word (codes "or") ∷ [])) (P inner x) (Word (codes "OR") ∷ []) (form.bare_if (form.stands_alone x) (form.expr x)) (λ ts e. e) (operand_tells x)) (further_or xs)
+        (both_tell (Some (Token.Word (codes "or") ∷ [])) (P inner x) (Word (codes "OR") ∷ []) (form.bare_if (form.stands_alone x) (form.expr x)) (λ ts e. e) (operand_tells x)) (further_or xs)
 
     summands_tell : (xs : List Sign) (ys : Terms) (parts : List (Sign × Term)) → back.signed_parts xs ys ≡ Some parts
         → Tells (many_writes (g.sum_next inner).rule.spells (g.sum_next inner).rule.prints parts) (form.summands xs ys)
@@ -483,8 +461,8 @@ grow_if f f' None k h = h
 grow_if f f' (Some a) k h = k a h
 
 grow_parens : (o o' : Option (List Token)) → (There o → There o') → There (parens o) → There (parens o')
-grow_parens o o' f h = grow_both (Some (t.Symbol s.LParen ∷ [])) (joined o (Some (t.Symbol s.RParen ∷ []))) (Some (t.Symbol s.LParen ∷ [])) (joined o' (Some (t.Symbol s.RParen ∷ []))) (λ x. x)
-    (grow_both o (Some (t.Symbol s.RParen ∷ [])) o' (Some (t.Symbol s.RParen ∷ [])) f (λ x. x)) h
+grow_parens o o' f h = grow_both (Some (Token.Symbol Symbol.LParen ∷ [])) (joined o (Some (Token.Symbol Symbol.RParen ∷ []))) (Some (Token.Symbol Symbol.LParen ∷ [])) (joined o' (Some (Token.Symbol Symbol.RParen ∷ []))) (λ x. x)
+    (grow_both o (Some (Token.Symbol Symbol.RParen ∷ [])) o' (Some (Token.Symbol Symbol.RParen ∷ [])) f (λ x. x)) h
 
 grow_many : {A : Type 0} (p p' : List Token → A → Type 0) (W : Writer p) (W' : Writer p') → ((a : A) → There (W.writes a) → There (W'.writes a)) → (xs : List A) → There (many_writes p W xs) → There (many_writes p' W' xs)
 grow_many p p' W W' k [] h = tt
@@ -498,21 +476,21 @@ module _ (i j : Cut tree_of expr_heads expr_more false) (grow : (x : Term) → T
   condition_grows : (x : Option Term) → There ((g.condition i).rule.prints.writes x) → There ((g.condition j).rule.prints.writes x)
   unfolding g.condition
   condition_grows None h = tt
-  condition_grows (Some x) h = grow_both (Some (t.Word (codes "where") ∷ [])) (i.rule.prints.writes x) (Some (t.Word (codes "where") ∷ [])) (j.rule.prints.writes x) (λ z. z) (grow x) h
+  condition_grows (Some x) h = grow_both (Some (Token.Word (codes "where") ∷ [])) (i.rule.prints.writes x) (Some (Token.Word (codes "where") ∷ [])) (j.rule.prints.writes x) (λ z. z) (grow x) h
 
   select_grows : (r : SelectParts) → There ((g.select_parts i).rule.prints.writes r) → There ((g.select_parts j).rule.prints.writes r)
   unfolding g.select_parts
   select_grows r h =
-      grow_both (Some (t.Word (codes "select") ∷ [])) (joined (g.items.prints.writes r.0) (joined (g.from_table.prints.writes r.1.0) ((g.condition i).rule.prints.writes r.1.1)))
-      (Some (t.Word (codes "select") ∷ [])) (joined (g.items.prints.writes r.0) (joined (g.from_table.prints.writes r.1.0) ((g.condition j).rule.prints.writes r.1.1))) (λ z. z)
+      grow_both (Some (Token.Word (codes "select") ∷ [])) (joined (g.items.prints.writes r.0) (joined (g.from_table.prints.writes r.1.0) ((g.condition i).rule.prints.writes r.1.1)))
+      (Some (Token.Word (codes "select") ∷ [])) (joined (g.items.prints.writes r.0) (joined (g.from_table.prints.writes r.1.0) ((g.condition j).rule.prints.writes r.1.1))) (λ z. z)
       (grow_both (g.items.prints.writes r.0) (joined (g.from_table.prints.writes r.1.0) ((g.condition i).rule.prints.writes r.1.1)) (g.items.prints.writes r.0) (joined (g.from_table.prints.writes r.1.0) ((g.condition j).rule.prints.writes r.1.1)) (λ z. z)
       (grow_both (g.from_table.prints.writes r.1.0) ((g.condition i).rule.prints.writes r.1.1) (g.from_table.prints.writes r.1.0) ((g.condition j).rule.prints.writes r.1.1) (λ z. z) (condition_grows r.1.1))) h
 
   exists_grows : (q : Query) → There ((g.exists i).rule.prints.writes (Exists q)) → There ((g.exists j).rule.prints.writes (Exists q))
   unfolding g.exists
   exists_grows q h =
-      grow_if (λ r. joined (Some (t.Word (codes "exists") ∷ [])) (parens ((g.select_parts i).rule.prints.writes r))) (λ r. joined (Some (t.Word (codes "exists") ∷ [])) (parens ((g.select_parts j).rule.prints.writes r))) (back.as_query q)
-      (λ r. grow_both (Some (t.Word (codes "exists") ∷ [])) (parens ((g.select_parts i).rule.prints.writes r)) (Some (t.Word (codes "exists") ∷ [])) (parens ((g.select_parts j).rule.prints.writes r)) (λ z. z)
+      grow_if (λ r. joined (Some (Token.Word (codes "exists") ∷ [])) (parens ((g.select_parts i).rule.prints.writes r))) (λ r. joined (Some (Token.Word (codes "exists") ∷ [])) (parens ((g.select_parts j).rule.prints.writes r))) (back.as_query q)
+      (λ r. grow_both (Some (Token.Word (codes "exists") ∷ [])) (parens ((g.select_parts i).rule.prints.writes r)) (Some (Token.Word (codes "exists") ∷ [])) (parens ((g.select_parts j).rule.prints.writes r)) (λ z. z)
       (grow_parens ((g.select_parts i).rule.prints.writes r) ((g.select_parts j).rule.prints.writes r) (select_grows r))) h
 
   scalar_grows : (q : Query) → There ((g.scalar i).rule.prints.writes (Scalar q)) → There ((g.scalar j).rule.prints.writes (Scalar q))
@@ -521,7 +499,7 @@ module _ (i j : Cut tree_of expr_heads expr_more false) (grow : (x : Term) → T
 
   comma_grows : (x : Term) → There ((cut.with_comma i).rule.prints.writes x) → There ((cut.with_comma j).rule.prints.writes x)
   unfolding cut.with_comma
-  comma_grows x h = grow_both (Some (t.Symbol s.Comma ∷ [])) (i.rule.prints.writes x) (Some (t.Symbol s.Comma ∷ [])) (j.rule.prints.writes x) (λ z. z) (grow x) h
+  comma_grows x h = grow_both (Some (Token.Symbol Symbol.Comma ∷ [])) (i.rule.prints.writes x) (Some (Token.Symbol Symbol.Comma ∷ [])) (j.rule.prints.writes x) (λ z. z) (grow x) h
 
   parts_grow : (xs : List Term) → There ((g.parts i).rule.prints.writes xs) → There ((g.parts j).rule.prints.writes xs)
   unfolding g.parts
@@ -554,11 +532,11 @@ module _ (i j : Cut tree_of expr_heads expr_more false) (grow : (x : Term) → T
 
   and_grows : (x : Term) → There ((g.and_next i).rule.prints.writes x) → There ((g.and_next j).rule.prints.writes x)
   unfolding g.and_next
-  and_grows x h = grow_both (Some (t.Word (codes "and") ∷ [])) (P i x) (Some (t.Word (codes "and") ∷ [])) (P j x) (λ z. z) (prim_grows x) h
+  and_grows x h = grow_both (Some (Token.Word (codes "and") ∷ [])) (P i x) (Some (Token.Word (codes "and") ∷ [])) (P j x) (λ z. z) (prim_grows x) h
 
   or_grows : (x : Term) → There ((g.or_next i).rule.prints.writes x) → There ((g.or_next j).rule.prints.writes x)
   unfolding g.or_next
-  or_grows x h = grow_both (Some (t.Word (codes "or") ∷ [])) (P i x) (Some (t.Word (codes "or") ∷ [])) (P j x) (λ z. z) (prim_grows x) h
+  or_grows x h = grow_both (Some (Token.Word (codes "or") ∷ [])) (P i x) (Some (Token.Word (codes "or") ∷ [])) (P j x) (λ z. z) (prim_grows x) h
 
   sum_grows : (r : Sign × Term) → There ((g.sum_next i).rule.prints.writes r) → There ((g.sum_next j).rule.prints.writes r)
   unfolding g.sum_next

@@ -4,11 +4,9 @@ use Rattle.rls_value.specs.declared.value.Value.{Value}
 use Rattle.rls_value.specs.declared.value.Value.TheVariants as v
 use Rattle.rls_expr.specs.Terms.{Term, Terms, Query, Literal, Place, CurrentUser, Compare, And, Or, Not, IsNull, IsNotNull, Among, NotAmong, Exists, Within, NotWithin, Scalar, Sum, End, More, Select}
 use Rattle.rls_expr.specs.Terms as e
-use Rattle.rls_expr.specs.declared.expr.Comparison.{Comparison}
+use Rattle.rls_expr.specs.{declared.expr.Comparison.Comparison, declared.expr.Selects.Selects, declared.expr.Sign.Sign}
 use Rattle.rls_expr.specs.declared.expr.Comparison.TheVariants as c
-use Rattle.rls_expr.specs.declared.expr.Selects.{Selects}
 use Rattle.rls_expr.specs.declared.expr.Selects.TheVariants as selects
-use Rattle.rls_expr.specs.declared.expr.Sign.{Sign}
 use Rattle.rls_expr.specs.declared.expr.Sign.TheVariants as part
 use Rattle.rls_printing.specs.declared.page.Mark.{Mark}
 use Rattle.rls_printing.specs.declared.page.Mark.TheVariants as m

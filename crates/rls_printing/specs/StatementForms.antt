@@ -1,32 +1,16 @@
 -- The words of which a statement is printed.
 use Rattle.std.specs.Prelude.{ℕ, Bool, true, false, ◌&&◌, ◌||◌, if◌then◌else◌, List, [], ◌∷◌, ◌++◌, Option, Some, None, is_some, codes}
-use Rattle.rls_value.specs.declared.value.ColType.{ColType}
-use Rattle.rls_value.specs.declared.value.ColType.TheVariants as k
-use Rattle.rls_value.specs.declared.verb.Kind.TheVariants as command
-use Rattle.rls_value.specs.declared.verb.PolicyKind.{PolicyKind}
-use Rattle.rls_value.specs.declared.verb.PolicyKind.TheVariants as kind
-use Rattle.rls_expr.specs.Terms.{Term, terms_of, maybe_term}
-use Rattle.rls_expr.specs.declared.policy.Grantee.{Grantee}
+use Rattle.rls_value.specs.{declared.value.ColType.ColType, declared.verb.PolicyKind.PolicyKind, declared.verb.Kind.Kind}
+use Rattle.rls_expr.specs.{Terms.Term, Terms.terms_of, Terms.maybe_term, declared.policy.Grantee.Grantee, declared.policy.Policy.Policy}
 use Rattle.rls_expr.specs.declared.policy.Grantee.TheVariants as to
-use Rattle.rls_expr.specs.declared.policy.Policy.{Policy}
-use Rattle.rls_statement.specs.declared.changing.Setting.{Setting}
-use Rattle.rls_statement.specs.declared.statement.Attributes.{Attributes}
-use Rattle.rls_statement.specs.declared.statement.MarkedColumn.{MarkedColumn}
-use Rattle.rls_statement.specs.declared.statement.MembershipOption.{MembershipOption}
+use Rattle.rls_statement.specs.{declared.changing.Setting.Setting, declared.statement.Attributes.Attributes, declared.statement.MarkedColumn.MarkedColumn, declared.statement.MembershipOption.MembershipOption, declared.statement.MembershipOptions.MembershipOptions, declared.statement.Privileges.Privileges, declared.statement.RowSecurity.RowSecurity, declared.statement.Selected.Selected, declared.statement.SetRole.SetRole, declared.statement.Statement.Statement}
 use Rattle.rls_statement.specs.declared.statement.MembershipOption.TheVariants as o
-use Rattle.rls_statement.specs.declared.statement.MembershipOptions.{MembershipOptions}
-use Rattle.rls_statement.specs.declared.statement.Privileges.{Privileges}
-use Rattle.rls_statement.specs.declared.statement.RowSecurity.{RowSecurity}
 use Rattle.rls_statement.specs.declared.statement.RowSecurity.TheVariants as change
-use Rattle.rls_statement.specs.declared.statement.Selected.{Selected}
 use Rattle.rls_statement.specs.declared.statement.Selected.TheVariants as selected
-use Rattle.rls_statement.specs.declared.statement.SetRole.{SetRole}
 use Rattle.rls_statement.specs.declared.statement.SetRole.TheVariants as sr
-use Rattle.rls_statement.specs.declared.statement.Statement.{Statement}
 use Rattle.rls_statement.specs.declared.statement.Statement.TheVariants as st
 use Rattle.rls_printing.specs.declared.page.Mark.TheVariants as m
-use Rattle.rls_printing.specs.ExprForms.{expr, list, where_, enclosed, from_}
-use Rattle.rls_printing.specs.Pieces.{Piece, Word, Marked, Count}
+use Rattle.rls_printing.specs.{ExprForms.expr, ExprForms.list, ExprForms.where_, ExprForms.enclosed, ExprForms.from_, Pieces.Piece, Pieces.Word, Pieces.Marked, Pieces.Count}
 
 -- ---- lists
 
@@ -91,10 +75,10 @@ attributes x = flag x.superuser (codes "SUPERUSER") (codes "NOSUPERUSER") ++ (fl
 
 -- the type of a column
 abbrev pub column_type : ColType → Piece
-column_type k.Integer = Word (codes "INTEGER")
-column_type k.BigInt = Word (codes "BIGINT")
-column_type k.Text = Word (codes "TEXT")
-column_type k.Boolean = Word (codes "BOOLEAN")
+column_type ColType.Integer = Word (codes "INTEGER")
+column_type ColType.BigInt = Word (codes "BIGINT")
+column_type ColType.Text = Word (codes "TEXT")
+column_type ColType.Boolean = Word (codes "BOOLEAN")
 
 -- the mark NOT NULL
 abbrev pub not_null : Bool → List Piece
@@ -135,11 +119,11 @@ permissive false = Word (codes "RESTRICTIVE")
 
 -- FOR
 abbrev pub policy_kind : PolicyKind → Piece
-policy_kind kind.All = Word (codes "ALL")
-policy_kind (kind.Only command.Select) = Word (codes "SELECT")
-policy_kind (kind.Only command.Insert) = Word (codes "INSERT")
-policy_kind (kind.Only command.Update) = Word (codes "UPDATE")
-policy_kind (kind.Only command.Delete) = Word (codes "DELETE")
+policy_kind PolicyKind.All = Word (codes "ALL")
+policy_kind (PolicyKind.Only Kind.Select) = Word (codes "SELECT")
+policy_kind (PolicyKind.Only Kind.Insert) = Word (codes "INSERT")
+policy_kind (PolicyKind.Only Kind.Update) = Word (codes "UPDATE")
+policy_kind (PolicyKind.Only Kind.Delete) = Word (codes "DELETE")
 
 -- USING
 abbrev pub using_ : Option Term → List Piece

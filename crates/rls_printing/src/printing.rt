@@ -1,22 +1,14 @@
 //! Statements, policies and expressions as texts.
 
 ghost use Rattle.std.specs.Prelude.{◌≡◌, ℕ, List, Result, Ok, Some, true, IfOk, OnOk};
-ghost use Rattle.std.specs.Str.{chars};
-ghost use Rattle.std.specs.String.{string_bytes};
+ghost use Rattle.std.specs.{Str.chars, String.string_bytes};
 ghost use Rattle.rls_value.specs.declared.refusal.Refusal.{Refusal};
 ghost use Rattle.rls_statement.specs.declared.statement.Statement.{Statement};
 ghost use Rattle.rls_statement.specs.declared.statement.Statement.TheVariants as st;
-ghost use Rattle.rls_text.specs.Answers.{Answers, IsSpelled};
+ghost use Rattle.rls_text.specs.{Answers.Answers, Answers.IsSpelled, Grammar.Spells, Heights.height, Printing.IsWritten, Words.words_of, declared.token.Token.Token};
 ghost use Rattle.rls_text.specs.Grammar as g;
-ghost use Rattle.rls_text.specs.Grammar.{Spells};
-ghost use Rattle.rls_text.specs.Heights.{height};
-ghost use Rattle.rls_text.specs.Printing.{IsWritten};
-ghost use Rattle.rls_text.specs.Words.{words_of};
-ghost use Rattle.rls_text.specs.declared.token.Token.{Token};
 ghost use Rattle.rls_printing.specs.ExprForms as expr_form;
-ghost use Rattle.rls_printing.specs.Pieces.{tokens_of};
-ghost use Rattle.rls_printing.specs.ReadBack.{IsReadAs};
-ghost use Rattle.rls_printing.specs.Sheets.{pieces_text, put_all, sheet_of};
+ghost use Rattle.rls_printing.specs.{Pieces.tokens_of, ReadBack.IsReadAs, Sheets.pieces_text, Sheets.put_all, Sheets.sheet_of};
 ghost use Rattle.rls_printing.specs.StatementForms as form;
 
 use crate::expression::put_expr;

@@ -2,9 +2,7 @@
 
 ghost use Rattle.std.specs.Prelude.{◌≡◌, ◌∷◌, ◌++◌, [], codes, true, Some, OnOk};
 ghost use Rattle.rls_value.specs.Names.{is_word};
-ghost use Rattle.rls_printing.specs.ExprForms.{enclosed};
-ghost use Rattle.rls_printing.specs.Pieces.{Word};
-ghost use Rattle.rls_printing.specs.Sheets.{put_all, sheet_of};
+ghost use Rattle.rls_printing.specs.{ExprForms.enclosed, Pieces.Word, Sheets.put_all, Sheets.sheet_of};
 ghost use Rattle.rls_printing.specs.StatementForms as form;
 ghost use Rattle.rls_statement.specs.declared.statement.SetRole.TheVariants as sr;
 ghost use Rattle.rls_statement.specs.declared.statement.Statement.TheVariants as st;

@@ -2,12 +2,9 @@
 use Rattle.std.specs.Prelude.{◌≡◌, ◌↔◌, refl, ℕ, suc, ◌<◌, List, [], ◌∷◌, Bool, true, false, Option, Some, None, Result, Ok, Err, length}
 use Rattle.std.proofs.Common.{arith, ap, sym, ◌∙◌, subst}
 use Rattle.std.proofs.lemmas.Bool.{true≢false}
-use Rattle.rls_value.specs.declared.refusal.Refusal.{Refusal}
-use Rattle.rls_value.specs.declared.refusal.Refusal.TheVariants.{Recursion}
+use Rattle.rls_value.specs.{declared.refusal.Refusal.Refusal, declared.refusal.Refusal.TheVariants.Recursion}
 use Rattle.rls_catalog.specs.Membership.{Within}
-use Rattle.rls_recursion.specs.declared.room.Room.{Room}
-use Rattle.rls_recursion.specs.declared.progress.Progress.{Progress}
-use Rattle.rls_recursion.specs.declared.searching.Reached.{Reached}
+use Rattle.rls_recursion.specs.{declared.room.Room.Room, declared.progress.Progress.Progress, declared.searching.Reached.Reached}
 use Rattle.rls_recursion.specs.Searching.{or_next, first_closed, closes, first_closing, nothing_yet, Found, Fits, Loops, Deep, found_then, visit_all, visit, searched_from, searched, told_by, ordered_by, InOrder, IsOnce, AsksEach, IsEnough}
 use Rattle.rls_recursion.proofs.Closing.{IsOpen, Says, visits_say}
 use Rattle.rls_recursion.proofs.Listing.{Stands, Lists, Keeps, both_list, visits_keep}

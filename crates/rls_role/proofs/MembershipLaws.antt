@@ -5,15 +5,13 @@ use Rattle.std.specs.List.{list_any}
 use Rattle.std.specs.Str.{bytes_eq}
 use Rattle.std.proofs.Common.{ap, ◌∙◌}
 use Rattle.rls_value.specs.Names.{one_of}
-use Rattle.rls_catalog.specs.declared.role.Membership.{Membership}
-use Rattle.rls_catalog.specs.State.{State}
+use Rattle.rls_catalog.specs.{declared.role.Membership.Membership, State.State}
 use Rattle.rls_catalog.specs.Membership.{attributes_of, walked_by}
 use Rattle.rls_catalog.proofs.Walks.{one_of-append}
 use Rattle.rls_catalog.specs.Paths.{granted_where, held_by, holds_admin, MayGrant, may_grant, is_any, reached_where, closes_circle}
 use Rattle.rls_catalog.proofs.Reaching.{may_grant_is, reached_where_reaches, closes_circle_is}
-use Rattle.rls_role.specs.declared.holding.Held.{Held}
+use Rattle.rls_role.specs.{declared.holding.Held.Held, Reaching.reach_in}
 use Rattle.rls_role.specs.Holdings.{has_admin, managed_by, with_held}
-use Rattle.rls_role.specs.Reaching.{reach_in}
 
 admin_if : (b same : Bool) (role granted : List ℕ) (some rest : Bool) (m : Membership) (ms : List Membership) → m.role ≡ role → bytes_eq role granted ≡ same
     → one_of (map (λ m. m.role) ms) granted ≡ rest

@@ -6,29 +6,13 @@ use Rattle.std.specs.List.{list_any}
 use Rattle.std.specs.Ordering.{is_lt}
 use Rattle.std.specs.Str.{bytes_eq}
 use Rattle.std.proofs.Common.{sym}
-use Rattle.rls_value.specs.Names.{one_of}
-use Rattle.rls_value.specs.declared.object.Object.{Object}
-use Rattle.rls_value.specs.declared.object.Object.TheVariants as o
-use Rattle.rls_value.specs.declared.refusal.Refusal.{Refusal}
-use Rattle.rls_value.specs.declared.refusal.Refusal.TheVariants.{Denied, GrantOp}
-use Rattle.rls_value.specs.declared.refusal.GrantFault.TheVariants.{Cycle}
-use Rattle.rls_value.specs.declared.refusal.Why.TheVariants.{Admin}
-use Rattle.rls_catalog.specs.declared.role.Membership.{Membership}
-use Rattle.rls_catalog.specs.declared.change.Change.{Change}
+use Rattle.rls_value.specs.{Names.one_of, declared.object.Object.Object, declared.refusal.Refusal.Refusal, declared.refusal.GrantFault.TheVariants.Cycle, declared.refusal.Why.TheVariants.Admin, declared.refusal.Refusal.TheVariants.Denied, declared.refusal.Refusal.TheVariants.GrantOp}
+use Rattle.rls_catalog.specs.{declared.role.Membership.Membership, declared.change.Change.Change, Membership.fresh, Membership.walk_reads, State.State, State.AgreesOn, State.name_order, State.members_of, Paths.granted_where, Paths.held_if, Paths.is_any, Paths.reached_where}
 use Rattle.rls_catalog.specs.declared.change.Change.TheVariants as change
-use Rattle.rls_catalog.specs.State.{State, AgreesOn, name_order, members_of}
-use Rattle.rls_catalog.specs.Membership.{fresh, walk_reads}
-use Rattle.rls_catalog.specs.Paths.{granted_where, held_if, is_any, reached_where}
 use Rattle.rls_catalog.proofs.PathFrames.{path_frame}
-use Rattle.rls_role.specs.declared.holding.Held.{Held}
-use Rattle.rls_role.specs.Holdings.{with_held, held_agrees, has_admin, managed_by}
-use Rattle.rls_statement.specs.declared.statement.MembershipOptions.{MembershipOptions}
-use Rattle.rls_statement.specs.declared.statement.GrantRoles.{GrantRoles}
-use Rattle.rls_source.specs.Askings.{Asking, IsFramed, known, followed_by}
-use Rattle.rls_source.specs.Sequences.{each_or_refused, put_before}
-use Rattle.rls_source.specs.Named.{roles_or_undefined}
-use Rattle.rls_role.specs.declared.reach.Reach.{Reach}
-use Rattle.rls_role.specs.Reaching.{reach_of}
+use Rattle.rls_role.specs.{declared.holding.Held.Held, declared.reach.Reach.Reach, Reaching.reach_of, Holdings.with_held, Holdings.held_agrees, Holdings.has_admin, Holdings.managed_by}
+use Rattle.rls_statement.specs.{declared.statement.MembershipOptions.MembershipOptions, declared.statement.GrantRoles.GrantRoles}
+use Rattle.rls_source.specs.{Askings.Asking, Askings.IsFramed, Askings.known, Askings.followed_by, Sequences.each_or_refused, Sequences.put_before, Named.roles_or_undefined}
 
 -- ---- who may
 
@@ -141,7 +125,7 @@ held_in s members = map (held_one s) members
 
 -- what it reads to tell them
 abbrev pub held_reads : List (List ℕ) → List Object
-held_reads members = map (λ member. o.Members member) members
+held_reads members = map (λ member. Object.Members member) members
 
 -- each of the members with the memberships that it has
 unfoldable pub held_at : State → List (List ℕ) → List Held

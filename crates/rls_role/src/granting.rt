@@ -1,12 +1,10 @@
 //! GRANT of roles.
 
 ghost use Rattle.std.specs.Prelude.{◌≡◌, ◌≤◌, length, map, IfOk};
-ghost use Rattle.std.specs.List.{position_or_len};
-ghost use Rattle.std.specs.Ordering.{is_lt};
+ghost use Rattle.std.specs.{List.position_or_len, Ordering.is_lt};
 ghost use Rattle.rls_value.specs.Giving.{Gives};
 ghost use Rattle.rls_catalog.specs.State.{name_order};
-ghost use Rattle.rls_source.specs.Answering.{Answers, Tells};
-ghost use Rattle.rls_source.specs.Sequences.{put_before};
+ghost use Rattle.rls_source.specs.{Answering.Answers, Answering.Tells, Sequences.put_before};
 ghost use Rattle.rls_role.specs.Granting as spec;
 ghost use Rattle.rls_role.specs.Granting.{asked_path, each_granted, memberships_granted, pair_granted, pair_or_refused, role_granted, roles_granted};
 

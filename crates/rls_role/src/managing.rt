@@ -2,12 +2,9 @@
 
 ghost use Rattle.std.specs.Prelude.{◌≡◌, ◌++◌, ◌||◌, IfOk, OnOk, OnErr};
 ghost use Rattle.rls_value.specs.Giving.{Gives};
-ghost use Rattle.rls_catalog.specs.Membership.{visit_reads, walk_reads};
-ghost use Rattle.rls_catalog.specs.Paths.{granted_where, held_by};
-ghost use Rattle.rls_source.specs.Answering.{Answers, Tells};
-ghost use Rattle.rls_source.specs.Sequences.{each_or_refused};
-ghost use Rattle.rls_role.specs.Granting.{asked_managed, each_managed, managed_or_denied, managed_or_refused};
-ghost use Rattle.rls_role.specs.Holdings.{has_admin, managed_by};
+ghost use Rattle.rls_catalog.specs.{Membership.visit_reads, Membership.walk_reads, Paths.granted_where, Paths.held_by};
+ghost use Rattle.rls_source.specs.{Answering.Answers, Answering.Tells, Sequences.each_or_refused};
+ghost use Rattle.rls_role.specs.{Granting.asked_managed, Granting.each_managed, Granting.managed_or_denied, Granting.managed_or_refused, Holdings.has_admin, Holdings.managed_by};
 
 use crate::names::is_among;
 use crate::noting::{note_walk, noted_reach};

@@ -2,12 +2,8 @@
 
 ghost use Rattle.std.specs.Prelude.{◌≡◌, ◌↔◌, ◌||◌, if◌then◌else◌, [], true, IfOk, OnOk};
 ghost use Rattle.rls_value.specs.Names.{one_of};
-ghost use Rattle.rls_catalog.specs.Membership.{attributes_of, walked_by, walk_reads, reach_reads, has_privileges_of};
-ghost use Rattle.rls_catalog.specs.HasPrivileges.{HasPrivilegesOf};
-ghost use Rattle.rls_catalog.specs.Privileges.{includes};
+ghost use Rattle.rls_catalog.specs.{Membership.attributes_of, Membership.walked_by, Membership.walk_reads, Membership.reach_reads, Membership.has_privileges_of, HasPrivileges.HasPrivilegesOf, Privileges.includes, State.State, State.AgreesOn, Paths.MaySet, Paths.can_set_reads, Paths.reached_where};
 ghost use Rattle.rls_catalog.specs.Paths as paths;
-ghost use Rattle.rls_catalog.specs.Paths.{MaySet, can_set_reads, reached_where};
-ghost use Rattle.rls_catalog.specs.State.{State, AgreesOn};
 ghost use Rattle.rls_role.specs.Steps.{takes, walked_where, walked_reads};
 
 use crate::names::is_among;

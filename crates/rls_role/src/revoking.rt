@@ -3,9 +3,8 @@
 ghost use Rattle.std.specs.Prelude.{◌≡◌, map, filter, not, IfOk};
 ghost use Rattle.rls_value.specs.Names.{one_of};
 ghost use Rattle.rls_source.specs.Answering.{Answers};
-ghost use Rattle.rls_role.specs.Granting.{members_written};
+ghost use Rattle.rls_role.specs.{Granting.members_written, Revoking.memberships_revoked, Revoking.roles_revoked, Revoking.taken_in};
 ghost use Rattle.rls_role.specs.Revoking as spec;
-ghost use Rattle.rls_role.specs.Revoking.{memberships_revoked, roles_revoked, taken_in};
 
 use crate::held_memberships::{held_of, write_held};
 use crate::holding::Held;

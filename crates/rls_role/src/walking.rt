@@ -4,9 +4,7 @@ ghost use Rattle.std.specs.Prelude.{◌≡◌, [], ◌∷◌, ◌++◌, slice_ge
 ghost use Rattle.std.specs.Option.{option_copied};
 ghost use Rattle.rls_catalog.specs.Membership.{fresh, visit_reads, walk_reads};
 ghost use Rattle.rls_catalog.specs.Paths.{granted_where, held_by, reached_where};
-ghost use Rattle.rls_role.specs.Holdings.{with_held};
-ghost use Rattle.rls_role.specs.Seen.{IsSetOf};
-ghost use Rattle.rls_role.specs.Steps.{takes};
+ghost use Rattle.rls_role.specs.{Holdings.with_held, Seen.IsSetOf, Steps.takes};
 
 use crate::holding::Held;
 use rls_catalog::Membership;

@@ -8,12 +8,8 @@ use Rattle.std.proofs.lemmas.List.Sums.{passes_at_first}
 use Rattle.std.proofs.lemmas.Option.{slice_get_read, slice_get_past}
 use Rattle.std.proofs.lemmas.Slice.Eq.{bytes_eq-Decides}
 use Rattle.std.proofs.lemmas.Grind.{common_steps}
-use Rattle.rls_session.specs.Databases.{Executes}
+use Rattle.rls_session.specs.{Databases.Executes, declared.answer.Answer.Answer, declared.database.Database.Database, declared.labels.Label.Label, declared.session.Session.Session}
 use Rattle.rls_session.specs.Labels.{place_of, session_at, session_of, with_session, ExecutesUnder}
-use Rattle.rls_session.specs.declared.answer.Answer.{Answer}
-use Rattle.rls_session.specs.declared.database.Database.{Database}
-use Rattle.rls_session.specs.declared.labels.Label.{Label}
-use Rattle.rls_session.specs.declared.session.Session.{Session}
 
 -- a label at its place has its name
 named_at : (labels : List Label) (name : List ℕ) (label : Label) → place_of labels name < length labels → label ≡ get_or labels (place_of labels name) label → label.name ≡ name

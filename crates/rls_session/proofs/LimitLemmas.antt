@@ -1,15 +1,12 @@
 -- What the grammar's answer tells of the limits on words: they are two, and none of those on statements.
 use Rattle.std.proofs.Common.{◌≡◌, ℕ, List, [], ◌∷◌, Option, Some, None, Result, Ok, Err, nat_lt, nat_le, Bool, true, false, refl, sym, subst, if◌then◌else◌, length}
-use Rattle.rls_value.specs.declared.refusal.Limit.{Limit}
+use Rattle.rls_value.specs.{declared.refusal.Limit.Limit, declared.refusal.Refusal.Refusal}
 use Rattle.rls_value.specs.declared.refusal.Limit.TheVariants as l
-use Rattle.rls_value.specs.declared.refusal.Refusal.{Refusal}
 use Rattle.rls_value.specs.declared.refusal.Refusal.TheVariants as r
 use Rattle.rls_statement.specs.declared.statement.Statement.{Statement}
 use Rattle.rls_text.specs.Answers.{Answers, columns_of, first_limit, limit_from, limit_at, open_behind, or_next}
-use Rattle.rls_text.specs.Heights.{height_of}
-use Rattle.rls_text.specs.Nested.{subqueries_of}
+use Rattle.rls_text.specs.{Heights.height_of, Nested.subqueries_of, declared.token.Token.Token}
 use Rattle.rls_session.specs.Connects.{limit_on_words}
-use Rattle.rls_text.specs.declared.token.Token.{Token}
 use Rattle.rls_text.specs.declared.token.Token.TheVariants as t
 use Rattle.rls_text.specs.declared.token.Symbol.TheVariants as s
 

@@ -1,28 +1,17 @@
 -- The database under the sessions: what it replies to a connect and to a statement, each run alone after the earlier
 -- ones, and what it is then.
 use Rattle.std.specs.Prelude.{◌≡◌, ℕ, ◌+◌, ◌^◌, nat_lt, cond, List, [], Bool, false, Option, Some, None, Result, Ok, Err}
-use Rattle.rls_value.specs.Giving.{and_then}
-use Rattle.rls_value.specs.declared.refusal.Refusal.{Refusal}
+use Rattle.rls_value.specs.{Giving.and_then, declared.refusal.Refusal.Refusal}
 use Rattle.rls_value.specs.declared.refusal.Refusal.TheVariants as r
 use Rattle.rls_value.specs.declared.refusal.Limit.TheVariants as l
-use Rattle.rls_catalog.specs.State.{State, role_of}
-use Rattle.rls_catalog.specs.Changed.{opening, changed_all}
-use Rattle.rls_catalog.specs.declared.change.Change.{Change}
-use Rattle.rls_catalog.specs.declared.role.RoleDef.{RoleDef}
-use Rattle.rls_statement.specs.Tags.{tag_of}
-use Rattle.rls_statement.specs.declared.statement.Statement.{Statement}
-use Rattle.rls_guard.specs.declared.context.Ctx.{Ctx}
-use Rattle.rls_guard.specs.declared.effect.Effect.{Effect}
+use Rattle.rls_catalog.specs.{State.State, State.role_of, Changed.opening, Changed.changed_all, declared.change.Change.Change, declared.role.RoleDef.RoleDef}
+use Rattle.rls_statement.specs.{Tags.tag_of, declared.statement.Statement.Statement}
+use Rattle.rls_guard.specs.{declared.context.Ctx.Ctx, declared.effect.Effect.Effect}
 use Rattle.rls_guard.specs.declared.effect.Effect.TheVariants as e
 use Rattle.rls_access.specs.Statements.{effect_in}
-use Rattle.rls_session.specs.Sessions.{Asks, Given, connected, ran}
-use Rattle.rls_session.specs.declared.answer.Answer.{Answer}
+use Rattle.rls_session.specs.{Sessions.Asks, Sessions.Given, Sessions.connected, Sessions.ran, declared.answer.Answer.Answer, declared.asking.Asked.Asked, declared.database.Database.Database, declared.session.Begin.Begin, declared.session.Session.Session}
 use Rattle.rls_session.specs.declared.answer.Answer.TheVariants as a
-use Rattle.rls_session.specs.declared.asking.Asked.{Asked}
 use Rattle.rls_session.specs.declared.asking.Asked.TheVariants as k
-use Rattle.rls_session.specs.declared.database.Database.{Database}
-use Rattle.rls_session.specs.declared.session.Begin.{Begin}
-use Rattle.rls_session.specs.declared.session.Session.{Session}
 
 -- before the first command: the opening state, and the first transaction is number 1
 abbrev pub opening_database : Database

@@ -6,12 +6,8 @@ use Rattle.rls_value.specs.declared.refusal.Refusal.TheVariants as r
 use Rattle.rls_value.specs.declared.refusal.Limit.TheVariants as l
 use Rattle.rls_catalog.specs.State.{State}
 use Rattle.rls_session.specs.Databases.{opening_database, Executes}
-use Rattle.rls_session.specs.declared.answer.Answer.{Answer}
+use Rattle.rls_session.specs.{declared.answer.Answer.Answer, declared.database.Database.Database, declared.labels.Label.Label, declared.session.Session.Session, declared.sessions.Sessions.Sessions}
 use Rattle.rls_session.specs.declared.answer.Answer.TheVariants as a
-use Rattle.rls_session.specs.declared.database.Database.{Database}
-use Rattle.rls_session.specs.declared.labels.Label.{Label}
-use Rattle.rls_session.specs.declared.session.Session.{Session}
-use Rattle.rls_session.specs.declared.sessions.Sessions.{Sessions}
 
 -- the place of the label in the order in which they came; one that hasn't come is behind them all
 abbrev pub place_of : List Label → List ℕ → ℕ

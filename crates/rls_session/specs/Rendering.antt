@@ -1,13 +1,10 @@
 -- How answers are written.
 use Rattle.std.specs.Prelude.{ℕ, Bool, true, false, not, ◌||◌, cond, nat_eq, List, [], ◌∷◌, ◌++◌, length, codes}
 use Rattle.std.specs.Fmt.{decimal, signed_decimal}
-use Rattle.rls_value.specs.declared.value.Value.{Value}
+use Rattle.rls_value.specs.{declared.value.Value.Value, declared.tag.Tag.Tag, declared.refusal.Refusal.Refusal, Words.tag_text}
 use Rattle.rls_value.specs.declared.value.Value.TheVariants as v
-use Rattle.rls_value.specs.declared.tag.Tag.{Tag}
 use Rattle.rls_value.specs.declared.tag.Tag.TheVariants as t
-use Rattle.rls_value.specs.declared.refusal.Refusal.{Refusal}
 use Rattle.rls_value.specs.Refusals.{code_of, refusal_text}
-use Rattle.rls_value.specs.Words.{tag_text}
 use Rattle.rls_guard.specs.declared.reply.Reply.{Reply}
 use Rattle.rls_guard.specs.declared.reply.Reply.TheVariants as r
 use Rattle.rls_session.specs.declared.answer.Answer.{Answer}

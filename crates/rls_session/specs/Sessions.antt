@@ -1,30 +1,21 @@
 -- A label's session, without a state: what a command asks of the database, and, given what came of it, what the
 -- command is answered and which session the label has then.
 use Rattle.std.specs.Prelude.{◌≡◌, ℕ, nat_lt, cond, List, length, Option, Some, None, Result, Ok, Err}
-use Rattle.rls_value.specs.declared.refusal.Refusal.{Refusal}
-use Rattle.rls_value.specs.declared.refusal.Refusal.TheVariants as r
-use Rattle.rls_value.specs.declared.refusal.Limit.TheVariants as l
-use Rattle.rls_value.specs.declared.tag.Tag.{Tag}
-use Rattle.rls_value.specs.declared.tag.Tag.TheVariants as t
-use Rattle.rls_text.specs.Answers.{Answers}
-use Rattle.rls_text.specs.Words.{words_of}
+use Rattle.rls_value.specs.{declared.refusal.Refusal.Refusal, declared.tag.Tag.Tag, declared.refusal.Limit.Limit}
+use Rattle.rls_text.specs.{Answers.Answers, Words.words_of}
 use Rattle.rls_statement.specs.declared.statement.Statement.{Statement}
 use Rattle.rls_guard.specs.declared.context.Mode.TheVariants as m
 use Rattle.rls_guard.specs.declared.effect.Effect.{Effect}
 use Rattle.rls_guard.specs.declared.effect.Effect.TheVariants as e
 use Rattle.rls_guard.specs.declared.reply.Reply.TheVariants as p
 use Rattle.rls_access.specs.Statements.{role_after}
-use Rattle.rls_session.specs.Connects.{IsConnect, role_named}
-use Rattle.rls_session.specs.declared.answer.Answer.{Answer}
+use Rattle.rls_session.specs.{Connects.IsConnect, Connects.role_named, declared.answer.Answer.Answer, declared.asking.Asked.Asked, declared.session.Begin.Begin, declared.session.Session.Session}
 use Rattle.rls_session.specs.declared.answer.Answer.TheVariants as a
-use Rattle.rls_session.specs.declared.asking.Asked.{Asked}
 use Rattle.rls_session.specs.declared.asking.Asked.TheVariants as k
-use Rattle.rls_session.specs.declared.session.Begin.{Begin}
-use Rattle.rls_session.specs.declared.session.Session.{Session}
 
 -- a command of over 65,536 bytes is refused before it is read
 abbrev pub within_line : {A : Type 0} → List ℕ → Result A Refusal → Result A Refusal
-within_line command read = cond (nat_lt 65536 (length command)) (Err (r.Limit l.Line)) read
+within_line command read = cond (nat_lt 65536 (length command)) (Err (Refusal.Limit Limit.Line)) read
 
 -- a connect asks for a session of the role, or is refused at once
 abbrev pub asked_to_connect : Result (List ℕ) Refusal → Asked
@@ -37,7 +28,7 @@ begin_of session = record { login = session.login; role = session.role; mode = m
 
 -- whose statement it is: nobody's is refused, and then one that is too long
 abbrev pub asker_of : Option Session → List ℕ → Result Session Refusal
-asker_of None command = Err (r.NoLogin None)
+asker_of None command = Err (Refusal.NoLogin None)
 asker_of (Some session) command = within_line command (Ok session)
 
 -- what the grammar takes is to be run, what it refuses is refused at once
@@ -73,7 +64,7 @@ pub record Given : Type 0 where
 
 -- a connect, given whether its transaction began; the label's old session ends in any case
 abbrev pub connected : List ℕ → Result ℕ Refusal → Given
-connected role (Ok txn) = record { answer = a.Replied t.Connect p.Done; session = Some (record { login = role; role = role }) }
+connected role (Ok txn) = record { answer = a.Replied Tag.Connect p.Done; session = Some (record { login = role; role = role }) }
 connected role (Err refusal) = record { answer = a.Refused refusal; session = None }
 
 -- what a statement's effect is answered

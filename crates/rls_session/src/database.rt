@@ -2,8 +2,7 @@
 
 ghost use Rattle.std.specs.Prelude.{◌≡◌, ℕ, Ok, OnOk, OnErr, IfOk, IfErr};
 ghost use Rattle.rls_value.specs.Giving.{Gives, Fails};
-ghost use Rattle.rls_catalog.specs.State.{State};
-ghost use Rattle.rls_catalog.specs.Changed.{changed_all};
+ghost use Rattle.rls_catalog.specs.{State.State, Changed.changed_all};
 ghost use Rattle.rls_access.specs.Statements.{role_after};
 ghost use Rattle.rls_session.specs.Databases.{begun_by, came_of, changes_of, ctx_of, database_after, database_begun, next_after, opening_database};
 

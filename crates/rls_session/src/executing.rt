@@ -1,8 +1,7 @@
 //! One command under a label.
 
 ghost use Rattle.std.specs.Prelude.{◌≡◌, IfOk, IsOk, OnOk, OnErr};
-ghost use Rattle.rls_session.specs.Connects.{ConnectsToLongName};
-ghost use Rattle.rls_session.specs.Sessions.{IsNothing, answer_to, connected, ran, with_role};
+ghost use Rattle.rls_session.specs.{Connects.ConnectsToLongName, Sessions.IsNothing, Sessions.answer_to, Sessions.connected, Sessions.ran, Sessions.with_role};
 ghost use Rattle.rls_session.specs.Databases.{Executes, done_for, begun_by, came_of, database_after, database_begun};
 ghost use Rattle.rls_statement.specs.Tags.{tag_of};
 

@@ -1,29 +1,16 @@
 -- Laws of the grammar: with more room for parentheses the same is spelled, and a text spells one statement at most.
-use Rattle.std.specs.Prelude.{◌≡◌, ℕ, zero, suc, ◌+◌, ◌≤◌, ◌<◌, Bool, true, false, List, [], ◌∷◌, ◌++◌, length, Option, Some, None, Result, Ok, Err, IfOk, refl}
+use Rattle.std.specs.Prelude.{◌≡◌, ℕ, zero, suc, ◌+◌, ◌≤◌, ◌<◌, Bool, true, false, List, [], ◌∷◌, ◌++◌, length, Option, Some, None, Result, Ok, Err, IfOk, refl, nat_lt, if◌then◌else◌}
 use Rattle.std.proofs.Common.{arith, sym, ◌∙◌, ap, subst, inl, inr, length-append}
-use Rattle.rls_text.specs.declared.token.Token.{Token}
-use Rattle.rls_text.specs.Lang.{only, Both, Mapped, Either, Perhaps, Many, Checked, After, Before}
+use Rattle.rls_text.specs.{declared.token.Token.Token, Trees.Draft, Heights.height_of, Nested.subqueries_of, Writes.some_is, Cut.Cut, Parses.found, Parses.and_then, Cutting.tree_of, Cutting.draft_of, FirstSets.expr_heads, FirstSets.expr_more, Gives.finished, Gives.whole_of, Gives.within_limits, Gives.answered, Gives.unless_over, Gives.answer_of, Answers.Answers, Answers.IsSpelled, Answers.first_limit, Answers.limited, Answers.columns_of, Lang.only, Lang.Both, Lang.Mapped, Lang.Either, Lang.Perhaps, Lang.Many, Lang.Checked, Lang.After, Lang.Before}
 use Rattle.std.proofs.lemmas.Bool.{ltb-true, ltb-false, lt-ltb, le-ltb}
-use Rattle.rls_text.specs.Parses.{found, and_then}
-use Rattle.rls_text.specs.Trees.{Draft}
-use Rattle.rls_text.specs.Heights.{height_of}
-use Rattle.rls_text.specs.Nested.{subqueries_of}
-use Rattle.rls_text.specs.Writes.{some_is}
-use Rattle.rls_text.specs.Cut.{Cut}
 use Rattle.rls_text.specs.Cut as cut
-use Rattle.rls_text.specs.Cutting.{tree_of, draft_of}
 use Rattle.rls_text.proofs.CuttingLaws.{draft_low, draft_high}
 use Rattle.rls_statement.specs.declared.statement.Statement.TheVariants as st
-use Rattle.rls_text.specs.FirstSets.{expr_heads, expr_more}
 use Rattle.rls_text.specs.Grammar as g
-use Rattle.rls_text.specs.Gives.{finished, whole_of, within_limits, answered, unless_over, answer_of}
-use Rattle.rls_text.specs.Answers.{Answers, IsSpelled, first_limit, limited, columns_of}
 use Rattle.rls_statement.specs.declared.statement.Statement.{Statement}
-use Rattle.rls_value.specs.declared.refusal.Limit.{Limit}
+use Rattle.rls_value.specs.{declared.refusal.Limit.Limit, declared.refusal.Refusal.Refusal}
 use Rattle.rls_value.specs.declared.refusal.Limit.TheVariants as l
-use Rattle.rls_value.specs.declared.refusal.Refusal.{Refusal}
 use Rattle.rls_value.specs.declared.refusal.Refusal.TheVariants as refusal
-use Rattle.std.specs.Prelude.{nat_lt, if◌then◌else◌}
 
 -- what p spells with at most k tokens, q spells too
 pub record Within {A : Type 0} (k : ℕ) (p q : List Token → A → Type 0) : Type 0 where

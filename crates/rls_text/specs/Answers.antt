@@ -1,17 +1,13 @@
 -- What a text is answered with: its statement, or a refusal.
 use Rattle.std.specs.Prelude.{◌≡◌, ℕ, ◌+◌, ◌-◌, nat_lt, nat_le, if◌then◌else◌, List, [], ◌∷◌, length, Option, Some, None, Result, Ok, Err}
-use Rattle.rls_value.specs.declared.refusal.Limit.{Limit}
+use Rattle.rls_value.specs.{declared.refusal.Limit.Limit, declared.refusal.Refusal.Refusal}
 use Rattle.rls_value.specs.declared.refusal.Limit.TheVariants as l
-use Rattle.rls_value.specs.declared.refusal.Refusal.{Refusal}
 use Rattle.rls_value.specs.declared.refusal.Refusal.TheVariants as refusal
 use Rattle.rls_text.specs.declared.token.Symbol.TheVariants as s
-use Rattle.rls_text.specs.declared.token.Token.{Token}
+use Rattle.rls_text.specs.{declared.token.Token.Token, Heights.height_of, Nested.subqueries_of, Grammar.Spells}
 use Rattle.rls_text.specs.declared.token.Token.TheVariants as t
 use Rattle.rls_statement.specs.declared.statement.Statement.{Statement}
 use Rattle.rls_statement.specs.declared.statement.Statement.TheVariants as st
-use Rattle.rls_text.specs.Heights.{height_of}
-use Rattle.rls_text.specs.Nested.{subqueries_of}
-use Rattle.rls_text.specs.Grammar.{Spells}
 
 -- how many parentheses are open behind the token
 abbrev pub open_behind : ℕ → Token → ℕ

@@ -3,25 +3,14 @@
 use Rattle.std.specs.Prelude.{◌≡◌, ℕ, zero, suc, ◌+◌, ◌≤◌, ◌<◌, max, nat_lt, nat_eq, Bool, true, false, ◌&&◌, List, [], ◌∷◌, ◌++◌, length, map, Option, Some, None, is_some, refl, if◌then◌else◌}
 use Rattle.std.proofs.Common.{arith, inl, inr, sym, ap, ◌∙◌, append_assoc}
 use Rattle.std.proofs.lemmas.Bool.{ltb-true, ltb-false, lt-ltb, le-ltb}
-use Rattle.rls_expr.specs.declared.expr.Comparison.{Comparison}
-use Rattle.rls_expr.specs.declared.expr.Sign.{Sign}
-use Rattle.rls_expr.specs.Terms.{Term, Terms, Query, terms_of, maybe_term}
+use Rattle.rls_expr.specs.{declared.expr.Comparison.Comparison, declared.expr.Sign.Sign, Terms.Term, Terms.Terms, Terms.Query, Terms.terms_of, Terms.maybe_term}
 use Rattle.rls_expr.specs.Terms as e
-use Rattle.rls_statement.specs.declared.changing.Setting.{Setting}
-use Rattle.rls_statement.specs.declared.statement.Selected.{Selected}
-use Rattle.rls_statement.specs.declared.statement.Statement.{Statement}
+use Rattle.rls_statement.specs.{declared.changing.Setting.Setting, declared.statement.Selected.Selected, declared.statement.Statement.Statement}
 use Rattle.rls_statement.specs.declared.statement.Statement.TheVariants as st
-use Rattle.rls_text.specs.declared.tree.Operands.{Operands}
-use Rattle.rls_text.specs.declared.tree.Operands.TheVariants.{One, Several}
-use Rattle.rls_text.specs.declared.tree.Choices.{Choices}
-use Rattle.rls_text.specs.declared.tree.Choices.TheVariants.{Listed, Queried}
-use Rattle.rls_text.specs.Cut.{of_some}
-use Rattle.rls_text.specs.Heights.{height, heights, query_height, height_if, set_values}
-use Rattle.rls_text.specs.Lang.{put_in}
+use Rattle.rls_text.specs.{declared.tree.Operands.Operands, declared.tree.Choices.Choices, Cut.of_some, Lang.put_in, Writes.append_end, declared.tree.Operands.TheVariants.One, declared.tree.Operands.TheVariants.Several, declared.tree.Choices.TheVariants.Listed, declared.tree.Choices.TheVariants.Queried, Heights.height, Heights.heights, Heights.query_height, Heights.height_if, Heights.set_values}
 use Rattle.rls_text.specs.Trees.{Tree, SelectParts, parted_select, query_of, one_deeper, select_depth, Tuple, Tuples, Draft, cut, above, null_test_of, with_operand, operands, with_summand, summed, among_of, with_part, tuple_of, with_tuple, tuples_of, SetColumn, SetColumns, with_set_column, set_columns_of, parted, deeper}
 use Rattle.rls_text.specs.Trees as t
 use Rattle.rls_text.specs.Values as values
-use Rattle.rls_text.specs.Writes.{append_end}
 
 -- an expression with its height, up to 64
 abbrev pub tree_of : Term → Tree

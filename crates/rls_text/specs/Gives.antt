@@ -1,20 +1,14 @@
 -- What a function of the parser ensures: it gives what the reader gives, unless memory runs out.
 use Rattle.std.specs.Prelude.{◌≡◌, ℕ, ◌+◌, nat_lt, if◌then◌else◌, ◌++◌, length, List, [], ◌∷◌, Option, Some, None, Result, Ok, Err}
 use Rattle.std.specs.Borrow.{Bor}
-use Rattle.rls_text.specs.declared.token.Token.{Token}
-use Rattle.rls_text.specs.declared.fault.Fault.{Fault}
+use Rattle.rls_text.specs.{declared.token.Token.Token, declared.fault.Fault.Fault, Lang.put_in, Nested.subqueries_of, Trees.Draft, Values.or_empty}
 use Rattle.rls_text.specs.declared.fault.Fault.TheVariants.{NoMemory, Syntax}
-use Rattle.rls_value.specs.declared.refusal.Limit.{Limit}
-use Rattle.rls_value.specs.declared.refusal.Refusal.{Refusal}
+use Rattle.rls_value.specs.{declared.refusal.Limit.Limit, declared.refusal.Refusal.Refusal}
 use Rattle.rls_value.specs.declared.refusal.Refusal.TheVariants as refusal
 use Rattle.rls_statement.specs.declared.statement.Statement.{Statement}
 use Rattle.rls_text.specs.Answers.{first_limit, columns_of}
 use Rattle.rls_value.specs.declared.refusal.Limit.TheVariants as l
-use Rattle.rls_text.specs.Lang.{put_in}
 use Rattle.rls_text.specs.Parses.{Outcome, and_then}
-use Rattle.rls_text.specs.Nested.{subqueries_of}
-use Rattle.rls_text.specs.Trees.{Draft}
-use Rattle.rls_text.specs.Values.{or_empty}
 use Rattle.rls_text.specs.Grammar as g
 
 -- nothing is said where memory ran out; what isn't read is no phrase

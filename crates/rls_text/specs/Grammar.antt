@@ -2,67 +2,15 @@
 -- of which this is a part). Behind a rule's type stand the tokens by which its phrases begin, those that may not follow
 -- them, and whether one may be empty. What the parts stand for together is in `Values`, how it is taken apart to be
 -- written in `WaysBack`.
-use Rattle.std.specs.Prelude.{◌≡◌, ℕ, zero, suc, ◌≤◌, length, Bool, true, false, List, [], ◌∷◌, ◌++◌, Option, Some, None, codes, refl}
-use Rattle.rls_value.specs.declared.value.Value.{Value}
-use Rattle.rls_value.specs.declared.value.Value.TheVariants as v
-use Rattle.rls_value.specs.declared.value.ColType.{ColType}
-use Rattle.rls_value.specs.declared.value.ColType.TheVariants as k
-use Rattle.rls_value.specs.declared.verb.Kind.{Kind}
-use Rattle.rls_value.specs.declared.verb.Kind.TheVariants as command
-use Rattle.rls_value.specs.declared.verb.PolicyKind.{PolicyKind}
-use Rattle.rls_value.specs.declared.verb.PolicyKind.TheVariants as kind
-use Rattle.rls_value.specs.declared.verb.Privilege.{Privilege}
-use Rattle.rls_value.specs.declared.verb.Privilege.TheVariants as p
-use Rattle.rls_expr.specs.Terms.{Term, terms_of}
+use Rattle.std.{specs.Prelude.◌≡◌, specs.Prelude.ℕ, specs.Prelude.zero, specs.Prelude.suc, specs.Prelude.◌≤◌, specs.Prelude.length, specs.Prelude.Bool, specs.Prelude.true, specs.Prelude.false, specs.Prelude.List, specs.Prelude.[], specs.Prelude.◌∷◌, specs.Prelude.◌++◌, specs.Prelude.Option, specs.Prelude.Some, specs.Prelude.None, specs.Prelude.codes, specs.Prelude.refl, proofs.Common.arith, proofs.Common.ap, proofs.Common.inl, proofs.Common.inr}
+use Rattle.rls_value.specs.{declared.value.Value.Value, declared.value.ColType.ColType, declared.verb.Kind.Kind, declared.verb.PolicyKind.PolicyKind, declared.verb.Privilege.Privilege}
+use Rattle.rls_expr.specs.{Terms.Term, Terms.terms_of, declared.column_name.ColumnName.ColumnName, declared.expr.Comparison.Comparison, declared.expr.Sign.Sign as PartSign, declared.policy.Grantee.Grantee}
 use Rattle.rls_expr.specs.Terms as e
-use Rattle.rls_expr.specs.declared.column_name.ColumnName.{ColumnName}
-use Rattle.rls_expr.specs.declared.expr.Comparison.{Comparison}
-use Rattle.rls_expr.specs.declared.expr.Comparison.TheVariants as c
-use Rattle.rls_expr.specs.declared.expr.Sign.{Sign as PartSign}
-use Rattle.rls_expr.specs.declared.expr.Sign.TheVariants as part
-use Rattle.rls_expr.specs.declared.policy.Grantee.{Grantee}
-use Rattle.rls_expr.specs.declared.policy.Grantee.TheVariants as to
-use Rattle.rls_statement.specs.declared.statement.Attributes.{Attributes}
-use Rattle.rls_statement.specs.declared.statement.MarkedColumn.{MarkedColumn}
-use Rattle.rls_statement.specs.declared.statement.MembershipOption.{MembershipOption}
-use Rattle.rls_statement.specs.declared.statement.MembershipOption.TheVariants as m
-use Rattle.rls_statement.specs.declared.statement.MembershipOptions.{MembershipOptions}
-use Rattle.rls_statement.specs.declared.statement.Privileges.{Privileges}
-use Rattle.rls_statement.specs.declared.statement.RowSecurity.{RowSecurity}
-use Rattle.rls_statement.specs.declared.statement.RowSecurity.TheVariants as change
-use Rattle.rls_statement.specs.declared.statement.Selected.{Selected}
-use Rattle.rls_statement.specs.declared.statement.Selected.TheVariants as selected
-use Rattle.rls_statement.specs.declared.statement.SetRole.{SetRole}
-use Rattle.rls_statement.specs.declared.statement.SetRole.TheVariants as sr
-use Rattle.rls_statement.specs.declared.statement.Statement.{Statement}
-use Rattle.rls_statement.specs.declared.statement.Statement.TheVariants as st
-use Rattle.rls_text.specs.declared.token.Symbol.TheVariants as s
-use Rattle.rls_text.specs.declared.token.Token.{Token}
-use Rattle.rls_text.specs.declared.token.Token.TheVariants.{Word}
-use Rattle.rls_text.specs.declared.token.Token.TheVariants as tokens
-use Rattle.rls_text.specs.declared.attributes.RoleAttribute.{RoleAttribute}
-use Rattle.rls_text.specs.declared.attributes.RoleAttribute.TheVariants as a
-use Rattle.rls_text.specs.declared.columns.ColumnMark.{ColumnMark}
-use Rattle.rls_text.specs.declared.columns.ColumnMark.TheVariants as marks
-use Rattle.rls_text.specs.declared.tables.TableElement.{TableElement}
-use Rattle.rls_text.specs.declared.tables.TableElement.TheVariants as element
-use Rattle.rls_text.specs.declared.tables.TableElements.{TableElements}
-use Rattle.rls_text.specs.declared.tree.Choices.TheVariants.{Listed, Queried}
-use Rattle.std.proofs.Common.{arith, ap, inl, inr}
-use Rattle.rls_text.specs.Heads.{Names, Numbers, Texts, Keyword, Sign, begins, sees}
-use Rattle.rls_text.specs.FirstSets.{constant_heads, literal_heads, item_heads, item_more, items_more, prim_heads, sign_heads, sum_more, in_heads, memb_more, comparison_heads, cmp_more, is_more, expr_heads, expr_more, alias_heads, condition_more, select_more, inserted_more, changed_more, attribute_heads, role_more, mark_heads, change_more, policy_more, create_more, alter_more, privilege_heads, privileges_heads, option_heads, granted_more, revoked_more, flat_heads, flat_more, body_heads, body_more, literal_apart, name_apart, exists_apart, select_apart, not_apart, as_apart, alias_apart, public_apart, primary_apart, table_apart, none_apart, on_apart, to_apart}
-use Rattle.rls_text.specs.Ahead.{on_comes_first, second_is, Skips, both_skips, mapped_skips, either_skips, perhaps_skips, many_skips, token_skips, one_skips, decided_at, decided_before, decided_behind, Begins, only_begins, one_begins, mapped_begins, checked_begins, either_begins, both_begins, perhaps_begins, no_second, Alone, only_alone, mapped_alone, either_alone}
-use Rattle.rls_text.specs.Elements.{elements_of}
+use Rattle.rls_statement.specs.{declared.statement.Attributes.Attributes, declared.statement.MarkedColumn.MarkedColumn, declared.statement.MembershipOption.MembershipOption, declared.statement.MembershipOptions.MembershipOptions, declared.statement.Privileges.Privileges, declared.statement.RowSecurity.RowSecurity, declared.statement.Selected.Selected, declared.statement.SetRole.SetRole, declared.statement.Statement.Statement}
+use Rattle.rls_text.specs.{declared.token.Symbol.Symbol, declared.token.Token.Token, declared.token.Token.TheVariants.Word, declared.attributes.RoleAttribute.RoleAttribute, declared.columns.ColumnMark.ColumnMark, declared.tables.TableElement.TableElement, declared.tables.TableElements.TableElements, Elements.elements_of, Parses.unseen_parts, declared.tree.Choices.TheVariants.Listed, declared.tree.Choices.TheVariants.Queried, Heights.height, Heights.heights, Cut.Cut, Cut.of_some, Heads.Names, Heads.Numbers, Heads.Texts, Heads.Keyword, Heads.Sign, Heads.begins, Heads.sees, Lang.only, Lang.Both, Lang.Mapped, Lang.Perhaps, Lang.Many, Lang.put_in, Writes.through, Writes.without_second, Writes.without_first, FirstSets.constant_heads, FirstSets.literal_heads, FirstSets.item_heads, FirstSets.item_more, FirstSets.items_more, FirstSets.prim_heads, FirstSets.sign_heads, FirstSets.sum_more, FirstSets.in_heads, FirstSets.memb_more, FirstSets.comparison_heads, FirstSets.cmp_more, FirstSets.is_more, FirstSets.expr_heads, FirstSets.expr_more, FirstSets.alias_heads, FirstSets.condition_more, FirstSets.select_more, FirstSets.inserted_more, FirstSets.changed_more, FirstSets.attribute_heads, FirstSets.role_more, FirstSets.mark_heads, FirstSets.change_more, FirstSets.policy_more, FirstSets.create_more, FirstSets.alter_more, FirstSets.privilege_heads, FirstSets.privileges_heads, FirstSets.option_heads, FirstSets.granted_more, FirstSets.revoked_more, FirstSets.flat_heads, FirstSets.flat_more, FirstSets.body_heads, FirstSets.body_more, FirstSets.literal_apart, FirstSets.name_apart, FirstSets.exists_apart, FirstSets.select_apart, FirstSets.not_apart, FirstSets.as_apart, FirstSets.alias_apart, FirstSets.public_apart, FirstSets.primary_apart, FirstSets.table_apart, FirstSets.none_apart, FirstSets.on_apart, FirstSets.to_apart, Ahead.on_comes_first, Ahead.second_is, Ahead.Skips, Ahead.both_skips, Ahead.mapped_skips, Ahead.either_skips, Ahead.perhaps_skips, Ahead.many_skips, Ahead.token_skips, Ahead.one_skips, Ahead.decided_at, Ahead.decided_before, Ahead.decided_behind, Ahead.Begins, Ahead.only_begins, Ahead.one_begins, Ahead.mapped_begins, Ahead.checked_begins, Ahead.either_begins, Ahead.both_begins, Ahead.perhaps_begins, Ahead.no_second, Ahead.Alone, Ahead.only_alone, Ahead.mapped_alone, Ahead.either_alone, Rule.Rule, Rule.word, Rule.sign, Rule.one, Rule.both, Rule.mapped, Rule.after_as, Rule.before_as, Rule.after, Rule.before, Rule.in_parentheses, Rule.either, Rule.either_by, Rule.perhaps, Rule.many, Rule.checked, Rule.widened, Rule.with_comma, Rule.as_list, Rule.list_law, Rule.listed, Rule.spelled_as, Rule.standing_for, Rule.word_for, Rule.sign_for, Cutting.tree_of, Cutting.selected_kept, Cutting.select_kept, Cutting.choices_kept, Cutting.in_kept, Cutting.exists_kept, Cutting.scalar_kept, Cutting.tuple_kept, Cutting.tuples_kept, Cutting.rows_kept, Cutting.set_column_kept, Cutting.set_columns_kept, Cutting.ending_kept, Cutting.draft_of, Cutting.signed_kept, Cutting.sum_kept, Cutting.among_kept, Cutting.compared_kept, Cutting.tested_kept, Cutting.negated_kept, Cutting.and_kept, Cutting.or_kept, Cutting.tuple_is_kept, Cutting.tuples_are_kept, Cutting.set_columns_are_kept, Cutting.even_kept, Cutting.long_kept, Cutting.distinct_kept, Cutting.conditions_kept, Cutting.description_kept, Cutting.change_kept, Cutting.is_policy_kept, Cutting.is_change_kept}
 use Rattle.rls_text.specs.Elements as elements
-use Rattle.rls_text.specs.Heights.{height, heights}
-use Rattle.rls_text.specs.Lang.{only, Both, Mapped, Perhaps, Many, put_in}
-use Rattle.rls_text.specs.Parses.{unseen_parts}
 use Rattle.rls_text.specs.Trees as t
-use Rattle.rls_text.specs.Writes.{through, without_second, without_first}
-use Rattle.rls_text.specs.Rule.{Rule, word, sign, one, both, mapped, after_as, before_as, after, before, in_parentheses, either, either_by, perhaps, many, checked, widened, with_comma, as_list, list_law, listed, spelled_as, standing_for, word_for, sign_for}
-use Rattle.rls_text.specs.Cut.{Cut, of_some}
 use Rattle.rls_text.specs.Cut as cut
-use Rattle.rls_text.specs.Cutting.{tree_of, selected_kept, select_kept, choices_kept, in_kept, exists_kept, scalar_kept, tuple_kept, tuples_kept, rows_kept, set_column_kept, set_columns_kept, ending_kept, draft_of, signed_kept, sum_kept, among_kept, compared_kept, tested_kept, negated_kept, and_kept, or_kept, tuple_is_kept, tuples_are_kept, set_columns_are_kept, even_kept, long_kept, distinct_kept, conditions_kept, description_kept, change_kept, is_policy_kept, is_change_kept}
 use Rattle.rls_text.specs.Values as g
 use Rattle.rls_text.specs.WaysBack as back
 use Rattle.rls_text.specs.TablesBack as tables
@@ -74,16 +22,16 @@ unfoldable pub name : Rule (List ℕ) (Names ∷ []) [] false
 name = one g.name_of back.name_begins back.as_name back.name_law
 
 -- name {"," name}
-unfoldable pub names : Rule (List (List ℕ)) (Names ∷ []) (Sign s.Comma ∷ []) false
+unfoldable pub names : Rule (List (List ℕ)) (Names ∷ []) (Sign Symbol.Comma ∷ []) false
 names = listed name
 
 -- name {"," name}, no name twice
-unfoldable pub distinct_names : Rule (List (List ℕ)) (Names ∷ []) (Sign s.Comma ∷ []) false
+unfoldable pub distinct_names : Rule (List (List ℕ)) (Names ∷ []) (Sign Symbol.Comma ∷ []) false
 distinct_names = checked g.are_distinct names
 
 -- TRUE | FALSE | NULL
 unfoldable pub constant : Rule Value constant_heads [] false
-constant = either (word_for back.constants (v.Bool true) (codes "true")) (either (word_for back.constants (v.Bool false) (codes "false")) (word_for back.constants v.Null (codes "null")) refl) refl
+constant = either (word_for back.constants (Value.Bool true) (codes "true")) (either (word_for back.constants (Value.Bool false) (codes "false")) (word_for back.constants Value.Null (codes "null")) refl) refl
 
 -- digits
 unfoldable pub digits : Rule ℕ (Numbers ∷ []) [] false
@@ -91,11 +39,11 @@ digits = one g.number_of back.number_begins back.as_digits back.number_law
 
 -- a text in quotes
 unfoldable pub text : Rule Value (Texts ∷ []) [] false
-text = mapped v.Text back.as_text back.as_text_law (one g.text_of back.text_begins back.as_quoted back.text_law)
+text = mapped Value.Text back.as_text back.as_text_law (one g.text_of back.text_begins back.as_quoted back.text_law)
 
 -- ["-"] digits
-unfoldable pub number : Rule Value (Sign s.Minus ∷ Numbers ∷ []) [] false
-number = mapped g.signed back.as_signed back.signed_law (checked g.in_range (both (perhaps (sign s.Minus)) digits refl))
+unfoldable pub number : Rule Value (Sign Symbol.Minus ∷ Numbers ∷ []) [] false
+number = mapped g.signed back.as_signed back.signed_law (checked g.in_range (both (perhaps (sign Symbol.Minus)) digits refl))
 
 -- constant | text | number
 unfoldable pub literal : Rule Value literal_heads [] false
@@ -104,8 +52,8 @@ literal = either constant (either text number refl) refl
 -- ---- items
 
 -- ["." name]
-unfoldable pub behind_dot : Rule (Option (List ℕ)) (Sign s.Dot ∷ []) item_more true
-behind_dot = perhaps (after (sign s.Dot) name refl)
+unfoldable pub behind_dot : Rule (Option (List ℕ)) (Sign Symbol.Dot ∷ []) item_more true
+behind_dot = perhaps (after (sign Symbol.Dot) name refl)
 
 -- name ["." name], of which the first is the qualifier where there are two
 unfoldable pub column : Rule ColumnName (Names ∷ []) item_more false
@@ -131,15 +79,15 @@ unfoldable pub item_list : Rule (List Term) item_heads items_more false
 item_list = widened (mapped (λ r. r.0 ∷ r.1) as_list list_law (both item (many (with_comma item) refl) refl)) refl refl
 
 -- items, as what is selected, where no parenthesis follows
-unfoldable pub selected_items : Rule Selected item_heads (Sign s.LParen ∷ items_more) false
-selected_items = widened (mapped selected.Items back.as_items back.items_law item_list) refl refl
+unfoldable pub selected_items : Rule Selected item_heads (Sign Symbol.LParen ∷ items_more) false
+selected_items = widened (mapped Selected.Items back.as_items back.items_law item_list) refl refl
 
 -- COUNT "(" "*" ")"
 unfoldable pub count : Rule Selected (Keyword (codes "count") ∷ []) [] false
-count = mapped (λ _. selected.Count) back.as_count back.count_law (after (word (codes "count")) (in_parentheses (sign s.Star) refl) refl)
+count = mapped (λ _. Selected.Count) back.as_count back.count_law (after (word (codes "count")) (in_parentheses (sign Symbol.Star) refl) refl)
 
 -- where rows are counted the second token is a parenthesis
-pub paren_second : (front rest : List Token) (a : Selected) → count.spells front a → sees [] rest ≡ false → second_is (Sign s.LParen ∷ []) (front ++ rest) ≡ true
+pub paren_second : (front rest : List Token) (a : Selected) → count.spells front a → sees [] rest ≡ false → second_is (Sign Symbol.LParen ∷ []) (front ++ rest) ≡ true
 unfolding count
 paren_second front rest a h stop =
     let x = h.spelled.spelled in
@@ -147,28 +95,28 @@ paren_second front rest a h stop =
     rw (x.split, x.one, y.split, y.one) refl
 
 -- no parenthesis stands behind the first token of a literal,
-literal_begins : Begins (Sign s.LParen ∷ []) literal.spells
+literal_begins : Begins (Sign Symbol.LParen ∷ []) literal.spells
 unfolding literal constant text number digits
 literal_begins = either_begins _ _ _ (either_begins _ _ _ (mapped_begins _ _ (only_begins _ _) _) (either_begins _ _ _ (mapped_begins _ _ (only_begins _ _) _) (mapped_begins _ _ (only_begins _ _) _)))
     (either_begins _ _ _ (mapped_begins _ _ (one_begins _ _) _) (mapped_begins _ _ (checked_begins _ _ (perhaps_begins _ _ _ _ _ _ (only_begins _ _) digits.parses refl (one_begins _ _)) _) _))
 
 -- of an item
-item_begins : Begins (Sign s.LParen ∷ []) item.spells
+item_begins : Begins (Sign Symbol.LParen ∷ []) item.spells
 unfolding item column name
 item_begins = either_begins _ _ _ (mapped_begins _ _ literal_begins _) (either_begins _ _ _ (mapped_begins _ _ (mapped_begins _ _ (both_begins _ _ _ _ _ _ (one_begins _ _) behind_dot.parses refl) _) _) (mapped_begins _ _ (only_begins _ _) _))
 
 -- or of items
-items_begin : Begins (Sign s.LParen ∷ []) selected_items.spells
+items_begin : Begins (Sign Symbol.LParen ∷ []) selected_items.spells
 unfolding selected_items item_list
 items_begin = mapped_begins _ _ (mapped_begins _ _ (both_begins _ _ _ _ _ _ item_begins (many (with_comma item) refl).parses refl) _) _
 
 -- so where items are selected the second token is none
-pub no_paren_second : (front rest : List Token) (a : Selected) → selected_items.spells front a → sees (Sign s.LParen ∷ items_more) rest ≡ false → second_is (Sign s.LParen ∷ []) (front ++ rest) ≡ false
-no_paren_second front rest a h stop = no_second _ _ items_begin front rest a h (unseen_parts (Sign s.LParen ∷ []) items_more rest stop).0
+pub no_paren_second : (front rest : List Token) (a : Selected) → selected_items.spells front a → sees (Sign Symbol.LParen ∷ items_more) rest ≡ false → second_is (Sign Symbol.LParen ∷ []) (front ++ rest) ≡ false
+no_paren_second front rest a h stop = no_second _ _ items_begin front rest a h (unseen_parts (Sign Symbol.LParen ∷ []) items_more rest stop).0
 
 -- "*" | count | items: where the second token is a parenthesis, rows are counted
-unfoldable pub items : Rule Selected (Sign s.Star ∷ Keyword (codes "count") ∷ item_heads) (Sign s.LParen ∷ items_more) false
-items = either (mapped (λ _. selected.All) back.as_all back.all_law (sign s.Star)) (either_by (second_is (Sign s.LParen ∷ [])) count selected_items paren_second no_paren_second) refl
+unfoldable pub items : Rule Selected (Sign Symbol.Star ∷ Keyword (codes "count") ∷ item_heads) (Sign Symbol.LParen ∷ items_more) false
+items = either (mapped (λ _. Selected.All) back.as_all back.all_law (sign Symbol.Star)) (either_by (second_is (Sign Symbol.LParen ∷ [])) count selected_items paren_second no_paren_second) refl
 
 -- items have it too
 more_height : (ts : List Token) (xs : List Term) → Many (with_comma item).spells ts xs → heights (terms_of xs) ≤ 1
@@ -188,7 +136,7 @@ list_height ts xs h =
 -- and are kept with it
 pub items_kept : (ts : List Token) (x : Selected) → items.spells ts x → selected_kept x ≡ t.with_depth x
 unfolding items count selected_items
-items_kept ts x h = elim h [ inl y ↦ rw (y.value) refl | inr y ↦ elim y [ inl z ↦ rw (z.value) refl | inr z ↦ rw (z.value) (ap (λ n. (selected.Items z.source, n)) (list_height ts z.source z.spelled)) ] ]
+items_kept ts x h = elim h [ inl y ↦ rw (y.value) refl | inr y ↦ elim y [ inl z ↦ rw (z.value) refl | inr z ↦ rw (z.value) (ap (λ n. (Selected.Items z.source, n)) (list_height ts z.source z.spelled)) ] ]
 
 -- [AS] name; AS is written
 unfoldable pub alias : Rule (List ℕ) alias_heads [] false
@@ -206,12 +154,12 @@ from_table = after (word (codes "from")) (both name alias_if_any refl) refl
 
 -- "=" | "<>" | "<" | "<=" | ">" | ">="
 unfoldable pub comparison : Rule Comparison comparison_heads [] false
-comparison = either (sign_for back.comparisons c.Equal s.Equal) (either (sign_for back.comparisons c.NotEqual s.NotEqual) (either (sign_for back.comparisons c.Less s.Less)
-    (either (sign_for back.comparisons c.LessOrEqual s.LessOrEqual) (either (sign_for back.comparisons c.Greater s.Greater) (sign_for back.comparisons c.GreaterOrEqual s.GreaterOrEqual) refl) refl) refl) refl) refl
+comparison = either (sign_for back.comparisons Comparison.Equal Symbol.Equal) (either (sign_for back.comparisons Comparison.NotEqual Symbol.NotEqual) (either (sign_for back.comparisons Comparison.Less Symbol.Less)
+    (either (sign_for back.comparisons Comparison.LessOrEqual Symbol.LessOrEqual) (either (sign_for back.comparisons Comparison.Greater Symbol.Greater) (sign_for back.comparisons Comparison.GreaterOrEqual Symbol.GreaterOrEqual) refl) refl) refl) refl) refl
 
 -- "+" | "-", between the parts of a sum
 unfoldable pub part_sign : Rule PartSign sign_heads [] false
-part_sign = either (sign_for back.signs part.Plus s.Plus) (sign_for back.signs part.Minus s.Minus) refl
+part_sign = either (sign_for back.signs PartSign.Plus Symbol.Plus) (sign_for back.signs PartSign.Minus Symbol.Minus) refl
 
 -- [NOT] IN
 unfoldable pub in_word : Rule (Option (Unit {0})) in_heads [] false
@@ -228,7 +176,7 @@ nots = mapped length back.as_repeated back.repeated_law (many (word (codes "not"
 -- An operand is written as a prim, in parentheses where it isn't one; so a prim is a phrase of each level.
 module _ (inner : Cut tree_of expr_heads expr_more false) where
   -- "(" expr ")"
-  unfoldable pub parenthesized : Cut tree_of (Sign s.LParen ∷ []) [] false
+  unfoldable pub parenthesized : Cut tree_of (Sign Symbol.LParen ∷ []) [] false
   parenthesized = cut.in_parentheses inner refl
 
   -- [WHERE expr]
@@ -268,19 +216,19 @@ module _ (inner : Cut tree_of expr_heads expr_more false) where
   prim_sum = without_second (λ r. g.sum_of r.0 r.1) prim.rule.spells (Many sum_next.rule.spells) (λ x. x) [] refl (λ x. refl)
 
   -- expr {"," expr}
-  unfoldable pub parts : Cut tuple_kept expr_heads (Sign s.Comma ∷ expr_more) false
+  unfoldable pub parts : Cut tuple_kept expr_heads (Sign Symbol.Comma ∷ expr_more) false
   parts = cut.widened (cut.mapped tuple_kept (λ r. r.0 ∷ r.1) (λ r. t.tuple_of r.0 r.1) tuple_is_kept as_list list_law (cut.both inner (cut.many (cut.with_comma inner) refl) refl)) refl refl
 
   -- "(" expr {"," expr} ")"
-  unfoldable pub tuple : Cut tuple_kept (Sign s.LParen ∷ []) [] false
+  unfoldable pub tuple : Cut tuple_kept (Sign Symbol.LParen ∷ []) [] false
   tuple = cut.in_parentheses parts refl
 
   -- select | expr {"," expr}
-  unfoldable pub choices : Cut choices_kept (Keyword (codes "select") ∷ expr_heads) (Sign s.Comma ∷ select_more) false
+  unfoldable pub choices : Cut choices_kept (Keyword (codes "select") ∷ expr_heads) (Sign Symbol.Comma ∷ select_more) false
   choices = cut.widened (cut.either (cut.mapped choices_kept (λ r. inr r) Queried (λ r. refl) back.as_queried back.queried_law select_parts) (cut.mapped choices_kept (λ xs. inl xs) Listed (λ xs. refl) back.as_listed back.listed_law parts) select_apart) refl refl
 
   -- "(" (select | expr {"," expr}) ")"
-  unfoldable pub enclosed_choices : Cut choices_kept (Sign s.LParen ∷ []) [] false
+  unfoldable pub enclosed_choices : Cut choices_kept (Sign Symbol.LParen ∷ []) [] false
   enclosed_choices = cut.in_parentheses choices refl
 
   -- [NOT] IN "(" (select | expr {"," expr}) ")"
@@ -358,15 +306,15 @@ expr (suc depth) = or (expr depth)
 -- ---- SELECT, INSERT, UPDATE and DELETE
 
 -- "*" | items
-unfoldable pub returned : Rule Selected (Sign s.Star ∷ item_heads) items_more false
-returned = either (mapped (λ _. selected.All) back.as_all back.all_law (sign s.Star)) (mapped selected.Items back.as_items back.items_law item_list) refl
+unfoldable pub returned : Rule Selected (Sign Symbol.Star ∷ item_heads) items_more false
+returned = either (mapped (λ _. Selected.All) back.as_all back.all_law (sign Symbol.Star)) (mapped Selected.Items back.as_items back.items_law item_list) refl
 
 -- [RETURNING ("*" | items)]
 unfoldable pub returning : Rule (Option Selected) (Keyword (codes "returning") ∷ []) inserted_more true
 returning = perhaps (after (word (codes "returning")) returned refl)
 
 -- ["(" names ")"], no name twice
-unfoldable pub columns_if_any : Rule (Option (List (List ℕ))) (Sign s.LParen ∷ []) (Sign s.LParen ∷ []) true
+unfoldable pub columns_if_any : Rule (Option (List (List ℕ))) (Sign Symbol.LParen ∷ []) (Sign Symbol.LParen ∷ []) true
 columns_if_any = perhaps (in_parentheses distinct_names refl)
 
 module _ (inner : Cut tree_of expr_heads expr_more false) where
@@ -375,19 +323,19 @@ module _ (inner : Cut tree_of expr_heads expr_more false) where
   select = cut.mapped draft_of g.select_of t.select_of (λ r. refl) back.as_select back.select_law (select_parts inner)
 
   -- tuple {"," tuple}
-  unfoldable pub tuples : Cut tuples_kept (Sign s.LParen ∷ []) (Sign s.Comma ∷ []) false
+  unfoldable pub tuples : Cut tuples_kept (Sign Symbol.LParen ∷ []) (Sign Symbol.Comma ∷ []) false
   tuples = cut.mapped tuples_kept (λ r. r.0 ∷ r.1) (λ r. t.tuples_of r.0 r.1) tuples_are_kept as_list list_law (cut.both (tuple inner) (cut.many (cut.with_comma (tuple inner)) refl) refl)
 
   -- tuple {"," tuple}, all of one length
-  unfoldable pub even_tuples : Cut tuples_kept (Sign s.LParen ∷ []) (Sign s.Comma ∷ []) false
+  unfoldable pub even_tuples : Cut tuples_kept (Sign Symbol.LParen ∷ []) (Sign Symbol.Comma ∷ []) false
   even_tuples = cut.checked g.are_even (λ kept. g.are_even kept.0) even_kept tuples
 
   -- ["(" names ")"] VALUES tuples
-  unfoldable pub rows : Cut rows_kept (Sign s.LParen ∷ Keyword (codes "values") ∷ []) (Sign s.Comma ∷ []) false
+  unfoldable pub rows : Cut rows_kept (Sign Symbol.LParen ∷ Keyword (codes "values") ∷ []) (Sign Symbol.Comma ∷ []) false
   rows = cut.both (cut.plain columns_if_any) (cut.after (word (codes "values")) even_tuples refl) refl
 
   -- ["(" names ")"] VALUES tuples, as long as the list of names, where one is written
-  unfoldable pub proper_rows : Cut rows_kept (Sign s.LParen ∷ Keyword (codes "values") ∷ []) (Sign s.Comma ∷ []) false
+  unfoldable pub proper_rows : Cut rows_kept (Sign Symbol.LParen ∷ Keyword (codes "values") ∷ []) (Sign Symbol.Comma ∷ []) false
   proper_rows = cut.checked (λ r. g.are_as_long r.0 r.1) (λ kept. g.are_as_long kept.0 kept.1.0) long_kept rows
 
   -- INSERT INTO name ["(" names ")"] VALUES tuples [RETURNING ..]
@@ -397,14 +345,14 @@ module _ (inner : Cut tree_of expr_heads expr_more false) where
 
   -- name "=" expr
   unfoldable pub set_column : Cut set_column_kept (Names ∷ []) expr_more false
-  set_column = cut.widened (cut.mapped set_column_kept g.set_column_of t.set_column_of (λ r. refl) back.as_set_column back.set_column_law (cut.both (cut.plain name) (cut.after (sign s.Equal) inner refl) refl)) refl refl
+  set_column = cut.widened (cut.mapped set_column_kept g.set_column_of t.set_column_of (λ r. refl) back.as_set_column back.set_column_law (cut.both (cut.plain name) (cut.after (sign Symbol.Equal) inner refl) refl)) refl refl
 
   -- name "=" expr {"," name "=" expr}
-  unfoldable pub all_set_columns : Cut set_columns_kept (Names ∷ []) (Sign s.Comma ∷ expr_more) false
+  unfoldable pub all_set_columns : Cut set_columns_kept (Names ∷ []) (Sign Symbol.Comma ∷ expr_more) false
   all_set_columns = cut.widened (cut.mapped set_columns_kept (λ r. r.0 ∷ r.1) (λ r. t.set_columns_of r.0 r.1) set_columns_are_kept as_list list_law (cut.both set_column (cut.many (cut.with_comma set_column) refl) refl)) refl refl
 
   -- name "=" expr {"," name "=" expr}, no column twice
-  unfoldable pub set_columns : Cut set_columns_kept (Names ∷ []) (Sign s.Comma ∷ expr_more) false
+  unfoldable pub set_columns : Cut set_columns_kept (Names ∷ []) (Sign Symbol.Comma ∷ expr_more) false
   set_columns = cut.checked (λ xs. g.are_distinct (g.set_names xs)) (λ kept. g.are_distinct (g.set_names kept.0)) distinct_kept all_set_columns
 
   -- [WHERE expr] [RETURNING ..]
@@ -425,9 +373,9 @@ module _ (inner : Cut tree_of expr_heads expr_more false) where
 
 -- [NO]SUPERUSER | [NO]LOGIN | [NO]BYPASSRLS
 unfoldable pub attribute : Rule RoleAttribute attribute_heads [] false
-attribute = either (word_for back.role_attributes (a.Superuser true) (codes "superuser")) (either (word_for back.role_attributes (a.Superuser false) (codes "nosuperuser"))
-    (either (word_for back.role_attributes (a.Login true) (codes "login")) (either (word_for back.role_attributes (a.Login false) (codes "nologin"))
-    (either (word_for back.role_attributes (a.BypassRls true) (codes "bypassrls")) (word_for back.role_attributes (a.BypassRls false) (codes "nobypassrls")) refl) refl) refl) refl) refl
+attribute = either (word_for back.role_attributes (RoleAttribute.Superuser true) (codes "superuser")) (either (word_for back.role_attributes (RoleAttribute.Superuser false) (codes "nosuperuser"))
+    (either (word_for back.role_attributes (RoleAttribute.Login true) (codes "login")) (either (word_for back.role_attributes (RoleAttribute.Login false) (codes "nologin"))
+    (either (word_for back.role_attributes (RoleAttribute.BypassRls true) (codes "bypassrls")) (word_for back.role_attributes (RoleAttribute.BypassRls false) (codes "nobypassrls")) refl) refl) refl) refl) refl
 
 -- attribute {attribute}
 unfoldable pub first_and_more : Rule (List RoleAttribute) attribute_heads attribute_heads false
@@ -461,12 +409,12 @@ altered_role = mapped g.altering_of back.as_altering back.altering_law (both nam
 
 -- INTEGER | INT | BIGINT | TEXT | BOOLEAN | BOOL, of which INTEGER and BOOLEAN are written
 unfoldable pub column_type : Rule ColType (Keyword (codes "integer") ∷ Keyword (codes "int") ∷ Keyword (codes "bigint") ∷ Keyword (codes "text") ∷ Keyword (codes "boolean") ∷ Keyword (codes "bool") ∷ []) [] false
-column_type = either (word_for tables.column_types k.Integer (codes "integer")) (either (word_for tables.column_types k.Integer (codes "int")) (either (word_for tables.column_types k.BigInt (codes "bigint"))
-    (either (word_for tables.column_types k.Text (codes "text")) (either (word_for tables.column_types k.Boolean (codes "boolean")) (word_for tables.column_types k.Boolean (codes "bool")) refl) refl) refl) refl) refl
+column_type = either (word_for tables.column_types ColType.Integer (codes "integer")) (either (word_for tables.column_types ColType.Integer (codes "int")) (either (word_for tables.column_types ColType.BigInt (codes "bigint"))
+    (either (word_for tables.column_types ColType.Text (codes "text")) (either (word_for tables.column_types ColType.Boolean (codes "boolean")) (word_for tables.column_types ColType.Boolean (codes "bool")) refl) refl) refl) refl) refl
 
 -- NOT NULL | PRIMARY KEY
 unfoldable pub column_mark : Rule ColumnMark mark_heads [] false
-column_mark = either (standing_for tables.column_marks marks.NotNull (after (word (codes "not")) (word (codes "null")) refl)) (standing_for tables.column_marks marks.PrimaryKey (after (word (codes "primary")) (word (codes "key")) refl)) refl
+column_mark = either (standing_for tables.column_marks ColumnMark.NotNull (after (word (codes "not")) (word (codes "null")) refl)) (standing_for tables.column_marks ColumnMark.PrimaryKey (after (word (codes "primary")) (word (codes "key")) refl)) refl
 
 -- {mark}
 unfoldable pub all_marks : Rule (List ColumnMark) mark_heads mark_heads true
@@ -486,14 +434,14 @@ primary_key = after (word (codes "primary")) (after (word (codes "key")) (in_par
 
 -- column | key
 unfoldable pub table_element : Rule TableElement (Names ∷ Keyword (codes "primary") ∷ []) mark_heads false
-table_element = either (mapped element.Column tables.as_column tables.column_law column_definition) (mapped element.Key tables.as_key tables.key_law primary_key) primary_apart
+table_element = either (mapped TableElement.Column tables.as_column tables.column_law column_definition) (mapped TableElement.Key tables.as_key tables.key_law primary_key) primary_apart
 
 -- column {"," element}
-unfoldable pub table_elements : Rule TableElements (Names ∷ []) (Sign s.Comma ∷ mark_heads) false
+unfoldable pub table_elements : Rule TableElements (Names ∷ []) (Sign Symbol.Comma ∷ mark_heads) false
 table_elements = widened (mapped elements_of tables.as_elements tables.elements_law (both column_definition (many (with_comma table_element) refl) refl)) refl refl
 
 -- column {"," element}, where the key comes last
-unfoldable pub listed_elements : Rule TableElements (Names ∷ []) (Sign s.Comma ∷ mark_heads) false
+unfoldable pub listed_elements : Rule TableElements (Names ∷ []) (Sign Symbol.Comma ∷ mark_heads) false
 listed_elements = checked (λ x. x.key_last) table_elements
 
 -- column {"," column} ["," key]
@@ -509,11 +457,11 @@ unfolding listed_elements table_elements table_element with_comma
 are_listed = elements.are_listed column_definition.spells primary_key.spells
 
 -- column {"," column} ["," key]; since a comma goes on with either, elements are read
-unfoldable pub columns_and_key : Rule TableElements (Names ∷ []) (Sign s.Comma ∷ mark_heads) false
+unfoldable pub columns_and_key : Rule TableElements (Names ∷ []) (Sign Symbol.Comma ∷ mark_heads) false
 columns_and_key = spelled_as ColumnsAndKey listed_elements are_columns are_listed
 
 -- the same, with one primary key at most and no two columns of one name
-unfoldable pub proper_elements : Rule TableElements (Names ∷ []) (Sign s.Comma ∷ mark_heads) false
+unfoldable pub proper_elements : Rule TableElements (Names ∷ []) (Sign Symbol.Comma ∷ mark_heads) false
 proper_elements = checked g.is_table columns_and_key
 
 -- name "(" columns_and_key ")"
@@ -522,8 +470,8 @@ table = mapped g.table_of tables.as_table tables.table_law (both name (in_parent
 
 -- ENABLE | DISABLE | FORCE | NO FORCE
 unfoldable pub row_change : Rule RowSecurity (Keyword (codes "enable") ∷ Keyword (codes "disable") ∷ Keyword (codes "force") ∷ Keyword (codes "no") ∷ []) [] false
-row_change = either (word_for tables.row_changes change.Enable (codes "enable")) (either (word_for tables.row_changes change.Disable (codes "disable"))
-    (either (word_for tables.row_changes change.Force (codes "force")) (standing_for tables.row_changes change.NoForce (after (word (codes "no")) (word (codes "force")) refl)) refl) refl) refl
+row_change = either (word_for tables.row_changes RowSecurity.Enable (codes "enable")) (either (word_for tables.row_changes RowSecurity.Disable (codes "disable"))
+    (either (word_for tables.row_changes RowSecurity.Force (codes "force")) (standing_for tables.row_changes RowSecurity.NoForce (after (word (codes "no")) (word (codes "force")) refl)) refl) refl) refl
 
 -- name change ROW LEVEL SECURITY
 unfoldable pub altered_table : Rule Statement (Names ∷ []) [] false
@@ -541,12 +489,12 @@ permissive = mapped g.or_permissive tables.as_permissive tables.permissive_law (
 
 -- SELECT | INSERT | UPDATE | DELETE
 unfoldable pub command_type : Rule Kind privilege_heads [] false
-command_type = either (word_for tables.commands command.Select (codes "select")) (either (word_for tables.commands command.Insert (codes "insert"))
-    (either (word_for tables.commands command.Update (codes "update")) (word_for tables.commands command.Delete (codes "delete")) refl) refl) refl
+command_type = either (word_for tables.commands Kind.Select (codes "select")) (either (word_for tables.commands Kind.Insert (codes "insert"))
+    (either (word_for tables.commands Kind.Update (codes "update")) (word_for tables.commands Kind.Delete (codes "delete")) refl) refl) refl
 
 -- ALL | command
 unfoldable pub policy_kind : Rule PolicyKind privileges_heads [] false
-policy_kind = either (mapped (λ _. kind.All) tables.as_all tables.all_law (word (codes "all"))) (mapped kind.Only tables.as_only tables.only_law command_type) refl
+policy_kind = either (mapped (λ _. PolicyKind.All) tables.as_all tables.all_law (word (codes "all"))) (mapped PolicyKind.Only tables.as_only tables.only_law command_type) refl
 
 -- [FOR kind], without which it is for all commands; it is always written
 unfoldable pub for_commands : Rule PolicyKind (Keyword (codes "for") ∷ []) (Keyword (codes "for") ∷ []) true
@@ -558,22 +506,22 @@ policy_options = both permissive for_commands refl
 
 -- PUBLIC | name
 unfoldable pub grantee : Rule Grantee (Keyword (codes "public") ∷ Names ∷ []) [] false
-grantee = either (mapped (λ _. to.Public) tables.as_public tables.public_law (word (codes "public"))) (mapped to.Role tables.as_grantee tables.grantee_law name) public_apart
+grantee = either (mapped (λ _. Grantee.Public) tables.as_public tables.public_law (word (codes "public"))) (mapped Grantee.Role tables.as_grantee tables.grantee_law name) public_apart
 
 -- grantee {"," grantee}
-unfoldable pub grantees : Rule (List Grantee) (Keyword (codes "public") ∷ Names ∷ []) (Sign s.Comma ∷ []) false
+unfoldable pub grantees : Rule (List Grantee) (Keyword (codes "public") ∷ Names ∷ []) (Sign Symbol.Comma ∷ []) false
 grantees = listed grantee
 
 -- TO grantees
-unfoldable pub to_grantees : Rule (List Grantee) (Keyword (codes "to") ∷ []) (Sign s.Comma ∷ []) false
+unfoldable pub to_grantees : Rule (List Grantee) (Keyword (codes "to") ∷ []) (Sign Symbol.Comma ∷ []) false
 to_grantees = after (word (codes "to")) grantees refl
 
 -- [TO grantees], without which it is for PUBLIC; it is always written
-unfoldable pub for_grantees : Rule (List Grantee) (Keyword (codes "to") ∷ []) (Sign s.Comma ∷ Keyword (codes "to") ∷ []) true
+unfoldable pub for_grantees : Rule (List Grantee) (Keyword (codes "to") ∷ []) (Sign Symbol.Comma ∷ Keyword (codes "to") ∷ []) true
 for_grantees = mapped g.or_public tables.as_for tables.grantees_law (perhaps to_grantees)
 
 -- [TO grantees], where there may be none
-unfoldable pub grantees_if_any : Rule (Option (List Grantee)) (Keyword (codes "to") ∷ []) (Sign s.Comma ∷ Keyword (codes "to") ∷ []) true
+unfoldable pub grantees_if_any : Rule (Option (List Grantee)) (Keyword (codes "to") ∷ []) (Sign Symbol.Comma ∷ Keyword (codes "to") ∷ []) true
 grantees_if_any = perhaps to_grantees
 
 -- DROP POLICY name ON name
@@ -655,15 +603,15 @@ module _ (inner : Cut tree_of expr_heads expr_more false) where
 
 -- SELECT | INSERT | UPDATE | DELETE
 unfoldable pub privilege : Rule Privilege privilege_heads [] false
-privilege = either (word_for back.privilege_names p.Select (codes "select")) (either (word_for back.privilege_names p.Insert (codes "insert"))
-    (either (word_for back.privilege_names p.Update (codes "update")) (word_for back.privilege_names p.Delete (codes "delete")) refl) refl) refl
+privilege = either (word_for back.privilege_names Privilege.Select (codes "select")) (either (word_for back.privilege_names Privilege.Insert (codes "insert"))
+    (either (word_for back.privilege_names Privilege.Update (codes "update")) (word_for back.privilege_names Privilege.Delete (codes "delete")) refl) refl) refl
 
 -- privilege {"," privilege}
-unfoldable pub named_privileges : Rule Privileges privilege_heads (Sign s.Comma ∷ []) false
+unfoldable pub named_privileges : Rule Privileges privilege_heads (Sign Symbol.Comma ∷ []) false
 named_privileges = mapped g.privileges_of back.as_privileges back.privileges_law (both privilege (many (with_comma privilege) refl) refl)
 
 -- ALL [PRIVILEGES] | privilege {"," privilege}; PRIVILEGES isn't written
-unfoldable pub privileges : Rule Privileges privileges_heads (Keyword (codes "privileges") ∷ Sign s.Comma ∷ []) false
+unfoldable pub privileges : Rule Privileges privileges_heads (Keyword (codes "privileges") ∷ Sign Symbol.Comma ∷ []) false
 privileges = either (mapped (λ _. g.all_privileges) back.as_all_privileges back.all_privileges_law (both (word (codes "all")) (perhaps (word (codes "privileges"))) refl)) named_privileges refl
 
 -- [TABLE] name; TABLE isn't written
@@ -706,7 +654,7 @@ revoked_privileges = widened (mapped g.revoke_of back.as_revoke back.revoke_law 
 
 -- ADMIN | INHERIT | SET
 unfoldable pub option : Rule MembershipOption option_heads [] false
-option = either (word_for back.option_names m.Admin (codes "admin")) (either (word_for back.option_names m.Inherit (codes "inherit")) (word_for back.option_names m.Set (codes "set")) refl) refl
+option = either (word_for back.option_names MembershipOption.Admin (codes "admin")) (either (word_for back.option_names MembershipOption.Inherit (codes "inherit")) (word_for back.option_names MembershipOption.Set (codes "set")) refl) refl
 
 -- TRUE | OPTION | FALSE, of which OPTION is TRUE and isn't written
 unfoldable pub flag : Rule Bool (Keyword (codes "true") ∷ Keyword (codes "option") ∷ Keyword (codes "false") ∷ []) [] false
@@ -717,11 +665,11 @@ unfoldable pub setting : Rule g.Setting option_heads [] false
 setting = both option flag refl
 
 -- setting {"," setting}
-unfoldable pub all_settings : Rule (List g.Setting) option_heads (Sign s.Comma ∷ []) false
+unfoldable pub all_settings : Rule (List g.Setting) option_heads (Sign Symbol.Comma ∷ []) false
 all_settings = listed setting
 
 -- setting {"," setting}, no two of one option
-unfoldable pub settings : Rule (List g.Setting) option_heads (Sign s.Comma ∷ []) false
+unfoldable pub settings : Rule (List g.Setting) option_heads (Sign Symbol.Comma ∷ []) false
 settings = checked g.set_once all_settings
 
 -- [WITH settings]
@@ -740,8 +688,8 @@ granted_roles = widened (mapped g.granting_of back.as_granting back.granting_law
 word_skips : (w : List ℕ) → begins (Keyword (codes "on") ∷ []) (Word w) ≡ false → begins (Keyword (codes "to") ∷ Keyword (codes "from") ∷ []) (Word w) ≡ false → Skips on_comes_first (only (Word w))
 word_skips w on to = token_skips (Keyword (codes "on") ∷ []) (Keyword (codes "to") ∷ Keyword (codes "from") ∷ []) (Word w) on to
 
-comma_skips : Skips on_comes_first (only (tokens.Symbol s.Comma))
-comma_skips = token_skips (Keyword (codes "on") ∷ []) (Keyword (codes "to") ∷ Keyword (codes "from") ∷ []) (tokens.Symbol s.Comma) refl refl
+comma_skips : Skips on_comes_first (only (Token.Symbol Symbol.Comma))
+comma_skips = token_skips (Keyword (codes "on") ∷ []) (Keyword (codes "to") ∷ Keyword (codes "from") ∷ []) (Token.Symbol Symbol.Comma) refl refl
 
 privilege_skips : Skips on_comes_first privilege.spells
 unfolding privilege
@@ -888,7 +836,7 @@ revoke_kept ts x h = rw (h.value) (elim h.spelled.other [ inl y ↦ rw (y.value)
 
 -- NONE | name
 unfoldable pub chosen_role : Rule SetRole (Keyword (codes "none") ∷ Names ∷ []) [] false
-chosen_role = either (mapped (λ _. sr.None) back.as_no_role back.no_role_law (word (codes "none"))) (mapped sr.To back.as_chosen back.chosen_law name) none_apart
+chosen_role = either (mapped (λ _. SetRole.None) back.as_no_role back.no_role_law (word (codes "none"))) (mapped SetRole.To back.as_chosen back.chosen_law name) none_apart
 
 -- SET ROLE (NONE | name)
 unfoldable pub role_set : Rule SetRole (Keyword (codes "set") ∷ []) [] false
@@ -896,7 +844,7 @@ role_set = after (word (codes "set")) (after (word (codes "role")) chosen_role r
 
 -- RESET ROLE
 unfoldable pub role_reset : Rule SetRole (Keyword (codes "reset") ∷ []) [] false
-role_reset = mapped (λ _. sr.Reset) back.as_reset back.reset_law (after (word (codes "reset")) (word (codes "role")) refl)
+role_reset = mapped (λ _. SetRole.Reset) back.as_reset back.reset_law (after (word (codes "reset")) (word (codes "role")) refl)
 
 -- role_set | role_reset
 unfoldable pub role_change : Rule SetRole (Keyword (codes "set") ∷ Keyword (codes "reset") ∷ []) [] false
@@ -904,7 +852,7 @@ role_change = either role_set role_reset refl
 
 -- role_change, as a statement
 unfoldable pub set_role : Rule Statement (Keyword (codes "set") ∷ Keyword (codes "reset") ∷ []) [] false
-set_role = mapped st.SetRole back.as_set_role back.set_role_law role_change
+set_role = mapped Statement.SetRole back.as_set_role back.set_role_law role_change
 
 -- and this
 set_role_kept : (ts : List Token) (x : Statement) → set_role.spells ts x → draft_of x ≡ t.flat x
@@ -928,8 +876,8 @@ body inner = cut.widened (cut.either (select inner) (cut.either (insert inner) (
     (cut.either (create inner) (cut.either (alter inner) (cut.kept_as draft_of t.flat flat_body flat_kept) refl) refl) refl) refl) refl) refl) refl refl
 
 -- body [";"], with parentheses to this depth; the semicolon isn't written
-unfoldable pub statement : (depth : ℕ) → Cut draft_of body_heads (Sign s.Semicolon ∷ body_more) false
-statement depth = cut.widened (cut.before_as None (body (expr depth)) (perhaps (sign s.Semicolon)) refl) refl refl
+unfoldable pub statement : (depth : ℕ) → Cut draft_of body_heads (Sign Symbol.Semicolon ∷ body_more) false
+statement depth = cut.widened (cut.before_as None (body (expr depth)) (perhaps (sign Symbol.Semicolon)) refl) refl refl
 
 -- The tokens spell the statement, at some depth of parentheses.
 pub record Spells (ts : List Token) (x : Statement) : Type 0 where

@@ -4,11 +4,8 @@ use Rattle.std.specs.Prelude.{◌≡◌, ℕ, Bool, true, false, ◌&&◌, if◌
 use Rattle.std.proofs.Common.{ap}
 use Rattle.std.proofs.lemmas.Slice.Eq.{bytes_eq-Decides}
 use denote.Enum.Bare.{true_same}
-use Rattle.rls_text.specs.contracts.token.Symbol.{the_type}
-use Rattle.rls_text.specs.declared.token.Symbol.{Symbol}
+use Rattle.rls_text.specs.{contracts.token.Symbol.the_type, declared.token.Symbol.Symbol, declared.token.Token.Token, declared.token.Token.TheVariants.Word}
 use Rattle.rls_text.specs.declared.token.Symbol.TheVariants as s
-use Rattle.rls_text.specs.declared.token.Token.{Token}
-use Rattle.rls_text.specs.declared.token.Token.TheVariants.{Word}
 use Rattle.rls_text.specs.declared.token.Token.TheVariants as t
 use Rattle.rls_text.specs.Heads.{Head, Exact, Keyword, Sign, same, begins, sees, apart, within}
 use Rattle.rls_text.specs.Lang.{only, Both, Mapped, Either, Perhaps, Many, Checked, Never, One}

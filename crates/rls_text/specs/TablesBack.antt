@@ -2,30 +2,15 @@
 use Rattle.std.specs.Prelude.{◌≡◌, Bool, true, false, List, [], ◌∷◌, ◌++◌, map, Option, Some, None, ℕ, refl}
 use Rattle.std.proofs.Common.{sym, ap, ◌∙◌}
 use denote.Enum.Bare.{sameb, same_true}
-use Rattle.rls_value.specs.declared.value.ColType.{ColType}
+use Rattle.rls_value.specs.{declared.value.ColType.ColType, declared.verb.Kind.Kind, declared.verb.PolicyKind.PolicyKind}
 use Rattle.rls_value.specs.contracts.value.ColType as col_type
-use Rattle.rls_value.specs.declared.verb.Kind.{Kind}
 use Rattle.rls_value.specs.contracts.verb.Kind as command
-use Rattle.rls_value.specs.declared.verb.PolicyKind.{PolicyKind}
-use Rattle.rls_value.specs.declared.verb.PolicyKind.TheVariants as kind
-use Rattle.rls_expr.specs.Terms.{Term}
-use Rattle.rls_expr.specs.declared.policy.Grantee.{Grantee}
-use Rattle.rls_expr.specs.declared.policy.Grantee.TheVariants as to
-use Rattle.rls_statement.specs.declared.statement.MarkedColumn.{MarkedColumn}
-use Rattle.rls_statement.specs.declared.statement.RowSecurity.{RowSecurity}
+use Rattle.rls_expr.specs.{Terms.Term, declared.policy.Grantee.Grantee}
+use Rattle.rls_statement.specs.{declared.statement.MarkedColumn.MarkedColumn, declared.statement.RowSecurity.RowSecurity, declared.statement.Statement.Statement}
 use Rattle.rls_statement.specs.contracts.statement.RowSecurity as row_security
-use Rattle.rls_statement.specs.declared.statement.Statement.{Statement}
-use Rattle.rls_statement.specs.declared.statement.Statement.TheVariants as st
-use Rattle.rls_text.specs.declared.columns.ColumnMark.{ColumnMark}
-use Rattle.rls_text.specs.declared.columns.ColumnMark.TheVariants as marks
+use Rattle.rls_text.specs.{declared.columns.ColumnMark.ColumnMark, declared.tables.TableElement.TableElement, declared.tables.TableElements.TableElements, Writes.some_is, Rule.Telling, Elements.elements_of, Elements.key_if, Elements.put_behind}
 use Rattle.rls_text.specs.contracts.columns.ColumnMark as column_mark
-use Rattle.rls_text.specs.declared.tables.TableElement.{TableElement}
-use Rattle.rls_text.specs.declared.tables.TableElement.TheVariants as element
-use Rattle.rls_text.specs.declared.tables.TableElements.{TableElements}
-use Rattle.rls_text.specs.Elements.{elements_of, key_if, put_behind}
 use Rattle.rls_text.specs.Values as g
-use Rattle.rls_text.specs.Writes.{some_is}
-use Rattle.rls_text.specs.Rule.{Telling}
 
 -- ---- tables
 
@@ -44,7 +29,7 @@ mark_if false x = []
 
 -- NOT NULL, then PRIMARY KEY
 abbrev pub as_marks : (not_null is_key : Bool) → List ColumnMark
-as_marks not_null is_key = mark_if not_null marks.NotNull ++ mark_if is_key marks.PrimaryKey
+as_marks not_null is_key = mark_if not_null ColumnMark.NotNull ++ mark_if is_key ColumnMark.PrimaryKey
 
 -- name, type, marks
 abbrev pub as_definition : MarkedColumn → Option ((List ℕ × ColType) × List ColumnMark)
@@ -64,25 +49,25 @@ definition_law b a h =
 
 -- a column, as an element
 abbrev pub as_column : TableElement → Option MarkedColumn
-as_column (element.Column x) = Some x
+as_column (TableElement.Column x) = Some x
 as_column _ = None
 
-pub column_law : (b : TableElement) (a : MarkedColumn) → as_column b ≡ Some a → b ≡ element.Column a
-column_law (element.Column x) a h = ap element.Column (some_is x a h)
+pub column_law : (b : TableElement) (a : MarkedColumn) → as_column b ≡ Some a → b ≡ TableElement.Column a
+column_law (TableElement.Column x) a h = ap TableElement.Column (some_is x a h)
 column_law _ a h = cc
 
 -- the key's names, as an element
 abbrev pub as_key : TableElement → Option (List (List ℕ))
-as_key (element.Key x) = Some x
+as_key (TableElement.Key x) = Some x
 as_key _ = None
 
-pub key_law : (b : TableElement) (a : List (List ℕ)) → as_key b ≡ Some a → b ≡ element.Key a
-key_law (element.Key x) a h = ap element.Key (some_is x a h)
+pub key_law : (b : TableElement) (a : List (List ℕ)) → as_key b ≡ Some a → b ≡ TableElement.Key a
+key_law (TableElement.Key x) a h = ap TableElement.Key (some_is x a h)
 key_law _ a h = cc
 
 -- the columns, and the constraint last
 abbrev pub listed_elements : List MarkedColumn → Option (List (List ℕ)) → Bool → Option (MarkedColumn × List TableElement)
-listed_elements (x ∷ xs) key true = Some (x, map element.Column xs ++ key_if key)
+listed_elements (x ∷ xs) key true = Some (x, map TableElement.Column xs ++ key_if key)
 listed_elements _ _ _ = None
 
 -- the first column, and the other elements
@@ -91,7 +76,7 @@ as_elements x = listed_elements x.columns x.key x.key_last
 
 elements_back : (columns : List MarkedColumn) (key : Option (List (List ℕ))) (last : Bool) (a : MarkedColumn × List TableElement) → listed_elements columns key last ≡ Some a
     → record { columns = columns; key = key; key_last = last } ≡ elements_of a
-elements_back (x ∷ xs) key true a h = sym (put_behind (x ∷ []) xs key) ∙ ap elements_of (some_is (x, map element.Column xs ++ key_if key) a h)
+elements_back (x ∷ xs) key true a h = sym (put_behind (x ∷ []) xs key) ∙ ap elements_of (some_is (x, map TableElement.Column xs ++ key_if key) a h)
 elements_back (x ∷ xs) key false a h = cc
 elements_back [] key true a h = cc
 elements_back [] key false a h = cc
@@ -101,11 +86,11 @@ elements_law b a h = elements_back b.columns b.key b.key_last a h
 
 -- name, elements
 abbrev pub as_table : Statement → Option (List ℕ × TableElements)
-as_table (st.CreateTable x) = Some (x.name, g.elements_with (x.columns, x.key))
+as_table (Statement.CreateTable x) = Some (x.name, g.elements_with (x.columns, x.key))
 as_table _ = None
 
 pub table_law : (b : Statement) (a : List ℕ × TableElements) → as_table b ≡ Some a → b ≡ g.table_of a
-table_law (st.CreateTable x) a h = ap g.table_of (some_is (x.name, g.elements_with (x.columns, x.key)) a h)
+table_law (Statement.CreateTable x) a h = ap g.table_of (some_is (x.name, g.elements_with (x.columns, x.key)) a h)
 table_law _ a h = cc
 
 -- changes of row security, told apart
@@ -114,31 +99,31 @@ row_changes = record { are_same = sameb row_security.the_type; same_is = same_tr
 
 -- table, change of its row security
 abbrev pub as_altering_table : Statement → Option (List ℕ × RowSecurity)
-as_altering_table (st.AlterTable x) = Some (x.table, x.change)
+as_altering_table (Statement.AlterTable x) = Some (x.table, x.change)
 as_altering_table _ = None
 
 pub altering_table_law : (b : Statement) (a : List ℕ × RowSecurity) → as_altering_table b ≡ Some a → b ≡ g.altering_table_of a
-altering_table_law (st.AlterTable x) a h = ap g.altering_table_of (some_is (x.table, x.change) a h)
+altering_table_law (Statement.AlterTable x) a h = ap g.altering_table_of (some_is (x.table, x.change) a h)
 altering_table_law _ a h = cc
 
 -- ---- policies
 
 -- PUBLIC
 abbrev pub as_public : Grantee → Option (Unit {0})
-as_public to.Public = Some tt
+as_public Grantee.Public = Some tt
 as_public _ = None
 
-pub public_law : (b : Grantee) (a : Unit {0}) → as_public b ≡ Some a → b ≡ to.Public
-public_law to.Public a h = refl
+pub public_law : (b : Grantee) (a : Unit {0}) → as_public b ≡ Some a → b ≡ Grantee.Public
+public_law Grantee.Public a h = refl
 public_law _ a h = cc
 
 -- a role that is a grantee
 abbrev pub as_grantee : Grantee → Option (List ℕ)
-as_grantee (to.Role x) = Some x
+as_grantee (Grantee.Role x) = Some x
 as_grantee _ = None
 
-pub grantee_law : (b : Grantee) (a : List ℕ) → as_grantee b ≡ Some a → b ≡ to.Role a
-grantee_law (to.Role x) a h = ap to.Role (some_is x a h)
+pub grantee_law : (b : Grantee) (a : List ℕ) → as_grantee b ≡ Some a → b ≡ Grantee.Role a
+grantee_law (Grantee.Role x) a h = ap Grantee.Role (some_is x a h)
 grantee_law _ a h = cc
 
 -- TO is always written
@@ -161,20 +146,20 @@ commands = record { are_same = sameb command.the_type; same_is = same_true comma
 
 -- all commands
 abbrev pub as_all : PolicyKind → Option (Unit {0})
-as_all kind.All = Some tt
+as_all PolicyKind.All = Some tt
 as_all _ = None
 
-pub all_law : (b : PolicyKind) (a : Unit {0}) → as_all b ≡ Some a → b ≡ kind.All
-all_law kind.All a h = refl
+pub all_law : (b : PolicyKind) (a : Unit {0}) → as_all b ≡ Some a → b ≡ PolicyKind.All
+all_law PolicyKind.All a h = refl
 all_law _ a h = cc
 
 -- one type of command
 abbrev pub as_only : PolicyKind → Option Kind
-as_only (kind.Only x) = Some x
+as_only (PolicyKind.Only x) = Some x
 as_only _ = None
 
-pub only_law : (b : PolicyKind) (a : Kind) → as_only b ≡ Some a → b ≡ kind.Only a
-only_law (kind.Only x) a h = ap kind.Only (some_is x a h)
+pub only_law : (b : PolicyKind) (a : Kind) → as_only b ≡ Some a → b ≡ PolicyKind.Only a
+only_law (PolicyKind.Only x) a h = ap PolicyKind.Only (some_is x a h)
 only_law _ a h = cc
 
 -- FOR is always written
@@ -186,28 +171,28 @@ commands_law b a h = ap g.or_all (some_is (Some b) a h)
 
 -- name and table, description
 abbrev pub as_policy : Statement → Option ((List ℕ × List ℕ) × g.Description Term)
-as_policy (st.CreatePolicy x) = Some ((x.policy.name, x.table), ((x.policy.permissive, x.policy.kind), (x.policy.to, (x.policy.using, x.policy.check))))
+as_policy (Statement.CreatePolicy x) = Some ((x.policy.name, x.table), ((x.policy.permissive, x.policy.kind), (x.policy.to, (x.policy.using, x.policy.check))))
 as_policy _ = None
 
 pub policy_law : (b : Statement) (a : (List ℕ × List ℕ) × g.Description Term) → as_policy b ≡ Some a → b ≡ g.policy_of a
-policy_law (st.CreatePolicy x) a h =
+policy_law (Statement.CreatePolicy x) a h =
     ap g.policy_of (some_is ((x.policy.name, x.table), ((x.policy.permissive, x.policy.kind), (x.policy.to, (x.policy.using, x.policy.check)))) a h)
 policy_law _ a h = cc
 
 -- name and table, what changes
 abbrev pub as_altering_policy : Statement → Option ((List ℕ × List ℕ) × g.PolicyChange Term)
-as_altering_policy (st.AlterPolicy x) = Some ((x.name, x.table), (x.to, (x.using, x.check)))
+as_altering_policy (Statement.AlterPolicy x) = Some ((x.name, x.table), (x.to, (x.using, x.check)))
 as_altering_policy _ = None
 
 pub altering_policy_law : (b : Statement) (a : (List ℕ × List ℕ) × g.PolicyChange Term) → as_altering_policy b ≡ Some a → b ≡ g.altering_policy_of a
-altering_policy_law (st.AlterPolicy x) a h = ap g.altering_policy_of (some_is ((x.name, x.table), (x.to, (x.using, x.check))) a h)
+altering_policy_law (Statement.AlterPolicy x) a h = ap g.altering_policy_of (some_is ((x.name, x.table), (x.to, (x.using, x.check))) a h)
 altering_policy_law _ a h = cc
 
 -- name and table
 abbrev pub as_dropping_policy : Statement → Option (List ℕ × List ℕ)
-as_dropping_policy (st.DropPolicy x) = Some (x.name, x.table)
+as_dropping_policy (Statement.DropPolicy x) = Some (x.name, x.table)
 as_dropping_policy _ = None
 
 pub dropping_policy_law : (b : Statement) (a : List ℕ × List ℕ) → as_dropping_policy b ≡ Some a → b ≡ g.dropping_policy_of a
-dropping_policy_law (st.DropPolicy x) a h = ap g.dropping_policy_of (some_is (x.name, x.table) a h)
+dropping_policy_law (Statement.DropPolicy x) a h = ap g.dropping_policy_of (some_is (x.name, x.table) a h)
 dropping_policy_law _ a h = cc

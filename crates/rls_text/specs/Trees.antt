@@ -2,20 +2,14 @@
 -- a null stands, with a depth above the limit.
 use Rattle.std.specs.Prelude.{ℕ, zero, suc, ◌+◌, max, nat_lt, if◌then◌else◌, List, [], ◌∷◌, ◌++◌, Option, Some, None}
 use Rattle.rls_value.specs.declared.value.Value.TheVariants.{Null}
-use Rattle.rls_expr.specs.declared.expr.Comparison.{Comparison}
-use Rattle.rls_expr.specs.declared.expr.Sign.{Sign}
+use Rattle.rls_expr.specs.{declared.expr.Comparison.Comparison, declared.expr.Sign.Sign}
 use Rattle.rls_expr.specs.Terms.{Term, Query, terms_of}
 use Rattle.rls_expr.specs.Terms as t
-use Rattle.rls_statement.specs.declared.changing.Setting.{Setting}
-use Rattle.rls_statement.specs.declared.statement.Selected.{Selected}
+use Rattle.rls_statement.specs.{declared.changing.Setting.Setting, declared.statement.Selected.Selected, declared.statement.Statement.Statement}
 use Rattle.rls_statement.specs.declared.statement.Selected.TheVariants as selected
-use Rattle.rls_statement.specs.declared.statement.Statement.{Statement}
 use Rattle.rls_statement.specs.declared.statement.Statement.TheVariants as st
-use Rattle.rls_text.specs.declared.tree.Operands.{Operands}
-use Rattle.rls_text.specs.declared.tree.Operands.TheVariants.{One, Several}
-use Rattle.rls_text.specs.declared.tree.Choices.{Choices}
-use Rattle.rls_text.specs.declared.tree.Choices.TheVariants.{Listed, Queried}
-use Rattle.rls_text.specs.Lang.{put_in}
+use Rattle.rls_text.specs.{declared.tree.Operands.Operands, declared.tree.Choices.Choices, Lang.put_in}
+use Rattle.rls_text.specs.{declared.tree.Operands.TheVariants.One, declared.tree.Operands.TheVariants.Several, declared.tree.Choices.TheVariants.Listed, declared.tree.Choices.TheVariants.Queried}
 use Rattle.rls_text.specs.Values.{Description, PolicyChange, Ending, TableAndAlias}
 use Rattle.rls_text.specs.Values as values
 

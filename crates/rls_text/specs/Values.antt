@@ -1,49 +1,16 @@
 -- What the phrases of the grammar stand for, each by what its parts stand for.
 use Rattle.std.specs.Prelude.{ℕ, zero, suc, nat_le, nat_eq, pos, ◌-ℤ◌, ◌-◌, ◌^◌, Bool, true, false, not, ◌&&◌, ◌||◌, if◌then◌else◌, List, [], ◌∷◌, length, map, ◌⊎◌, Option, Some, None, is_some}
-use Rattle.std.specs.List.{list_any}
-use Rattle.std.specs.Str.{bytes_eq}
+use Rattle.std.specs.{List.list_any, Str.bytes_eq}
 use Rattle.std.proofs.Common.{inl, inr}
 use denote.Enum.Bare.{sameb}
-use Rattle.rls_value.specs.Names.{reserved, spells_name, folded}
-use Rattle.rls_value.specs.declared.value.Value.{Value}
-use Rattle.rls_value.specs.declared.value.Value.TheVariants as v
-use Rattle.rls_value.specs.declared.value.ColType.{ColType}
-use Rattle.rls_value.specs.declared.verb.Privilege.{Privilege}
-use Rattle.rls_value.specs.declared.verb.Privilege.TheVariants as p
-use Rattle.rls_value.specs.declared.verb.Kind.TheVariants as command
-use Rattle.rls_value.specs.declared.verb.PolicyKind.{PolicyKind}
-use Rattle.rls_value.specs.declared.verb.PolicyKind.TheVariants as kind
-use Rattle.rls_expr.specs.Terms.{Term, Query, terms_of, maybe_term}
+use Rattle.rls_value.specs.{Names.reserved, Names.spells_name, Names.folded, declared.value.Value.Value, declared.value.ColType.ColType, declared.verb.Privilege.Privilege, declared.verb.PolicyKind.PolicyKind, declared.verb.Kind.Kind}
+use Rattle.rls_expr.specs.{Terms.Term, Terms.Query, Terms.terms_of, Terms.maybe_term, declared.column_name.ColumnName.ColumnName, declared.expr.Comparison.Comparison, declared.expr.Selects.Selects, declared.expr.Sign.Sign, declared.policy.Grantee.Grantee}
 use Rattle.rls_expr.specs.Terms as e
-use Rattle.rls_expr.specs.declared.column_name.ColumnName.{ColumnName}
-use Rattle.rls_expr.specs.declared.expr.Comparison.{Comparison}
-use Rattle.rls_expr.specs.declared.expr.Selects.{Selects}
-use Rattle.rls_expr.specs.declared.expr.Selects.TheVariants as selects
-use Rattle.rls_expr.specs.declared.expr.Sign.{Sign}
-use Rattle.rls_expr.specs.declared.policy.Grantee.{Grantee}
-use Rattle.rls_expr.specs.declared.policy.Grantee.TheVariants as to
-use Rattle.rls_text.specs.declared.token.Token.{Token}
-use Rattle.rls_text.specs.declared.token.Token.TheVariants.{Word, Number, Text}
-use Rattle.rls_text.specs.declared.attributes.RoleAttribute.{RoleAttribute}
-use Rattle.rls_text.specs.declared.attributes.RoleAttribute.TheVariants as a
-use Rattle.rls_text.specs.declared.columns.ColumnMark.{ColumnMark}
-use Rattle.rls_text.specs.declared.columns.ColumnMark.TheVariants as marks
+use Rattle.rls_text.specs.{declared.token.Token.Token, declared.attributes.RoleAttribute.RoleAttribute, declared.columns.ColumnMark.ColumnMark, declared.tables.TableElements.TableElements, Lang.put_in, declared.token.Token.TheVariants.Word, declared.token.Token.TheVariants.Number, declared.token.Token.TheVariants.Text}
 use Rattle.rls_text.specs.contracts.columns.ColumnMark as column_mark
-use Rattle.rls_text.specs.declared.tables.TableElements.{TableElements}
 use Rattle.rls_statement.specs.declared.changing.Setting as changing
-use Rattle.rls_statement.specs.declared.statement.Attributes.{Attributes}
+use Rattle.rls_statement.specs.{declared.statement.Attributes.Attributes, declared.statement.MembershipOption.MembershipOption, declared.statement.MarkedColumn.MarkedColumn, declared.statement.MembershipOptions.MembershipOptions, declared.statement.Privileges.Privileges, declared.statement.RowSecurity.RowSecurity, declared.statement.Selected.Selected, declared.statement.Statement.Statement}
 use Rattle.rls_statement.specs.contracts.statement.MembershipOption as option
-use Rattle.rls_statement.specs.declared.statement.MembershipOption.{MembershipOption}
-use Rattle.rls_statement.specs.declared.statement.MarkedColumn.{MarkedColumn}
-use Rattle.rls_statement.specs.declared.statement.MembershipOption.TheVariants as m
-use Rattle.rls_statement.specs.declared.statement.MembershipOptions.{MembershipOptions}
-use Rattle.rls_statement.specs.declared.statement.Privileges.{Privileges}
-use Rattle.rls_statement.specs.declared.statement.RowSecurity.{RowSecurity}
-use Rattle.rls_statement.specs.declared.statement.Selected.{Selected}
-use Rattle.rls_statement.specs.declared.statement.Selected.TheVariants as selected
-use Rattle.rls_statement.specs.declared.statement.Statement.{Statement}
-use Rattle.rls_statement.specs.declared.statement.Statement.TheVariants as st
-use Rattle.rls_text.specs.Lang.{put_in}
 
 -- ---- tokens
 
@@ -75,8 +42,8 @@ in_range (Some _, n) = nat_le n (2 ^ 63)
 
 -- the number with its sign
 abbrev pub signed : Option (Unit {0}) × ℕ → Value
-signed (None, n) = v.Int (pos n)
-signed (Some _, n) = v.Int (pos 0 -ℤ pos n)
+signed (None, n) = Value.Int (pos n)
+signed (Some _, n) = Value.Int (pos 0 -ℤ pos n)
 
 -- ---- expressions
 
@@ -110,13 +77,13 @@ SelectParts = Selected × (TableAndAlias × Option Term)
 
 -- what a subquery selects
 abbrev pub selects_of : Selected → Selects
-selects_of selected.All = selects.All
-selects_of selected.Count = selects.Count
-selects_of (selected.Items items) = selects.Items
+selects_of Selected.All = Selects.All
+selects_of Selected.Count = Selects.Count
+selects_of (Selected.Items items) = Selects.Items
 
 -- its items; none where it selects all, or counts
 abbrev pub items_of : Selected → List Term
-items_of (selected.Items items) = items
+items_of (Selected.Items items) = items
 items_of _ = []
 
 -- a SELECT inside an expression, of its parts; the key isn't placed yet
@@ -168,7 +135,7 @@ or_of first (second ∷ more) = e.Or (terms_of (first ∷ second ∷ more))
 
 -- SELECT, of its parts
 abbrev pub select_of : SelectParts → Statement
-select_of r = st.Select record { items = r.0; table = r.1.0.0; alias = r.1.0.1; condition = r.1.1 }
+select_of r = Statement.Select record { items = r.0; table = r.1.0.0; alias = r.1.0.1; condition = r.1.1 }
 
 -- each is of that length
 abbrev pub have_length : ℕ → List (List Term) → Bool
@@ -191,7 +158,7 @@ Rows = Option (List (List ℕ)) × List (List Term)
 
 -- INSERT, of its parts
 abbrev pub insert_of : List ℕ × (Rows × Option Selected) → Statement
-insert_of r = st.Insert record { table = r.0; columns = r.1.0.0; tuples = r.1.0.1; returning = r.1.1 }
+insert_of r = Statement.Insert record { table = r.0; columns = r.1.0.0; tuples = r.1.0.1; returning = r.1.1 }
 
 -- a column of UPDATE, and what it is set to
 abbrev pub set_column_of : List ℕ × Term → changing.Setting
@@ -207,17 +174,17 @@ Ending A = Option A × Option Selected
 
 -- UPDATE, of its parts
 abbrev pub update_of : List ℕ × (List changing.Setting × Ending Term) → Statement
-update_of r = st.Update record { table = r.0; settings = r.1.0; condition = r.1.1.0; returning = r.1.1.1 }
+update_of r = Statement.Update record { table = r.0; settings = r.1.0; condition = r.1.1.0; returning = r.1.1.1 }
 
 -- DELETE, of its parts
 abbrev pub delete_of : List ℕ × Ending Term → Statement
-delete_of r = st.Delete record { table = r.0; condition = r.1.0; returning = r.1.1 }
+delete_of r = Statement.Delete record { table = r.0; condition = r.1.0; returning = r.1.1 }
 
 -- two that say the same or the contrary
 abbrev pub are_one_kind : RoleAttribute → RoleAttribute → Bool
-are_one_kind (a.Superuser _) (a.Superuser _) = true
-are_one_kind (a.Login _) (a.Login _) = true
-are_one_kind (a.BypassRls _) (a.BypassRls _) = true
+are_one_kind (RoleAttribute.Superuser _) (RoleAttribute.Superuser _) = true
+are_one_kind (RoleAttribute.Login _) (RoleAttribute.Login _) = true
+are_one_kind (RoleAttribute.BypassRls _) (RoleAttribute.BypassRls _) = true
 are_one_kind _ _ = false
 
 -- none of them is of its kind
@@ -236,9 +203,9 @@ opening is_user = record { superuser = None; login = (if is_user then Some true 
 
 -- as this attribute says
 abbrev pub with_attribute : Attributes → RoleAttribute → Attributes
-with_attribute all (a.Superuser flag) = record all { superuser = Some flag }
-with_attribute all (a.Login flag) = record all { login = Some flag }
-with_attribute all (a.BypassRls flag) = record all { bypass_rls = Some flag }
+with_attribute all (RoleAttribute.Superuser flag) = record all { superuser = Some flag }
+with_attribute all (RoleAttribute.Login flag) = record all { login = Some flag }
+with_attribute all (RoleAttribute.BypassRls flag) = record all { bypass_rls = Some flag }
 
 -- the list, or none
 abbrev pub or_empty : {A : Type 0} → Option (List A) → List A
@@ -247,7 +214,7 @@ or_empty (Some xs) = xs
 
 -- CREATE ROLE, of its parts
 abbrev pub role_of : List ℕ × Attributes → Statement
-role_of r = st.CreateRole record { name = r.0; attributes = r.1 }
+role_of r = Statement.CreateRole record { name = r.0; attributes = r.1 }
 
 -- the attributes that are written, over those that hold without
 abbrev pub attributes_from : Bool → Option (List RoleAttribute) → Attributes
@@ -255,7 +222,7 @@ attributes_from is_user written = put_in with_attribute (opening is_user) (or_em
 
 -- ALTER ROLE, of its parts
 abbrev pub altering_of : List ℕ × Attributes → Statement
-altering_of r = st.AlterRole record { name = r.0; attributes = r.1 }
+altering_of r = Statement.AlterRole record { name = r.0; attributes = r.1 }
 
 -- ---- tables
 
@@ -271,7 +238,7 @@ marked_once (x ∷ xs) = not (has_mark x xs) && marked_once xs
 
 -- a column, of its name, its type and its marks
 abbrev pub column_of : (List ℕ × ColType) × List ColumnMark → MarkedColumn
-column_of r = record { column = record { name = r.0.0; kind = r.0.1; not_null = has_mark marks.NotNull r.1 }; is_key = has_mark marks.PrimaryKey r.1 }
+column_of r = record { column = record { name = r.0.0; kind = r.0.1; not_null = has_mark ColumnMark.NotNull r.1 }; is_key = has_mark ColumnMark.PrimaryKey r.1 }
 
 -- one of them is that name
 abbrev pub has_name : List ℕ → List (List ℕ) → Bool
@@ -311,17 +278,17 @@ is_table x = keyed_once x.columns x.key && are_distinct (column_names x.columns)
 
 -- CREATE TABLE, of its parts
 abbrev pub table_of : List ℕ × TableElements → Statement
-table_of r = st.CreateTable record { name = r.0; columns = r.1.columns; key = r.1.key }
+table_of r = Statement.CreateTable record { name = r.0; columns = r.1.columns; key = r.1.key }
 
 -- ALTER TABLE .. ROW LEVEL SECURITY, of its parts
 abbrev pub altering_table_of : List ℕ × RowSecurity → Statement
-altering_table_of r = st.AlterTable record { table = r.0; change = r.1 }
+altering_table_of r = Statement.AlterTable record { table = r.0; change = r.1 }
 
 -- ---- policies
 
 -- without TO it is for PUBLIC
 abbrev pub or_public : Option (List Grantee) → List Grantee
-or_public None = to.Public ∷ []
+or_public None = Grantee.Public ∷ []
 or_public (Some all) = all
 
 -- without AS it is permissive
@@ -331,16 +298,16 @@ or_permissive (Some permissive) = permissive
 
 -- without FOR it is for all commands
 abbrev pub or_all : Option PolicyKind → PolicyKind
-or_all None = kind.All
+or_all None = PolicyKind.All
 or_all (Some commands) = commands
 
 -- Which expressions a policy may have: one for SELECT or DELETE has no WITH CHECK, one for INSERT no USING.
 abbrev pub may_have : PolicyKind → (using check : Bool) → Bool
-may_have (kind.Only command.Select) using check = not check
-may_have (kind.Only command.Insert) using check = not using
-may_have (kind.Only command.Update) using check = true
-may_have (kind.Only command.Delete) using check = not check
-may_have kind.All using check = true
+may_have (PolicyKind.Only Kind.Select) using check = not check
+may_have (PolicyKind.Only Kind.Insert) using check = not using
+may_have (PolicyKind.Only Kind.Update) using check = true
+may_have (PolicyKind.Only Kind.Delete) using check = not check
+may_have PolicyKind.All using check = true
 
 -- what a policy is described by: AS, FOR, TO, USING, WITH CHECK
 abbrev pub Description : Type 0 → Type 0
@@ -352,7 +319,7 @@ is_policy r = may_have r.0.1 (is_some r.1.1.0) (is_some r.1.1.1)
 
 -- CREATE POLICY, of its parts; the policy's name stands before the table's
 abbrev pub policy_of : (List ℕ × List ℕ) × Description Term → Statement
-policy_of r = st.CreatePolicy record {
+policy_of r = Statement.CreatePolicy record {
   table = r.0.1;
   policy = record { name = r.0.0; permissive = r.1.0.0; kind = r.1.0.1; to = r.1.1.0; using = r.1.1.1.0; check = r.1.1.1.1 };
 }
@@ -367,11 +334,11 @@ is_change r = is_some r.0 || (is_some r.1.0 || is_some r.1.1)
 
 -- ALTER POLICY, of its parts
 abbrev pub altering_policy_of : (List ℕ × List ℕ) × PolicyChange Term → Statement
-altering_policy_of r = st.AlterPolicy record { name = r.0.0; table = r.0.1; to = r.1.0; using = r.1.1.0; check = r.1.1.1 }
+altering_policy_of r = Statement.AlterPolicy record { name = r.0.0; table = r.0.1; to = r.1.0; using = r.1.1.0; check = r.1.1.1 }
 
 -- DROP POLICY, of its parts
 abbrev pub dropping_policy_of : List ℕ × List ℕ → Statement
-dropping_policy_of r = st.DropPolicy record { name = r.0; table = r.1 }
+dropping_policy_of r = Statement.DropPolicy record { name = r.0; table = r.1 }
 
 -- ---- GRANT and REVOKE of privileges
 
@@ -385,10 +352,10 @@ all_privileges = record { select = true; insert = true; update = true; delete = 
 
 -- with this one too
 unfoldable pub with_privilege : Privileges → Privilege → Privileges
-with_privilege all p.Select = record all { select = true }
-with_privilege all p.Insert = record all { insert = true }
-with_privilege all p.Update = record all { update = true }
-with_privilege all p.Delete = record all { delete = true }
+with_privilege all Privilege.Select = record all { select = true }
+with_privilege all Privilege.Insert = record all { insert = true }
+with_privilege all Privilege.Update = record all { update = true }
+with_privilege all Privilege.Delete = record all { delete = true }
 
 -- those that are named; one may be named twice
 abbrev pub privileges_of : Privilege × List Privilege → Privileges
@@ -406,11 +373,11 @@ or_restrict (Some cascade) = cascade
 
 -- GRANT of privileges, of its parts
 abbrev pub grant_of : (Privileges × List ℕ) × (List Grantee × Bool) → Statement
-grant_of r = st.Grant record { privileges = r.0.0; table = r.0.1; to = r.1.0; with_option = r.1.1 }
+grant_of r = Statement.Grant record { privileges = r.0.0; table = r.0.1; to = r.1.0; with_option = r.1.1 }
 
 -- REVOKE of privileges, of its parts
 abbrev pub revoke_of : Bool × ((Privileges × List ℕ) × (List Grantee × Bool)) → Statement
-revoke_of r = st.Revoke record { option_only = r.0; privileges = r.1.0.0; table = r.1.0.1; from = r.1.1.0; cascade = r.1.1.1 }
+revoke_of r = Statement.Revoke record { option_only = r.0; privileges = r.1.0.0; table = r.1.0.1; from = r.1.1.0; cascade = r.1.1.1 }
 
 -- ---- memberships
 
@@ -434,9 +401,9 @@ no_options = record { admin = None; inherit = None; set = None }
 
 -- with this one set so
 abbrev pub with_setting : MembershipOptions → Setting → MembershipOptions
-with_setting all (m.Admin, flag) = record all { admin = Some flag }
-with_setting all (m.Inherit, flag) = record all { inherit = Some flag }
-with_setting all (m.Set, flag) = record all { set = Some flag }
+with_setting all (MembershipOption.Admin, flag) = record all { admin = Some flag }
+with_setting all (MembershipOption.Inherit, flag) = record all { inherit = Some flag }
+with_setting all (MembershipOption.Set, flag) = record all { set = Some flag }
 
 -- those that are written
 abbrev pub options_from : Option (List Setting) → MembershipOptions
@@ -444,12 +411,12 @@ options_from written = put_in with_setting no_options (or_empty written)
 
 -- GRANT of roles, of its parts
 abbrev pub granting_of : List (List ℕ) × (List (List ℕ) × MembershipOptions) → Statement
-granting_of r = st.GrantRoles record { roles = r.0; to = r.1.0; options = r.1.1 }
+granting_of r = Statement.GrantRoles record { roles = r.0; to = r.1.0; options = r.1.1 }
 
 -- REVOKE of roles, of its parts
 abbrev pub revoking_of : List (List ℕ) × List (List ℕ) → Statement
-revoking_of r = st.RevokeRoles record { option = None; roles = r.0; from = r.1 }
+revoking_of r = Statement.RevokeRoles record { option = None; roles = r.0; from = r.1 }
 
 -- REVOKE of an option, of its parts
 abbrev pub option_revoking_of : MembershipOption × (List (List ℕ) × List (List ℕ)) → Statement
-option_revoking_of r = st.RevokeRoles record { option = Some r.0; roles = r.1.0; from = r.1.1 }
+option_revoking_of r = Statement.RevokeRoles record { option = Some r.0; roles = r.1.0; from = r.1.1 }

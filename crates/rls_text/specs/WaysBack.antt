@@ -1,49 +1,14 @@
 -- The ways back: of which parts a value is written, each with the law that these parts stand for it.
-use Rattle.std.specs.Prelude.{◌≡◌, ℕ, zero, suc, nat_lt, pos, negsuc, ◌-ℤ◌, Bool, true, false, not, ◌&&◌, ◌||◌, if◌then◌else◌, List, [], ◌∷◌, ◌++◌, length, Option, Some, None, refl}
-use Rattle.std.specs.Str.{bytes_eq}
-use Rattle.std.proofs.Common.{arith, inl, inr, sym, ap, subst, ◌∙◌}
-use Rattle.std.proofs.lemmas.Slice.Eq.{bytes_eq-Decides}
-use Rattle.std.proofs.lemmas.Bool.{lt-ltb}
+use Rattle.std.{specs.Prelude.◌≡◌, specs.Prelude.ℕ, specs.Prelude.zero, specs.Prelude.suc, specs.Prelude.nat_lt, specs.Prelude.pos, specs.Prelude.negsuc, specs.Prelude.◌-ℤ◌, specs.Prelude.Bool, specs.Prelude.true, specs.Prelude.false, specs.Prelude.not, specs.Prelude.◌&&◌, specs.Prelude.◌||◌, specs.Prelude.if◌then◌else◌, specs.Prelude.List, specs.Prelude.[], specs.Prelude.◌∷◌, specs.Prelude.◌++◌, specs.Prelude.length, specs.Prelude.Option, specs.Prelude.Some, specs.Prelude.None, specs.Prelude.refl, specs.Str.bytes_eq, proofs.Common.arith, proofs.Common.inl, proofs.Common.inr, proofs.Common.sym, proofs.Common.ap, proofs.Common.subst, proofs.Common.◌∙◌, proofs.lemmas.Slice.Eq.bytes_eq-Decides, proofs.lemmas.Bool.lt-ltb}
 use native.Mathlib.Numerals.{unary_clauses}
 use denote.Enum.Bare.{sameb, same_true}
-use Rattle.rls_value.specs.Names.{reserved}
-use Rattle.rls_value.specs.declared.value.Value.{Value}
-use Rattle.rls_value.specs.declared.value.Value.TheVariants as v
-use Rattle.rls_value.specs.declared.verb.Privilege.{Privilege}
-use Rattle.rls_value.specs.contracts.verb.Privilege as privilege
-use Rattle.rls_value.specs.declared.verb.Privilege.TheVariants as p
-use Rattle.rls_expr.specs.Terms.{Term, Terms, Query, terms_of, maybe_term}
+use Rattle.rls_value.specs.{Names.reserved, declared.value.Value.Value, declared.verb.Privilege.Privilege, contracts.verb.Privilege.the_type as privilege_type}
+use Rattle.rls_expr.specs.{Terms.Term, Terms.Terms, Terms.Query, Terms.terms_of, Terms.maybe_term, declared.column_name.ColumnName.ColumnName, declared.expr.Comparison.Comparison, declared.expr.FromItem.FromItem, declared.expr.Sign.Sign, declared.policy.Grantee.Grantee, declared.expr.Selects.Selects, contracts.expr.Comparison.the_type as comparison_type, contracts.expr.Sign.the_type as sign_type}
 use Rattle.rls_expr.specs.Terms as e
-use Rattle.rls_expr.specs.declared.column_name.ColumnName.{ColumnName}
-use Rattle.rls_expr.specs.declared.expr.Comparison.{Comparison}
-use Rattle.rls_expr.specs.contracts.expr.Comparison as comparison
-use Rattle.rls_expr.specs.declared.expr.FromItem.{FromItem}
-use Rattle.rls_expr.specs.declared.expr.Selects.TheVariants as selects
-use Rattle.rls_expr.specs.declared.expr.Sign.{Sign}
-use Rattle.rls_expr.specs.contracts.expr.Sign as sign
-use Rattle.rls_expr.specs.declared.policy.Grantee.{Grantee}
 use Rattle.rls_statement.specs.declared.changing.Setting as changing
-use Rattle.rls_statement.specs.declared.statement.Attributes.{Attributes}
-use Rattle.rls_statement.specs.contracts.statement.MembershipOption as option
-use Rattle.rls_statement.specs.declared.statement.MembershipOption.{MembershipOption}
-use Rattle.rls_statement.specs.declared.statement.MembershipOption.TheVariants as m
-use Rattle.rls_statement.specs.declared.statement.MembershipOptions.{MembershipOptions}
-use Rattle.rls_statement.specs.declared.statement.Privileges.{Privileges}
-use Rattle.rls_statement.specs.declared.statement.Selected.{Selected}
-use Rattle.rls_statement.specs.declared.statement.Selected.TheVariants as selected
-use Rattle.rls_statement.specs.declared.statement.SetRole.{SetRole}
-use Rattle.rls_statement.specs.declared.statement.SetRole.TheVariants as sr
-use Rattle.rls_statement.specs.declared.statement.Statement.{Statement}
-use Rattle.rls_statement.specs.declared.statement.Statement.TheVariants as st
-use Rattle.rls_text.specs.declared.token.Token.{Token}
-use Rattle.rls_text.specs.declared.token.Token.TheVariants.{Word, Number, Text}
-use Rattle.rls_text.specs.declared.attributes.RoleAttribute.{RoleAttribute}
-use Rattle.rls_text.specs.declared.attributes.RoleAttribute.TheVariants as a
-use Rattle.rls_text.specs.Heads.{Names, Numbers, Texts, begins}
-use Rattle.rls_text.specs.Lang.{put_in}
+use Rattle.rls_statement.specs.{declared.statement.Attributes.Attributes, declared.statement.MembershipOption.MembershipOption, declared.statement.MembershipOptions.MembershipOptions, declared.statement.Privileges.Privileges, declared.statement.Selected.Selected, declared.statement.SetRole.SetRole, declared.statement.Statement.Statement, contracts.statement.MembershipOption.the_type as option_type}
+use Rattle.rls_text.specs.{declared.token.Token.Token, declared.attributes.RoleAttribute.RoleAttribute, Lang.put_in, Writes.some_is, declared.token.Token.TheVariants.Word, declared.token.Token.TheVariants.Number, declared.token.Token.TheVariants.Text, Heads.Names, Heads.Numbers, Heads.Texts, Heads.begins, Rule.Telling, Rule.given_if, Rule.given_was, Rule.as_list}
 use Rattle.rls_text.specs.Values as g
-use Rattle.rls_text.specs.Writes.{some_is}
-use Rattle.rls_text.specs.Rule.{Telling, given_if, given_was, as_list}
 
 pub both_true : (a b : Bool) → (a && b) ≡ true → (a ≡ true) × (b ≡ true)
 both_true true b h = (refl, h)
@@ -104,15 +69,15 @@ number_law a t h = subst (λ z. g.number_of z ≡ Some a) (some_is (Number a) t 
 
 -- two of TRUE, FALSE and NULL
 abbrev pub are_one_constant : Value → Value → Bool
-are_one_constant (v.Bool true) (v.Bool true) = true
-are_one_constant (v.Bool false) (v.Bool false) = true
-are_one_constant v.Null v.Null = true
+are_one_constant (Value.Bool true) (Value.Bool true) = true
+are_one_constant (Value.Bool false) (Value.Bool false) = true
+are_one_constant Value.Null Value.Null = true
 are_one_constant _ _ = false
 
 pub constant_is : (x y : Value) → are_one_constant x y ≡ true → x ≡ y
-constant_is (v.Bool true) (v.Bool true) h = refl
-constant_is (v.Bool false) (v.Bool false) h = refl
-constant_is v.Null v.Null h = refl
+constant_is (Value.Bool true) (Value.Bool true) h = refl
+constant_is (Value.Bool false) (Value.Bool false) h = refl
+constant_is Value.Null Value.Null h = refl
 constant_is _ _ h = cc
 
 -- TRUE, FALSE and NULL, told apart
@@ -121,32 +86,32 @@ constants = record { are_same = are_one_constant; same_is = constant_is }
 
 -- a text
 abbrev pub as_text : Value → Option (List ℕ)
-as_text (v.Text x) = Some x
+as_text (Value.Text x) = Some x
 as_text _ = None
 
-pub as_text_law : (b : Value) (a : List ℕ) → as_text b ≡ Some a → b ≡ v.Text a
-as_text_law (v.Text x) a h = ap v.Text (some_is x a h)
+pub as_text_law : (b : Value) (a : List ℕ) → as_text b ≡ Some a → b ≡ Value.Text a
+as_text_law (Value.Text x) a h = ap Value.Text (some_is x a h)
 as_text_law _ a h = cc
 
 -- a number; one below 0 has its sign
 abbrev pub as_signed : Value → Option (Option (Unit {0}) × ℕ)
-as_signed (v.Int (pos n)) = Some (None, n)
-as_signed (v.Int (negsuc n)) = Some (Some tt, suc n)
+as_signed (Value.Int (pos n)) = Some (None, n)
+as_signed (Value.Int (negsuc n)) = Some (Some tt, suc n)
 as_signed _ = None
 
 below : (n : ℕ) → negsuc n ≡ pos 0 -ℤ pos (suc n)
 below n = let t : nat_lt 0 (suc n) ≡ true = lt-ltb 0 (suc n) (omega arith) in simp (unary_clauses, t) refl
 
 pub signed_law : (b : Value) (a : Option (Unit {0}) × ℕ) → as_signed b ≡ Some a → b ≡ g.signed a
-signed_law (v.Int (pos n)) a h = ap g.signed (some_is (None, n) a h)
-signed_law (v.Int (negsuc n)) a h = let z : negsuc n ≡ pos 0 -ℤ pos (suc n) = below n in ap v.Int z ∙ ap g.signed (some_is (Some tt, suc n) a h)
+signed_law (Value.Int (pos n)) a h = ap g.signed (some_is (None, n) a h)
+signed_law (Value.Int (negsuc n)) a h = let z : negsuc n ≡ pos 0 -ℤ pos (suc n) = below n in ap Value.Int z ∙ ap g.signed (some_is (Some tt, suc n) a h)
 signed_law _ a h = cc
 
 -- ---- expressions
 
 -- comparisons, told apart
 abbrev pub comparisons : Telling Comparison
-comparisons = record { are_same = sameb comparison.the_type; same_is = same_true comparison.the_type tt }
+comparisons = record { are_same = sameb comparison_type; same_is = same_true comparison_type tt }
 
 -- a literal
 abbrev pub as_literal : Term → Option Value
@@ -286,9 +251,9 @@ selected_from x from (Some condition) = Some (x, ((from.table, from.alias), cond
 
 -- the parts of a subquery of which the key isn't placed
 abbrev pub as_query : Query → Option g.SelectParts
-as_query (e.Select from [] selects.All e.End condition) = selected_from selected.All from (as_condition condition)
-as_query (e.Select from [] selects.Count e.End condition) = selected_from selected.Count from (as_condition condition)
-as_query (e.Select from [] selects.Items items condition) = selected_from (selected.Items (list_of items)) from (as_condition condition)
+as_query (e.Select from [] Selects.All e.End condition) = selected_from Selected.All from (as_condition condition)
+as_query (e.Select from [] Selects.Count e.End condition) = selected_from Selected.Count from (as_condition condition)
+as_query (e.Select from [] Selects.Items items condition) = selected_from (Selected.Items (list_of items)) from (as_condition condition)
 as_query _ = None
 
 selected_law : (x : Selected) (from : FromItem) (condition : Terms) (a : g.SelectParts) → selected_from x from (as_condition condition) ≡ Some a
@@ -300,9 +265,9 @@ selected_law x from condition a h = go (as_condition condition) refl h
     go (Some y) same k = ap (λ z. e.Select from [] (g.selects_of x) (terms_of (g.items_of x)) z) (condition_law condition y same) ∙ ap g.query_of (some_is (x, ((from.table, from.alias), y)) a k)
 
 pub query_law : (b : Query) (a : g.SelectParts) → as_query b ≡ Some a → b ≡ g.query_of a
-query_law (e.Select from [] selects.All e.End condition) a h = selected_law selected.All from condition a h
-query_law (e.Select from [] selects.Count e.End condition) a h = selected_law selected.Count from condition a h
-query_law (e.Select from [] selects.Items items condition) a h = ap (λ z. e.Select from [] selects.Items z condition) (sym (terms_back items)) ∙ selected_law (selected.Items (list_of items)) from condition a h
+query_law (e.Select from [] Selects.All e.End condition) a h = selected_law Selected.All from condition a h
+query_law (e.Select from [] Selects.Count e.End condition) a h = selected_law Selected.Count from condition a h
+query_law (e.Select from [] Selects.Items items condition) a h = ap (λ z. e.Select from [] Selects.Items z condition) (sym (terms_back items)) ∙ selected_law (Selected.Items (list_of items)) from condition a h
 query_law _ a h = cc
 
 -- the subquery of EXISTS
@@ -371,7 +336,7 @@ among_law _ a h = cc
 
 -- signs, told apart
 abbrev pub signs : Telling Sign
-signs = record { are_same = sameb sign.the_type; same_is = same_true sign.the_type tt }
+signs = record { are_same = sameb sign_type; same_is = same_true sign_type tt }
 
 -- one more, before them
 abbrev pub put_first : (Sign × Term) → Option (List (Sign × Term)) → Option (List (Sign × Term))
@@ -422,49 +387,49 @@ sum_law _ a h = cc
 
 -- all columns
 abbrev pub as_all : Selected → Option (Unit {0})
-as_all selected.All = Some tt
+as_all Selected.All = Some tt
 as_all _ = None
 
-pub all_law : (b : Selected) (a : Unit {0}) → as_all b ≡ Some a → b ≡ selected.All
-all_law selected.All a h = refl
+pub all_law : (b : Selected) (a : Unit {0}) → as_all b ≡ Some a → b ≡ Selected.All
+all_law Selected.All a h = refl
 all_law _ a h = cc
 
 -- the items
 abbrev pub as_items : Selected → Option (List Term)
-as_items (selected.Items x) = Some x
+as_items (Selected.Items x) = Some x
 as_items _ = None
 
-pub items_law : (b : Selected) (a : List Term) → as_items b ≡ Some a → b ≡ selected.Items a
-items_law (selected.Items x) a h = ap selected.Items (some_is x a h)
+pub items_law : (b : Selected) (a : List Term) → as_items b ≡ Some a → b ≡ Selected.Items a
+items_law (Selected.Items x) a h = ap Selected.Items (some_is x a h)
 items_law _ a h = cc
 
 -- the number of rows
 abbrev pub as_count : Selected → Option (Unit {0})
-as_count selected.Count = Some tt
+as_count Selected.Count = Some tt
 as_count _ = None
 
-pub count_law : (b : Selected) (a : Unit {0}) → as_count b ≡ Some a → b ≡ selected.Count
-count_law selected.Count a h = refl
+pub count_law : (b : Selected) (a : Unit {0}) → as_count b ≡ Some a → b ≡ Selected.Count
+count_law Selected.Count a h = refl
 count_law _ a h = cc
 
 -- items, table and alias, condition
 abbrev pub as_select : Statement → Option (Selected × (g.TableAndAlias × Option Term))
-as_select (st.Select x) = Some (x.items, ((x.table, x.alias), x.condition))
+as_select (Statement.Select x) = Some (x.items, ((x.table, x.alias), x.condition))
 as_select _ = None
 
 pub select_law : (b : Statement) (a : Selected × (g.TableAndAlias × Option Term)) → as_select b ≡ Some a → b ≡ g.select_of a
-select_law (st.Select x) a h = ap g.select_of (some_is (x.items, ((x.table, x.alias), x.condition)) a h)
+select_law (Statement.Select x) a h = ap g.select_of (some_is (x.items, ((x.table, x.alias), x.condition)) a h)
 select_law _ a h = cc
 
 -- ---- INSERT
 
 -- table, columns and tuples, RETURNING
 abbrev pub as_insert : Statement → Option (List ℕ × (g.Rows × Option Selected))
-as_insert (st.Insert x) = Some (x.table, ((x.columns, x.tuples), x.returning))
+as_insert (Statement.Insert x) = Some (x.table, ((x.columns, x.tuples), x.returning))
 as_insert _ = None
 
 pub insert_law : (b : Statement) (a : List ℕ × (g.Rows × Option Selected)) → as_insert b ≡ Some a → b ≡ g.insert_of a
-insert_law (st.Insert x) a h = ap g.insert_of (some_is (x.table, ((x.columns, x.tuples), x.returning)) a h)
+insert_law (Statement.Insert x) a h = ap g.insert_of (some_is (x.table, ((x.columns, x.tuples), x.returning)) a h)
 insert_law _ a h = cc
 
 -- ---- UPDATE and DELETE
@@ -478,20 +443,20 @@ set_column_law b a h = ap g.set_column_of (some_is (b.column, b.value) a h)
 
 -- table, columns that are set, WHERE and RETURNING
 abbrev pub as_update : Statement → Option (List ℕ × (List changing.Setting × g.Ending Term))
-as_update (st.Update x) = Some (x.table, (x.settings, (x.condition, x.returning)))
+as_update (Statement.Update x) = Some (x.table, (x.settings, (x.condition, x.returning)))
 as_update _ = None
 
 pub update_law : (b : Statement) (a : List ℕ × (List changing.Setting × g.Ending Term)) → as_update b ≡ Some a → b ≡ g.update_of a
-update_law (st.Update x) a h = ap g.update_of (some_is (x.table, (x.settings, (x.condition, x.returning))) a h)
+update_law (Statement.Update x) a h = ap g.update_of (some_is (x.table, (x.settings, (x.condition, x.returning))) a h)
 update_law _ a h = cc
 
 -- table, WHERE and RETURNING
 abbrev pub as_delete : Statement → Option (List ℕ × g.Ending Term)
-as_delete (st.Delete x) = Some (x.table, (x.condition, x.returning))
+as_delete (Statement.Delete x) = Some (x.table, (x.condition, x.returning))
 as_delete _ = None
 
 pub delete_law : (b : Statement) (a : List ℕ × g.Ending Term) → as_delete b ≡ Some a → b ≡ g.delete_of a
-delete_law (st.Delete x) a h = ap g.delete_of (some_is (x.table, (x.condition, x.returning)) a h)
+delete_law (Statement.Delete x) a h = ap g.delete_of (some_is (x.table, (x.condition, x.returning)) a h)
 delete_law _ a h = cc
 
 -- ---- roles
@@ -509,15 +474,15 @@ same_flag_is false false h = refl
 
 -- one attribute, said in one way
 abbrev pub same_attribute : RoleAttribute → RoleAttribute → Bool
-same_attribute (a.Superuser x) (a.Superuser y) = same_flag x y
-same_attribute (a.Login x) (a.Login y) = same_flag x y
-same_attribute (a.BypassRls x) (a.BypassRls y) = same_flag x y
+same_attribute (RoleAttribute.Superuser x) (RoleAttribute.Superuser y) = same_flag x y
+same_attribute (RoleAttribute.Login x) (RoleAttribute.Login y) = same_flag x y
+same_attribute (RoleAttribute.BypassRls x) (RoleAttribute.BypassRls y) = same_flag x y
 same_attribute _ _ = false
 
 pub same_attribute_is : (x y : RoleAttribute) → same_attribute x y ≡ true → x ≡ y
-same_attribute_is (a.Superuser x) (a.Superuser y) h = ap a.Superuser (same_flag_is x y h)
-same_attribute_is (a.Login x) (a.Login y) h = ap a.Login (same_flag_is x y h)
-same_attribute_is (a.BypassRls x) (a.BypassRls y) h = ap a.BypassRls (same_flag_is x y h)
+same_attribute_is (RoleAttribute.Superuser x) (RoleAttribute.Superuser y) h = ap RoleAttribute.Superuser (same_flag_is x y h)
+same_attribute_is (RoleAttribute.Login x) (RoleAttribute.Login y) h = ap RoleAttribute.Login (same_flag_is x y h)
+same_attribute_is (RoleAttribute.BypassRls x) (RoleAttribute.BypassRls y) h = ap RoleAttribute.BypassRls (same_flag_is x y h)
 same_attribute_is _ _ h = cc
 
 -- attributes, told apart
@@ -536,7 +501,7 @@ one_if f (Some x) = f x ∷ []
 
 -- those that are written, in the order SUPERUSER, LOGIN, BYPASSRLS
 abbrev pub in_order : Attributes → Option (List RoleAttribute)
-in_order b = if_any (one_if a.Superuser b.superuser ++ one_if a.Login b.login ++ one_if a.BypassRls b.bypass_rls)
+in_order b = if_any (one_if RoleAttribute.Superuser b.superuser ++ one_if RoleAttribute.Login b.login ++ one_if RoleAttribute.BypassRls b.bypass_rls)
 
 -- behind CREATE ROLE; CREATE USER is written as CREATE ROLE with LOGIN
 abbrev pub as_attributes : Bool → Attributes → Option (Option (List RoleAttribute))
@@ -559,11 +524,11 @@ attributes_law false b a h = attributes_back b.superuser b.login b.bypass_rls �
 
 -- name, attributes
 abbrev pub as_role : Statement → Option (List ℕ × Attributes)
-as_role (st.CreateRole x) = Some (x.name, x.attributes)
+as_role (Statement.CreateRole x) = Some (x.name, x.attributes)
 as_role _ = None
 
 pub role_law : (b : Statement) (a : List ℕ × Attributes) → as_role b ≡ Some a → b ≡ g.role_of a
-role_law (st.CreateRole x) a h = ap g.role_of (some_is (x.name, x.attributes) a h)
+role_law (Statement.CreateRole x) a h = ap g.role_of (some_is (x.name, x.attributes) a h)
 role_law _ a h = cc
 
 -- behind ALTER ROLE, where at least one is written
@@ -572,18 +537,18 @@ some_attributes_law b a h = attributes_back b.superuser b.login b.bypass_rls ∙
 
 -- name, attributes
 abbrev pub as_altering : Statement → Option (List ℕ × Attributes)
-as_altering (st.AlterRole x) = Some (x.name, x.attributes)
+as_altering (Statement.AlterRole x) = Some (x.name, x.attributes)
 as_altering _ = None
 
 pub altering_law : (b : Statement) (a : List ℕ × Attributes) → as_altering b ≡ Some a → b ≡ g.altering_of a
-altering_law (st.AlterRole x) a h = ap g.altering_of (some_is (x.name, x.attributes) a h)
+altering_law (Statement.AlterRole x) a h = ap g.altering_of (some_is (x.name, x.attributes) a h)
 altering_law _ a h = cc
 
 -- ---- GRANT and REVOKE of privileges
 
 -- privileges, told apart
 abbrev pub privilege_names : Telling Privilege
-privilege_names = record { are_same = sameb privilege.the_type; same_is = same_true privilege.the_type tt }
+privilege_names = record { are_same = sameb privilege_type; same_is = same_true privilege_type tt }
 
 -- the four
 abbrev pub are_all : Privileges → Bool
@@ -610,7 +575,7 @@ where_there false x = []
 
 -- those that are there, in the order SELECT, INSERT, UPDATE, DELETE
 abbrev pub as_privileges : Privileges → Option (Privilege × List Privilege)
-as_privileges b = as_list (where_there b.select p.Select ++ where_there b.insert p.Insert ++ where_there b.update p.Update ++ where_there b.delete p.Delete)
+as_privileges b = as_list (where_there b.select Privilege.Select ++ where_there b.insert Privilege.Insert ++ where_there b.update Privilege.Update ++ where_there b.delete Privilege.Delete)
 
 -- this one, and the others
 abbrev pub are_privileges : Privileges → Option (Privilege × List Privilege) → Type 0
@@ -659,27 +624,27 @@ cascade_law false a h = ap g.or_restrict (some_is None a h)
 
 -- privileges, table, grantees, WITH GRANT OPTION
 abbrev pub as_grant : Statement → Option ((Privileges × List ℕ) × (List Grantee × Bool))
-as_grant (st.Grant x) = Some ((x.privileges, x.table), (x.to, x.with_option))
+as_grant (Statement.Grant x) = Some ((x.privileges, x.table), (x.to, x.with_option))
 as_grant _ = None
 
 pub grant_law : (b : Statement) (a : (Privileges × List ℕ) × (List Grantee × Bool)) → as_grant b ≡ Some a → b ≡ g.grant_of a
-grant_law (st.Grant x) a h = ap g.grant_of (some_is ((x.privileges, x.table), (x.to, x.with_option)) a h)
+grant_law (Statement.Grant x) a h = ap g.grant_of (some_is ((x.privileges, x.table), (x.to, x.with_option)) a h)
 grant_law _ a h = cc
 
 -- GRANT OPTION FOR, privileges, table, grantees, CASCADE
 abbrev pub as_revoke : Statement → Option (Bool × ((Privileges × List ℕ) × (List Grantee × Bool)))
-as_revoke (st.Revoke x) = Some (x.option_only, ((x.privileges, x.table), (x.from, x.cascade)))
+as_revoke (Statement.Revoke x) = Some (x.option_only, ((x.privileges, x.table), (x.from, x.cascade)))
 as_revoke _ = None
 
 pub revoke_law : (b : Statement) (a : Bool × ((Privileges × List ℕ) × (List Grantee × Bool))) → as_revoke b ≡ Some a → b ≡ g.revoke_of a
-revoke_law (st.Revoke x) a h = ap g.revoke_of (some_is (x.option_only, ((x.privileges, x.table), (x.from, x.cascade))) a h)
+revoke_law (Statement.Revoke x) a h = ap g.revoke_of (some_is (x.option_only, ((x.privileges, x.table), (x.from, x.cascade))) a h)
 revoke_law _ a h = cc
 
 -- ---- memberships
 
 -- the options of memberships told apart
 abbrev pub option_names : Telling MembershipOption
-option_names = record { are_same = sameb option.the_type; same_is = same_true option.the_type tt }
+option_names = record { are_same = sameb option_type; same_is = same_true option_type tt }
 
 -- truth values told apart
 abbrev pub flags : Telling Bool
@@ -692,7 +657,7 @@ setting_if x (Some flag) = (x, flag) ∷ []
 
 -- those that are written, in the order ADMIN, INHERIT, SET
 abbrev pub as_options : MembershipOptions → Option (List g.Setting)
-as_options b = if_any (setting_if m.Admin b.admin ++ setting_if m.Inherit b.inherit ++ setting_if m.Set b.set)
+as_options b = if_any (setting_if MembershipOption.Admin b.admin ++ setting_if MembershipOption.Inherit b.inherit ++ setting_if MembershipOption.Set b.set)
 
 options_back : (x y z : Option Bool) → record { admin = x; inherit = y; set = z } ≡ g.options_from (as_options record { admin = x; inherit = y; set = z })
 options_back None None None = refl
@@ -713,11 +678,11 @@ options_law b a h = options_back b.admin b.inherit b.set ∙ ap g.options_from (
 
 -- roles, members, options
 abbrev pub as_granting : Statement → Option (List (List ℕ) × (List (List ℕ) × MembershipOptions))
-as_granting (st.GrantRoles x) = Some (x.roles, (x.to, x.options))
+as_granting (Statement.GrantRoles x) = Some (x.roles, (x.to, x.options))
 as_granting _ = None
 
 pub granting_law : (b : Statement) (a : List (List ℕ) × (List (List ℕ) × MembershipOptions)) → as_granting b ≡ Some a → b ≡ g.granting_of a
-granting_law (st.GrantRoles x) a h = ap g.granting_of (some_is (x.roles, (x.to, x.options)) a h)
+granting_law (Statement.GrantRoles x) a h = ap g.granting_of (some_is (x.roles, (x.to, x.options)) a h)
 granting_law _ a h = cc
 
 -- the parts, where there is no option
@@ -732,65 +697,65 @@ beside_option (Some x) r = Some (x, r)
 
 -- roles, members
 abbrev pub as_revoking : Statement → Option (List (List ℕ) × List (List ℕ))
-as_revoking (st.RevokeRoles x) = without_option x.option (x.roles, x.from)
+as_revoking (Statement.RevokeRoles x) = without_option x.option (x.roles, x.from)
 as_revoking _ = None
 
-revoking_back : (o : Option MembershipOption) (roles from : List (List ℕ)) (a : List (List ℕ) × List (List ℕ)) → without_option o (roles, from) ≡ Some a → st.RevokeRoles record { option = o; roles = roles; from = from } ≡ g.revoking_of a
+revoking_back : (o : Option MembershipOption) (roles from : List (List ℕ)) (a : List (List ℕ) × List (List ℕ)) → without_option o (roles, from) ≡ Some a → Statement.RevokeRoles record { option = o; roles = roles; from = from } ≡ g.revoking_of a
 revoking_back None roles from a h = ap g.revoking_of (some_is (roles, from) a h)
 revoking_back (Some x) roles from a h = cc
 
 pub revoking_law : (b : Statement) (a : List (List ℕ) × List (List ℕ)) → as_revoking b ≡ Some a → b ≡ g.revoking_of a
-revoking_law (st.RevokeRoles x) a h = revoking_back x.option x.roles x.from a h
+revoking_law (Statement.RevokeRoles x) a h = revoking_back x.option x.roles x.from a h
 revoking_law _ a h = cc
 
 -- the option, roles, members
 abbrev pub as_option_revoking : Statement → Option (MembershipOption × (List (List ℕ) × List (List ℕ)))
-as_option_revoking (st.RevokeRoles x) = beside_option x.option (x.roles, x.from)
+as_option_revoking (Statement.RevokeRoles x) = beside_option x.option (x.roles, x.from)
 as_option_revoking _ = None
 
 option_revoking_back : (o : Option MembershipOption) (roles from : List (List ℕ)) (a : MembershipOption × (List (List ℕ) × List (List ℕ))) → beside_option o (roles, from) ≡ Some a
-    → st.RevokeRoles record { option = o; roles = roles; from = from } ≡ g.option_revoking_of a
+    → Statement.RevokeRoles record { option = o; roles = roles; from = from } ≡ g.option_revoking_of a
 option_revoking_back None roles from a h = cc
 option_revoking_back (Some x) roles from a h = ap g.option_revoking_of (some_is (x, (roles, from)) a h)
 
 pub option_revoking_law : (b : Statement) (a : MembershipOption × (List (List ℕ) × List (List ℕ))) → as_option_revoking b ≡ Some a → b ≡ g.option_revoking_of a
-option_revoking_law (st.RevokeRoles x) a h = option_revoking_back x.option x.roles x.from a h
+option_revoking_law (Statement.RevokeRoles x) a h = option_revoking_back x.option x.roles x.from a h
 option_revoking_law _ a h = cc
 
 -- ---- SET ROLE
 
 -- the login, by NONE
 abbrev pub as_no_role : SetRole → Option (Unit {0})
-as_no_role sr.None = Some tt
+as_no_role SetRole.None = Some tt
 as_no_role _ = None
 
-pub no_role_law : (b : SetRole) (a : Unit {0}) → as_no_role b ≡ Some a → b ≡ sr.None
-no_role_law sr.None a h = refl
+pub no_role_law : (b : SetRole) (a : Unit {0}) → as_no_role b ≡ Some a → b ≡ SetRole.None
+no_role_law SetRole.None a h = refl
 no_role_law _ a h = cc
 
 -- the role's name
 abbrev pub as_chosen : SetRole → Option (List ℕ)
-as_chosen (sr.To x) = Some x
+as_chosen (SetRole.To x) = Some x
 as_chosen _ = None
 
-pub chosen_law : (b : SetRole) (a : List ℕ) → as_chosen b ≡ Some a → b ≡ sr.To a
-chosen_law (sr.To x) a h = ap sr.To (some_is x a h)
+pub chosen_law : (b : SetRole) (a : List ℕ) → as_chosen b ≡ Some a → b ≡ SetRole.To a
+chosen_law (SetRole.To x) a h = ap SetRole.To (some_is x a h)
 chosen_law _ a h = cc
 
 -- the login, by RESET
 abbrev pub as_reset : SetRole → Option (Unit {0})
-as_reset sr.Reset = Some tt
+as_reset SetRole.Reset = Some tt
 as_reset _ = None
 
-pub reset_law : (b : SetRole) (a : Unit {0}) → as_reset b ≡ Some a → b ≡ sr.Reset
-reset_law sr.Reset a h = refl
+pub reset_law : (b : SetRole) (a : Unit {0}) → as_reset b ≡ Some a → b ≡ SetRole.Reset
+reset_law SetRole.Reset a h = refl
 reset_law _ a h = cc
 
 -- which role is set
 abbrev pub as_set_role : Statement → Option SetRole
-as_set_role (st.SetRole x) = Some x
+as_set_role (Statement.SetRole x) = Some x
 as_set_role _ = None
 
-pub set_role_law : (b : Statement) (a : SetRole) → as_set_role b ≡ Some a → b ≡ st.SetRole a
-set_role_law (st.SetRole x) a h = ap st.SetRole (some_is x a h)
+pub set_role_law : (b : Statement) (a : SetRole) → as_set_role b ≡ Some a → b ≡ Statement.SetRole a
+set_role_law (Statement.SetRole x) a h = ap Statement.SetRole (some_is x a h)
 set_role_law _ a h = cc

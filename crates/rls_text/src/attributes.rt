@@ -1,11 +1,8 @@
 //! The attributes of a role from tokens.
 
 ghost use Rattle.std.specs.Prelude.{◌≡◌, length};
-ghost use Rattle.rls_text.specs.FirstSets.{attribute_heads};
+ghost use Rattle.rls_text.specs.{FirstSets.attribute_heads, Heads.sees, Lang.put_in, Parses.read_many};
 ghost use Rattle.rls_text.specs.Gives.{Gives, with_front, or_no_items};
-ghost use Rattle.rls_text.specs.Heads.{sees};
-ghost use Rattle.rls_text.specs.Lang.{put_in};
-ghost use Rattle.rls_text.specs.Parses.{read_many};
 ghost use Rattle.rls_text.specs.Grammar as g;
 ghost use Rattle.rls_text.specs.Values as values;
 

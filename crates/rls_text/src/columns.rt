@@ -1,9 +1,7 @@
 //! The columns of a new table from tokens.
 
 ghost use Rattle.std.specs.Prelude.{◌≡◌};
-ghost use Rattle.rls_text.specs.FirstSets.{mark_heads};
-ghost use Rattle.rls_text.specs.Gives.{Gives};
-ghost use Rattle.rls_text.specs.Heads.{sees};
+ghost use Rattle.rls_text.specs.{FirstSets.mark_heads, Gives.Gives, Heads.sees};
 ghost use Rattle.rls_text.specs.Grammar as g;
 ghost use Rattle.rls_text.specs.Values as values;
 

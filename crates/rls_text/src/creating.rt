@@ -1,8 +1,6 @@
 //! CREATE and ALTER from tokens.
 
-ghost use Rattle.rls_text.specs.Gives.{Gives};
-ghost use Rattle.rls_text.specs.Parses.{read_mapped};
-ghost use Rattle.rls_text.specs.Trees.{flat};
+ghost use Rattle.rls_text.specs.{Gives.Gives, Parses.read_mapped, Trees.flat};
 ghost use Rattle.rls_text.specs.Grammar as g;
 
 use crate::attributes::{attributes_of_role, written_attributes};

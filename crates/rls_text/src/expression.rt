@@ -1,12 +1,9 @@
 //! Expressions from tokens.
 
 ghost use Rattle.std.specs.Prelude.{◌≡◌, [], ◌∷◌, codes, length, refl, IfOk};
-ghost use Rattle.rls_text.specs.FirstSets.{sign_heads, in_heads, comparison_heads};
-ghost use Rattle.rls_text.specs.Gives.{Gives, folded};
+ghost use Rattle.rls_text.specs.{FirstSets.sign_heads, FirstSets.in_heads, FirstSets.comparison_heads, Parses.read_both, Parses.read_many, Parses.read_mapped, Gives.Gives, Gives.folded, Heads.sees, Heads.Keyword};
 ghost use Rattle.rls_text.specs.Cut as cut;
-ghost use Rattle.rls_text.specs.Heads.{sees, Keyword};
 ghost use Rattle.rls_text.specs.Heads as heads;
-ghost use Rattle.rls_text.specs.Parses.{read_both, read_many, read_mapped};
 ghost use Rattle.rls_text.specs.Grammar as g;
 ghost use Rattle.rls_text.specs.Trees as spec;
 

@@ -1,10 +1,7 @@
 //! GRANT from tokens, of privileges here, and lists of privileges and of grantees.
 
 ghost use Rattle.std.specs.Prelude.{◌≡◌, [], ◌∷◌, length, codes};
-ghost use Rattle.rls_text.specs.Gives.{Gives, with_front, folded};
-ghost use Rattle.rls_text.specs.Parses.{read_many};
-ghost use Rattle.rls_text.specs.Heads.{Sign, Keyword, sees};
-ghost use Rattle.rls_text.specs.Rule.{with_comma};
+ghost use Rattle.rls_text.specs.{Gives.Gives, Gives.with_front, Gives.folded, Parses.read_many, Rule.with_comma, Heads.Sign, Heads.Keyword, Heads.sees};
 ghost use Rattle.rls_text.specs.Ahead as ahead;
 ghost use Rattle.rls_text.specs.Grammar as g;
 ghost use Rattle.rls_text.specs.Values as values;

@@ -2,11 +2,8 @@
 
 ghost use Rattle.std.specs.Prelude.{◌≡◌, [], ◌∷◌, length};
 ghost use Rattle.rls_expr.specs.Terms as term;
-ghost use Rattle.rls_text.specs.FirstSets.{constant_heads, literal_heads, item_heads};
-ghost use Rattle.rls_text.specs.Gives.{Gives, Has, with_front};
-ghost use Rattle.rls_text.specs.Heads.{sees, Sign};
-ghost use Rattle.rls_text.specs.Parses.{read_many, read_mapped};
-ghost use Rattle.rls_text.specs.Rule.{with_comma};
+ghost use Rattle.rls_text.specs.{FirstSets.constant_heads, FirstSets.literal_heads, FirstSets.item_heads, Gives.Gives, Gives.Has, Gives.with_front};
+ghost use Rattle.rls_text.specs.{Heads.sees, Heads.Sign, Parses.read_many, Parses.read_mapped, Rule.with_comma};
 ghost use Rattle.rls_text.specs.Grammar as g;
 ghost use Rattle.rls_text.specs.Values as values;
 

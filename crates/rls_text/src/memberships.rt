@@ -1,11 +1,7 @@
 //! GRANT and REVOKE of roles behind the first word, and SET ROLE, from tokens.
 
 ghost use Rattle.std.specs.Prelude.{◌≡◌, [], ◌∷◌, length, codes};
-ghost use Rattle.rls_text.specs.Gives.{Gives, with_front, or_no_items};
-ghost use Rattle.rls_text.specs.Parses.{and_then, read_both, read_many, read_token};
-ghost use Rattle.rls_text.specs.Heads.{Sign, Keyword};
-ghost use Rattle.rls_text.specs.Lang.{put_in};
-ghost use Rattle.rls_text.specs.Rule.{with_comma};
+ghost use Rattle.rls_text.specs.{Gives.Gives, Gives.with_front, Gives.or_no_items, Parses.and_then, Parses.read_both, Parses.read_many, Parses.read_token, Heads.Sign, Heads.Keyword, Lang.put_in, Rule.with_comma};
 ghost use Rattle.rls_text.specs.Ahead as ahead;
 ghost use Rattle.rls_text.specs.Grammar as g;
 ghost use Rattle.rls_text.specs.Values as values;

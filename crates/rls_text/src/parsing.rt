@@ -1,13 +1,9 @@
 //! A statement from a text.
 
 ghost use Rattle.std.specs.Prelude.{◌≡◌, ◌≤◌, None, IfOk};
-ghost use Rattle.rls_text.specs.Gives.{Gives, GivesWhole, whole_of, answer_of, within_limits};
+ghost use Rattle.rls_text.specs.{Gives.Gives, Gives.GivesWhole, Gives.whole_of, Gives.answer_of, Gives.within_limits, Words.words_of, Heights.height_of, Nested.subqueries_of, Answers.Answers, Answers.IsSpelled};
 ghost use Rattle.rls_text.specs.Grammar as g;
-ghost use Rattle.rls_text.specs.Words.{words_of};
-ghost use Rattle.rls_text.specs.Heights.{height_of};
-ghost use Rattle.rls_text.specs.Nested.{subqueries_of};
 ghost use Rattle.rls_text.specs.Answers as spec;
-ghost use Rattle.rls_text.specs.Answers.{Answers, IsSpelled};
 
 use crate::changing::{delete, update};
 use crate::creating::{alter, create};

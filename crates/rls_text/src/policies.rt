@@ -1,8 +1,7 @@
 //! CREATE, ALTER and DROP of policies from tokens.
 
 ghost use Rattle.std.specs.Prelude.{◌≡◌, codes};
-ghost use Rattle.rls_text.specs.Gives.{Gives};
-ghost use Rattle.rls_text.specs.Parses.{read_token, and_then};
+ghost use Rattle.rls_text.specs.{Gives.Gives, Parses.read_token, Parses.and_then};
 ghost use Rattle.rls_text.specs.Trees as trees;
 ghost use Rattle.rls_text.specs.Grammar as g;
 ghost use Rattle.rls_text.specs.Values as values;

@@ -1,10 +1,7 @@
 //! What a SELECT selects, and its table, from tokens.
 
 ghost use Rattle.std.specs.Prelude.{◌≡◌, [], ◌∷◌};
-ghost use Rattle.rls_text.specs.FirstSets.{alias_heads};
-ghost use Rattle.rls_text.specs.Gives.{Gives};
-ghost use Rattle.rls_text.specs.Heads.{Sign, sees};
-ghost use Rattle.rls_text.specs.Parses.{read_mapped};
+ghost use Rattle.rls_text.specs.{FirstSets.alias_heads, Gives.Gives, Parses.read_mapped, Heads.Sign, Heads.sees};
 ghost use Rattle.rls_text.specs.Ahead as ahead;
 ghost use Rattle.rls_text.specs.Grammar as g;
 ghost use Rattle.rls_text.specs.Trees as spec;

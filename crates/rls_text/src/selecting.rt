@@ -1,9 +1,7 @@
 //! SELECT and INSERT from tokens.
 
 ghost use Rattle.std.specs.Prelude.{◌≡◌, [], ◌∷◌, length, codes};
-ghost use Rattle.rls_text.specs.Gives.{Gives, folded};
-ghost use Rattle.rls_text.specs.Parses.{and_then, read_both, read_many, read_token};
-ghost use Rattle.rls_text.specs.Heads.{Sign};
+ghost use Rattle.rls_text.specs.{Gives.Gives, Gives.folded, Heads.Sign, Parses.and_then, Parses.read_both, Parses.read_many, Parses.read_token};
 ghost use Rattle.rls_text.specs.Cut as cut;
 ghost use Rattle.rls_text.specs.Grammar as g;
 ghost use Rattle.rls_text.specs.Values as values;

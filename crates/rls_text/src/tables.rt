@@ -1,12 +1,7 @@
 //! New tables and changes of row security from tokens.
 
 ghost use Rattle.std.specs.Prelude.{◌≡◌, [], ◌∷◌, length, codes, refl, IfOk};
-ghost use Rattle.rls_text.specs.Gives.{Finds, Gives, folded};
-ghost use Rattle.rls_text.specs.Heads.{Sign};
-ghost use Rattle.rls_text.specs.Parses.{read_many, read_mapped};
-ghost use Rattle.rls_text.specs.Rule.{with_comma, in_parentheses, before, after};
-ghost use Rattle.rls_text.specs.Rule.{word as g_word};
-ghost use Rattle.rls_text.specs.Trees.{flat};
+ghost use Rattle.rls_text.specs.{Gives.Finds, Gives.Gives, Gives.folded, Heads.Sign, Trees.flat, Parses.read_many, Parses.read_mapped, Rule.with_comma, Rule.in_parentheses, Rule.before, Rule.after, Rule.word as g_word};
 ghost use Rattle.rls_text.specs.Elements as spec;
 ghost use Rattle.rls_text.specs.Grammar as g;
 ghost use Rattle.rls_text.specs.Values as values;

@@ -7,14 +7,9 @@ use Rattle.std.specs.Cmp.Lexicographic.{slice_cmp}
 use Rattle.std.specs.Ordering.{nat_cmp, ordering_then, is_eq, int_cmp}
 use Rattle.std.specs.declared.cmp.Ordering.{Ordering}
 use Rattle.std.specs.declared.cmp.Ordering.TheVariants.{Less, Equal, Greater}
-use Rattle.rls_value.specs.declared.row.RowId.{RowId}
-use Rattle.rls_value.specs.declared.value.Value.{Value}
-use Rattle.rls_value.specs.declared.value.Value.TheVariants.{Null, Int, Text, Bool as Flag}
-use Rattle.rls_value.specs.declared.object.Object.{Object}
+use Rattle.rls_value.specs.{declared.row.RowId.RowId, declared.value.Value.Value, declared.object.Object.Object, Values.listed, Values.rank_of, Objects.kind_of, Objects.name_of, Objects.object_order}
+use Rattle.rls_value.specs.{declared.value.Value.TheVariants.Null, declared.value.Value.TheVariants.Int, declared.value.Value.TheVariants.Text, declared.value.Value.TheVariants.Bool as Flag, Listing.ordered as by_parts, Listing.number_in, Listing.text_in, Listing.flag_in, Listing.listed_ordered}
 use Rattle.rls_value.specs.declared.object.Object.TheVariants.{Role, Members, Table, Grants, Policies, Rows, Key, RowOf}
-use Rattle.rls_value.specs.Values.{listed, rank_of}
-use Rattle.rls_value.specs.Listing.{ordered as by_parts, number_in, text_in, flag_in, listed_ordered}
-use Rattle.rls_value.specs.Objects.{kind_of, name_of, object_order}
 use Rattle.rls_value.specs.ObjectOrder.{key_in, txn_in, place_in, parts_ordered, ordered, objects_ordered}
 
 then_first : (o p : Ordering) → ordering_then o p ≡ Equal → o ≡ Equal

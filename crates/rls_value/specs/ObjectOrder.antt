@@ -6,10 +6,8 @@ use Rattle.std.proofs.lemmas.Cmp.{on_total, then_total, nat_cmp_total, nat_list_
 use Rattle.std.specs.Cmp.Lexicographic.{slice_cmp}
 use Rattle.std.specs.Ordering.{nat_cmp, on, then_cmp, ordering_then}
 use Rattle.std.specs.declared.cmp.Ordering.{Ordering}
-use Rattle.rls_value.specs.declared.value.Value.{Value}
-use Rattle.rls_value.specs.declared.object.Object.{Object}
+use Rattle.rls_value.specs.{declared.value.Value.Value, declared.object.Object.Object, Values.listed}
 use Rattle.rls_value.specs.declared.object.Object.TheVariants.{Role, Members, Table, Grants, Policies, Rows, Key, RowOf}
-use Rattle.rls_value.specs.Values.{listed}
 use Rattle.rls_value.specs.Listing.{rows_total, then_equal}
 use Rattle.rls_value.specs.Objects.{kind_of, name_of, object_order}
 

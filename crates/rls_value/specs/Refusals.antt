@@ -1,24 +1,16 @@
 -- The codes and texts of refusals (SQLSTATEs: PostgreSQL manual, Appendix A).
 use Rattle.std.specs.Prelude.{ℕ, List, [], ◌++◌, codes, Some, None}
 use Rattle.std.specs.Fmt.{decimal}
-use Rattle.rls_value.specs.declared.refusal.Refusal.{Refusal}
+use Rattle.rls_value.specs.{declared.refusal.Refusal.Refusal, declared.refusal.Limit.Limit, declared.refusal.TxnState.TxnState, declared.refusal.NameKind.NameKind, declared.refusal.DefinedKind.DefinedKind, declared.refusal.Why.Why, declared.refusal.GrantFault.GrantFault, declared.refusal.Cause.Cause, Objects.object_text}
 use Rattle.rls_value.specs.declared.refusal.Refusal.TheVariants as r
-use Rattle.rls_value.specs.declared.refusal.Limit.{Limit}
 use Rattle.rls_value.specs.declared.refusal.Limit.TheVariants as l
-use Rattle.rls_value.specs.declared.refusal.TxnState.{TxnState}
 use Rattle.rls_value.specs.declared.refusal.TxnState.TheVariants as t
-use Rattle.rls_value.specs.declared.refusal.NameKind.{NameKind}
 use Rattle.rls_value.specs.declared.refusal.NameKind.TheVariants as n
-use Rattle.rls_value.specs.declared.refusal.DefinedKind.{DefinedKind}
 use Rattle.rls_value.specs.declared.refusal.DefinedKind.TheVariants as d
-use Rattle.rls_value.specs.declared.refusal.Why.{Why}
 use Rattle.rls_value.specs.declared.refusal.Why.TheVariants as w
-use Rattle.rls_value.specs.declared.refusal.GrantFault.{GrantFault}
 use Rattle.rls_value.specs.declared.refusal.GrantFault.TheVariants as g
-use Rattle.rls_value.specs.declared.refusal.Cause.{Cause}
 use Rattle.rls_value.specs.declared.refusal.Cause.TheVariants as c
 use Rattle.rls_value.specs.Words.{privilege_word, kind_word, tag_text}
-use Rattle.rls_value.specs.Objects.{object_text}
 
 -- a name that is too long has a code of its own
 abbrev pub limit_code : Limit → List ℕ

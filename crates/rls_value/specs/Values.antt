@@ -8,13 +8,7 @@ use Rattle.std.specs.Cmp.Lexicographic.{slice_cmp}
 use Rattle.std.specs.Ordering.{int_eq, int_cmp, nat_cmp, is_lt}
 use Rattle.std.specs.declared.cmp.Ordering.{Ordering}
 use Rattle.std.specs.declared.cmp.Ordering.TheVariants.{Less, Equal, Greater}
-use Rattle.rls_value.specs.declared.truth.Truth.{Truth}
-use Rattle.rls_value.specs.declared.truth.Truth.TheVariants.{True, False, Unknown}
-use Rattle.rls_value.specs.declared.value.Value.{Value}
-use Rattle.rls_value.specs.declared.value.Value.TheVariants.{Null, Int, Text, Bool as Flag}
-use Rattle.rls_value.specs.declared.value.ColType.{ColType}
-use Rattle.rls_value.specs.declared.value.ColType.TheVariants.{Integer, BigInt, Text as Texts, Boolean}
-use Rattle.rls_value.specs.Truths.{truth_of}
+use Rattle.rls_value.specs.{declared.truth.Truth.Truth, declared.value.Value.Value, declared.value.ColType.ColType, Truths.truth_of, declared.truth.Truth.TheVariants.True, declared.truth.Truth.TheVariants.False, declared.truth.Truth.TheVariants.Unknown, declared.value.Value.TheVariants.Null, declared.value.Value.TheVariants.Int, declared.value.Value.TheVariants.Text, declared.value.Value.TheVariants.Bool as Flag, declared.value.ColType.TheVariants.Integer, declared.value.ColType.TheVariants.BigInt, declared.value.ColType.TheVariants.Text as Texts, declared.value.ColType.TheVariants.Boolean}
 
 -- the value of a truth value: unknown is null
 abbrev pub value_of_truth : Truth → Value

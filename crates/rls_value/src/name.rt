@@ -1,10 +1,7 @@
 //! Names of roles, tables, columns and policies.
 
 ghost use Rattle.std.specs.Prelude.{◌≡◌, ◌<◌, ◌↔◌, true, false, map, length, IfOk, IfErr, IsErrOf};
-ghost use Rattle.std.specs.Str.{bytes_eq};
-ghost use Rattle.std.specs.List.{list_all};
-ghost use Rattle.std.specs.Cmp.Lexicographic.{slice_cmp};
-ghost use Rattle.std.specs.Ordering.{nat_cmp, as_partial_cmp};
+ghost use Rattle.std.specs.{Str.bytes_eq, List.list_all, Cmp.Lexicographic.slice_cmp, Ordering.nat_cmp, Ordering.as_partial_cmp};
 ghost use Rattle.rls_value.specs.Names as spec;
 ghost use Rattle.rls_value.specs.Names.{folded, spells_name, is_name_text, one_of, reserved, IsName};
 

@@ -1,10 +1,7 @@
 //! Values of columns: how they compare, in which order they are listed, which column types they fit.
 
 ghost use Rattle.std.specs.Prelude.{◌≡◌, IfOk, ◌∷◌, ◌++◌, []};
-ghost use Rattle.std.specs.Fmt.{WritesOnOk};
-ghost use Rattle.std.specs.List.{flat_map};
-ghost use Rattle.std.specs.Str.{chars};
-ghost use Rattle.std.specs.Cmp.{IsTotalOrder};
+ghost use Rattle.std.specs.{Fmt.WritesOnOk, List.flat_map, Str.chars, Cmp.IsTotalOrder};
 ghost use Rattle.rls_value.specs.Values as spec;
 ghost use Rattle.rls_value.specs.Values.{listed, fits_type, equal_values, less_values, truth_in};
 

@@ -7,14 +7,8 @@ use Rattle.std.proofs.lemmas.List.Sums.{fails_before_first}
 use Rattle.std.proofs.lemmas.Grind.{common_steps}
 use Rattle.std.proofs.lemmas.Bool.Decides.{nat_tests}
 use Rattle.rls_catalog.specs.State.{State}
-use Rattle.rls_session.specs.Lines.{IsRead, ends_line, first_line_of, without_return}
-use Rattle.rls_session.specs.Rendering.{answer_text}
-use Rattle.rls_session.specs.Labels.{opening_sessions, state_left, AnswersUnder}
-use Rattle.rls_session.specs.declared.sessions.Sessions.{Sessions}
-use Rattle.rlsdb.specs.Scripts.{RunsLine, RunsLines, RunsRead, RunsScript, IsScriptText, GrewBy}
-use Rattle.rlsdb.specs.Scripts.{none, next}
-use Rattle.rls_session.specs.declared.answer.Answer.{Answer}
-use Rattle.rls_session.specs.declared.line.Line.{Line}
+use Rattle.rls_session.specs.{Lines.IsRead, Lines.ends_line, Lines.first_line_of, Lines.without_return, Rendering.answer_text, declared.sessions.Sessions.Sessions, declared.answer.Answer.Answer, declared.line.Line.Line, Labels.opening_sessions, Labels.state_left, Labels.AnswersUnder}
+use Rattle.rlsdb.specs.Scripts.{RunsLine, RunsLines, RunsRead, RunsScript, IsScriptText, GrewBy, none, next}
 use Rattle.rls_session.specs.declared.line.Line.TheVariants as l
 
 -- a part in front of others is a line of its own

@@ -4,12 +4,9 @@ use Rattle.std.specs.Map.{set_value}
 use Rattle.std.specs.Option.{option_copied_mut}
 use Rattle.std.proofs.lemmas.Map.Steps.{set_value_same}
 use Rattle.rls_catalog.specs.State.{at, name_order}
-use Rattle.rls_catalog.specs.Kept.{rows_listed}
-use Rattle.rls_catalog.specs.Changed.{with_first_row}
-use Rattle.rls_catalog.specs.Undone.{rows_undone}
+use Rattle.rls_catalog.specs.{Kept.rows_listed, Changed.with_first_row, Undone.rows_undone, Settled.NotesFirst}
 use Rattle.rls_catalog.specs.declared.undo.RowsUndo.TheVariants as r
 use Rattle.rls_catalog.proofs.RowsListed.{row_put, first_row_put, table_back}
-use Rattle.rls_catalog.specs.Settled.{NotesFirst}
 use Rattle.rls_catalog.specs.declared.undo.Undo.TheVariants as u
 use Rattle.rls_catalog.proofs.SettledLemmas.{place_noted}
 use Rattle.rls_catalog.proofs.contents.put_row.Goals as goal

@@ -1,34 +1,13 @@
 use Rattle.std.proofs.Common.{rules, arith, ap, sym, subst, ◌∙◌, ◌+◌, refl, ◌≡◌, ◌∷◌, ◌++◌, [], ◌||◌, true, ◌≤◌, drop, false, length, slice_index_or, Ok, List}
 use Rattle.std.specs.Prelude.{Option, Some, None, IfOk}
 use Rattle.std.proofs.Math.Bool.{or_assoc}
-use Rattle.rls_value.specs.declared.value.Value.{Value}
-use Rattle.rls_value.specs.declared.value.Value.TheVariants.{Null, Bool as Flag}
-use Rattle.rls_value.specs.declared.truth.Truth.{Truth}
-use Rattle.rls_value.specs.declared.truth.Truth.TheVariants.{True, False}
-use Rattle.rls_value.specs.Truths.{conjunction_of, disjunction_of, negation_of}
-use Rattle.rls_value.specs.Values.{equal_values, truth_in, value_of_truth}
-use Rattle.rls_expr.specs.declared.expr.Sign.TheVariants.{Plus}
+use Rattle.rls_value.specs.{declared.value.Value.Value, declared.truth.Truth.Truth, declared.value.Value.TheVariants.Null, declared.value.Value.TheVariants.Bool as Flag, declared.truth.Truth.TheVariants.True, declared.truth.Truth.TheVariants.False, Truths.conjunction_of, Truths.disjunction_of, Truths.negation_of, Values.equal_values, Values.truth_in, Values.value_of_truth}
+use Rattle.rls_expr.specs.{declared.expr.Sign.TheVariants.Plus, ExprTerms.query_of, Terms.maybe_term, Terms.terms_of}
 use Rattle.rls_expr.specs.Terms as terms
-use Rattle.rls_expr.specs.Terms.{maybe_term, terms_of}
-use Rattle.rls_expr.specs.ExprTerms.{query_of}
 use Rattle.rls_expr.proofs.TermSizes.{size_at}
-use Rattle.rls_source.specs.Readings.{unread}
-use Rattle.rls_source.specs.Askings.{Asking, known, followed_by}
-use Rattle.rls_evaluation.specs.Environments.{inside, compared, over, number_or_null, joined}
-use Rattle.rls_evaluation.specs.Gathering.{gathered, kept, with_row}
-use Rattle.rls_evaluation.specs.Eval.{value_of, together, and_value, or_value, or_equal, as_value, negated, among_items, item_equals, item_if, item_of, item_or, meets, or_item, ranged_over, has_row, sum_from}
-use Rattle.rls_evaluation.specs.Showing.{shows, judgements_on, is_allowed, is_exempt, with_judgement}
-use Rattle.rls_evaluation.specs.Scoping.{env_of, held_value, held_now, maybe_held, maybe_now, number_value}
-use Rattle.rls_evaluation.specs.Holding.{Holds, Tells, shown_at, object_for}
-use Rattle.rls_evaluation.proofs.Telling.{leads_whole, tells_then, tells_as, tells_same, tells_unread, tells_on, tells_over, tells_item, tells_result, drop_at}
-use Rattle.rls_evaluation.specs.Alone.{items_seen, items_for, asked_query, with_item, any_equal}
-use Rattle.rls_evaluation.specs.Answering.{FoundAt}
-use Rattle.rls_evaluation.specs.ValueSets.{IsSetOf}
-use Rattle.rls_evaluation.proofs.AnswerLemmas.{holds_answered, comes_found, exists_told, within_told, seen_over, null_told, comes_of}
-use Rattle.rls_evaluation.proofs.LoopLemmas.{and_again, or_again, and_none, or_none, terms_turn, rows_turn, item_again, item_added, row_added, judgement_added, sum_told, sum_on}
-use Rattle.rls_evaluation.proofs.Absorbing.{holds_shown}
-use Rattle.rls_evaluation.proofs.Exempting.{given_as, tells_exempt}
-use Rattle.rls_evaluation.proofs.Fencing.{shows_found, shows_none, size_found, condition_at}
+use Rattle.rls_source.specs.{Readings.unread, Askings.Asking, Askings.known, Askings.followed_by}
+use Rattle.rls_evaluation.specs.{Environments.inside, Environments.compared, Environments.over, Environments.number_or_null, Environments.joined, Gathering.gathered, Gathering.kept, Gathering.with_row, Answering.FoundAt, ValueSets.IsSetOf, Showing.shows, Showing.judgements_on, Showing.is_allowed, Showing.is_exempt, Showing.with_judgement, Holding.Holds, Holding.Tells, Holding.shown_at, Holding.object_for, Alone.items_seen, Alone.items_for, Alone.asked_query, Alone.with_item, Alone.any_equal, Eval.value_of, Eval.together, Eval.and_value, Eval.or_value, Eval.or_equal, Eval.as_value, Eval.negated, Eval.among_items, Eval.item_equals, Eval.item_if, Eval.item_of, Eval.item_or, Eval.meets, Eval.or_item, Eval.ranged_over, Eval.has_row, Eval.sum_from, Scoping.env_of, Scoping.held_value, Scoping.held_now, Scoping.maybe_held, Scoping.maybe_now, Scoping.number_value}
+use Rattle.rls_evaluation.proofs.{Telling.leads_whole, Telling.tells_then, Telling.tells_as, Telling.tells_same, Telling.tells_unread, Telling.tells_on, Telling.tells_over, Telling.tells_item, Telling.tells_result, Telling.drop_at, AnswerLemmas.holds_answered, AnswerLemmas.comes_found, AnswerLemmas.exists_told, AnswerLemmas.within_told, AnswerLemmas.seen_over, AnswerLemmas.null_told, AnswerLemmas.comes_of, Absorbing.holds_shown, Exempting.given_as, Exempting.tells_exempt, Fencing.shows_found, Fencing.shows_none, Fencing.size_found, Fencing.condition_at, LoopLemmas.and_again, LoopLemmas.or_again, LoopLemmas.and_none, LoopLemmas.or_none, LoopLemmas.terms_turn, LoopLemmas.rows_turn, LoopLemmas.item_again, LoopLemmas.item_added, LoopLemmas.row_added, LoopLemmas.judgement_added, LoopLemmas.sum_told, LoopLemmas.sum_on}
 use Rattle.rls_evaluation.proofs.evaluation.+eval.Goals as goal
 
 pub all_of-loop-part-init : goal.all_of-loop-part-init

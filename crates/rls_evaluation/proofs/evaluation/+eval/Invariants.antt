@@ -1,19 +1,13 @@
 use Rattle.std.proofs.Common.{◌≡◌, [], ◌++◌, ◌||◌, ◌+◌, ◌*◌, drop, false, List}
-use Rattle.rls_value.specs.declared.value.Value.{Value}
-use Rattle.rls_value.specs.declared.value.Value.TheVariants.{Null}
-use Rattle.rls_value.specs.declared.truth.Truth.{Truth}
-use Rattle.rls_value.specs.declared.truth.Truth.TheVariants.{True, False}
-use Rattle.rls_value.specs.Truths.{conjunction_of, disjunction_of}
+use Rattle.rls_value.specs.{declared.value.Value.Value, declared.value.Value.TheVariants.Null, declared.truth.Truth.Truth}
+use Rattle.rls_value.specs.{declared.truth.Truth.TheVariants.True, declared.truth.Truth.TheVariants.False, Truths.conjunction_of, Truths.disjunction_of}
 use Rattle.rls_expr.specs.Terms.{maybe_term, terms_of, term_size, terms_size, query_size}
 use Rattle.rls_expr.specs.ExprTerms.{query_of}
-use Rattle.rls_evaluation.specs.Alone.{items_for, with_item}
-use Rattle.rls_evaluation.specs.Environments.{inside}
-use Rattle.rls_evaluation.specs.Gathering.{gathered, kept}
+use Rattle.rls_evaluation.specs.{Alone.items_for, Alone.with_item, Environments.inside, Holding.Holds, Gathering.gathered, Gathering.kept}
 use Rattle.rls_evaluation.specs.Eval.{together, and_value, or_value, or_equal, meets, item_of, item_if, item_or, or_item}
 use Rattle.rls_evaluation.specs.Showing.{shows, is_allowed, judgements_on}
 use Rattle.rls_evaluation.specs.Sizes.{conditions_size, guard_size, fences_size}
 use Rattle.rls_evaluation.specs.Scoping.{env_of, held_value, maybe_held}
-use Rattle.rls_evaluation.specs.Holding.{Holds}
 use Rattle.rls_evaluation.proofs.Telling.{Leads}
 use Rattle.rls_evaluation.proofs.evaluation.+eval.Given as goal
 

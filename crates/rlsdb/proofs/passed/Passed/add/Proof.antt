@@ -28,9 +28,8 @@ use denote.Triple.Entry.{on_entry}
 use denote.Triple.Spec.{Meets, triple_of}
 use denote.Triple.Table.{entered}
 use denote.Triple.Walked.{says, Stays, stay_ref, stay_none_slice, walk_of, AllGo, Goes-ref, Goes-none_slice, Walks, ends_at, walked, walk_Meets}
-use Rattle.rlsdb.specs.declared.passed.Passed.{Passed}
+use Rattle.rlsdb.specs.{declared.passed.Passed.Passed, contracts.passed.Passed.add.Key.name as #it}
 use Rattle.rlsdb.specs.contracts.passed.Passed as T
-use Rattle.rlsdb.specs.contracts.passed.Passed.add.Key.{name as #it}
 use Rattle.rlsdb.specs.contracts.passed.Passed.add as it
 use Rattle.rlsdb.proofs.passed.Passed.add.Statement as stated
 use Rattle.rlsdb.proofs.passed.Passed.add.Code as code

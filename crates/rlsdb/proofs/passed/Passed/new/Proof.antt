@@ -21,9 +21,8 @@ use denote.Triple.Entry.{on_entry}
 use denote.Triple.Spec.{Meets, triple_of}
 use denote.Triple.Table.{entered}
 use denote.Triple.Walked.{says, ends_at, walked, walk_Meets}
-use Rattle.rlsdb.specs.declared.passed.Passed.{Passed}
+use Rattle.rlsdb.specs.{declared.passed.Passed.Passed, contracts.passed.Passed.new.Key.name as #it}
 use Rattle.rlsdb.specs.contracts.passed.Passed as T
-use Rattle.rlsdb.specs.contracts.passed.Passed.new.Key.{name as #it}
 use Rattle.rlsdb.specs.contracts.passed.Passed.new as it
 use Rattle.rlsdb.proofs.passed.Passed.new.Statement as stated
 use Rattle.rlsdb.proofs.passed.Passed.new.Code as code

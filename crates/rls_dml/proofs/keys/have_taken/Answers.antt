@@ -1,7 +1,7 @@
 use Rattle.std.proofs.Common.{rules, arith, ◌≡◌, ◌+◌, ◌∷◌, drop}
 use Rattle.std.proofs.lemmas.Grind.{common_steps}
 use Rattle.rls_dml.proofs.KeyLemmas.{taken_next}
-use Rattle.rls_dml.proofs.keys.are_taken.Goals as goal
+use Rattle.rls_dml.proofs.keys.have_taken.Goals as goal
 
 -- one key more is looked up
 pub loop-key-preserved : goal.loop-key-preserved

@@ -1,7 +1,7 @@
 use Rattle.std.proofs.Common.{◌≡◌, ◌++◌, ◌||◌, drop, Ok}
 use Rattle.rls_value.specs.Giving.{and_then}
 use Rattle.rls_dml.specs.Writing.{keys_taken}
-use Rattle.rls_dml.proofs.keys.are_taken.Given as goal
+use Rattle.rls_dml.proofs.keys.have_taken.Given as goal
 
 -- the source stands for the same state, and what is left leads to the whole
 abbrev pub invariant-loop-key : goal.invariant-loop-key
