@@ -128,7 +128,9 @@ fn are_taken<'c, S: RowSource<'c>>(
 ) -> Result<bool, AllocError>
     ensures { Tells S.state S.after (keys_taken name.now replaced.now keys.now) source.old source.new notes.old notes.new result }
 {
-    if none_stays(alloc, &*source, name, &*replaced)? {
+    if let [] = keys {
+        Ok(false)
+    } else if none_stays(alloc, &*source, name, &*replaced)? {
         read_keys(alloc, source, notes, name, keys)?;
         Ok(false)
     } else {

@@ -43,12 +43,10 @@ impl Reads {
     }
 
     /// Puts the objects behind the others.
-    pub fn note_all(&mut self, objects: Vec<Object>) -> Result<(), AllocError>
+    pub fn note_all(&mut self, mut objects: Vec<Object>) -> Result<(), AllocError>
         ensures { OnOk result (self.new ≡ self.old ++ objects.items) }
     {
-        for object in objects {
-            self.note(object)?;
-        }
+        self.objects.append(&mut objects)?;
         Ok(())
     }
 

@@ -246,10 +246,17 @@ fn is_one_of(mut words: &[&[u8]], word: &[u8]) -> bool
     ensures { result ≡ one_of (map (λ w. w.now) words.entry.now) word.now }
 {
     while let [first, rest @ ..] = words {
-        if *first == word {
+        if is_same_word(*first, word) {
             return true;
         }
         words = rest;
     }
     false
+}
+
+/// Whether the words are the same. Most aren't, which their lengths tell.
+fn is_same_word(word: &[u8], other: &[u8]) -> bool
+    ensures { result ≡ bytes_eq word.now other.now }
+{
+    word.len() == other.len() && word == other
 }
