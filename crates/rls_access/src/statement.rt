@@ -20,6 +20,9 @@ use rls_statement::Statement;
 use rls_value::{Name, Refusal, Tag, TxnState};
 use std::alloc::{AllocError, Global};
 
+/// Most statements read no more objects, so that their list needn't grow.
+const USUAL_READS: usize = 32;
+
 /// Runs the statement over the source: what it comes to, with its changes, which the source doesn't get; what it read;
 /// and the role afterwards. All that it depends on is in the footprint, and a source that is lent has made just these
 /// reads.
@@ -36,7 +39,7 @@ pub fn run_statement<'c, S: RowSource<'c>>(
     ensures read { OnOk result (source.new ≡ S.after source.old ((step ctx.now statement.now).in_state (S.state source.old)).reads) }
     ensures state { S.state source.new ≡ S.state source.old }
 {
-    let mut reads = Reads::new(alloc);
+    let mut reads = Reads::with_capacity(alloc, USUAL_READS)?;
     let effect = effect_of(alloc, source, &mut reads, ctx, statement)?;
     match seen_of(alloc, reads, &ctx.role, &effect) {
         Ok((footprint, role)) => Ok(Outcome {

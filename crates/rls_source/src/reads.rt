@@ -34,6 +34,15 @@ impl Reads {
         }
     }
 
+    /// No reads, with room for this many.
+    pub fn with_capacity(alloc: Global, capacity: usize) -> Result<Reads, AllocError>
+        ensures { IfOk result (λ reads. reads ≡ []) }
+    {
+        Ok(Reads {
+            objects: Vec::with_capacity(alloc, capacity)?,
+        })
+    }
+
     pub fn note(&mut self, object: Object) -> Result<(), AllocError>
         ensures ok { OnOk result (self.new ≡ self.old ++ object ∷ []) }
         ensures err { OnErr result (self.new ≡ self.old) }
@@ -44,7 +53,8 @@ impl Reads {
 
     /// Puts the objects behind the others.
     pub fn note_all(&mut self, mut objects: Vec<Object>) -> Result<(), AllocError>
-        ensures { OnOk result (self.new ≡ self.old ++ objects.items) }
+        ensures ok { OnOk result (self.new ≡ self.old ++ objects.items) }
+        ensures err { OnErr result (self.new ≡ self.old) }
     {
         self.objects.append(&mut objects)?;
         Ok(())

@@ -8,6 +8,10 @@ ghost use Rattle.rls_text.specs.Words as spec;
 use crate::token::{Symbol, Token};
 use rls_value::Text;
 use std::alloc::{AllocError, Global};
+use std::cmp::min;
+
+/// Most statements have no more words, so that their list needn't grow.
+const USUAL_WORDS: usize = 32;
 
 /// The words of the text. The last one is `Bad` where a character begins no word; what is behind it isn't read.
 pub fn words(alloc: Global, text: &str) -> Result<Vec<Token>, AllocError>
@@ -33,7 +37,7 @@ fn chars_of(alloc: Global, text: &str) -> Result<Vec<char>, AllocError>
 fn words_in(alloc: Global, chars: &[char]) -> Result<Vec<Token>, AllocError>
     ensures { IfOk result (λ tokens. tokens.items ≡ spec.words_in (length chars.now) chars.now) }
 {
-    let mut tokens = Vec::new(alloc);
+    let mut tokens = Vec::with_capacity(alloc, min(USUAL_WORDS, chars.len()))?;
     let mut rest = chars;
     for _turn in 0..chars.len() {
         let Some((token, behind)) = next(alloc, rest)? else {

@@ -196,50 +196,29 @@ fn is_letter_or_digit(byte: u8) -> bool
     }
 }
 
-const RESERVED: [&[u8]; 35] = [
-    b"all",
-    b"and",
-    b"as",
-    b"check",
-    b"create",
-    b"current_user",
-    b"default",
-    b"exists",
-    b"false",
-    b"for",
-    b"from",
-    b"grant",
-    b"group",
-    b"in",
-    b"into",
-    b"is",
-    b"none",
-    b"not",
-    b"null",
-    b"on",
-    b"or",
-    b"order",
-    b"primary",
-    b"public",
-    b"returning",
-    b"select",
-    b"session_user",
-    b"table",
-    b"to",
-    b"true",
-    b"unique",
-    b"user",
-    b"using",
-    b"where",
-    b"with",
-];
-
-/// Whether the word, in lower case, is reserved, so that it is no name.
+/// Whether the word, in lower case, is reserved, so that it is no name. Its first letter leaves few words that it may be.
 #[tactic(auto, unfolding(crate::specs::Names::reserved))]
 pub fn is_reserved(word: &[u8]) -> bool
     ensures { result ≡ reserved word.now }
 {
-    is_one_of(&RESERVED, word)
+    match word {
+        [b'a', ..] => is_one_of(&[b"all", b"and", b"as"], word),
+        [b'c', ..] => is_one_of(&[b"check", b"create", b"current_user"], word),
+        [b'd', ..] => is_one_of(&[b"default"], word),
+        [b'e', ..] => is_one_of(&[b"exists"], word),
+        [b'f', ..] => is_one_of(&[b"false", b"for", b"from"], word),
+        [b'g', ..] => is_one_of(&[b"grant", b"group"], word),
+        [b'i', ..] => is_one_of(&[b"in", b"into", b"is"], word),
+        [b'n', ..] => is_one_of(&[b"none", b"not", b"null"], word),
+        [b'o', ..] => is_one_of(&[b"on", b"or", b"order"], word),
+        [b'p', ..] => is_one_of(&[b"primary", b"public"], word),
+        [b'r', ..] => is_one_of(&[b"returning"], word),
+        [b's', ..] => is_one_of(&[b"select", b"session_user"], word),
+        [b't', ..] => is_one_of(&[b"table", b"to", b"true"], word),
+        [b'u', ..] => is_one_of(&[b"unique", b"user", b"using"], word),
+        [b'w', ..] => is_one_of(&[b"where", b"with"], word),
+        _ => false,
+    }
 }
 
 fn is_one_of(mut words: &[&[u8]], word: &[u8]) -> bool

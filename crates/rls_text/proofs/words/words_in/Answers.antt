@@ -4,7 +4,7 @@ use Rattle.rls_text.proofs.Wording.{words_begin, words_none, words_end, words_la
 use Rattle.rls_text.proofs.words.words_in.Goals as goal
 
 pub loop-turn-init : goal.loop-turn-init
-loop-turn-init c = rw c.new-tokens.ensures.items (words_begin (length c.args.chars.now) c.args.chars.now)
+loop-turn-init c = rw c.in_ok-tokens.ensures.items (words_begin (length c.args.chars.now) c.args.chars.now)
 
 pub returns-in_default : goal.returns-in_default
 returns-in_default c = sym (c.loop-turn.invariant
