@@ -5,13 +5,15 @@ ghost use Rattle.rls_expr.specs.ExprTerms.{term_of, query_of};
 ghost use Rattle.rls_expr.specs.Placing.{names_in, columns_from, items_of, placed, placed_all, query_placed, column_placed};
 ghost use Rattle.rls_expr.specs.Placing as spec;
 ghost use Rattle.rls_expr.specs.Scopes.{place_in};
-ghost use Rattle.rls_expr.specs.Terms.{maybe_term, terms_of};
+ghost use Rattle.rls_expr.specs.Terms.{Literal, Compare, And, Or, Among, NotAmong, Within, NotWithin, Sum, maybe_term, terms_of};
 
 use crate::column_name::ColumnName;
-use crate::expr::{Expr, Node, Place, Selects, Subquery, boxed, boxed_query};
+use crate::expr::{
+    Comparison, Expr, FromItem, Node, Place, Selects, Sign, Subquery, boxed, boxed_query,
+};
 use crate::scope::{NamedTable, inside, known_table, place_of};
 use crate::table::{Column, TableDef, category_of};
-use rls_value::Items;
+use rls_value::{Items, Value};
 use std::alloc::{AllocError, Global};
 
 /// What names in an expression may mean.
@@ -30,53 +32,209 @@ pub struct Scope<'a> {
 pub fn place_columns(alloc: Global, expr: &Expr, scope: &Scope) -> Result<Expr, AllocError>
     ensures { IfOk result (λ expr_placed. expr_placed ≡ placed expr.now (names_in scope.now)) }
 {
-    let node = match expr.node() {
-        Node::Literal(value) => Node::Literal(value.copy()?),
-        Node::Column(name) => column_node(name, scope)?,
-        Node::Place(place) => Node::Place(*place),
-        Node::CurrentUser => Node::CurrentUser,
-        Node::Compare(how, left, right) => {
-            let left = boxed(alloc, place_columns(alloc, left, scope)?)?;
-            let right = boxed(alloc, place_columns(alloc, right, scope)?)?;
-            Node::Compare(*how, left, right)
+    match expr.node() {
+        Node::Literal(value) => literal_copy(value),
+        Node::Column(name) => place_column(name, scope),
+        Node::Place(place) => Ok(Expr::new(Node::Place(*place))),
+        Node::CurrentUser => Ok(Expr::new(Node::CurrentUser)),
+        Node::Compare(how, left, right) => place_compare(alloc, *how, left, right, scope),
+        Node::And(parts) => place_and(alloc, parts, scope),
+        Node::Or(parts) => place_or(alloc, parts, scope),
+        Node::Not(operand) => match place_boxed(alloc, operand, scope) {
+            Ok(operand) => Ok(Expr::new(Node::Not(operand))),
+            Err(refused) => Err(refused),
+        },
+        Node::IsNull(operand) => match place_boxed(alloc, operand, scope) {
+            Ok(operand) => Ok(Expr::new(Node::IsNull(operand))),
+            Err(refused) => Err(refused),
+        },
+        Node::IsNotNull(operand) => match place_boxed(alloc, operand, scope) {
+            Ok(operand) => Ok(Expr::new(Node::IsNotNull(operand))),
+            Err(refused) => Err(refused),
+        },
+        Node::Among(left, list) => place_among(alloc, left, list, scope),
+        Node::NotAmong(left, list) => place_not_among(alloc, left, list, scope),
+        Node::Exists(query) => match place_query(alloc, query, scope) {
+            Ok(query) => Ok(Expr::new(Node::Exists(query))),
+            Err(refused) => Err(refused),
+        },
+        Node::Within(left, query) => place_within(alloc, left, query, scope),
+        Node::NotWithin(left, query) => place_not_within(alloc, left, query, scope),
+        Node::Scalar(query) => match place_query(alloc, query, scope) {
+            Ok(query) => Ok(Expr::new(Node::Scalar(query))),
+            Err(refused) => Err(refused),
+        },
+        Node::Sum(signs, parts) => place_sum(alloc, signs.as_slice(), parts, scope),
+    }
+}
+
+/// The literal again.
+fn literal_copy(value: &Value) -> Result<Expr, AllocError>
+    ensures { IfOk result (λ expr. expr ≡ Literal value.now) }
+{
+    match value.copy() {
+        Ok(value) => Ok(Expr::new(Node::Literal(value))),
+        Err(refused) => Err(refused),
+    }
+}
+
+/// The column by its place, or by its name where that means none.
+fn place_column(name: &ColumnName, scope: &Scope) -> Result<Expr, AllocError>
+    ensures { IfOk result (λ expr. expr ≡ column_placed name.now (place_in (names_in scope.now).tables name.now)) }
+{
+    match column_node(name, scope) {
+        Ok(node) => Ok(Expr::new(node)),
+        Err(refused) => Err(refused),
+    }
+}
+
+/// The comparison of both sides.
+#[cycle(placing)]
+fn place_compare(
+    alloc: Global,
+    how: Comparison,
+    left: &Expr,
+    right: &Expr,
+    scope: &Scope,
+) -> Result<Expr, AllocError>
+    ensures { IfOk result (λ expr. expr ≡ placed (Compare how left.now right.now) (names_in scope.now)) }
+{
+    let left = place_boxed(alloc, left, scope)?;
+    match place_boxed(alloc, right, scope) {
+        Ok(right) => Ok(Expr::new(Node::Compare(how, left, right))),
+        Err(refused) => {
+            drop(left);
+            Err(refused)
         }
-        Node::And(parts) => Node::And(place_all(alloc, parts, scope)?.into_vec()),
-        Node::Or(parts) => Node::Or(place_all(alloc, parts, scope)?.into_vec()),
-        Node::Not(operand) => Node::Not(boxed(alloc, place_columns(alloc, operand, scope)?)?),
-        Node::IsNull(operand) => {
-            Node::IsNull(boxed(alloc, place_columns(alloc, operand, scope)?)?)
+    }
+}
+
+/// AND of the parts.
+#[cycle(placing)]
+fn place_and(alloc: Global, parts: &[Expr], scope: &Scope) -> Result<Expr, AllocError>
+    ensures { IfOk result (λ expr. expr ≡ placed (And (terms_of parts.now)) (names_in scope.now)) }
+{
+    match place_all(alloc, parts, scope) {
+        Ok(parts) => Ok(Expr::new(Node::And(parts.into_vec()))),
+        Err(refused) => Err(refused),
+    }
+}
+
+/// OR of the parts.
+#[cycle(placing)]
+fn place_or(alloc: Global, parts: &[Expr], scope: &Scope) -> Result<Expr, AllocError>
+    ensures { IfOk result (λ expr. expr ≡ placed (Or (terms_of parts.now)) (names_in scope.now)) }
+{
+    match place_all(alloc, parts, scope) {
+        Ok(parts) => Ok(Expr::new(Node::Or(parts.into_vec()))),
+        Err(refused) => Err(refused),
+    }
+}
+
+/// IN with the list.
+#[cycle(placing)]
+fn place_among(alloc: Global, left: &Expr, list: &[Expr], scope: &Scope) -> Result<Expr, AllocError>
+    ensures { IfOk result (λ expr. expr ≡ placed (Among left.now (terms_of list.now)) (names_in scope.now)) }
+{
+    let left = place_boxed(alloc, left, scope)?;
+    match place_all(alloc, list, scope) {
+        Ok(list) => Ok(Expr::new(Node::Among(left, list.into_vec()))),
+        Err(refused) => {
+            drop(left);
+            Err(refused)
         }
-        Node::IsNotNull(operand) => {
-            Node::IsNotNull(boxed(alloc, place_columns(alloc, operand, scope)?)?)
+    }
+}
+
+/// NOT IN with the list.
+#[cycle(placing)]
+fn place_not_among(
+    alloc: Global,
+    left: &Expr,
+    list: &[Expr],
+    scope: &Scope,
+) -> Result<Expr, AllocError>
+    ensures { IfOk result (λ expr. expr ≡ placed (NotAmong left.now (terms_of list.now)) (names_in scope.now)) }
+{
+    let left = place_boxed(alloc, left, scope)?;
+    match place_all(alloc, list, scope) {
+        Ok(list) => Ok(Expr::new(Node::NotAmong(left, list.into_vec()))),
+        Err(refused) => {
+            drop(left);
+            Err(refused)
         }
-        Node::Among(left, list) => {
-            let left = boxed(alloc, place_columns(alloc, left, scope)?)?;
-            let list = place_all(alloc, list, scope)?;
-            Node::Among(left, list.into_vec())
+    }
+}
+
+/// IN with the subquery.
+#[cycle(placing)]
+fn place_within(
+    alloc: Global,
+    left: &Expr,
+    query: &Subquery,
+    scope: &Scope,
+) -> Result<Expr, AllocError>
+    ensures { IfOk result (λ expr. expr ≡ placed (Within left.now (query_of query.now)) (names_in scope.now)) }
+{
+    let left = place_boxed(alloc, left, scope)?;
+    match place_query(alloc, query, scope) {
+        Ok(query) => Ok(Expr::new(Node::Within(left, query))),
+        Err(refused) => {
+            drop(left);
+            Err(refused)
         }
-        Node::NotAmong(left, list) => {
-            let left = boxed(alloc, place_columns(alloc, left, scope)?)?;
-            let list = place_all(alloc, list, scope)?;
-            Node::NotAmong(left, list.into_vec())
+    }
+}
+
+/// NOT IN with the subquery.
+#[cycle(placing)]
+fn place_not_within(
+    alloc: Global,
+    left: &Expr,
+    query: &Subquery,
+    scope: &Scope,
+) -> Result<Expr, AllocError>
+    ensures { IfOk result (λ expr. expr ≡ placed (NotWithin left.now (query_of query.now)) (names_in scope.now)) }
+{
+    let left = place_boxed(alloc, left, scope)?;
+    match place_query(alloc, query, scope) {
+        Ok(query) => Ok(Expr::new(Node::NotWithin(left, query))),
+        Err(refused) => {
+            drop(left);
+            Err(refused)
         }
-        Node::Exists(query) => Node::Exists(place_query(alloc, query, scope)?),
-        Node::Within(left, query) => {
-            let left = boxed(alloc, place_columns(alloc, left, scope)?)?;
-            let query = place_query(alloc, query, scope)?;
-            Node::Within(left, query)
+    }
+}
+
+/// The sum of the parts.
+#[cycle(placing)]
+fn place_sum(
+    alloc: Global,
+    signs: &[Sign],
+    parts: &[Expr],
+    scope: &Scope,
+) -> Result<Expr, AllocError>
+    ensures { IfOk result (λ expr. expr ≡ placed (Sum signs.now (terms_of parts.now)) (names_in scope.now)) }
+{
+    let parts = place_all(alloc, parts, scope)?;
+    match signs.to_vec(alloc) {
+        Ok(signs) => Ok(Expr::new(Node::Sum(signs, parts.into_vec()))),
+        Err(refused) => {
+            drop(parts);
+            Err(refused)
         }
-        Node::NotWithin(left, query) => {
-            let left = boxed(alloc, place_columns(alloc, left, scope)?)?;
-            let query = place_query(alloc, query, scope)?;
-            Node::NotWithin(left, query)
-        }
-        Node::Scalar(query) => Node::Scalar(place_query(alloc, query, scope)?),
-        Node::Sum(signs, parts) => {
-            let parts = place_all(alloc, parts, scope)?;
-            Node::Sum(signs.as_slice().to_vec(alloc)?, parts.into_vec())
-        }
-    };
-    Ok(Expr::new(node))
+    }
+}
+
+/// The expression on the heap.
+#[cycle(placing)]
+fn place_boxed(alloc: Global, expr: &Expr, scope: &Scope) -> Result<Box<Expr>, AllocError>
+    ensures { IfOk result (λ boxed. boxed.value ≡ placed expr.now (names_in scope.now)) }
+{
+    match place_columns(alloc, expr, scope) {
+        Ok(expr) => boxed(alloc, expr),
+        Err(refused) => Err(refused),
+    }
 }
 
 fn column_node(name: &ColumnName, scope: &Scope) -> Result<Node, AllocError>
@@ -132,18 +290,42 @@ fn query_with(
 ) -> Result<Box<Subquery>, AllocError>
     ensures { IfOk result (λ boxed. query_of boxed.value ≡ spec.query_with (query_of query.now) table.now.key (terms_of items) (maybe_term condition)) }
 {
+    match head_of(alloc, query, table) {
+        Ok((from, key)) => boxed_query(
+            alloc,
+            Subquery {
+                from,
+                key,
+                selects: query.selects,
+                items: items.into_vec(),
+                condition,
+            },
+        ),
+        Err(refused) => {
+            drop(condition);
+            drop(items);
+            Err(refused)
+        }
+    }
+}
+
+/// What the subquery is over, and the table's key.
+fn head_of(
+    alloc: Global,
+    query: &Subquery,
+    table: &TableDef,
+) -> Result<(FromItem, Vec<usize>), AllocError>
+    ensures from { IfOk result (λ head. head.0 ≡ query.now.from) }
+    ensures key { IfOk result (λ head. head.1.items ≡ table.now.key) }
+{
     let from = query.from.copy()?;
-    let key = table.key.as_slice().to_vec(alloc)?;
-    boxed_query(
-        alloc,
-        Subquery {
-            from,
-            key,
-            selects: query.selects,
-            items: items.into_vec(),
-            condition,
-        },
-    )
+    match table.key.as_slice().to_vec(alloc) {
+        Ok(key) => Ok((from, key)),
+        Err(refused) => {
+            drop(from);
+            Err(refused)
+        }
+    }
 }
 
 /// The items, each column where all are selected.

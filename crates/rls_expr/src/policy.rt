@@ -52,14 +52,22 @@ impl Policy {
     pub fn copy(&self, alloc: Global) -> Result<Policy, AllocError>
         ensures { IfOk result (λ policy. policy ≡ self.now) }
     {
-        Ok(Policy {
-            name: self.name.copy()?,
-            permissive: self.permissive,
-            kind: self.kind,
-            to: Grantee::copy_all(alloc, self.to.as_slice())?,
-            using: copy_condition(alloc, &self.using)?,
-            check: copy_condition(alloc, &self.check)?,
-        })
+        let (name, to) = copy_head(alloc, self)?;
+        match copy_conditions(alloc, self) {
+            Ok((using, check)) => Ok(Policy {
+                name,
+                permissive: self.permissive,
+                kind: self.kind,
+                to,
+                using,
+                check,
+            }),
+            Err(refused) => {
+                drop(to);
+                drop(name);
+                Err(refused)
+            }
+        }
     }
 
     /// A copy of the list.
@@ -74,11 +82,47 @@ impl Policy {
     }
 }
 
+/// A copy of the policy's name, and of whom it is for.
+fn copy_head(alloc: Global, policy: &Policy) -> Result<(Name, Items<Grantee>), AllocError>
+    ensures name { IfOk result (λ head. head.0 ≡ policy.now.name) }
+    ensures to { IfOk result (λ head. head.1 ≡ policy.now.to) }
+{
+    let name = policy.name.copy()?;
+    match Grantee::copy_all(alloc, policy.to.as_slice()) {
+        Ok(to) => Ok((name, to)),
+        Err(refused) => {
+            drop(name);
+            Err(refused)
+        }
+    }
+}
+
+/// A copy of USING, and of WITH CHECK.
+fn copy_conditions(
+    alloc: Global,
+    policy: &Policy,
+) -> Result<(Option<Expr>, Option<Expr>), AllocError>
+    ensures using { IfOk result (λ both. both.0 ≡ policy.now.using) }
+    ensures check { IfOk result (λ both. both.1 ≡ policy.now.check) }
+{
+    let using = copy_condition(alloc, &policy.using)?;
+    match copy_condition(alloc, &policy.check) {
+        Ok(check) => Ok((using, check)),
+        Err(refused) => {
+            drop(using);
+            Err(refused)
+        }
+    }
+}
+
 fn copy_condition(alloc: Global, condition: &Option<Expr>) -> Result<Option<Expr>, AllocError>
     ensures { IfOk result (λ copied. copied ≡ condition.now) }
 {
     match condition {
-        Some(expr) => Ok(Some(expr.copy(alloc)?)),
+        Some(expr) => match expr.copy(alloc) {
+            Ok(expr) => Ok(Some(expr)),
+            Err(refused) => Err(refused),
+        },
         None => Ok(None),
     }
 }

@@ -69,13 +69,35 @@ impl TableDef {
     pub fn copy(&self, alloc: Global) -> Result<TableDef, AllocError>
         ensures { IfOk result (λ table. table ≡ self.now) }
     {
-        Ok(TableDef {
-            owner: self.owner.copy()?,
-            enabled: self.enabled,
-            forced: self.forced,
-            columns: Column::copy_all(alloc, self.columns.as_slice())?,
-            key: Items::from_vec(copy_places(alloc, self.key.as_slice())?),
-        })
+        let owner = self.owner.copy()?;
+        match copy_shape(alloc, self) {
+            Ok((columns, key)) => Ok(TableDef {
+                owner,
+                enabled: self.enabled,
+                forced: self.forced,
+                columns,
+                key: Items::from_vec(key),
+            }),
+            Err(refused) => {
+                drop(owner);
+                Err(refused)
+            }
+        }
+    }
+}
+
+/// A copy of the table's columns, and of its key.
+fn copy_shape(alloc: Global, table: &TableDef) -> Result<(Items<Column>, Vec<usize>), AllocError>
+    ensures columns { IfOk result (λ shape. shape.0 ≡ table.now.columns) }
+    ensures key { IfOk result (λ shape. shape.1.items ≡ table.now.key) }
+{
+    let columns = Column::copy_all(alloc, table.columns.as_slice())?;
+    match table.key.as_slice().to_vec(alloc) {
+        Ok(key) => Ok((columns, key)),
+        Err(refused) => {
+            drop(columns);
+            Err(refused)
+        }
     }
 }
 
@@ -105,10 +127,4 @@ pub fn category_of(column: ColType) -> Category
         ColType::Text => Category::Text,
         ColType::Boolean => Category::Boolean,
     }
-}
-
-fn copy_places(alloc: Global, places: &[usize]) -> Result<Vec<usize>, AllocError>
-    ensures { IfOk result (λ copies. copies.items ≡ places.now) }
-{
-    places.to_vec(alloc)
 }
