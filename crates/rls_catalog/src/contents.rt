@@ -1,17 +1,19 @@
 //! What a catalogue keeps: changes are put on it, and taken back without memory.
 
-ghost use Rattle.std.specs.Prelude.{◌≡◌, [], None, IfOk, OnOk, OnErr};
-ghost use Rattle.rls_catalog.specs.{Changed.opening, Changed.changed, Changed.changed_all, Changed.rows_changed, Changed.with_first_row, Settled.AllSettled, Settled.LogsFirsts, Settled.NotesFirst, Settled.SettlesFirst, Settled.SettlesTable, Kept.rows_listed, Kept.state_of, State.at, Undone.undone, Undone.undone_all, Undone.rows_undone};
+ghost use Rattle.std.specs.Prelude.{◌≡◌, [], ◌∷◌, None, IfOk, OnOk, OnErr};
+ghost use Rattle.std.specs.BTreeMap.{insert_entry};
+ghost use Rattle.rls_catalog.specs.{Changed.opening, Changed.changed, Changed.changed_all, Changed.rows_changed, Changed.with_first_row, Settled.AllSettled, Settled.LogsFirsts, Settled.NotesFirst, Settled.SettlesFirst, Settled.SettlesTable, Kept.rows_listed, Kept.state_of, State.at, State.name_order, Undone.undone, Undone.undone_all, Undone.rows_undone};
 
 use crate::change::{Change, RowChange};
-use crate::entries::{put, put_back};
+use crate::entries::{put, put_named, put_under, take_back};
 use crate::grant::Grant;
 use crate::policy_list::PolicyList;
 use crate::role::{Membership, RoleDef};
 use crate::slots::Slots;
+use crate::stored::Keyed;
 use crate::undo::{RowsUndo, Undo};
 use rls_expr::TableDef;
-use rls_value::{Items, Name};
+use rls_value::{Items, Name, RowId};
 use std::alloc::{AllocError, Global};
 use std::collections::BTreeMap;
 use std::marker::Model;
@@ -43,21 +45,24 @@ impl Contents {
     pub(crate) fn new(alloc: Global) -> Result<Contents, AllocError>
         ensures { IfOk result (λ contents. state_of contents ≡ opening) }
     {
-        let mut roles = BTreeMap::new(alloc);
-        let all = RoleDef {
-            superuser: true,
-            login: true,
-            bypass_rls: true,
-        };
-        roles.insert(Name::postgres(alloc)?, all)?;
-        Ok(Contents {
+        match opening_roles(alloc) {
+            Ok(roles) => Ok(Contents::of_roles(alloc, roles)),
+            Err(refused) => Err(refused),
+        }
+    }
+
+    /// The roles, and nothing else.
+    fn of_roles(alloc: Global, roles: BTreeMap<Name, RoleDef>) -> Contents
+        ensures { state_of result ≡ record opening { roles = roles.entries } }
+    {
+        Contents {
             roles,
             members: BTreeMap::new(alloc),
             tables: BTreeMap::new(alloc),
             grants: BTreeMap::new(alloc),
             policies: BTreeMap::new(alloc),
             rows: BTreeMap::new(alloc),
-        })
+        }
     }
 
     /// Puts the changes on, one after another, until one is refused memory; the log takes those back.
@@ -117,7 +122,20 @@ impl Contents {
             Change::Table(name, def) => self.put_table(alloc, name, def),
             Change::Grants(name, content) => self.put_grants(alloc, name, content),
             Change::Policies(name, content) => self.put_policies(alloc, name, content),
-            Change::Row(row) => Ok(Undo::Rows(put_row(&mut self.rows, alloc, row)?)),
+            Change::Row(row) => self.put_change(alloc, row),
+        }
+    }
+
+    /// Puts a change of a row on.
+    fn put_change(&mut self, alloc: Global, row: &RowChange) -> Result<Undo, AllocError>
+        ensures ok { OnOk result (state_of self.new ≡ changed (state_of self.old) (Change.Row row.now)) }
+        ensures undo { IfOk result (λ undo. undone undo self.new ≡ self.old) }
+        ensures first { IfOk result (λ undo. NotesFirst undo self.old.rows self.new.rows) }
+        ensures err { OnErr result (self.new ≡ self.old) }
+    {
+        match put_row(&mut self.rows, alloc, row) {
+            Ok(undo) => Ok(Undo::Rows(undo)),
+            Err(refused) => Err(refused),
         }
     }
 
@@ -127,9 +145,10 @@ impl Contents {
         ensures undo { IfOk result (λ undo. undone undo self.new ≡ self.old) }
         ensures err { OnErr result (self.new ≡ self.old) }
     {
-        let label = name.copy()?;
-        let before = put(&mut self.roles, name.copy()?, def)?;
-        Ok(Undo::Role(label, before))
+        match put_named(&mut self.roles, name, def) {
+            Ok((label, before)) => Ok(Undo::Role(label, before)),
+            Err(refused) => Err(refused),
+        }
     }
 
     fn put_members(
@@ -143,10 +162,11 @@ impl Contents {
         ensures undo { IfOk result (λ undo. undone undo self.new ≡ self.old) }
         ensures err { OnErr result (self.new ≡ self.old) }
     {
-        let label = name.copy()?;
         let copies = Membership::copy_all(alloc, content.as_slice())?;
-        let before = put(&mut self.members, name.copy()?, copies)?;
-        Ok(Undo::Members(label, before))
+        match put_named(&mut self.members, name, copies) {
+            Ok((label, before)) => Ok(Undo::Members(label, before)),
+            Err(refused) => Err(refused),
+        }
     }
 
     fn put_table(&mut self, alloc: Global, name: &Name, def: &TableDef) -> Result<Undo, AllocError>
@@ -155,10 +175,11 @@ impl Contents {
         ensures undo { IfOk result (λ undo. undone undo self.new ≡ self.old) }
         ensures err { OnErr result (self.new ≡ self.old) }
     {
-        let label = name.copy()?;
         let copied = def.copy(alloc)?;
-        let before = put(&mut self.tables, name.copy()?, copied)?;
-        Ok(Undo::Table(label, before))
+        match put_named(&mut self.tables, name, copied) {
+            Ok((label, before)) => Ok(Undo::Table(label, before)),
+            Err(refused) => Err(refused),
+        }
     }
 
     fn put_grants(
@@ -172,10 +193,11 @@ impl Contents {
         ensures undo { IfOk result (λ undo. undone undo self.new ≡ self.old) }
         ensures err { OnErr result (self.new ≡ self.old) }
     {
-        let label = name.copy()?;
         let copies = Grant::copy_all(alloc, content.as_slice())?;
-        let before = put(&mut self.grants, name.copy()?, copies)?;
-        Ok(Undo::Grants(label, before))
+        match put_named(&mut self.grants, name, copies) {
+            Ok((label, before)) => Ok(Undo::Grants(label, before)),
+            Err(refused) => Err(refused),
+        }
     }
 
     fn put_policies(
@@ -189,10 +211,11 @@ impl Contents {
         ensures undo { IfOk result (λ undo. undone undo self.new ≡ self.old) }
         ensures err { OnErr result (self.new ≡ self.old) }
     {
-        let label = name.copy()?;
         let copies = content.copy(alloc)?;
-        let before = put(&mut self.policies, name.copy()?, copies)?;
-        Ok(Undo::Policies(label, before))
+        match put_named(&mut self.policies, name, copies) {
+            Ok((label, before)) => Ok(Undo::Policies(label, before)),
+            Err(refused) => Err(refused),
+        }
     }
 
     /// Takes a change back. It needs no memory.
@@ -200,21 +223,11 @@ impl Contents {
         ensures { self.new ≡ undone undo self.old }
     {
         match undo {
-            Undo::Role(name, before) => {
-                let _ = put_back(&mut self.roles, &name, before);
-            }
-            Undo::Members(name, before) => {
-                let _ = put_back(&mut self.members, &name, before);
-            }
-            Undo::Table(name, before) => {
-                let _ = put_back(&mut self.tables, &name, before);
-            }
-            Undo::Grants(name, before) => {
-                let _ = put_back(&mut self.grants, &name, before);
-            }
-            Undo::Policies(name, before) => {
-                let _ = put_back(&mut self.policies, &name, before);
-            }
+            Undo::Role(name, before) => take_back(&mut self.roles, name, before),
+            Undo::Members(name, before) => take_back(&mut self.members, name, before),
+            Undo::Table(name, before) => take_back(&mut self.tables, name, before),
+            Undo::Grants(name, before) => take_back(&mut self.grants, name, before),
+            Undo::Policies(name, before) => take_back(&mut self.policies, name, before),
             Undo::Rows(undo) => undo_row(&mut self.rows, undo),
         }
     }
@@ -224,14 +237,53 @@ impl Contents {
         ensures state { state_of self.new ≡ state_of self.old }
         ensures settled { SettlesFirst undo self.old.rows self.new.rows }
     {
+        self.settle_noted(alloc, &undo);
+        drop(undo);
+    }
+
+    /// Settles what the change is the first one of.
+    fn settle_noted(&mut self, alloc: Global, undo: &Undo)
+        ensures state { state_of self.new ≡ state_of self.old }
+        ensures settled { SettlesFirst undo.now self.old.rows self.new.rows }
+    {
         match undo {
             Undo::Role(_, _) => {}
             Undo::Members(_, _) => {}
             Undo::Table(_, _) => {}
             Undo::Grants(_, _) => {}
             Undo::Policies(_, _) => {}
-            Undo::Rows(undo) => settle_row(&mut self.rows, alloc, undo),
+            Undo::Rows(undo) => settle_first(&mut self.rows, alloc, undo),
         }
+    }
+}
+
+/// The role postgres, which may do everything.
+fn opening_roles(alloc: Global) -> Result<BTreeMap<Name, RoleDef>, AllocError>
+    ensures { IfOk result (λ roles. roles.entries ≡ opening.roles) }
+{
+    let all = RoleDef {
+        superuser: true,
+        login: true,
+        bypass_rls: true,
+    };
+    match Name::postgres(alloc) {
+        Ok(name) => roles_of_one(alloc, name, all),
+        Err(refused) => Err(refused),
+    }
+}
+
+/// Just that role.
+fn roles_of_one(
+    alloc: Global,
+    name: Name,
+    def: RoleDef,
+) -> Result<BTreeMap<Name, RoleDef>, AllocError>
+    ensures { IfOk result (λ roles. roles.entries ≡ (name, def) ∷ []) }
+{
+    let mut roles = BTreeMap::new(alloc);
+    match put(&mut roles, name, def) {
+        Ok(_) => Ok(roles),
+        Err(refused) => Err(refused),
     }
 }
 
@@ -272,12 +324,53 @@ fn put_first_row(
     ensures first { IfOk result (λ undo. NotesFirst (Undo.Rows undo) tables.old.entries tables.new.entries) }
     ensures err { OnErr result (tables.new.entries ≡ tables.old.entries) }
 {
-    let Some(keyed) = &change.after else {
-        return Ok(RowsUndo::Place(table, false));
-    };
-    let slots = Slots::of_one(alloc, change.id, keyed)?;
-    put(tables, change.table.copy()?, slots)?;
-    Ok(RowsUndo::Table(table))
+    match &change.after {
+        Some(keyed) => put_table_of_one(tables, alloc, table, change.id, keyed),
+        None => Ok(RowsUndo::Place(table, false)),
+    }
+}
+
+/// Puts a row as the first one of its table.
+#[tactic(auto, using(crate::proofs::RowsListed::rows_listed_insert))]
+fn put_table_of_one(
+    tables: &mut BTreeMap<Name, Slots>,
+    alloc: Global,
+    table: Name,
+    id: RowId,
+    keyed: &Keyed,
+) -> Result<RowsUndo, AllocError>
+    requires absent { at table tables.old.entries ≡ None }
+    ensures ok { OnOk result (rows_listed tables.new.entries ≡ insert_entry name_order (rows_listed tables.old.entries) table ((id, keyed.now) ∷ [])) }
+    ensures undo { IfOk result (λ undo. rows_undone undo tables.new.entries ≡ tables.old.entries) }
+    ensures first { IfOk result (λ undo. NotesFirst (Undo.Rows undo) tables.old.entries tables.new.entries) }
+    ensures err { OnErr result (tables.new.entries ≡ tables.old.entries) }
+{
+    match Slots::of_one(alloc, id, keyed) {
+        Ok(slots) => put_slots(tables, table, slots),
+        Err(refused) => Err(refused),
+    }
+}
+
+/// Puts the rows of a table that has none.
+fn put_slots(
+    tables: &mut BTreeMap<Name, Slots>,
+    table: Name,
+    slots: Slots,
+) -> Result<RowsUndo, AllocError>
+    requires absent { at table tables.old.entries ≡ None }
+    requires settled { slots.past ≡ [] }
+    ensures ok { OnOk result (tables.new.entries ≡ insert_entry name_order tables.old.entries table slots) }
+    ensures undo { IfOk result (λ undo. rows_undone undo tables.new.entries ≡ tables.old.entries) }
+    ensures first { IfOk result (λ undo. NotesFirst (Undo.Rows undo) tables.old.entries tables.new.entries) }
+    ensures err { OnErr result (tables.new.entries ≡ tables.old.entries) }
+{
+    match put_under(tables, &table, slots) {
+        Ok(before) => {
+            drop(before);
+            Ok(RowsUndo::Table(table))
+        }
+        Err(refused) => Err(refused),
+    }
 }
 
 fn undo_row(tables: &mut BTreeMap<Name, Slots>, undo: RowsUndo)
@@ -297,14 +390,14 @@ fn undo_row(tables: &mut BTreeMap<Name, Slots>, undo: RowsUndo)
 }
 
 /// Lets go what would take the change of a row back. A table's first change settles all of its rows.
-fn settle_row(tables: &mut BTreeMap<Name, Slots>, alloc: Global, undo: RowsUndo)
+fn settle_first(tables: &mut BTreeMap<Name, Slots>, alloc: Global, undo: &RowsUndo)
     ensures rows { rows_listed tables.new.entries ≡ rows_listed tables.old.entries }
-    ensures settled { SettlesFirst (Undo.Rows undo) tables.old.entries tables.new.entries }
+    ensures settled { SettlesFirst (Undo.Rows undo.now) tables.old.entries tables.new.entries }
 {
     match undo {
         RowsUndo::Place(table, is_first) => {
-            if is_first {
-                settle_rows(tables, alloc, &table);
+            if *is_first {
+                settle_rows(tables, alloc, table);
             }
         }
         RowsUndo::Table(_) => {}

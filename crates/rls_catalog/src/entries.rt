@@ -3,8 +3,10 @@
 ghost use Rattle.std.specs.Prelude.{◌≡◌, Some, IfOk, OnOk, OnErr};
 ghost use Rattle.std.specs.BTreeMap.{IsOrdered, Updates, get, insert_entry, is_at};
 ghost use Rattle.std.specs.Map.{set_value};
+ghost use Rattle.rls_catalog.specs.State.{name_order};
 ghost use Rattle.rls_catalog.specs.Undone as spec;
 
+use rls_value::Name;
 use std::alloc::AllocError;
 use std::collections::BTreeMap;
 use std::mem::replace;
@@ -24,6 +26,58 @@ pub(crate) fn put<K: Ord + Drop, V: Drop>(
 {
     let before = map.insert(key, content)?;
     Ok(before)
+}
+
+/// Puts the content under a copy of the name, and gives what stood there.
+pub(crate) fn put_under<V: Drop>(
+    map: &mut BTreeMap<Name, V>,
+    name: &Name,
+    content: V,
+) -> Result<Option<V>, AllocError>
+    ensures ok { OnOk result (map.new.entries ≡ insert_entry name_order map.old.entries name.now content) }
+    ensures updates { OnOk result (Updates name_order map.old map.new name.now (Some content)) }
+    ensures before { IfOk result (λ before. spec.put_back name_order name.now before map.new.entries ≡ map.old.entries) }
+    ensures stood { IfOk result (λ before. before ≡ get name_order map.old name.now) }
+    ensures err { OnErr result (map.new.entries ≡ map.old.entries) }
+{
+    match name.copy() {
+        Ok(key) => put(map, key, content),
+        Err(refused) => Err(refused),
+    }
+}
+
+/// Puts the content under the name, and gives the name with what stood there.
+fn put_labelled<V: Drop>(
+    map: &mut BTreeMap<Name, V>,
+    label: Name,
+    content: V,
+) -> Result<(Name, Option<V>), AllocError>
+    ensures ok { OnOk result (map.new.entries ≡ insert_entry name_order map.old.entries label content) }
+    ensures name { IfOk result (λ stood. stood.0 ≡ label) }
+    ensures before { IfOk result (λ stood. spec.put_back name_order label stood.1 map.new.entries ≡ map.old.entries) }
+    ensures err { OnErr result (map.new.entries ≡ map.old.entries) }
+{
+    match put_under(map, &label, content) {
+        Ok(before) => Ok((label, before)),
+        Err(refused) => Err(refused),
+    }
+}
+
+/// Puts the content under the name, and gives a copy of the name with what stood there.
+pub(crate) fn put_named<V: Drop>(
+    map: &mut BTreeMap<Name, V>,
+    name: &Name,
+    content: V,
+) -> Result<(Name, Option<V>), AllocError>
+    ensures ok { OnOk result (map.new.entries ≡ insert_entry name_order map.old.entries name.now content) }
+    ensures name { IfOk result (λ stood. stood.0 ≡ name.now) }
+    ensures before { IfOk result (λ stood. spec.put_back name_order name.now stood.1 map.new.entries ≡ map.old.entries) }
+    ensures err { OnErr result (map.new.entries ≡ map.old.entries) }
+{
+    match name.copy() {
+        Ok(label) => put_labelled(map, label, content),
+        Err(refused) => Err(refused),
+    }
 }
 
 /// Exchanges the content under the key, if there is one, and gives what stood there. It needs no memory.
@@ -56,4 +110,12 @@ pub(crate) fn put_back<K: Ord + Drop, V: Drop>(
         Some(content) => exchange(map, key, content),
         None => map.remove(key),
     }
+}
+
+/// Puts back what stood under the name, and lets go what stood there since. It needs no memory.
+pub(crate) fn take_back<V: Drop>(map: &mut BTreeMap<Name, V>, name: Name, before: Option<V>)
+    ensures { map.new.entries ≡ spec.put_back name_order name before map.old.entries }
+{
+    let since = put_back(map, &name, before);
+    drop(since);
 }

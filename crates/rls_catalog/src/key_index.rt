@@ -5,6 +5,7 @@ ghost use Rattle.std.specs.BTreeMap.{is_at};
 ghost use Rattle.rls_catalog.specs.KeyIndex.{IsProper, IsWith, IsWithout, KeepsOtherKeys, has, ids_at, is_among, is_empty_key, is_indexed};
 ghost use Rattle.rls_catalog.specs.State.{id_order};
 
+use crate::entries::put;
 use rls_value::{Row, RowId};
 use std::alloc::{AllocError, Global};
 use std::collections::BTreeMap;
@@ -16,6 +17,22 @@ pub(crate) fn is_empty(key: &Row) -> bool
     match key.as_slice() {
         [] => true,
         [_, ..] => false,
+    }
+}
+
+/// An index that has just the number under the key, if the key isn't empty.
+pub(crate) fn of_one(
+    alloc: Global,
+    key: &Row,
+    id: RowId,
+) -> Result<BTreeMap<Row, BTreeMap<RowId, ()>>, AllocError>
+    ensures came { IfOk result (λ index. IsWith (not (is_empty_key key.now)) key.now id [] index.entries) }
+    ensures proper { IfOk result (λ index. IsProper index.entries) }
+{
+    let mut index = BTreeMap::new(alloc);
+    match add(&mut index, alloc, key, id) {
+        Ok(_) => Ok(index),
+        Err(refused) => Err(refused),
     }
 }
 
@@ -80,10 +97,65 @@ fn add_key(
     ensures proper { IsProper index.old.entries → IsProper index.new.entries }
     ensures err { OnErr result (index.new.entries ≡ index.old.entries) }
 {
+    match key.copy(alloc) {
+        Ok(copied) => add_copied(index, alloc, copied, id),
+        Err(refused) => Err(refused),
+    }
+}
+
+/// Adds a key with its first number.
+fn add_copied(
+    index: &mut BTreeMap<Row, BTreeMap<RowId, ()>>,
+    alloc: Global,
+    key: Row,
+    id: RowId,
+) -> Result<(), AllocError>
+    requires some { is_empty_key key ≡ false }
+    requires absent { ids_at index.old.entries key ≡ [] }
+    ensures came { OnOk result (IsWith true key id index.old.entries index.new.entries) }
+    ensures proper { IsProper index.old.entries → IsProper index.new.entries }
+    ensures err { OnErr result (index.new.entries ≡ index.old.entries) }
+{
+    match ids_of_one(alloc, id) {
+        Ok(ids) => add_ids(index, key, id, ids),
+        Err(refused) => Err(refused),
+    }
+}
+
+/// Adds a key with its number.
+fn add_ids(
+    index: &mut BTreeMap<Row, BTreeMap<RowId, ()>>,
+    key: Row,
+    id: RowId,
+    ids: BTreeMap<RowId, ()>,
+) -> Result<(), AllocError>
+    requires some { is_empty_key key ≡ false }
+    requires absent { ids_at index.old.entries key ≡ [] }
+    requires came { (other : RowId) → is_among ids.entries other ≡ is_at (id_order id) other }
+    requires has { is_among ids.entries id ≡ true }
+    ensures came { OnOk result (IsWith true key id index.old.entries index.new.entries) }
+    ensures proper { IsProper index.old.entries → IsProper index.new.entries }
+    ensures err { OnErr result (index.new.entries ≡ index.old.entries) }
+{
+    match put(index, key, ids) {
+        Ok(before) => {
+            drop(before);
+            Ok(())
+        }
+        Err(refused) => Err(refused),
+    }
+}
+
+/// Just that number.
+fn ids_of_one(alloc: Global, id: RowId) -> Result<BTreeMap<RowId, ()>, AllocError>
+    ensures came { IfOk result (λ ids. (other : RowId) → is_among ids.entries other ≡ is_at (id_order id) other) }
+    ensures has { IfOk result (λ ids. is_among ids.entries id ≡ true) }
+{
     let mut ids = BTreeMap::new(alloc);
-    let _ = add_id(&mut ids, id)?;
-    index.insert(key.copy(alloc)?, ids)?;
-    Ok(())
+    match add_id(&mut ids, id) {
+        Ok(_) => Ok(ids),
+        Err(refused) => Err(refused),
+    }
 }
 
 /// Takes the number out under the key, and tells whether the key has no other.

@@ -1,10 +1,11 @@
 //! The rows of one table, by number, in places that may stand empty, with an index by key.
 
-ghost use Rattle.std.specs.Prelude.{◌≡◌, [], ◌∷◌, IfOk, OnOk, OnErr, map};
+ghost use Rattle.std.specs.Prelude.{◌≡◌, [], ◌∷◌, Some, IfOk, OnOk, OnErr, map};
 ghost use Rattle.std.specs.BTreeMap.{IsOrdered};
 ghost use Rattle.rls_catalog.specs.{Changed.with_row, KeyIndex.picked, InOrder.Ascend, Kept.is_settled, Kept.present, State.id_order, State.stored_of, State.with_key};
 ghost use Rattle.rls_catalog.specs.Undone as undone;
 
+use crate::entries::put;
 use crate::key_index;
 use crate::lent::Lent;
 use crate::placing::{place, restore};
@@ -52,15 +53,31 @@ impl Slots {
         ensures rows { IfOk result (λ slots. present slots.places ≡ (id, keyed.now) ∷ []) }
         ensures settled { IfOk result (λ slots. slots.past ≡ []) }
     {
-        let mut slots = BTreeMap::new(alloc);
-        let mut index = BTreeMap::new(alloc);
-        let _ = key_index::add(&mut index, alloc, &keyed.key, id)?;
-        slots.insert(id, Some(keyed.copy(alloc)?))?;
-        Ok(Slots {
-            slots,
-            index,
-            past: Vec::new(alloc),
-        })
+        match slots_of_one(alloc, id, keyed) {
+            Ok(slots) => Slots::indexed(alloc, slots, id, keyed),
+            Err(refused) => Err(refused),
+        }
+    }
+
+    /// The place of that one row, with an index.
+    fn indexed(
+        alloc: Global,
+        slots: BTreeMap<RowId, Option<Keyed>>,
+        id: RowId,
+        keyed: &Keyed,
+    ) -> Result<Slots, AllocError>
+        requires { slots.entries ≡ (id, Some keyed.now) ∷ [] }
+        ensures rows { IfOk result (λ slots. present slots.places ≡ (id, keyed.now) ∷ []) }
+        ensures settled { IfOk result (λ slots. slots.past ≡ []) }
+    {
+        match key_index::of_one(alloc, &keyed.key, id) {
+            Ok(index) => Ok(Slots {
+                slots,
+                index,
+                past: Vec::new(alloc),
+            }),
+            Err(refused) => Err(refused),
+        }
     }
 
     /// Puts the content at the number, and tells whether this is the only change that can be taken back.
@@ -136,6 +153,38 @@ impl Slots {
             Some(ids) => pick(alloc, &self.slots, ids, key, most),
             None => Ok(Items::new(alloc)),
         }
+    }
+}
+
+/// A place that has just that row.
+fn slots_of_one(
+    alloc: Global,
+    id: RowId,
+    keyed: &Keyed,
+) -> Result<BTreeMap<RowId, Option<Keyed>>, AllocError>
+    ensures { IfOk result (λ slots. slots.entries ≡ (id, Some keyed.now) ∷ []) }
+{
+    match keyed.copy(alloc) {
+        Ok(copied) => slots_of(alloc, id, copied),
+        Err(refused) => Err(refused),
+    }
+}
+
+/// A place that has just that row.
+fn slots_of(
+    alloc: Global,
+    id: RowId,
+    keyed: Keyed,
+) -> Result<BTreeMap<RowId, Option<Keyed>>, AllocError>
+    ensures { IfOk result (λ slots. slots.entries ≡ (id, Some keyed) ∷ []) }
+{
+    let mut slots = BTreeMap::new(alloc);
+    match put(&mut slots, id, Some(keyed)) {
+        Ok(before) => {
+            drop(before);
+            Ok(slots)
+        }
+        Err(refused) => Err(refused),
     }
 }
 
