@@ -134,8 +134,8 @@ impl Catalog {
         ensures ok { OnOk result (self.new ≡ changed_all self.old delta.now) }
         ensures err { OnErr result (self.new ≡ self.old) }
     {
+        let mut log = Vec::with_capacity(alloc, delta.as_slice().len())?;
         let contents = &mut self.contents;
-        let mut log = Vec::new(alloc);
         match contents.put_all(alloc, delta.as_slice(), &mut log) {
             Ok(()) => {
                 contents.settle_all(alloc, log);
