@@ -5,11 +5,12 @@ use Rattle.std.proofs.Common.{ap, sym, ◌∙◌}
 use Rattle.std.proofs.lemmas.Bool.{true≢false, or_left, or_right}
 use Rattle.std.proofs.lemmas.Slice.Eq.{bytes_eq-Decides}
 use Rattle.rls_value.specs.Names.{one_of}
-use Rattle.rls_expr.specs.{declared.column_name.ColumnName.ColumnName, declared.expr.FromItem.FromItem, declared.expr.Place.Place as ColumnPlace, declared.expr.Selects.Selects, declared.table.Column.Column as ColumnOf, declared.table.TableDef.TableDef, Naming.Step, Naming.Look, Naming.Enter, Naming.Leave, Naming.names_of, Naming.query_names, Naming.names_all, Scopes.Unknown, Scopes.place_in, Placing.Names, Placing.inside, Placing.column_placed, Placing.columns_from, Placing.items_of, Placing.definition_of, Placing.placed, Placing.query_over, Placing.placed_all, Terms.Term, Terms.Terms, Terms.Query, Terms.Literal, Terms.Column, Terms.Place, Terms.CurrentUser, Terms.Compare, Terms.And, Terms.Or, Terms.Not, Terms.IsNull, Terms.IsNotNull, Terms.Among, Terms.NotAmong, Terms.Exists, Terms.Within as InQuery, Terms.NotWithin, Terms.Scalar, Terms.Sum, Terms.End, Terms.More, Terms.Select, Terms.qualifier_of, Terms.terms_of}
+use Rattle.rls_expr.specs.{declared.column_name.ColumnName.ColumnName, declared.expr.FromItem.FromItem, declared.expr.Place.Place as ColumnPlace, declared.expr.Selects.Selects, declared.table.Column.Column as ColumnOf, declared.table.TableDef.TableDef, Naming.Step, Naming.Leave, Naming.names_of, Naming.query_names, Naming.names_all, Scopes.Unknown, Scopes.place_in, Placing.Names, Placing.inside, Placing.column_placed, Placing.columns_from, Placing.items_of, Placing.definition_of, Placing.placed, Placing.query_over, Placing.placed_all, Terms.Term, Terms.Terms, Terms.Query, Terms.Literal, Terms.Column, Terms.Place, Terms.CurrentUser, Terms.Compare, Terms.And, Terms.Or, Terms.Not, Terms.IsNull, Terms.IsNotNull, Terms.Among, Terms.NotAmong, Terms.Exists, Terms.Within as InQuery, Terms.NotWithin, Terms.Scalar, Terms.Sum, Terms.End, Terms.More, Terms.Select, Terms.qualifier_of, Terms.terms_of}
 use Rattle.rls_expr.specs.declared.expr.Selects.TheVariants as s
 use Rattle.rls_catalog.proofs.Walks.{one_of-append}
 use Rattle.rls_catalog.specs.Membership.{Within}
 use Rattle.rls_expansion.specs.Used.{entered, tables_of}
+use Rattle.rls_expansion.proofs.NoTables.{entered-append}
 
 -- ---- names among names
 
@@ -52,12 +53,6 @@ within_append xs ys all more one two =
     (λ name is. one_of-append all more name ∙ or_right (one_of all name) (one_of more name) (two name is))
 
 -- ---- steps
-
-entered-append : (xs ys : List Step) → entered (xs ++ ys) ≡ entered xs ++ entered ys
-entered-append [] ys = refl
-entered-append (Look name ∷ xs) ys = entered-append xs ys
-entered-append (Enter from ∷ xs) ys = ap (λ tables. from.table ∷ tables) (entered-append xs ys)
-entered-append (Leave ∷ xs) ys = entered-append xs ys
 
 same_names : (xs ys : List (List ℕ)) (name : List ℕ) → xs ≡ ys → one_of xs name ≡ one_of ys name
 same_names xs ys name same = ap (λ all. one_of all name) same

@@ -120,9 +120,13 @@ pub fn put_all_tables(
 }
 
 /// Puts the tables of the expression's subqueries, nested ones too, behind those that are there, in text order.
+#[tactic(auto, using(crate::proofs::NoTables::none_behind))]
 pub fn put_tables(alloc: Global, tables: &mut Items<Name>, expr: &Expr) -> Result<(), AllocError>
     ensures { OnOk result (tables.new ≡ tables.old ++ spec.tables_of expr.now) }
 {
+    if !has_query(expr) {
+        return Ok(());
+    }
     let mut steps = Vec::new(alloc);
     put_names(&mut steps, expr)?;
     let put = put_entered(tables, &steps);
