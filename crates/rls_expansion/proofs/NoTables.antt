@@ -31,16 +31,16 @@ mutual
   no_tables (Place at) is = refl
   no_tables CurrentUser is = refl
   no_tables (Compare how a b) is =
-    none_of_both (names_of a) (names_of b) (no_tables a (first_not (has_query a) (has_query b) is)) (no_tables b (second_not (has_query a) (has_query b) is))
+      none_of_both (names_of a) (names_of b) (no_tables a (first_not (has_query a) (has_query b) is)) (no_tables b (second_not (has_query a) (has_query b) is))
   no_tables (And ts) is = no_tables_in ts is
   no_tables (Or ts) is = no_tables_in ts is
   no_tables (Not t) is = no_tables t is
   no_tables (IsNull t) is = no_tables t is
   no_tables (IsNotNull t) is = no_tables t is
   no_tables (Among t ts) is =
-    none_of_both (names_of t) (names_all ts) (no_tables t (first_not (has_query t) (have_query ts) is)) (no_tables_in ts (second_not (has_query t) (have_query ts) is))
+      none_of_both (names_of t) (names_all ts) (no_tables t (first_not (has_query t) (have_query ts) is)) (no_tables_in ts (second_not (has_query t) (have_query ts) is))
   no_tables (NotAmong t ts) is =
-    none_of_both (names_of t) (names_all ts) (no_tables t (first_not (has_query t) (have_query ts) is)) (no_tables_in ts (second_not (has_query t) (have_query ts) is))
+      none_of_both (names_of t) (names_all ts) (no_tables t (first_not (has_query t) (have_query ts) is)) (no_tables_in ts (second_not (has_query t) (have_query ts) is))
   no_tables (Exists q) is = absurd (true≢false is)
   no_tables (Within t q) is = absurd (true≢false is)
   no_tables (NotWithin t q) is = absurd (true≢false is)
@@ -51,7 +51,7 @@ mutual
   no_tables_in : (ts : Terms) → have_query ts ≡ false → entered (names_all ts) ≡ []
   no_tables_in End is = refl
   no_tables_in (More t ts) is =
-    none_of_both (names_of t) (names_all ts) (no_tables t (first_not (has_query t) (have_query ts) is)) (no_tables_in ts (second_not (has_query t) (have_query ts) is))
+      none_of_both (names_of t) (names_all ts) (no_tables t (first_not (has_query t) (have_query ts) is)) (no_tables_in ts (second_not (has_query t) (have_query ts) is))
 
 -- no table comes behind those that are there
 pub none_behind : (tables : List (List ℕ)) (t : Term) → has_query t ≡ false → tables ≡ tables ++ tables_of t
