@@ -137,13 +137,20 @@ fn is_printed(alloc: Global, text: &str, want: &str) -> bool {
 fn gives(alloc: Global, text: &str, want: &str) -> bool {
     match parse(alloc, text) {
         Ok(statement) => {
-            let printed = print(alloc, &statement);
+            let is = is_printed_as(alloc, &statement, want);
             drop(statement);
-            match printed {
-                Ok(printed) => printed.as_str() == want,
-                Err(_) => false,
-            }
+            is
         }
+        Err(refusal) => {
+            drop(refusal);
+            false
+        }
+    }
+}
+
+fn is_printed_as(alloc: Global, statement: &Statement, want: &str) -> bool {
+    match print(alloc, statement) {
+        Ok(printed) => printed.as_str() == want,
         Err(_) => false,
     }
 }
@@ -156,7 +163,10 @@ fn are_printed(alloc: Global, text: &str, want: &str, using: &str) -> bool {
             drop(statement);
             are
         }
-        Err(_) => false,
+        Err(refusal) => {
+            drop(refusal);
+            false
+        }
     }
 }
 

@@ -169,10 +169,22 @@ fn is_printed_again(alloc: Global, statement: &Statement) -> Result<bool, Refusa
 /// Whether the text's statement is that one, and is printed as this text.
 fn is_said_by(alloc: Global, text: &str, statement: &Statement) -> Result<bool, Refusal> {
     let again = parse(alloc, text)?;
-    let is = again.is_same(statement);
-    let gives = gives(alloc, &again, text);
+    let is = is_same_and_gives(alloc, &again, statement, text);
     drop(again);
-    Ok(is && gives?)
+    is
+}
+
+fn is_same_and_gives(
+    alloc: Global,
+    again: &Statement,
+    statement: &Statement,
+    text: &str,
+) -> Result<bool, Refusal> {
+    if again.is_same(statement) {
+        gives(alloc, again, text)
+    } else {
+        Ok(false)
+    }
 }
 
 fn gives(alloc: Global, statement: &Statement, want: &str) -> Result<bool, Refusal> {
