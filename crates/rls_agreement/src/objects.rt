@@ -24,6 +24,7 @@ pub(crate) fn agrees_at<'c, A: RowSource<'c>, B: RowSource<'c>>(
     ensures left { A.state left.new ≡ A.state left.old }
     ensures right { B.state right.new ≡ B.state right.old }
 {
+    // Its proof takes seconds: eight arms.
     match object {
         Object::Role(name) => role_agrees(alloc, left, right, name),
         Object::Members(member) => members_agree(alloc, left, right, member),
@@ -179,6 +180,7 @@ fn row_agrees<'c, A: RowSource<'c>, B: RowSource<'c>>(
     ensures left { A.state left.new ≡ A.state left.old }
     ensures right { B.state right.new ≡ B.state right.old }
 {
+    // Its proof takes seconds: two places hold what a failing call would drop.
     let found = with_number(left.scan(alloc, table)?, id);
     match right.scan(alloc, table) {
         Ok(others) => {

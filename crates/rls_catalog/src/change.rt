@@ -56,6 +56,7 @@ impl Change {
     pub fn copy(&self, alloc: Global) -> Result<Change, AllocError>
         ensures { IfOk result (λ change. change ≡ self.now) }
     {
+        // Its proof takes seconds: two places hold what failing calls would drop, six arms.
         match self {
             Change::Role(name, def) => Ok(Change::Role(name.copy()?, *def)),
             Change::Members(name, content) => Ok(Change::Members(

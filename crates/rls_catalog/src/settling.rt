@@ -27,6 +27,7 @@ pub(crate) fn settle(
     ensures tidy { IsTidy (has index.new.entries) slots.new.entries }
     ensures proper { IsProper index.old.entries → IsProper index.new.entries }
 {
+    // Its proof takes seconds: one place holds what a failing call would drop, a loop.
     while let Some(before) = past.pop() {
         let_go(slots, index, before);
     }
@@ -43,6 +44,7 @@ fn let_go(
     ensures explains { (past : List Before) → Explains (before ∷ past) (has index.old.entries) slots.old.entries → Explains past (has index.new.entries) slots.new.entries }
     ensures proper { IsProper index.old.entries → IsProper index.new.entries }
 {
+    // Its proof takes seconds: three places hold what a failing call would drop.
     let Before {
         id,
         content,

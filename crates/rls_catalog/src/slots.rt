@@ -127,6 +127,7 @@ impl Slots {
         ensures rows { IfOk result (λ rows. rows ≡ map stored_of (present self.now.places)) }
         ensures ordered { Ascend self.now.places }
     {
+        // Its proof takes seconds: a loop over two calls that may fail.
         let mut listed = Vec::with_capacity(alloc, self.slots.len())?;
         for (id, slot) in &self.slots {
             if let Some(keyed) = slot {
@@ -196,6 +197,7 @@ fn seek<'c>(
 ) -> Result<Items<Lent<'c>>, AllocError>
     ensures { IfOk result (λ rows. rows ≡ with_key key.now (map stored_of (present slots.now.entries))) }
 {
+    // Its proof takes seconds: a loop over a call that may fail.
     let mut rows = Vec::new(alloc);
     for (id, slot) in slots {
         if let Some(keyed) = slot {
@@ -218,6 +220,7 @@ fn pick<'c>(
     ensures picked { IfOk result (λ rows. rows ≡ picked key.now slots.now.entries ids.now.entries) }
     ensures ordered { IsOrdered id_order ids.now }
 {
+    // Its proof takes seconds: a loop over two calls that may fail.
     let mut rows = Vec::with_capacity(alloc, min(most, ids.len()))?;
     for (id, _) in ids {
         if let Some(Some(keyed)) = slots.get(id) {

@@ -5,6 +5,7 @@ use rls_value::{Cause, GrantFault, Object, Refusal, Why};
 
 impl Same for Refusal {
     fn is_same(&self, other: &Refusal) -> bool {
+        // Its proof takes seconds: 20 arms.
         match (self, other) {
             (Refusal::NoMemory, Refusal::NoMemory) => true,
             (Refusal::Syntax, Refusal::Syntax) => true,

@@ -175,6 +175,7 @@ impl Expr {
     pub fn copy(&self, alloc: Global) -> Result<Expr, AllocError>
         ensures { IfOk result (λ expr. expr ≡ self.now) }
     {
+        // Its proof takes seconds: one place holds what failing calls would drop, 17 arms.
         let node = match &self.node {
             Node::Literal(value) => Node::Literal(value.copy()?),
             Node::Column(name) => Node::Column(name.copy()?),

@@ -32,6 +32,7 @@ pub struct Scope<'a> {
 pub fn place_columns(alloc: Global, expr: &Expr, scope: &Scope) -> Result<Expr, AllocError>
     ensures { IfOk result (λ expr_placed. expr_placed ≡ placed expr.now (names_in scope.now)) }
 {
+    // Its proof takes seconds: 27 arms.
     match expr.node() {
         Node::Literal(value) => literal_copy(value),
         Node::Column(name) => place_column(name, scope),

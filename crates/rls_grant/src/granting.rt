@@ -34,6 +34,7 @@ pub fn grant<'c, S: RowSource<'c>>(
     ensures answers { Answers S.state S.after (spec.grant role.now grant.now) source.old source.new notes.old notes.new result }
     ensures back { (owner : List ℕ) (grants : List Given) (privilege : Kind) (grantor grantee : List ℕ) → (goes_back owner grants privilege grantor grantee ≡ true) ↔ GoesBack owner grants privilege grantor grantee }
 {
+    // Its proof takes seconds: two calls that may fail, one cited law.
     let table = table_named(alloc, source, notes, &grant.table)?;
     require_grantees(alloc, source, notes, grant.to.as_slice())?;
     grant_for(alloc, source, notes, role, table, grant)

@@ -37,6 +37,7 @@ pub fn revoke<'c, S: RowSource<'c>>(
     ensures left { (owner : List ℕ) (grants : List Given) (privilege : Kind) → LeftAfterRevoke owner grants privilege (filter (spec.stays (one_of (holders_of owner grants privilege)) privilege) grants) }
     ensures dependents { (owner : List ℕ) (grants : List Given) (privilege : Kind) → (list_any (λ grant. not (spec.stays (one_of (holders_of owner grants privilege)) privilege grant)) grants ≡ true) ↔ HasDependents owner grants privilege }
 {
+    // Its proof takes seconds: two calls that may fail, two cited laws.
     let table = table_named(alloc, source, notes, &revoke.table)?;
     require_grantees(alloc, source, notes, revoke.from.as_slice())?;
     revoke_for(alloc, source, notes, role, table, revoke)

@@ -101,6 +101,7 @@ pub fn applying<'c, S: RowSource<'c>>(
     ensures read { OnOk result (source.new ≡ S.after source.old (applying_to_reads (S.state source.old) role.now table.now kind side)) }
     ensures state { S.state source.new ≡ S.state source.old }
 {
+    // Its proof takes seconds: one call that may fail, one cited law.
     match source.table(alloc, table)? {
         Some(def) => applying_on(alloc, source, role, table, def, kind, side),
         None => Ok(Items::new(alloc)),
@@ -140,6 +141,7 @@ fn applying_unless_exempt<'c, S: RowSource<'c>>(
     ensures read { OnOk result (source.new ≡ S.after source.old (spec.applying_reads (S.state source.old) role.now table.now kind side)) }
     ensures state { S.state source.new ≡ S.state source.old }
 {
+    // Its proof takes seconds: one place holds what failing calls would drop.
     let policies = source.policies(alloc, table)?;
     let kept = asked(alloc, policies, kind, side)?;
     if are_to_everyone(kept.as_slice()) {

@@ -32,6 +32,7 @@ pub fn grant_member<'c, S: RowSource<'c>>(
 ) -> Result<Delta, Refusal>
     ensures { Answers S.state S.after (spec.grant_member current.now grant.now) source.old source.new notes.old notes.new result }
 {
+    // Its proof takes seconds: two calls that may fail.
     require_roles(alloc, source, notes, grant.roles.as_slice())?;
     require_roles(alloc, source, notes, grant.to.as_slice())?;
     grant_roles(alloc, source, notes, current, grant)
@@ -60,6 +61,7 @@ fn grant_memberships<'c, S: RowSource<'c>>(
 ) -> Result<Delta, Refusal>
     ensures { Answers S.state S.after (memberships_granted grant.now) source.old source.new notes.old notes.new result }
 {
+    // Its proof takes seconds: three calls that may fail, one cited law.
     let held = held_of(alloc, source, notes, grant.to.as_slice())?;
     let (roles, to) = (grant.roles.as_slice(), grant.to.as_slice());
     let held = grant_each(alloc, source, notes, grant.options, roles, to, held)?;
@@ -78,6 +80,7 @@ fn grant_each<'c, S: RowSource<'c>>(
 ) -> Result<Items<Held>, Refusal>
     ensures { Answers S.state S.after (each_granted written roles.now members.now held) source.old source.new notes.old notes.new result }
 {
+    // Its proof takes seconds: a loop over a call that may fail.
     let mut held = held;
     for role in roles {
         held = grant_role(alloc, source, notes, written, role, members, held)?;
@@ -97,6 +100,7 @@ fn grant_role<'c, S: RowSource<'c>>(
 ) -> Result<Items<Held>, Refusal>
     ensures { Answers S.state S.after (role_granted written role.now members.now held) source.old source.new notes.old notes.new result }
 {
+    // Its proof takes seconds: a loop over a call that may fail.
     let mut held = held;
     for member in members {
         held = grant_pair(alloc, source, notes, written, role, member, held)?;

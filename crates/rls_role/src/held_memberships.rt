@@ -49,6 +49,7 @@ fn noted_held<'c, S: RowSource<'c>>(
 ) -> Result<Items<Held>, AllocError>
     ensures { Tells S.state S.after (asked_held members.now) source.old source.new notes.old notes.new result }
 {
+    // Its proof takes seconds: two places hold what failing calls would drop, a loop, one cited law.
     let mut held = Items::new(alloc);
     for member in members {
         held.push(held_by(alloc, source, notes, member)?)?;

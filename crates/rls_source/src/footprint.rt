@@ -70,6 +70,7 @@ impl Footprint {
     pub fn to_vec(&self, alloc: Global) -> Result<Vec<Object>, AllocError>
         ensures { IfOk result (λ objects. objects.items ≡ self.now) }
     {
+        // Its proof takes seconds: two places hold what failing calls would drop, a loop.
         let mut objects = Vec::with_capacity(alloc, self.objects.len())?;
         for object in self.objects.iter() {
             objects.push(object.copy(alloc)?)?;

@@ -51,6 +51,7 @@ pub fn require_roles<'c, S: RowSource<'c>>(
 ) -> Result<(), Refusal>
     ensures { Answers S.state S.after (roles_or_undefined names.now) source.old source.new notes.old notes.new result }
 {
+    // Its proof takes seconds: a loop over a call that may fail.
     for name in names {
         role_named(alloc, source, notes, name)?;
     }
@@ -66,6 +67,7 @@ pub fn require_grantees<'c, S: RowSource<'c>>(
 ) -> Result<(), Refusal>
     ensures { Answers S.state S.after (grantees_or_undefined grantees.now) source.old source.new notes.old notes.new result }
 {
+    // Its proof takes seconds: a loop over a call that may fail.
     for grantee in grantees {
         if let Grantee::Role(name) = grantee {
             role_named(alloc, source, notes, name)?;

@@ -36,6 +36,7 @@ impl Update {
     pub fn copy(&self, alloc: Global) -> Result<Update, AllocError>
         ensures { IfOk result (λ update. update ≡ self.now) }
     {
+        // Its proof takes seconds: six places hold what failing calls would drop.
         Ok(Update {
             table: self.table.copy()?,
             settings: copy_settings(alloc, self.settings.as_slice())?,

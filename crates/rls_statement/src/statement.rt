@@ -238,6 +238,7 @@ impl Statement {
     pub fn copy(&self, alloc: Global) -> Result<Statement, AllocError>
         ensures { IfOk result (λ statement. statement ≡ self.now) }
     {
+        // Its proof takes seconds: 16 calls that may fail, 16 arms.
         match self {
             Statement::CreateRole(role) => Ok(Statement::CreateRole(role.copy()?)),
             Statement::AlterRole(role) => Ok(Statement::AlterRole(role.copy()?)),
@@ -418,6 +419,7 @@ impl AlterPolicy {
     pub fn copy(&self, alloc: Global) -> Result<AlterPolicy, AllocError>
         ensures { IfOk result (λ alter. alter ≡ self.now) }
     {
+        // Its proof takes seconds: six places hold what failing calls would drop.
         Ok(AlterPolicy {
             name: self.name.copy()?,
             table: self.table.copy()?,
@@ -500,6 +502,7 @@ impl Insert {
     pub fn copy(&self, alloc: Global) -> Result<Insert, AllocError>
         ensures { IfOk result (λ insert. insert ≡ self.now) }
     {
+        // Its proof takes seconds: six places hold what failing calls would drop.
         Ok(Insert {
             table: self.table.copy()?,
             columns: copy_written(alloc, &self.columns)?,

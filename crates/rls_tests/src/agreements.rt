@@ -21,6 +21,7 @@ fn agree(
 
 /// The footprint of a look at one role.
 fn look_at(alloc: Global, role: Name) -> Result<Footprint, AllocError> {
+    // Its proof takes seconds: one place holds what a failing call would drop.
     let mut footprint = Footprint::new(alloc);
     footprint.note(Object::Role(role))?;
     Ok(footprint)
@@ -33,6 +34,7 @@ fn agree_on_role(
     alloc: Global,
     role: &str,
 ) -> Result<bool, Refusal> {
+    // Its proof takes seconds: one place holds what failing calls would drop.
     let footprint = look_at(alloc, Name::new(alloc, role)?)?;
     let agrees = agree(left, right, alloc, &footprint);
     drop(footprint);
@@ -41,6 +43,7 @@ fn agree_on_role(
 
 /// The opening state with the role `a` beside.
 fn with_a(alloc: Global) -> Result<Catalog, Refusal> {
+    // Its proof takes seconds: one place holds what a failing call would drop.
     let mut catalog = Catalog::new(alloc)?;
     match add_role(&mut catalog, alloc, "a", false) {
         Ok(()) => Ok(catalog),

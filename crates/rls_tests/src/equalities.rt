@@ -54,6 +54,7 @@ fn is_same_refusal(
 /// Refusals are the same where nothing in them differs: neither their kind nor what they name.
 #[test]
 fn refusals_are_told_apart(rt: HostRuntime) {
+    // Its proof takes seconds: a loop.
     for (number, name, other, another, want) in [
         (1, "a", 1, "A", true),
         (1, "a", 1, "b", false),
@@ -84,6 +85,7 @@ fn refusals_are_told_apart(rt: HostRuntime) {
 
 /// Whether the texts spell the same statement.
 fn is_same_statement(alloc: Global, left: &str, right: &str) -> Result<bool, Refusal> {
+    // Its proof takes seconds: one place holds what a failing call would drop.
     let left = parse(alloc, left)?;
     match parse(alloc, right) {
         Ok(right) => {
@@ -102,6 +104,7 @@ fn is_same_statement(alloc: Global, left: &str, right: &str) -> Result<bool, Ref
 /// What is written in another way is the same statement.
 #[test]
 fn statements_are_the_same(rt: HostRuntime) {
+    // Its proof takes seconds: a loop.
     for (left, right) in [
         ("create user R", "CREATE ROLE r LOGIN;"),
         (
@@ -130,6 +133,7 @@ fn statements_are_the_same(rt: HostRuntime) {
 /// Statements that differ in one part are told apart.
 #[test]
 fn statements_are_told_apart(rt: HostRuntime) {
+    // Its proof takes seconds: a loop.
     for (left, right) in [
         ("CREATE ROLE r", "CREATE ROLE r LOGIN"),
         ("CREATE ROLE r LOGIN", "ALTER ROLE r LOGIN"),

@@ -36,6 +36,7 @@ fn has_behind(
     role: &Name,
     of: &Name,
 ) -> Result<bool, AllocError> {
+    // Its proof takes seconds: two places hold what a failing call would drop.
     let mut source = Overlay::new(alloc, Plain::new(catalog), changes)?;
     let has = has(alloc, &mut source, role, of);
     drop(source);

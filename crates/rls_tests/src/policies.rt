@@ -268,6 +268,7 @@ fn exempts_by_long_chain(alloc: Global, broken: u32) -> Result<bool, Refusal> {
 
 #[test]
 fn chain_of_a_thousand_roles_is_walked(rt: HostRuntime) {
+    // Its proof takes seconds: a loop.
     for (broken, want) in [(5000, true), (500, false)] {
         assert!(rt;
             says(exempts_by_long_chain(rt.alloc(), broken), want),

@@ -11,6 +11,7 @@ use std::alloc::Global;
 /// Statements on roles, memberships and privileges.
 #[test]
 fn reads_roles_and_memberships_again(rt: HostRuntime) {
+    // Its proof takes seconds: a loop.
     for text in [
         "CREATE ROLE Role",
         "CREATE ROLE r LOGIN",
@@ -87,6 +88,7 @@ fn reads_tables_and_policies_again(rt: HostRuntime) {
 /// Statements that write rows.
 #[test]
 fn reads_changes_again(rt: HostRuntime) {
+    // Its proof takes seconds: a loop.
     for text in [
         "insert Into POLICY Values (1, 'Aa')",
         "INSERT INTO t VALUES (1, true), (2, false), (NULL, NULL)",
@@ -119,6 +121,7 @@ fn reads_changes_again(rt: HostRuntime) {
 /// Statements that read rows.
 #[test]
 fn reads_selects_again(rt: HostRuntime) {
+    // Its proof takes seconds: a loop.
     for text in [
         "SELECT * FROM t",
         "SELECT * FROM t -- all of it",

@@ -220,6 +220,7 @@ fn is_number(alloc: Global, ask: Ask, role: &str, table: &str, want: usize) -> b
 /// asked of whoever doesn't own the table, for its own type of command.
 #[test]
 fn small_state_says_who_may(rt: HostRuntime) {
+    // Its proof takes seconds: a loop.
     let rows = [
         (Ask::Holds(Privilege::Select), "a", "t", 1),
         (Ask::Holds(Privilege::Insert), "a", "t", 0),

@@ -75,6 +75,7 @@ fn refuses_items(rt: HostRuntime) {
 /// Subqueries, each with the tag of its statement.
 #[test]
 fn reads_subqueries(rt: HostRuntime) {
+    // Its proof takes seconds: a loop.
     for (text, want) in [
         (
             "SELECT * FROM t WHERE EXISTS (SELECT * FROM u AS v WHERE v.a = t.a)",
@@ -184,6 +185,7 @@ fn keeps_limits(rt: HostRuntime) {
 /// subquery that stands for a value counts one, and up to that of parentheses.
 #[test]
 fn keeps_subqueries(rt: HostRuntime) {
+    // Its proof takes seconds: a loop.
     for (count, part, want) in [
         (8, "EXISTS (SELECT * FROM t WHERE ", "SELECT"),
         (9, "EXISTS (SELECT * FROM t WHERE ", "subqueries"),

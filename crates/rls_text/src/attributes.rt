@@ -79,6 +79,7 @@ fn attributes_if_any(
 fn attributes(alloc: Global, tokens: &[Token]) -> Result<(Items<RoleAttribute>, &[Token]), Fault>
     ensures { Gives result (g.attributes.parses.read tokens.now) }
 {
+    // Its proof takes seconds: two places hold what a failing call would drop, one cited law.
     match first_and_more(alloc, tokens) {
         Ok((all, rest)) => {
             if each_once(all.as_slice()) {
@@ -138,6 +139,7 @@ fn more_attributes(
 fn attribute(tokens: &[Token]) -> Result<(RoleAttribute, &[Token]), Fault>
     ensures { Gives result (g.attribute.parses.read tokens.now) }
 {
+    // Its proof takes seconds: one cited law.
     if let Some(rest) = word(tokens, b"superuser") {
         Ok((RoleAttribute::Superuser(true), rest))
     } else if let Some(rest) = word(tokens, b"nosuperuser") {
@@ -219,6 +221,7 @@ fn opening(is_user: bool) -> Attributes
 fn gathered(opening: Attributes, mut written: &[RoleAttribute]) -> Attributes
     ensures { result ≡ put_in values.with_attribute opening written.entry.now }
 {
+    // Its proof takes seconds: a loop.
     let mut attributes = opening;
     while let [first, rest @ ..] = written {
         attributes = with_attribute(attributes, *first);

@@ -48,6 +48,7 @@ fn set_behind(
 ) -> Result<((SetColumns, Ending), &[Token]), Fault>
     ensures { Gives result (and_then (read_token (Token.Word (codes "set")) tokens.now) (λ _ rest. read_both (g.set_columns (g.expr depth)).read (g.ending (g.expr depth)).read rest)) }
 {
+    // Its proof takes seconds: five places hold what a failing call would drop, four arms.
     let Some(rest) = word(tokens, b"set") else {
         return Err(Fault::Syntax);
     };
@@ -203,6 +204,7 @@ fn all_set_columns(
 ) -> Result<(SetColumns, &[Token]), Fault>
     ensures { Gives result ((g.all_set_columns (g.expr depth)).read tokens.now) }
 {
+    // Its proof takes seconds: one place holds what a failing call would drop, four arms, two cited laws.
     match set_column(alloc, depth, tokens) {
         Ok(((first, height), rest)) => match only(alloc, first) {
             Ok(all) => more_set_columns(alloc, depth, (all, height), rest),

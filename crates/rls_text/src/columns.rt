@@ -103,6 +103,7 @@ fn column_marks(alloc: Global, tokens: &[Token]) -> Result<(Items<ColumnMark>, &
 fn all_marks(alloc: Global, tokens: &[Token]) -> Result<(Items<ColumnMark>, &[Token]), Fault>
     ensures { Gives result (g.all_marks.parses.read tokens.now) }
 {
+    // Its proof takes seconds: a loop, six cited laws.
     let mut all = Items::new(alloc);
     let mut rest = tokens;
     for _turn in 0..tokens.len() {

@@ -18,6 +18,7 @@ use std::alloc::Global;
 pub fn create(alloc: Global, depth: usize, tokens: &[Token]) -> Result<(Draft, &[Token]), Fault>
     ensures { Gives result ((g.create (g.expr depth)).read tokens.now) }
 {
+    // Its proof takes seconds: one cited law.
     let Some(rest) = word(tokens, b"create") else {
         return Err(Fault::Syntax);
     };
@@ -38,6 +39,7 @@ pub fn create(alloc: Global, depth: usize, tokens: &[Token]) -> Result<(Draft, &
 fn role(alloc: Global, is_user: bool, tokens: &[Token]) -> Result<(Draft, &[Token]), Fault>
     ensures { Gives result (read_mapped flat (g.role is_user).parses.read tokens.now) }
 {
+    // Its proof takes seconds: one place holds what a failing call would drop, four arms, one cited law.
     match name(alloc, tokens) {
         Ok((name, rest)) => match attributes_of_role(alloc, is_user, rest) {
             Ok((attributes, rest)) => {
@@ -58,6 +60,7 @@ fn role(alloc: Global, is_user: bool, tokens: &[Token]) -> Result<(Draft, &[Toke
 pub fn alter(alloc: Global, depth: usize, tokens: &[Token]) -> Result<(Draft, &[Token]), Fault>
     ensures { Gives result ((g.alter (g.expr depth)).read tokens.now) }
 {
+    // Its proof takes seconds: one cited law.
     let Some(rest) = word(tokens, b"alter") else {
         return Err(Fault::Syntax);
     };

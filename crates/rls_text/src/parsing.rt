@@ -119,6 +119,7 @@ fn statement(alloc: Global, depth: usize, tokens: &[Token]) -> Result<(Draft, &[
 fn body(alloc: Global, depth: usize, tokens: &[Token]) -> Result<(Draft, &[Token]), Fault>
     ensures { Gives result ((g.body (g.expr depth)).read tokens.now) }
 {
+    // Its proof takes seconds: one cited law.
     if sees_word(tokens, b"select") {
         select(alloc, depth, tokens)
     } else if sees_word(tokens, b"insert") {

@@ -32,6 +32,7 @@ pub fn revoke(alloc: Global, tokens: &[Token]) -> Result<(Statement, &[Token]), 
 fn revoked_privileges(alloc: Global, tokens: &[Token]) -> Result<(Statement, &[Token]), Fault>
     ensures { Gives result (g.revoked_privileges.parses.read tokens.now) }
 {
+    // Its proof takes seconds: one place holds what a failing call would drop, four arms, one cited law.
     let (option_only, rest) = option_only(tokens)?;
     match privileges_on(alloc, rest) {
         Ok(((privileges, table), rest)) => match revoked_from(alloc, rest) {

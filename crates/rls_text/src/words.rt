@@ -133,6 +133,7 @@ fn word(alloc: Global, first: char, behind: &[char]) -> Result<(Token, &[char]),
     requires { names.is_letter first ≡ true }
     ensures { IfOk result (λ read. spec.word_of first behind.now ≡ (read.0, read.1.now)) }
 {
+    // Its proof takes seconds: a loop over two calls that may fail.
     let mut word = String::new(alloc);
     word.push(first.to_ascii_lowercase())?;
     let mut rest = behind;

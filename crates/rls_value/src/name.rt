@@ -46,6 +46,7 @@ impl Name {
         ensures syntax { IsErrOf result Refusal.Syntax → spells_name text.now ≡ false }
         ensures refused { IfErr result RefusesName }
     {
+        // Its proof takes seconds: two calls that may fail.
         if text.len() > MAX_NAME {
             return Err(Refusal::Limit(Limit::Name));
         }

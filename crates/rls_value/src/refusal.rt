@@ -198,6 +198,7 @@ impl Refusal {
     pub fn copy(&self, alloc: Global) -> Result<Refusal, AllocError>
         ensures { IfOk result (λ refusal. refusal ≡ self.now) }
     {
+        // Its proof takes seconds: 11 calls that may fail, 20 arms.
         match self {
             Refusal::NoMemory => Ok(Refusal::NoMemory),
             Refusal::Syntax => Ok(Refusal::Syntax),
@@ -341,6 +342,7 @@ impl fmt::Display for Refusal {
     ghost output = { λ refusal. Some (refusal_text refusal) };
 
     fn fmt<W: fmt::Write>(&self, f: &mut fmt::Formatter<W>) -> fmt::Result {
+        // Its proof takes seconds: 20 arms.
         match self {
             Refusal::NoMemory => f.write_str("out of memory"),
             Refusal::Syntax => f.write_str("syntax error"),
