@@ -1,7 +1,7 @@
 -- One turn of each loop: what was evaluated and what is left lead to the whole.
 use Rattle.std.specs.Prelude.{◌≡◌, refl, ℕ, zero, suc, ◌+◌, ◌-◌, ◌≤◌, ◌<◌, List, [], ◌∷◌, ◌++◌, Bool, true, false, Option, Some, None, Result, Ok, length, take, drop, get_or, slice_index_or}
 use Rattle.std.proofs.Common.{arith, ap, sym, subst, ◌∙◌, append-nil, append_assoc}
-use Rattle.std.proofs.lemmas.List.{take_all}
+use Rattle.std.proofs.lemmas.List.{drop_all, take_all}
 use native.Mathlib.Numerals.{unary_clauses}
 use Rattle.rls_value.specs.{declared.value.Value.Value, declared.object.Object.Object, declared.truth.Truth.Truth, declared.truth.Truth.TheVariants.True, declared.truth.Truth.TheVariants.False, declared.truth.Truth.TheVariants.Unknown, Truths.conjunction_of, Truths.disjunction_of}
 use Rattle.std.specs.declared.alloc.AllocError.{AllocError}
@@ -10,7 +10,7 @@ use Rattle.rls_catalog.specs.State.{State}
 use Rattle.rls_source.specs.Askings.{Asking, followed_by}
 use Rattle.rls_evaluation.specs.{Alone.with_item, Keys.or_else, Holding.Tells, Environments.Environment, Environments.joined, Environments.number_or_null, Gathering.gathered, Gathering.with_row}
 use Rattle.rls_evaluation.specs.Eval.{Shows, value_of, together, item_or, sum_of, sum_from}
-use Rattle.rls_evaluation.proofs.Telling.{Leads, turn, tells_on, drop_at}
+use Rattle.rls_evaluation.proofs.Telling.{Leads, leads_end, turn, tells_on, drop_at}
 
 -- AND is associative
 pub and_again : (a b c : Truth) → conjunction_of (conjunction_of a b) c ≡ conjunction_of a (conjunction_of b c)
@@ -44,6 +44,18 @@ or_none False = refl
 or_none Unknown = refl
 or_none True = refl
 
+-- AND with none further
+pub and_last : (a : Truth) → a ≡ conjunction_of a True
+and_last False = refl
+and_last Unknown = refl
+and_last True = refl
+
+-- OR with none further
+pub or_last : (a : Truth) → a ≡ disjunction_of a False
+or_last False = refl
+or_last Unknown = refl
+or_last True = refl
+
 -- what is left begins with the part at the index
 terms_from : (es : List Term) (i : ℕ) (e : Term) → i < length es → e ≡ get_or es i e → terms_of (drop i es) ≡ More e (terms_of (drop (suc i) es))
 terms_from [] i e h is = absurd (omega arith)
@@ -66,6 +78,15 @@ terms_turn op again truth none sees env es i e v so_far next now mid after old n
     (together (λ v rest. op (truth v) rest) none (terms_of (drop i es)) sees env) (value_of e sees env) (together (λ v rest. op (truth v) rest) none (terms_of (drop (i + 1) es)) sees env)
     now mid after old notes new v (ap (λ ts. together (λ v rest. op (truth v) rest) none ts sees env) (terms_left es i e below is))
     (λ rest. ap (λ t. op t rest) step ∙ again so_far (truth v) rest) same leads told
+
+-- the end of the parts
+pub terms_end : (op : Truth → Truth → Truth) (truth : Value → Truth) (none : Truth) (sees : Shows) (env : Environment) (es : List Term) (i : ℕ) (so_far : Truth) (now after : State) (old notes : List Object)
+    → length es ≤ i → so_far ≡ op so_far none → after ≡ now
+    → Leads (together (λ v rest. op (truth v) rest) none (terms_of es) sees env) (together (λ v rest. op (truth v) rest) none (terms_of (drop i es)) sees env) (op so_far) now old notes
+    → Tells (together (λ v rest. op (truth v) rest) none (terms_of es) sees env) now after old notes (Ok so_far)
+terms_end op truth none sees env es i so_far now after old notes past is same leads =
+    leads_end (together (λ v rest. op (truth v) rest) none (terms_of es) sees env) (together (λ v rest. op (truth v) rest) none (terms_of (drop i es)) sees env) (op so_far) now after old notes none so_far
+    (ap (λ ts. together (λ v rest. op (truth v) rest) none (terms_of ts) sees env) (drop_all i es past)) is same leads
 
 -- a turn over a list
 pub rows_turn : {A B R V : Type 0} (whole : Asking V) (join next : R → V) (put : A → B → R → R) (none : R) (ask : A → Asking B) (xs : List A) (i : ℕ) (x : A) (y : B)

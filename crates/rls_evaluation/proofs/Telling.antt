@@ -36,6 +36,12 @@ tells_map asking f before after old new a x = tells_then asking (λ a. known (Ok
 pub tells_result : {A : Type 0} (asking : Asking A) (before after : State) (old new : List Object) (a b : A) → Tells asking before after old new (Ok a) → b ≡ a → Tells asking before after old new (Ok b)
 tells_result asking before after old new a b told same = subst (λ x. Tells asking before after old new (Ok x)) (sym same) told
 
+-- the same of a call that gives what was told
+pub tells_given : {A : Type 0} (asking : Asking A) (before after : State) (old new : List Object) (a : A) (result : Result A AllocError)
+    → Tells asking before after old new (Ok a) → IfOk result (λ b. b ≡ a) → Tells asking before after old new result
+tells_given asking before after old new a (Ok b) told same = tells_result asking before after old new a b told same
+tells_given asking before after old new a (Err refused) told same = record { given = tt; noted = tt; stands = told.stands }
+
 -- the same, what comes of it being named
 pub tells_as : {A B : Type 0} (asking : Asking A) (f : A → B) (before after : State) (old new : List Object) (a : A) (b : B)
     → Tells asking before after old new (Ok a) → b ≡ f a → Tells (followed_by asking (λ a. known (Ok (f a)))) before after old new (Ok b)
@@ -69,6 +75,12 @@ pub tells_over : {A B : Type 0} (first : Asking A) (next : A → Asking B) (befo
 tells_over first next before mid after old between new rows slice b same x y =
     tells_then first next before mid after old between new rows b x (subst (λ xs. Tells (next xs) mid after between new (Ok b)) same y)
 
+-- the same, whatever comes of it
+pub tells_of : {A B : Type 0} (first : Asking A) (next : A → Asking B) (before mid after : State) (old between new : List Object) (rows slice : A) (result : Result B AllocError) → slice ≡ rows
+    → Tells first before mid old between (Ok rows) → Tells (next slice) mid after between new result → Tells (followed_by first next) before after old new result
+tells_of first next before mid after old between new rows slice result same x y =
+    tells_on first next before mid after old between new rows result x (subst (λ xs. Tells (next xs) mid after between new result) same y)
+
 -- an item, the row meeting WHERE
 pub tells_item : (meets : Asking Bool) (item : Asking Value) (before mid after : State) (old between new : List Object) (is : Bool) (v : Value) → is ≡ true
     → Tells meets before mid old between (Ok is) → Tells item mid after between new (Ok v) → Tells (item_if meets item) before after old new (Ok (Some v))
@@ -82,6 +94,11 @@ tells_item meets item before mid after old between new is v true_is x y =
 pub on_ok : {A : Type 0} (result : Result A AllocError) (fact : Type 0) → fact → OnOk result fact
 on_ok (Ok a) fact holds = holds
 on_ok (Err refused) fact holds = tt
+
+-- what follows from it there
+pub on_ok_then : {A : Type 0} (result : Result A AllocError) (fact further : Type 0) → (fact → further) → OnOk result fact → OnOk result further
+on_ok_then (Ok a) fact further follows holds = follows holds
+on_ok_then (Err refused) fact further follows holds = tt
 
 -- the rows of a table
 pub rows_told : (object read : Object) (table : List ℕ) (before after : State) (notes new : List Object) (result : Result (List (List Value)) AllocError)

@@ -59,6 +59,15 @@ as_value asking = followed_by asking (λ truth. known (Ok (value_of_truth truth)
 abbrev pub negated : Asking Truth → Asking Value
 negated asking = followed_by asking (λ truth. known (Ok (value_of_truth (negation_of truth))))
 
+-- the truth value, or its negation
+abbrev pub turned : Bool → Truth → Truth
+turned true truth = negation_of truth
+turned false truth = truth
+
+-- the same as a value
+abbrev pub turned_value : Bool → Asking Truth → Asking Value
+turned_value is_negated asking = followed_by asking (λ truth. known (Ok (value_of_truth (turned is_negated truth))))
+
 abbrev mutual
   -- no placed term has a column by its name
   pub value_of : Term → Shows → Environment → Asking Value

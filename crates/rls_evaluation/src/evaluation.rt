@@ -1,10 +1,11 @@
 //! The value of a placed expression, with its subqueries.
 
 ghost use Rattle.std.specs.Prelude.{◌≡◌, [], ◌++◌, ◌||◌, false, true, Some, None, drop, IfOk, OnOk, if◌then◌else◌};
-ghost use Rattle.rls_value.specs.{declared.truth.Truth.TheVariants.True, declared.truth.Truth.TheVariants.False, declared.value.Value.TheVariants.Null, Truths.disjunction_of};
+ghost use Rattle.rls_value.specs.{declared.truth.Truth.TheVariants.False, declared.value.Value.TheVariants.Null, Truths.disjunction_of};
 ghost use Rattle.rls_expr.specs.Terms as t;
 ghost use Rattle.rls_expr.specs.{Terms.maybe_term, Terms.terms_of, ExprTerms.query_of};
-ghost use Rattle.rls_evaluation.specs.{Alone.is_alone, Alone.items_seen, Alone.items_for, Alone.asked_query, Alone.with_item, Scoping.env_of, Scoping.held_value, Scoping.held_now, Scoping.maybe_held, Scoping.maybe_now, Scoping.number_value, Holding.Holds, Holding.Tells, Holding.shown_at, Holding.object_for, Holding.asked_of, Holding.is_key, Holding.put_in, Answering.Comes, Environments.inside, Keys.or_else, Gathering.gathered, Gathering.kept, Gathering.with_row, Showing.shows, Showing.judgements_on, Showing.is_allowed, Eval.value_of, Eval.together, Eval.and_value, Eval.or_value, Eval.or_equal, Eval.among_items, Eval.item_equals, Eval.item_of, Eval.item_or, Eval.meets, Eval.or_item, Eval.ranged_over};
+ghost use Rattle.rls_evaluation.specs.{Alone.is_alone, Alone.items_seen, Alone.items_for, Alone.asked_query, Alone.with_item, Scoping.env_of, Scoping.held_value, Scoping.held_now, Scoping.maybe_held, Scoping.maybe_now, Scoping.number_value, Holding.Holds, Holding.Tells, Holding.shown_at, Holding.object_for, Holding.asked_of, Holding.is_key, Holding.put_in, Answering.Comes, Environments.inside, Keys.or_else, Gathering.gathered, Gathering.kept, Gathering.with_row, Showing.shows, Showing.judgements_on, Showing.is_allowed, Eval.value_of, Eval.together, Eval.or_equal, Eval.among_items, Eval.item_equals, Eval.item_of, Eval.item_or, Eval.meets, Eval.or_item, Eval.ranged_over, Eval.turned, Eval.turned_value};
+ghost use Rattle.rls_source.specs.{Askings.followed_by, Footprints.with_object};
 ghost use Rattle.rls_evaluation.specs.Eval as means;
 ghost use Rattle.rls_evaluation.specs.Showing as spec;
 
@@ -13,7 +14,8 @@ use crate::deciding::deciding_on;
 use crate::fence::{Guard, View, allows, is_exempt, place_of};
 use crate::held::{Held, compare, equals, held_number, held_of, held_truth, joined};
 use crate::keys::{has_null, key_of};
-use crate::memo::{Rows, Work, found, keep_answer, place_of_answer, remember};
+use crate::memo::{Rows, Work, found, keep_answer, place_of_answer, remembered};
+use crate::noted::Noted;
 use crate::plain::plain_condition;
 use crate::scope::{Env, Scoped, column_value};
 use crate::tables::Tables;
@@ -51,13 +53,15 @@ pub fn eval<'a, 'c, S: Tables>(
         Node::Not(operand) => negation(alloc, source, work, view, operand, env),
         Node::IsNull(operand) => null_test(alloc, source, work, view, operand, env),
         Node::IsNotNull(operand) => not_null_test(alloc, source, work, view, operand, env),
-        Node::Among(operand, list) => among(alloc, source, work, view, operand, list, env),
-        Node::NotAmong(operand, list) => not_among(alloc, source, work, view, operand, list, env),
+        Node::Among(operand, list) => among(alloc, source, work, view, operand, list, false, env),
+        Node::NotAmong(operand, list) => among(alloc, source, work, view, operand, list, true, env),
         Node::Exists(query) => exists(alloc, source, work, view, query, env),
-        Node::Within(operand, query) => within(alloc, source, work, view, operand, query, env),
-        Node::NotWithin(operand, query) => {
-            not_within(alloc, source, work, view, operand, query, env)
-        }
+        Node::Within(operand, query) => within(
+            alloc, source, work, view, operand, query, false, env,
+        ),
+        Node::NotWithin(operand, query) => within(
+            alloc, source, work, view, operand, query, true, env,
+        ),
         Node::Scalar(query) => scalar(alloc, source, work, view, query, env),
         Node::Sum(signs, parts) => sum(alloc, source, work, view, signs, parts, env),
     }
@@ -118,30 +122,12 @@ fn conjunction<'a, 'c, S: Tables>(
     ensures tells { Tells (value_of (t.And (terms_of parts.now)) (shows (drop view.entry.from view.entry.fences.now) env.now.user.now) (env_of env.now)) (S.state source.old) (S.state source.new) work.old.notes work.new.notes (held_now result) }
     ensures holds { OnOk result (Holds view.entry.fences.now env.now.user.now (S.state source.new) work.new) }
 {
-    let truth = all_of(alloc, source, work, view, parts, env)?;
-    Ok(held_truth(truth))
-}
-
-/// AND of the parts.
-#[cycle(eval)]
-fn all_of<'a, 'c, S: Tables>(
-    alloc: Global,
-    source: &mut S,
-    work: &mut Work,
-    view: View<'a, 'c>,
-    parts: &'a [Expr],
-    env: &Env<'a>,
-) -> Result<Truth, AllocError>
-    requires { Holds view.fences.now env.now.user.now (S.state source.old) work.old }
-    ensures tells { Tells (together and_value True (terms_of parts.now) (shows (drop view.entry.from view.entry.fences.now) env.now.user.now) (env_of env.now)) (S.state source.old) (S.state source.new) work.old.notes work.new.notes result }
-    ensures holds { OnOk result (Holds view.entry.fences.now env.now.user.now (S.state source.new) work.new) }
-{
     let mut so_far = Truth::True;
     for part in parts {
         let held = condition_value(alloc, source, work, view, part, env)?;
         so_far = so_far.and(held.truth());
     }
-    Ok(so_far)
+    Ok(held_truth(so_far))
 }
 
 /// OR of the parts.
@@ -158,30 +144,12 @@ fn disjunction<'a, 'c, S: Tables>(
     ensures tells { Tells (value_of (t.Or (terms_of parts.now)) (shows (drop view.entry.from view.entry.fences.now) env.now.user.now) (env_of env.now)) (S.state source.old) (S.state source.new) work.old.notes work.new.notes (held_now result) }
     ensures holds { OnOk result (Holds view.entry.fences.now env.now.user.now (S.state source.new) work.new) }
 {
-    let truth = any_of(alloc, source, work, view, parts, env)?;
-    Ok(held_truth(truth))
-}
-
-/// OR of the parts.
-#[cycle(eval)]
-fn any_of<'a, 'c, S: Tables>(
-    alloc: Global,
-    source: &mut S,
-    work: &mut Work,
-    view: View<'a, 'c>,
-    parts: &'a [Expr],
-    env: &Env<'a>,
-) -> Result<Truth, AllocError>
-    requires { Holds view.fences.now env.now.user.now (S.state source.old) work.old }
-    ensures tells { Tells (together or_value False (terms_of parts.now) (shows (drop view.entry.from view.entry.fences.now) env.now.user.now) (env_of env.now)) (S.state source.old) (S.state source.new) work.old.notes work.new.notes result }
-    ensures holds { OnOk result (Holds view.entry.fences.now env.now.user.now (S.state source.new) work.new) }
-{
     let mut so_far = Truth::False;
     for part in parts {
         let held = condition_value(alloc, source, work, view, part, env)?;
         so_far = so_far.or(held.truth());
     }
-    Ok(so_far)
+    Ok(held_truth(so_far))
 }
 
 /// NOT.
@@ -238,7 +206,7 @@ fn not_null_test<'a, 'c, S: Tables>(
     Ok(Held::Bool(!held.is_null()))
 }
 
-/// `IN` with a list.
+/// `IN` or `NOT IN` with a list.
 #[cycle(eval)]
 fn among<'a, 'c, S: Tables>(
     alloc: Global,
@@ -247,35 +215,16 @@ fn among<'a, 'c, S: Tables>(
     view: View<'a, 'c>,
     operand: &'a Expr,
     list: &'a [Expr],
+    is_negated: bool,
     env: &Env<'a>,
 ) -> Result<Held<'a>, AllocError>
     requires { Holds view.fences.now env.now.user.now (S.state source.old) work.old }
-    ensures tells { Tells (value_of (t.Among operand.now (terms_of list.now)) (shows (drop view.entry.from view.entry.fences.now) env.now.user.now) (env_of env.now)) (S.state source.old) (S.state source.new) work.old.notes work.new.notes (held_now result) }
+    ensures tells { Tells (followed_by (value_of operand.now (shows (drop view.entry.from view.entry.fences.now) env.now.user.now) (env_of env.now)) (λ x. turned_value is_negated (together (or_equal x) False (terms_of list.now) (shows (drop view.entry.from view.entry.fences.now) env.now.user.now) (env_of env.now)))) (S.state source.old) (S.state source.new) work.old.notes work.new.notes (held_now result) }
     ensures holds { OnOk result (Holds view.entry.fences.now env.now.user.now (S.state source.new) work.new) }
 {
     let held = eval(alloc, source, work, view, operand, env)?;
     let truth = is_one_of(alloc, source, work, view, &held, list, env)?;
-    Ok(held_truth(truth))
-}
-
-/// `NOT IN` with a list.
-#[cycle(eval)]
-fn not_among<'a, 'c, S: Tables>(
-    alloc: Global,
-    source: &mut S,
-    work: &mut Work,
-    view: View<'a, 'c>,
-    operand: &'a Expr,
-    list: &'a [Expr],
-    env: &Env<'a>,
-) -> Result<Held<'a>, AllocError>
-    requires { Holds view.fences.now env.now.user.now (S.state source.old) work.old }
-    ensures tells { Tells (value_of (t.NotAmong operand.now (terms_of list.now)) (shows (drop view.entry.from view.entry.fences.now) env.now.user.now) (env_of env.now)) (S.state source.old) (S.state source.new) work.old.notes work.new.notes (held_now result) }
-    ensures holds { OnOk result (Holds view.entry.fences.now env.now.user.now (S.state source.new) work.new) }
-{
-    let held = eval(alloc, source, work, view, operand, env)?;
-    let truth = is_one_of(alloc, source, work, view, &held, list, env)?;
-    Ok(held_truth(truth.not()))
+    Ok(held_truth(turned(truth, is_negated)))
 }
 
 /// Whether the value is equal to one of the list.
@@ -386,7 +335,7 @@ fn exists<'a, 'c, S: Tables>(
         return exists_alone(alloc, source, work, view, query, env);
     }
     let rows = rows_for(alloc, source, work, view, query, env)?;
-    let is = is_met(
+    let met = is_met(
         alloc,
         source,
         work,
@@ -394,8 +343,12 @@ fn exists<'a, 'c, S: Tables>(
         &query.condition,
         &*env,
         rows.as_slice(),
-    )?;
-    Ok(Held::Bool(is))
+    );
+    drop(rows);
+    match met {
+        Ok(met) => Ok(Held::Bool(met)),
+        Err(refused) => Err(refused),
+    }
 }
 
 /// `EXISTS` of a subquery that names no column further out: as it was found before, or found and kept.
@@ -455,7 +408,7 @@ fn is_met<'a, 'c, S: Tables>(
     Ok(so_far)
 }
 
-/// `IN` with a subquery.
+/// `IN` or `NOT IN` with a subquery.
 #[cycle(eval)]
 fn within<'a, 'c, S: Tables>(
     alloc: Global,
@@ -464,35 +417,16 @@ fn within<'a, 'c, S: Tables>(
     view: View<'a, 'c>,
     operand: &'a Expr,
     query: &'a Subquery,
+    is_negated: bool,
     env: &Env<'a>,
 ) -> Result<Held<'a>, AllocError>
     requires { Holds view.fences.now env.now.user.now (S.state source.old) work.old }
-    ensures tells { Tells (value_of (t.Within operand.now (query_of query.now)) (shows (drop view.entry.from view.entry.fences.now) env.now.user.now) (env_of env.now)) (S.state source.old) (S.state source.new) work.old.notes work.new.notes (held_now result) }
+    ensures tells { Tells (followed_by (value_of operand.now (shows (drop view.entry.from view.entry.fences.now) env.now.user.now) (env_of env.now)) (λ x. turned_value is_negated (among_items x (query_of query.now) (shows (drop view.entry.from view.entry.fences.now) env.now.user.now) (env_of env.now)))) (S.state source.old) (S.state source.new) work.old.notes work.new.notes (held_now result) }
     ensures holds { OnOk result (Holds view.entry.fences.now env.now.user.now (S.state source.new) work.new) }
 {
     let held = eval(alloc, source, work, view, operand, env)?;
     let truth = is_within(alloc, source, work, view, &held, query, env)?;
-    Ok(held_truth(truth))
-}
-
-/// `NOT IN` with a subquery.
-#[cycle(eval)]
-fn not_within<'a, 'c, S: Tables>(
-    alloc: Global,
-    source: &mut S,
-    work: &mut Work,
-    view: View<'a, 'c>,
-    operand: &'a Expr,
-    query: &'a Subquery,
-    env: &Env<'a>,
-) -> Result<Held<'a>, AllocError>
-    requires { Holds view.fences.now env.now.user.now (S.state source.old) work.old }
-    ensures tells { Tells (value_of (t.NotWithin operand.now (query_of query.now)) (shows (drop view.entry.from view.entry.fences.now) env.now.user.now) (env_of env.now)) (S.state source.old) (S.state source.new) work.old.notes work.new.notes (held_now result) }
-    ensures holds { OnOk result (Holds view.entry.fences.now env.now.user.now (S.state source.new) work.new) }
-{
-    let held = eval(alloc, source, work, view, operand, env)?;
-    let truth = is_within(alloc, source, work, view, &held, query, env)?;
-    Ok(held_truth(truth.not()))
+    Ok(held_truth(turned(truth, is_negated)))
 }
 
 /// Whether the value is equal to the item of a row that meets the condition.
@@ -523,8 +457,9 @@ fn is_within<'a, 'c, S: Tables>(
         query,
         &*env,
         rows.as_slice(),
-    )?;
-    Ok(truth)
+    );
+    drop(rows);
+    truth
 }
 
 /// The same of a subquery that names no column further out: its items are looked up in a set, which is made once.
@@ -584,8 +519,12 @@ fn items_alone<'a, 'c, S: Tables>(
         has_items,
         &*env,
         rows.as_slice(),
-    )?;
-    ValueSet::of(alloc, values)
+    );
+    drop(rows);
+    match values {
+        Ok(values) => ValueSet::of(alloc, values),
+        Err(refused) => Err(refused),
+    }
 }
 
 /// The items of these rows that meet the condition.
@@ -681,8 +620,9 @@ fn scalar<'a, 'c, S: Tables>(
     ensures holds { OnOk result (Holds view.entry.fences.now env.now.user.now (S.state source.new) work.new) }
 {
     let rows = rows_for(alloc, source, work, view, query, env)?;
-    let item = first_item(alloc, source, work, view, query, &*env, rows.as_slice())?;
-    Ok(item)
+    let item = first_item(alloc, source, work, view, query, &*env, rows.as_slice());
+    drop(rows);
+    item
 }
 
 /// The item of the first of these rows that meets the condition, whose text is its own; null where there is none.
@@ -842,21 +782,26 @@ fn shown_once<'a, 'c, S: Tables>(
     ensures holds { OnOk result (Holds view.entry.fences.now user.now (S.state source.new) work.new) }
 {
     if is_looked_up(view, &object) {
-        let rows = shown(alloc, source, work, view, user, &object)?;
+        let rows = shown(alloc, source, work, view, user, &object);
         drop(object);
-        return Ok(rows);
+        return rows;
     }
-    let known = found(&work.seen, view.from, &object)?;
+    let known = found(&work.seen, view.from, &object);
     match known {
-        Some(rows) => {
+        Ok(Some(rows)) => {
             drop(object);
             Ok(rows)
         }
-        None => {
-            let rows = shown(alloc, source, work, view, user, &object)?;
-            let copy = rows.share()?;
-            remember(&mut work.seen, object, view.from, copy)?;
-            Ok(rows)
+        Ok(None) => match shown(alloc, source, work, view, user, &object) {
+            Ok(rows) => remembered(&mut work.seen, object, view.from, rows),
+            Err(refused) => {
+                drop(object);
+                Err(refused)
+            }
+        },
+        Err(refused) => {
+            drop(object);
+            Err(refused)
         }
     }
 }
@@ -906,14 +851,14 @@ fn asked<'a, 'c, S: Tables>(
 {
     match object {
         Object::Rows(table) => {
-            work.notes.note(object.copy(alloc)?)?;
+            note_of(alloc, &mut work.notes, object)?;
             source.all_rows(alloc, table)
         }
         Object::Key(table, key) => {
             if has_null(key.as_slice()) {
                 return Ok(Items::new(alloc));
             }
-            work.notes.note(object.copy(alloc)?)?;
+            note_of(alloc, &mut work.notes, object)?;
             source.rows_with(alloc, table, key)
         }
         Object::Role(_)
@@ -922,6 +867,16 @@ fn asked<'a, 'c, S: Tables>(
         | Object::Grants(_)
         | Object::Policies(_)
         | Object::RowOf(_, _) => Ok(Items::new(alloc)),
+    }
+}
+
+/// Notes the object.
+fn note_of(alloc: Global, notes: &mut Noted, object: &Object) -> Result<(), AllocError>
+    ensures { OnOk result (notes.new ≡ with_object notes.old object.now) }
+{
+    match object.copy(alloc) {
+        Ok(object) => notes.note(object),
+        Err(refused) => Err(refused),
     }
 }
 
@@ -1081,6 +1036,12 @@ fn push_if(alloc: Global, rows: &mut Items<Row>, is: bool, row: &Row) -> Result<
         rows.push(row.copy(alloc)?)?;
     }
     Ok(())
+}
+
+fn turned(truth: Truth, is_negated: bool) -> Truth
+    ensures { result ≡ turned is_negated truth }
+{
+    if is_negated { truth.not() } else { truth }
 }
 
 fn either(one: bool, other: bool) -> bool

@@ -138,8 +138,34 @@ pub fn found(
     }
 }
 
+/// Keeps what was shown of the object, and gives it.
+pub fn remembered(
+    seen: &mut BTreeMap<Object, Seen>,
+    object: Object,
+    place: usize,
+    rows: Rows,
+) -> Result<Rows, AllocError>
+    ensures gives { IfOk result (λ it. it ≡ rows) }
+    ensures kept { OnOk result ((other : Object) → lookup (is_at (object_order other)) seen.new.entries ≡ cond (is_object object other) (Some (record { place = place; rows = rows })) (lookup (is_at (object_order other)) seen.old.entries)) }
+{
+    match rows.share() {
+        Ok(copy) => match remember(seen, object, place, copy) {
+            Ok(()) => Ok(rows),
+            Err(refused) => {
+                drop(rows);
+                Err(refused)
+            }
+        },
+        Err(refused) => {
+            drop(object);
+            drop(rows);
+            Err(refused)
+        }
+    }
+}
+
 /// Keeps what was shown of the object.
-pub fn remember(
+fn remember(
     seen: &mut BTreeMap<Object, Seen>,
     object: Object,
     place: usize,

@@ -1,13 +1,16 @@
 //! The names in a statement, which have to be there.
 
-ghost use Rattle.std.specs.Prelude.{◌≡◌, [], ◌∷◌, ◌++◌, drop, map, None, IfOk, OnOk};
-ghost use Rattle.rls_value.specs.Giving.{Gives};
+ghost use Rattle.std.specs.Prelude.{◌≡◌, [], ◌∷◌, ◌++◌, drop, map, None, Ok, IfOk, OnOk};
+ghost use Rattle.rls_value.specs.Giving.{Gives, and_then};
 ghost use Rattle.rls_expr.specs.Naming.{step_of};
 ghost use Rattle.rls_expr.specs.Scopes.{place_in, place_lent};
+ghost use Rattle.rls_expr.specs.Terms.{qualifier_of};
 ghost use Rattle.rls_source.specs.Answering.{Answers};
 ghost use Rattle.rls_guard.specs.Naming as spec;
 
-use rls_expr::{ColumnName, NameStep, NamedTable, Place, TableDef, place_of, unqualified};
+use rls_expr::{
+    ColumnName, FromItem, NameStep, NamedTable, Place, TableDef, place_of, unqualified,
+};
 use rls_source::{Reads, RowSource, table_named};
 use rls_value::{Items, Name, NameKind, Refusal};
 use std::alloc::{AllocError, Global};
@@ -29,20 +32,40 @@ pub fn named<'c, S: RowSource<'c>>(
 {
     let mut found = found;
     let mut tables = tables;
-    for step in steps {
-        match step {
-            NameStep::Column(name) => require_column(&tables, name)?,
-            NameStep::Target(name) => require_target(&tables, name)?,
-            NameStep::Begin(from) => {
-                let table = table_named(alloc, source, notes, &from.table)?;
-                put_known(&mut found, &from.table, table)?;
-                put_in_front(&mut tables, from.qualifier(), table)?;
-            }
-            NameStep::End => leave(&mut tables),
+    let looked = look_for(alloc, source, notes, steps, &mut tables, &mut found);
+    drop(tables);
+    match looked {
+        Ok(()) => Ok(found),
+        Err(refusal) => {
+            drop(found);
+            Err(refusal)
         }
     }
-    drop(tables);
-    Ok(found)
+}
+
+/// The same, over the tables in scope and those found, which it changes.
+fn look_for<'c, S: RowSource<'c>>(
+    alloc: Global,
+    source: &mut S,
+    notes: &mut Reads,
+    steps: &[NameStep],
+    tables: &mut Vec<NamedTable<'c>>,
+    found: &mut Found<'c>,
+) -> Result<(), Refusal>
+    ensures { Answers S.state S.after (spec.named (map step_of steps.now) tables.old.items found.old) source.old source.new notes.old notes.new (and_then result (λ _. Ok found.new)) }
+{
+    for step in steps {
+        match step {
+            NameStep::Column(name) => require_column(tables, name)?,
+            NameStep::Target(name) => require_target(tables, name)?,
+            NameStep::Begin(from) => {
+                let table = table_named(alloc, source, notes, &from.table)?;
+                enter(tables, found, from, table)?;
+            }
+            NameStep::End => leave(tables),
+        }
+    }
+    Ok(())
 }
 
 fn require_column(tables: &[NamedTable], name: &ColumnName) -> Result<(), Refusal>
@@ -64,6 +87,20 @@ fn require_place(place: Result<Place, (NameKind, &Name)>) -> Result<(), Refusal>
         Ok(_) => Ok(()),
         Err((kind, name)) => Err(Refusal::Undefined(kind, name.copy()?)),
     }
+}
+
+/// A subquery's table is the innermost, and is found.
+fn enter<'c>(
+    tables: &mut Vec<NamedTable<'c>>,
+    found: &mut Found<'c>,
+    from: &FromItem,
+    table: &'c TableDef,
+) -> Result<(), AllocError>
+    ensures scope { OnOk result (tables.new.items ≡ (qualifier_of from.now, table.now) ∷ tables.old.items) }
+    ensures known { OnOk result (found.new ≡ found.old ++ (from.now.table, table.now) ∷ []) }
+{
+    put_known(found, &from.table, table)?;
+    put_in_front(tables, from.qualifier(), table)
 }
 
 /// The table behind the others.
@@ -117,6 +154,6 @@ fn one_table<'c>(
     ensures { IfOk result (λ tables. tables.items ≡ (name.now, table.now) ∷ []) }
 {
     let mut tables = Vec::with_capacity(alloc, 1)?;
-    tables.push(NamedTable::new(name, table)?)?;
+    put_in_front(&mut tables, name, table)?;
     Ok(tables)
 }

@@ -1,24 +1,24 @@
 use Rattle.std.proofs.Common.{rules, arith, ap, sym, subst, ◌∙◌, ◌+◌, refl, ◌≡◌, ◌∷◌, ◌++◌, [], ◌||◌, true, ◌≤◌, drop, false, length, slice_index_or, Ok, List}
 use Rattle.std.specs.Prelude.{Option, Some, None, IfOk}
 use Rattle.std.proofs.Math.Bool.{or_assoc}
-use Rattle.rls_value.specs.{declared.value.Value.Value, declared.truth.Truth.Truth, declared.value.Value.TheVariants.Null, declared.value.Value.TheVariants.Bool as Flag, declared.truth.Truth.TheVariants.True, declared.truth.Truth.TheVariants.False, Truths.conjunction_of, Truths.disjunction_of, Truths.negation_of, Values.equal_values, Values.truth_in, Values.value_of_truth}
+use Rattle.rls_value.specs.{declared.value.Value.Value, declared.truth.Truth.Truth, declared.value.Value.TheVariants.Null, declared.value.Value.TheVariants.Bool as Flag, declared.truth.Truth.TheVariants.True, declared.truth.Truth.TheVariants.False, Truths.conjunction_of, Truths.disjunction_of, Values.equal_values, Values.truth_in, Values.value_of_truth}
 use Rattle.rls_expr.specs.{declared.expr.Sign.TheVariants.Plus, ExprTerms.query_of, Terms.maybe_term, Terms.terms_of}
 use Rattle.rls_expr.specs.Terms as terms
 use Rattle.rls_expr.proofs.TermSizes.{size_at}
 use Rattle.rls_source.specs.{Readings.unread, Askings.Asking, Askings.known, Askings.followed_by}
-use Rattle.rls_evaluation.specs.{Environments.inside, Environments.compared, Environments.over, Environments.number_or_null, Environments.joined, Gathering.gathered, Gathering.kept, Gathering.with_row, Answering.FoundAt, ValueSets.IsSetOf, Showing.shows, Showing.judgements_on, Showing.is_allowed, Showing.is_exempt, Showing.with_judgement, Holding.Holds, Holding.Tells, Holding.shown_at, Holding.object_for, Alone.items_seen, Alone.items_for, Alone.asked_query, Alone.with_item, Alone.any_equal, Eval.value_of, Eval.together, Eval.and_value, Eval.or_value, Eval.or_equal, Eval.as_value, Eval.negated, Eval.among_items, Eval.item_equals, Eval.item_if, Eval.item_of, Eval.item_or, Eval.meets, Eval.or_item, Eval.ranged_over, Eval.has_row, Eval.sum_from, Scoping.env_of, Scoping.held_value, Scoping.held_now, Scoping.maybe_held, Scoping.maybe_now, Scoping.number_value}
-use Rattle.rls_evaluation.proofs.{Telling.leads_whole, Telling.tells_then, Telling.tells_as, Telling.tells_same, Telling.tells_unread, Telling.tells_on, Telling.tells_over, Telling.tells_item, Telling.tells_result, Telling.drop_at, AnswerLemmas.holds_answered, AnswerLemmas.comes_found, AnswerLemmas.exists_told, AnswerLemmas.within_told, AnswerLemmas.seen_over, AnswerLemmas.null_told, AnswerLemmas.comes_of, Absorbing.holds_shown, Exempting.given_as, Exempting.tells_exempt, Fencing.shows_found, Fencing.shows_none, Fencing.size_found, Fencing.condition_at, LoopLemmas.and_again, LoopLemmas.or_again, LoopLemmas.and_none, LoopLemmas.or_none, LoopLemmas.terms_turn, LoopLemmas.rows_turn, LoopLemmas.item_again, LoopLemmas.item_added, LoopLemmas.row_added, LoopLemmas.judgement_added, LoopLemmas.sum_told, LoopLemmas.sum_on}
+use Rattle.rls_evaluation.specs.{Environments.inside, Environments.compared, Environments.over, Environments.number_or_null, Environments.joined, Gathering.gathered, Gathering.kept, Gathering.with_row, Answering.FoundAt, ValueSets.IsSetOf, Showing.shows, Showing.judgements_on, Showing.is_allowed, Showing.is_exempt, Showing.with_judgement, Holding.Holds, Holding.Tells, Holding.shown_at, Holding.object_for, Alone.items_seen, Alone.items_for, Alone.asked_query, Alone.with_item, Alone.any_equal, Eval.value_of, Eval.together, Eval.and_value, Eval.or_value, Eval.or_equal, Eval.turned, Eval.turned_value, Eval.among_items, Eval.item_equals, Eval.item_if, Eval.item_of, Eval.item_or, Eval.meets, Eval.or_item, Eval.ranged_over, Eval.has_row, Eval.sum_from, Scoping.env_of, Scoping.held_value, Scoping.held_now, Scoping.maybe_held, Scoping.maybe_now, Scoping.number_value}
+use Rattle.rls_evaluation.proofs.{Telling.leads_whole, Telling.tells_then, Telling.tells_as, Telling.tells_same, Telling.tells_unread, Telling.tells_on, Telling.tells_over, Telling.tells_of, Telling.tells_item, Telling.tells_given, Telling.on_ok_then, Telling.drop_at, AnswerLemmas.holds_answered, AnswerLemmas.comes_found, AnswerLemmas.exists_told, AnswerLemmas.within_told, AnswerLemmas.seen_over, AnswerLemmas.null_told, AnswerLemmas.comes_of, Absorbing.holds_shown, Exempting.given_as, Exempting.tells_exempt, Fencing.shows_found, Fencing.shows_none, Fencing.size_found, Fencing.condition_at, LoopLemmas.and_again, LoopLemmas.or_again, LoopLemmas.and_none, LoopLemmas.or_none, LoopLemmas.and_last, LoopLemmas.or_last, LoopLemmas.terms_turn, LoopLemmas.terms_end, LoopLemmas.rows_turn, LoopLemmas.item_again, LoopLemmas.item_added, LoopLemmas.row_added, LoopLemmas.judgement_added, LoopLemmas.sum_told, LoopLemmas.sum_on}
 use Rattle.rls_evaluation.proofs.evaluation.+eval.Goals as goal
 
-pub all_of-loop-part-init : goal.all_of-loop-part-init
-all_of-loop-part-init g t c =
+pub conjunction-loop-part-init : goal.conjunction-loop-part-init
+conjunction-loop-part-init g t c =
     record { stands = refl; leads = leads_whole (together and_value True (terms_of c.args.parts.now) (shows (drop c.args.view.from c.args.view.fences.now) c.args.env.now.user.now) (env_of c.args.env.now)) (conjunction_of True) _ _ and_none; holds = c.requires }
 
-pub all_of-condition_value-requires : goal.all_of-condition_value-requires
-all_of-condition_value-requires g t c κs within = (omega (arith, size_at _ _ _ c.loop-part-test.true c.part-item.is), search rules)
+pub conjunction-condition_value-requires : goal.conjunction-condition_value-requires
+conjunction-condition_value-requires g t c κs within = (omega (arith, size_at _ _ _ c.loop-part-test.true c.part-item.is), search rules)
 
-pub all_of-loop-part-preserved : goal.all_of-loop-part-preserved
-all_of-loop-part-preserved g t c =
+pub conjunction-loop-part-preserved : goal.conjunction-loop-part-preserved
+conjunction-loop-part-preserved g t c =
     record {
       stands = c.in_ok-held.ensures.tells.stands ∙ c.loop-part.invariant.stands;
       leads = terms_turn conjunction_of and_again truth_in True (shows (drop c.args.view.from c.args.view.fences.now) c.args.env.now.user.now) (env_of c.args.env.now)
@@ -27,15 +27,21 @@ all_of-loop-part-preserved g t c =
       holds = c.in_ok-held.ensures.holds;
     }
 
-pub any_of-loop-part-init : goal.any_of-loop-part-init
-any_of-loop-part-init g t c =
+pub conjunction-returns-clause-tells : goal.conjunction-returns-clause-tells
+conjunction-returns-clause-tells g t c =
+    tells_as (together and_value True (terms_of c.args.parts.now) (shows (drop c.args.view.from c.args.view.fences.now) c.args.env.now.user.now) (env_of c.args.env.now)) value_of_truth _ _ _ _ c.loop-part.so_far (held_value c.held_truth.result)
+    (terms_end conjunction_of truth_in True (shows (drop c.args.view.from c.args.view.fences.now) c.args.env.now.user.now) (env_of c.args.env.now) c.args.parts.now c.loop-part.part-index c.loop-part.so_far _ _ _ _ c.loop-part-test.false (and_last c.loop-part.so_far) c.loop-part.invariant.stands c.loop-part.invariant.leads)
+    (search rules)
+
+pub disjunction-loop-part-init : goal.disjunction-loop-part-init
+disjunction-loop-part-init g t c =
     record { stands = refl; leads = leads_whole (together or_value False (terms_of c.args.parts.now) (shows (drop c.args.view.from c.args.view.fences.now) c.args.env.now.user.now) (env_of c.args.env.now)) (disjunction_of False) _ _ or_none; holds = c.requires }
 
-pub any_of-condition_value-requires : goal.any_of-condition_value-requires
-any_of-condition_value-requires g t c κs within = (omega (arith, size_at _ _ _ c.loop-part-test.true c.part-item.is), search rules)
+pub disjunction-condition_value-requires : goal.disjunction-condition_value-requires
+disjunction-condition_value-requires g t c κs within = (omega (arith, size_at _ _ _ c.loop-part-test.true c.part-item.is), search rules)
 
-pub any_of-loop-part-preserved : goal.any_of-loop-part-preserved
-any_of-loop-part-preserved g t c =
+pub disjunction-loop-part-preserved : goal.disjunction-loop-part-preserved
+disjunction-loop-part-preserved g t c =
     record {
       stands = c.in_ok-held.ensures.tells.stands ∙ c.loop-part.invariant.stands;
       leads = terms_turn disjunction_of or_again truth_in False (shows (drop c.args.view.from c.args.view.fences.now) c.args.env.now.user.now) (env_of c.args.env.now)
@@ -43,6 +49,12 @@ any_of-loop-part-preserved g t c =
           c.loop-part-test.true c.part-item.is (c.or-so_far.ensures ∙ ap (disjunction_of c.loop-part.so_far) c.truth.ensures) c.loop-part.invariant.stands c.loop-part.invariant.leads c.in_ok-held.ensures.tells;
       holds = c.in_ok-held.ensures.holds;
     }
+
+pub disjunction-returns-clause-tells : goal.disjunction-returns-clause-tells
+disjunction-returns-clause-tells g t c =
+    tells_as (together or_value False (terms_of c.args.parts.now) (shows (drop c.args.view.from c.args.view.fences.now) c.args.env.now.user.now) (env_of c.args.env.now)) value_of_truth _ _ _ _ c.loop-part.so_far (held_value c.held_truth.result)
+    (terms_end disjunction_of truth_in False (shows (drop c.args.view.from c.args.view.fences.now) c.args.env.now.user.now) (env_of c.args.env.now) c.args.parts.now c.loop-part.part-index c.loop-part.so_far _ _ _ _ c.loop-part-test.false (or_last c.loop-part.so_far) c.loop-part.invariant.stands c.loop-part.invariant.leads)
+    (search rules)
 
 pub is_one_of-loop-part-init : goal.is_one_of-loop-part-init
 is_one_of-loop-part-init g t c =
@@ -63,27 +75,15 @@ is_one_of-loop-part-preserved g t c =
 
 pub among-returns-clause-tells : goal.among-returns-clause-tells
 among-returns-clause-tells g t c =
-    tells_then (value_of c.args.operand.now (shows (drop c.args.view.from c.args.view.fences.now) c.args.env.now.user.now) (env_of c.args.env.now)) (λ x. as_value (together (or_equal x) False (terms_of c.args.list.now) (shows (drop c.args.view.from c.args.view.fences.now) c.args.env.now.user.now) (env_of c.args.env.now)))
+    tells_then (value_of c.args.operand.now (shows (drop c.args.view.from c.args.view.fences.now) c.args.env.now.user.now) (env_of c.args.env.now)) (λ x. turned_value c.args.is_negated (together (or_equal x) False (terms_of c.args.list.now) (shows (drop c.args.view.from c.args.view.fences.now) c.args.env.now.user.now) (env_of c.args.env.now)))
     _ _ _ _ _ _ (held_value c.in_ok-held.held) (held_value c.held_truth.result) c.in_ok-held.ensures.tells
-    (tells_as (together (or_equal (held_value c.in_ok-held.held)) False (terms_of c.args.list.now) (shows (drop c.args.view.from c.args.view.fences.now) c.args.env.now.user.now) (env_of c.args.env.now)) value_of_truth _ _ _ _ c.in_ok-truth.truth (held_value c.held_truth.result) c.in_ok-truth.ensures.tells (search rules))
-
-pub not_among-returns-clause-tells : goal.not_among-returns-clause-tells
-not_among-returns-clause-tells g t c =
-    tells_then (value_of c.args.operand.now (shows (drop c.args.view.from c.args.view.fences.now) c.args.env.now.user.now) (env_of c.args.env.now)) (λ x. negated (together (or_equal x) False (terms_of c.args.list.now) (shows (drop c.args.view.from c.args.view.fences.now) c.args.env.now.user.now) (env_of c.args.env.now)))
-    _ _ _ _ _ _ (held_value c.in_ok-held.held) (held_value c.held_truth.result) c.in_ok-held.ensures.tells
-    (tells_as (together (or_equal (held_value c.in_ok-held.held)) False (terms_of c.args.list.now) (shows (drop c.args.view.from c.args.view.fences.now) c.args.env.now.user.now) (env_of c.args.env.now)) (λ truth. value_of_truth (negation_of truth)) _ _ _ _ c.in_ok-truth.truth (held_value c.held_truth.result) c.in_ok-truth.ensures.tells (search rules))
+    (tells_as (together (or_equal (held_value c.in_ok-held.held)) False (terms_of c.args.list.now) (shows (drop c.args.view.from c.args.view.fences.now) c.args.env.now.user.now) (env_of c.args.env.now)) (λ truth. value_of_truth (turned c.args.is_negated truth)) _ _ _ _ c.in_ok-truth.truth (held_value c.held_truth.result) c.in_ok-truth.ensures.tells (search rules))
 
 pub within-returns-clause-tells : goal.within-returns-clause-tells
 within-returns-clause-tells g t c =
-    tells_then (value_of c.args.operand.now (shows (drop c.args.view.from c.args.view.fences.now) c.args.env.now.user.now) (env_of c.args.env.now)) (λ x. as_value (among_items x (query_of c.args.query.now) (shows (drop c.args.view.from c.args.view.fences.now) c.args.env.now.user.now) (env_of c.args.env.now)))
+    tells_then (value_of c.args.operand.now (shows (drop c.args.view.from c.args.view.fences.now) c.args.env.now.user.now) (env_of c.args.env.now)) (λ x. turned_value c.args.is_negated (among_items x (query_of c.args.query.now) (shows (drop c.args.view.from c.args.view.fences.now) c.args.env.now.user.now) (env_of c.args.env.now)))
     _ _ _ _ _ _ (held_value c.in_ok-held.held) (held_value c.held_truth.result) c.in_ok-held.ensures.tells
-    (tells_as (among_items (held_value c.in_ok-held.held) (query_of c.args.query.now) (shows (drop c.args.view.from c.args.view.fences.now) c.args.env.now.user.now) (env_of c.args.env.now)) value_of_truth _ _ _ _ c.in_ok-truth.truth (held_value c.held_truth.result) c.in_ok-truth.ensures.tells (search rules))
-
-pub not_within-returns-clause-tells : goal.not_within-returns-clause-tells
-not_within-returns-clause-tells g t c =
-    tells_then (value_of c.args.operand.now (shows (drop c.args.view.from c.args.view.fences.now) c.args.env.now.user.now) (env_of c.args.env.now)) (λ x. negated (among_items x (query_of c.args.query.now) (shows (drop c.args.view.from c.args.view.fences.now) c.args.env.now.user.now) (env_of c.args.env.now)))
-    _ _ _ _ _ _ (held_value c.in_ok-held.held) (held_value c.held_truth.result) c.in_ok-held.ensures.tells
-    (tells_as (among_items (held_value c.in_ok-held.held) (query_of c.args.query.now) (shows (drop c.args.view.from c.args.view.fences.now) c.args.env.now.user.now) (env_of c.args.env.now)) (λ truth. value_of_truth (negation_of truth)) _ _ _ _ c.in_ok-truth.truth (held_value c.held_truth.result) c.in_ok-truth.ensures.tells (search rules))
+    (tells_as (among_items (held_value c.in_ok-held.held) (query_of c.args.query.now) (shows (drop c.args.view.from c.args.view.fences.now) c.args.env.now.user.now) (env_of c.args.env.now)) (λ truth. value_of_truth (turned c.args.is_negated truth)) _ _ _ _ c.in_ok-truth.truth (held_value c.held_truth.result) c.in_ok-truth.ensures.tells (search rules))
 
 pub comparison-returns-clause-tells : goal.comparison-returns-clause-tells
 comparison-returns-clause-tells g t c =
@@ -104,7 +104,7 @@ eval-returns-in-Among-clause-tells g t c =
 pub eval-returns-in-NotAmong-clause-tells : goal.eval-returns-in-NotAmong-clause-tells
 eval-returns-in-NotAmong-clause-tells g t c =
     let same : terms.NotAmong c.deref-in-NotAmong.result.now (terms_of c.deref-in-NotAmong-2.result.now) ≡ c.args.expr.now = search rules in
-    subst (λ k. Tells (value_of k (shows (drop c.args.view.from c.args.view.fences.now) c.args.env.now.user.now) (env_of c.args.env.now)) (g.S.Tables.state c.args.source.now) (g.S.Tables.state c.not_among.new.source) c.args.work.now.notes c.not_among.new.work.notes (held_now c.not_among.result)) same c.not_among.ensures.tells
+    subst (λ k. Tells (value_of k (shows (drop c.args.view.from c.args.view.fences.now) c.args.env.now.user.now) (env_of c.args.env.now)) (g.S.Tables.state c.args.source.now) (g.S.Tables.state c.among-in-NotAmong.new.source) c.args.work.now.notes c.among-in-NotAmong.new.work.notes (held_now c.among-in-NotAmong.result)) same c.among-in-NotAmong.ensures.tells
 
 pub eval-returns-in-Exists-clause-tells : goal.eval-returns-in-Exists-clause-tells
 eval-returns-in-Exists-clause-tells g t c =
@@ -119,25 +119,25 @@ eval-returns-in-Within-clause-tells g t c =
 pub eval-returns-in-NotWithin-clause-tells : goal.eval-returns-in-NotWithin-clause-tells
 eval-returns-in-NotWithin-clause-tells g t c =
     let same : terms.NotWithin c.deref-in-NotWithin.result.now (query_of c.deref-in-NotWithin-2.result.now) ≡ c.args.expr.now = search rules in
-    subst (λ k. Tells (value_of k (shows (drop c.args.view.from c.args.view.fences.now) c.args.env.now.user.now) (env_of c.args.env.now)) (g.S.Tables.state c.args.source.now) (g.S.Tables.state c.not_within.new.source) c.args.work.now.notes c.not_within.new.work.notes (held_now c.not_within.result)) same c.not_within.ensures.tells
+    subst (λ k. Tells (value_of k (shows (drop c.args.view.from c.args.view.fences.now) c.args.env.now.user.now) (env_of c.args.env.now)) (g.S.Tables.state c.args.source.now) (g.S.Tables.state c.within-in-NotWithin.new.source) c.args.work.now.notes c.within-in-NotWithin.new.work.notes (held_now c.within-in-NotWithin.result)) same c.within-in-NotWithin.ensures.tells
 
 pub eval-returns-in-Scalar-clause-tells : goal.eval-returns-in-Scalar-clause-tells
 eval-returns-in-Scalar-clause-tells g t c =
     let same : terms.Scalar (query_of c.deref-in-Scalar.result.now) ≡ c.args.expr.now = search rules in
     subst (λ k. Tells (value_of k (shows (drop c.args.view.from c.args.view.fences.now) c.args.env.now.user.now) (env_of c.args.env.now)) (g.S.Tables.state c.args.source.now) (g.S.Tables.state c.scalar.new.source) c.args.work.now.notes c.scalar.new.work.notes (held_now c.scalar.result)) same c.scalar.ensures.tells
 
-pub exists-returns-clause-tells : goal.exists-returns-clause-tells
-exists-returns-clause-tells g t c =
-    tells_as (has_row (query_of c.args.query.now) (shows (drop c.args.view.from c.args.view.fences.now) c.args.env.now.user.now) (env_of c.args.env.now)) Flag _ _ _ _ c.in_ok-is.is' (Flag c.in_ok-is.is')
-    (tells_over (ranged_over (query_of c.args.query.now) (shows (drop c.args.view.from c.args.view.fences.now) c.args.env.now.user.now) (env_of c.args.env.now)) (λ rows. gathered (λ row is rest. is || rest) false (λ row. meets (maybe_term c.args.query.now.condition) (shows (drop c.args.view.from c.args.view.fences.now) c.args.env.now.user.now) (inside row (env_of c.args.env.now))) rows) _ _ _ _ _ _ c.in_ok-rows.rows c.as_slice.result.now c.in_ok-is.is' c.as_slice.ensures c.in_ok-rows.ensures.tells c.in_ok-is.ensures.tells) refl
+pub exists-returns-in-Ok-clause-tells : goal.exists-returns-in-Ok-clause-tells
+exists-returns-in-Ok-clause-tells g t c =
+    tells_as (has_row (query_of c.args.query.now) (shows (drop c.args.view.from c.args.view.fences.now) c.args.env.now.user.now) (env_of c.args.env.now)) Flag _ _ _ _ c.in-Ok.met (Flag c.in-Ok.met)
+    (tells_over (ranged_over (query_of c.args.query.now) (shows (drop c.args.view.from c.args.view.fences.now) c.args.env.now.user.now) (env_of c.args.env.now)) (λ rows. gathered (λ row is rest. is || rest) false (λ row. meets (maybe_term c.args.query.now.condition) (shows (drop c.args.view.from c.args.view.fences.now) c.args.env.now.user.now) (inside row (env_of c.args.env.now))) rows) _ _ _ _ _ _ c.in_ok-rows.rows c.as_slice.result.now c.in-Ok.met c.as_slice.ensures c.in_ok-rows.ensures.tells c.in-Ok.ensures.tells) refl
 
 pub is_within-returns-clause-tells : goal.is_within-returns-clause-tells
 is_within-returns-clause-tells g t c =
-    tells_over (ranged_over (query_of c.args.query.now) (shows (drop c.args.view.from c.args.view.fences.now) c.args.env.now.user.now) (env_of c.args.env.now)) (λ rows. gathered (λ row item rest. or_item (held_value c.args.value.now) item rest) False (λ row. item_if (meets (maybe_term c.args.query.now.condition) (shows (drop c.args.view.from c.args.view.fences.now) c.args.env.now.user.now) (inside row (env_of c.args.env.now))) (item_of (terms_of c.args.query.now.items.items) (shows (drop c.args.view.from c.args.view.fences.now) c.args.env.now.user.now) (inside row (env_of c.args.env.now)))) rows) _ _ _ _ _ _ c.in_ok-rows.rows c.as_slice.result.now c.in_ok-truth.truth c.as_slice.ensures c.in_ok-rows.ensures.tells c.in_ok-truth.ensures.tells
+    tells_of (ranged_over (query_of c.args.query.now) (shows (drop c.args.view.from c.args.view.fences.now) c.args.env.now.user.now) (env_of c.args.env.now)) (λ rows. gathered (λ row item rest. or_item (held_value c.args.value.now) item rest) False (λ row. item_if (meets (maybe_term c.args.query.now.condition) (shows (drop c.args.view.from c.args.view.fences.now) c.args.env.now.user.now) (inside row (env_of c.args.env.now))) (item_of (terms_of c.args.query.now.items.items) (shows (drop c.args.view.from c.args.view.fences.now) c.args.env.now.user.now) (inside row (env_of c.args.env.now)))) rows) _ _ _ _ _ _ c.in_ok-rows.rows c.as_slice.result.now c.is_item-truth.result c.as_slice.ensures c.in_ok-rows.ensures.tells c.is_item-truth.ensures.tells
 
 pub scalar-returns-clause-tells : goal.scalar-returns-clause-tells
 scalar-returns-clause-tells g t c =
-    tells_over (ranged_over (query_of c.args.query.now) (shows (drop c.args.view.from c.args.view.fences.now) c.args.env.now.user.now) (env_of c.args.env.now)) (λ rows. gathered (λ row item rest. item_or item rest) Null (λ row. item_if (meets (maybe_term c.args.query.now.condition) (shows (drop c.args.view.from c.args.view.fences.now) c.args.env.now.user.now) (inside row (env_of c.args.env.now))) (item_of (terms_of c.args.query.now.items.items) (shows (drop c.args.view.from c.args.view.fences.now) c.args.env.now.user.now) (inside row (env_of c.args.env.now)))) rows) _ _ _ _ _ _ c.in_ok-rows.rows c.as_slice.result.now (held_value c.in_ok-item.item) c.as_slice.ensures c.in_ok-rows.ensures.tells c.in_ok-item.ensures.tells
+    tells_of (ranged_over (query_of c.args.query.now) (shows (drop c.args.view.from c.args.view.fences.now) c.args.env.now.user.now) (env_of c.args.env.now)) (λ rows. gathered (λ row item rest. item_or item rest) Null (λ row. item_if (meets (maybe_term c.args.query.now.condition) (shows (drop c.args.view.from c.args.view.fences.now) c.args.env.now.user.now) (inside row (env_of c.args.env.now))) (item_of (terms_of c.args.query.now.items.items) (shows (drop c.args.view.from c.args.view.fences.now) c.args.env.now.user.now) (inside row (env_of c.args.env.now)))) rows) _ _ _ _ _ _ c.in_ok-rows.rows c.as_slice.result.now (held_now c.first_item-item.result) c.as_slice.ensures c.in_ok-rows.ensures.tells c.first_item-item.ensures.tells
 
 pub first_item-loop-row-preserved : goal.first_item-loop-row-preserved
 first_item-loop-row-preserved g t c =
@@ -218,10 +218,15 @@ seen-returns-in_ok-object-in-Some-clause-tells g t c =
     (shows_found c.args.view.fences.now c.args.view.from c.in-Some.place c.args.user.now c.args.table.now c.args.key (g.S.Tables.state c.args.source.now) (sym c.in-Some.ensures)
     ∙ ap (λ object. (shown_at c.args.view.fences.now c.args.user.now c.in-Some.place object).in_state (g.S.Tables.state c.args.source.now)) (sym c.in_ok-object-in-Some.ensures)) c.shown_once.ensures.tells
 
-pub shown_once-returns-in_ok-remember-in-None-clause-holds : goal.shown_once-returns-in_ok-remember-in-None-clause-holds
-shown_once-returns-in_ok-remember-in-None-clause-holds g t c =
-    holds_shown c.args.view.fences.now c.args.user.now (g.S.Tables.state c.args.source.now) (g.S.Tables.state c.shown-in-None.new.source) c.args.work.now.notes c.shown-in-None.new.work (record { notes = c.shown-in-None.new.work.notes; seen = c.remember.new.seen; answers = c.shown-in-None.new.work.answers; next = c.shown-in-None.new.work.next }) c.args.view.from c.args.object c.in_ok-copy-in-None.copy
-    (tells_result _ _ _ _ _ c.in_ok-rows-in-None.rows c.in_ok-copy-in-None.copy c.in_ok-rows-in-None.ensures.tells c.in_ok-copy-in-None.ensures) c.in_ok-rows-in-None.ensures.holds refl refl c.in_ok-remember-in-None.ensures
+pub shown_once-returns-in-Ok-clause-tells : goal.shown_once-returns-in-Ok-clause-tells
+shown_once-returns-in-Ok-clause-tells g t c =
+    tells_given (shown_at c.args.view.fences.now c.args.user.now c.args.view.from c.args.object) _ _ _ _ c.in-Ok.rows c.remembered.result c.in-Ok.ensures.tells c.remembered.ensures.gives
+
+pub shown_once-returns-in-Ok-clause-holds : goal.shown_once-returns-in-Ok-clause-holds
+shown_once-returns-in-Ok-clause-holds g t c =
+    on_ok_then c.remembered.result _ _
+    (holds_shown c.args.view.fences.now c.args.user.now (g.S.Tables.state c.args.source.now) (g.S.Tables.state c.shown.new.source) c.args.work.now.notes c.shown.new.work (record { notes = c.shown.new.work.notes; seen = c.remembered.new.seen; answers = c.shown.new.work.answers; next = c.shown.new.work.next }) c.args.view.from c.args.object c.in-Ok.rows
+    c.in-Ok.ensures.tells c.in-Ok.ensures.holds refl refl) c.remembered.ensures.kept
 
 pub sum-returns-in_ok-held-in-len1-up-clause-tells : goal.sum-returns-in_ok-held-in-len1-up-clause-tells
 sum-returns-in_ok-held-in-len1-up-clause-tells g t c =
@@ -291,13 +296,13 @@ item_or_null-returns-clause-tells g t c =
     subst (λ has_items. Tells (item_if (meets (maybe_term c.args.query.now.condition) (shows (drop c.args.view.from c.args.view.fences.now) c.args.env.now.user.now) (env_of c.args.env.now)) (item_of (items_for has_items (terms_of c.args.query.now.items.items)) (shows (drop c.args.view.from c.args.view.fences.now) c.args.env.now.user.now) (env_of c.args.env.now))) (g.S.Tables.state c.args.source.now) (g.S.Tables.state c.meets_condition.new.source) c.args.work.now.notes c.meets_condition.new.work.notes (Ok (maybe_held c.null_if.result))) (sym c.if-has_items.false)
     (null_told (meets (maybe_term c.args.query.now.condition) (shows (drop c.args.view.from c.args.view.fences.now) c.args.env.now.user.now) (env_of c.args.env.now)) _ _ _ _ c.in_ok-is.is' (maybe_held c.null_if.result) c.in_ok-is.ensures.tells c.null_if.ensures)
 
-pub items_alone-returns-clause-comes : goal.items_alone-returns-clause-comes
-items_alone-returns-clause-comes g t c =
-    comes_of (items_seen (asked_query c.args.has_items (query_of c.args.query.now)) (shows (drop c.args.view.from c.args.view.fences.now) c.args.env.now.user.now) (env_of c.args.env.now)) _ _ _ _ c.in_ok-values.values c.of.result
-    (subst (λ asking. Tells asking (g.S.Tables.state c.args.source.now) (g.S.Tables.state c.items_over.new.source) c.args.work.now.notes c.items_over.new.work.notes (Ok c.in_ok-values.values))
+pub items_alone-returns-in-Ok-clause-comes : goal.items_alone-returns-in-Ok-clause-comes
+items_alone-returns-in-Ok-clause-comes g t c =
+    comes_of (items_seen (asked_query c.args.has_items (query_of c.args.query.now)) (shows (drop c.args.view.from c.args.view.fences.now) c.args.env.now.user.now) (env_of c.args.env.now)) _ _ _ _ c.in-Ok.values c.of.result
+    (subst (λ asking. Tells asking (g.S.Tables.state c.args.source.now) (g.S.Tables.state c.items_over-values.new.source) c.args.work.now.notes c.items_over-values.new.work.notes (Ok c.in-Ok.values))
     (sym (seen_over c.args.has_items c.args.query.now.from c.args.query.now.key.items c.args.query.now.selects (terms_of c.args.query.now.items.items) (maybe_term c.args.query.now.condition) (shows (drop c.args.view.from c.args.view.fences.now) c.args.env.now.user.now) (env_of c.args.env.now)))
     (tells_over (ranged_over (query_of c.args.query.now) (shows (drop c.args.view.from c.args.view.fences.now) c.args.env.now.user.now) (env_of c.args.env.now)) (λ rows. gathered with_item [] (λ row. item_if (meets (maybe_term c.args.query.now.condition) (shows (drop c.args.view.from c.args.view.fences.now) c.args.env.now.user.now) (inside row (env_of c.args.env.now))) (item_of (items_for c.args.has_items (terms_of c.args.query.now.items.items)) (shows (drop c.args.view.from c.args.view.fences.now) c.args.env.now.user.now) (inside row (env_of c.args.env.now)))) rows)
-    _ _ _ _ _ _ c.in_ok-rows.rows c.as_slice.result.now c.in_ok-values.values c.as_slice.ensures c.in_ok-rows.ensures.tells c.in_ok-values.ensures.tells)) c.of.ensures
+    _ _ _ _ _ _ c.in_ok-rows.rows c.as_slice.result.now c.in-Ok.values c.as_slice.ensures c.in_ok-rows.ensures.tells c.in-Ok.ensures.tells)) c.of.ensures
 
 pub shown-returns-then-is_exempt-clause-tells : goal.shown-returns-then-is_exempt-clause-tells
 shown-returns-then-is_exempt-clause-tells g t c =

@@ -22,16 +22,10 @@ abbrev pub decreases-comparison : goal.decreases-comparison
 decreases-comparison g l = fences_size (drop l.view.from l.view.fences.now) + 8 * (term_size l.left.now + term_size l.right.now) + 1
 
 abbrev pub decreases-conjunction : goal.decreases-conjunction
-decreases-conjunction g l = fences_size (drop l.view.from l.view.fences.now) + 8 * terms_size (terms_of l.parts.now) + 3
-
-abbrev pub decreases-all_of : goal.decreases-all_of
-decreases-all_of g l = fences_size (drop l.view.from l.view.fences.now) + 8 * terms_size (terms_of l.parts.now) + 2
+decreases-conjunction g l = fences_size (drop l.view.from l.view.fences.now) + 8 * terms_size (terms_of l.parts.now) + 2
 
 abbrev pub decreases-disjunction : goal.decreases-disjunction
-decreases-disjunction g l = fences_size (drop l.view.from l.view.fences.now) + 8 * terms_size (terms_of l.parts.now) + 3
-
-abbrev pub decreases-any_of : goal.decreases-any_of
-decreases-any_of g l = fences_size (drop l.view.from l.view.fences.now) + 8 * terms_size (terms_of l.parts.now) + 2
+decreases-disjunction g l = fences_size (drop l.view.from l.view.fences.now) + 8 * terms_size (terms_of l.parts.now) + 2
 
 abbrev pub decreases-negation : goal.decreases-negation
 decreases-negation g l = fences_size (drop l.view.from l.view.fences.now) + 8 * term_size l.operand.now + 1
@@ -44,9 +38,6 @@ decreases-not_null_test g l = fences_size (drop l.view.from l.view.fences.now) +
 
 abbrev pub decreases-among : goal.decreases-among
 decreases-among g l = fences_size (drop l.view.from l.view.fences.now) + 8 * (term_size l.operand.now + terms_size (terms_of l.list.now)) + 2
-
-abbrev pub decreases-not_among : goal.decreases-not_among
-decreases-not_among g l = fences_size (drop l.view.from l.view.fences.now) + 8 * (term_size l.operand.now + terms_size (terms_of l.list.now)) + 2
 
 abbrev pub decreases-is_one_of : goal.decreases-is_one_of
 decreases-is_one_of g l = fences_size (drop l.view.from l.view.fences.now) + 8 * terms_size (terms_of l.list.now) + 1
@@ -80,9 +71,6 @@ decreases-is_met g l = fences_size (drop l.view.from l.view.fences.now) + 8 * te
 
 abbrev pub decreases-within : goal.decreases-within
 decreases-within g l = fences_size (drop l.view.from l.view.fences.now) + 8 * (term_size l.operand.now + query_size (query_of l.query.now)) + 7
-
-abbrev pub decreases-not_within : goal.decreases-not_within
-decreases-not_within g l = fences_size (drop l.view.from l.view.fences.now) + 8 * (term_size l.operand.now + query_size (query_of l.query.now)) + 7
 
 abbrev pub decreases-is_within : goal.decreases-is_within
 decreases-is_within g l = fences_size (drop l.view.from l.view.fences.now) + 8 * query_size (query_of l.query.now) + 6
@@ -130,8 +118,8 @@ abbrev pub decreases-put_judgements : goal.decreases-put_judgements
 decreases-put_judgements g l = fences_size (drop l.view.from l.view.fences.now) + 8 * conditions_size l.conditions.now + 2
 
 -- the source stands as it did, what is left leads to the whole, and what was shown is kept
-abbrev pub invariant-all_of-loop-part : goal.invariant-all_of-loop-part
-invariant-all_of-loop-part g l =
+abbrev pub invariant-conjunction-loop-part : goal.invariant-conjunction-loop-part
+invariant-conjunction-loop-part g l =
     let sees = shows (drop l.view.from l.view.fences.now) l.env.user.now in
     let now = g.S.Tables.state l.fn.source in
     record {
@@ -140,8 +128,8 @@ invariant-all_of-loop-part g l =
       holds : Holds l.view.fences.now l.env.user.now (g.S.Tables.state l.source) l.work;
     }
 
-abbrev pub invariant-any_of-loop-part : goal.invariant-any_of-loop-part
-invariant-any_of-loop-part g l =
+abbrev pub invariant-disjunction-loop-part : goal.invariant-disjunction-loop-part
+invariant-disjunction-loop-part g l =
     let sees = shows (drop l.view.from l.view.fences.now) l.env.user.now in
     let now = g.S.Tables.state l.fn.source in
     record {
