@@ -57,6 +57,7 @@ fn policy_on<'c, S: RowSource<'c>>(
 ) -> Result<Effect, Refusal>
     ensures { Answers S.state S.after (spec.policy_on role.now name.now table.now policy.now) source.old source.new notes.old notes.new result }
 {
+    // Its proof takes seconds: four places hold what failing calls would drop, one cited law.
     require_grantees(alloc, source, notes, policy.to.as_slice())?;
     let found = found_for(
         alloc,
@@ -95,6 +96,7 @@ fn add_policy<'c, 'x, S: RowSource<'c>>(
 ) -> Result<Effect, Refusal>
     ensures { Answers S.state S.after (policy_added role.now name.now table.now known.now policy.now) source.old source.new notes.old notes.new result }
 {
+    // Its proof takes seconds: two calls that may fail, one cited law.
     let policies = noted_policies(alloc, source, notes, name)?;
     require_policy(alloc, policies, name, table, known, policy)?;
     make_policy(alloc, source, notes, role, name, table, policies, policy)

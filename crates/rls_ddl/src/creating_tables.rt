@@ -44,6 +44,7 @@ fn make_unless_taken<'c, S: RowSource<'c>>(
 ) -> Result<Effect, Refusal>
     ensures { Answers S.state S.after (spec.table_unless_taken ctx.now create.now key.now) source.old source.new notes.old notes.new result }
 {
+    // Its proof takes seconds: two calls that may fail, one cited law.
     if noted_table(alloc, source, notes, &create.name)?.is_some() {
         return Err(Refusal::Duplicate(DefinedKind::Relation, create.name.copy()?));
     }

@@ -43,6 +43,7 @@ fn drop_on<'c, S: RowSource<'c>>(
 ) -> Result<Effect, Refusal>
     ensures { Answers S.state S.after (spec.drop_on role.now table.now drop.now) source.old source.new notes.old notes.new result }
 {
+    // Its proof takes seconds: two calls that may fail, one cited law.
     let policies = noted_policies(alloc, source, notes, &drop.table)?;
     policy_named(policies, &drop.name)?;
     drop_named(alloc, source, notes, role, table, policies, drop)

@@ -23,6 +23,7 @@ pub fn run_set_role<'c, S: RowSource<'c>>(
 ) -> Result<Effect, Refusal>
     ensures { Answers S.state S.after (spec.set_role ctx.now set.now) source.old source.new notes.old notes.new result }
 {
+    // Its proof takes seconds: two calls that may fail.
     match set {
         SetRole::To(role) => {
             role_named(alloc, source, notes, role)?;

@@ -1,7 +1,7 @@
 -- The changes of INSERT, UPDATE and DELETE name as before what the earlier ones leave at their places, and they are at
 -- the numbers of the rows that are hit, or at new ones.
 use lib.ListN.{length-map}
-use Rattle.std.{specs.Prelude.◌≡◌, specs.Prelude.refl, specs.Prelude.ℕ, specs.Prelude.zero, specs.Prelude.suc, specs.Prelude.◌≤◌, specs.Prelude.◌<◌, specs.Prelude.List, specs.Prelude.[], specs.Prelude.◌∷◌, specs.Prelude.◌++◌, specs.Prelude.Option, specs.Prelude.Some, specs.Prelude.None, specs.Prelude.Bool, specs.Prelude.true, specs.Prelude.false, specs.Prelude.cond, specs.Prelude.Result, specs.Prelude.Ok, specs.Prelude.Err, specs.Prelude.IfOk, specs.Prelude.if◌then◌else◌, specs.Prelude.length, specs.Prelude.map, specs.Prelude.filter, specs.BTreeMap.is_at, specs.BTreeMap.insert_entry, specs.List.AllByRecursion, specs.List.list_any, specs.List.Sorted.IsStrictlySortedBy, specs.declared.cmp.Ordering.Ordering, specs.Cmp.IsTotalOrder, specs.Map.lookup, specs.Map.remove_entry, specs.Map.keys_of, specs.Ordering.is_eq, specs.Ordering.match_ordering, specs.Ordering.ordering_reverse, specs.declared.cmp.Ordering.TheVariants.Less, specs.declared.cmp.Ordering.TheVariants.Equal, specs.declared.cmp.Ordering.TheVariants.Greater, proofs.Common.ap, proofs.Common.sym, proofs.Common.◌∙◌, proofs.Common.subst, proofs.lemmas.Cmp.tied_itself, proofs.lemmas.Cmp.on_total, proofs.lemmas.Cmp.then_total, proofs.lemmas.Cmp.nat_cmp_total, proofs.Math.Nat.suc-ne-zero, proofs.Math.Nat.suc_inj, proofs.Math.Nat.le-suc, proofs.Math.Nat.le_of_suc-le, proofs.Math.Nat.not-suc-le_self, proofs.Math.Nat.le_trans, proofs.Math.Nat.le_refl}
+use Rattle.std.{specs.Prelude.◌≡◌, specs.Prelude.refl, specs.Prelude.ℕ, specs.Prelude.zero, specs.Prelude.suc, specs.Prelude.◌≤◌, specs.Prelude.◌<◌, specs.Prelude.List, specs.Prelude.[], specs.Prelude.◌∷◌, specs.Prelude.◌++◌, specs.Prelude.Option, specs.Prelude.Some, specs.Prelude.None, specs.Prelude.Bool, specs.Prelude.true, specs.Prelude.false, specs.Prelude.cond, specs.Prelude.Result, specs.Prelude.Ok, specs.Prelude.Err, specs.Prelude.IfOk, specs.Prelude.if◌then◌else◌, specs.Prelude.length, specs.Prelude.map, specs.Prelude.take, specs.Prelude.drop, specs.Prelude.filter, specs.BTreeMap.is_at, specs.BTreeMap.insert_entry, specs.List.AllByRecursion, specs.List.list_any, specs.List.Sorted.IsStrictlySortedBy, specs.declared.cmp.Ordering.Ordering, specs.Cmp.IsTotalOrder, specs.Map.lookup, specs.Map.remove_entry, specs.Map.keys_of, specs.Ordering.is_eq, specs.Ordering.match_ordering, specs.Ordering.ordering_reverse, specs.declared.cmp.Ordering.TheVariants.Less, specs.declared.cmp.Ordering.TheVariants.Equal, specs.declared.cmp.Ordering.TheVariants.Greater, proofs.Common.ap, proofs.Common.sym, proofs.Common.◌∙◌, proofs.Common.subst, proofs.lemmas.Cmp.tied_itself, proofs.lemmas.Cmp.on_total, proofs.lemmas.Cmp.then_total, proofs.lemmas.Cmp.nat_cmp_total, proofs.Math.Nat.suc-ne-zero, proofs.Math.Nat.suc_inj, proofs.Math.Nat.le-suc, proofs.Math.Nat.le_of_suc-le, proofs.Math.Nat.not-suc-le_self, proofs.Math.Nat.le_trans, proofs.Math.Nat.le_refl}
 use Rattle.rls_value.specs.{declared.refusal.Refusal.Refusal, declared.row.RowId.RowId, declared.value.Value.Value, Giving.and_then, Values.is_null, declared.verb.Privilege.Privilege, declared.verb.Kind.Kind}
 use Rattle.rls_expr.specs.{declared.table.TableDef.TableDef, Terms.Term, Terms.maybe_term}
 use Rattle.rls_catalog.{specs.declared.change.Change.Change, specs.declared.change.RowChange.RowChange, specs.declared.stored.Keyed.Keyed, specs.declared.stored.Stored.Stored, specs.Bases.Row, specs.Bases.FitsAll, specs.Bases.row_at, specs.Changed.changed, specs.Changed.with_row, specs.InOrder.Ascend, specs.InOrder.RowsInOrder, specs.State.State, specs.State.id_order, specs.State.is_same_id, specs.State.is_same_row, specs.State.stored_of, specs.State.rows_of, specs.State.entries_of, proofs.ContentsLaws.is_name, proofs.RowsChanged.entries_of_changed, proofs.RowsChanged.same_id, proofs.RowsChanged.equal_if}
@@ -10,7 +10,7 @@ use Rattle.rls_guard.specs.{declared.context.Ctx.Ctx, declared.standing.Standing
 use Rattle.rls_evaluation.specs.{declared.fence.Fence.Fence, Gathering.gathered, Showing.shows}
 use Rattle.rls_expansion.specs.{declared.protection.Protection.Protection, Protecting.protection_of, Used.tables_if}
 use Rattle.rls_source.specs.{Asked.rows_at, Asked.keyed_at, Asked.asked_key, Askings.Asking, Askings.known, Askings.followed_by, Named.table_or_undefined}
-use Rattle.rls_dml.specs.{declared.addition.Addition.Addition, declared.revision.Revision.Revision, declared.deleting.Removal.Removal, Checking.names_over_none, Checking.returning_reads, Fitting.IfDone, Fitting.NumbersFree, Fitting.numbers_from, Fitting.Overwrite, Writing.privileges_or_denied, Writing.order_of, Writing.rows_or_refused, Writing.each_with, Writing.first_of, Writing.behind_first, Inserting.places_of, Inserting.tuple_placed, Inserting.addition_named, Inserting.addition_placed, Inserting.addition_in, Inserting.addition_or_refused, Inserting.addition_for, Inserting.row_of_tuple, Inserting.numbered, Inserting.new_rows, Inserting.inserted_row, Inserting.inserted, Inserting.insert_judged, Inserting.insert_rows, Inserting.insert_made, Inserting.insert_values, Inserting.tuples_tables, Inserting.insert_guarded, Inserting.insert_as, Inserting.insert_into, Inserting.insert, Updating.revision_for, Updating.revision_reads, Updating.places_set, Updating.updated_row, Updating.changed_rows, Updating.updated, Updating.update_judged, Updating.update_rows, Updating.update_values, Updating.update_hits, Updating.revision_tables, Updating.update_guarded, Updating.update_as, Updating.update_in, Updating.update, Deleting.removal_for, Deleting.removal_reads, Deleting.deleted_row, Deleting.deleted, Deleting.delete_hits, Deleting.delete_guarded, Deleting.delete_as, Deleting.delete_from, Deleting.delete}
+use Rattle.rls_dml.specs.{declared.addition.Addition.Addition, declared.revision.Revision.Revision, declared.deleting.Removal.Removal, Checking.names_over_none, Checking.returning_reads, Fitting.IfDone, Fitting.NumbersFree, Fitting.numbers_from, Fitting.Overwrite, Writing.privileges_or_denied, Writing.order_of, Writing.rows_or_refused, Writing.each_with, Writing.each_taking, Writing.first_of, Writing.behind_first, Inserting.places_of, Inserting.tuple_placed, Inserting.addition_named, Inserting.addition_placed, Inserting.addition_in, Inserting.addition_or_refused, Inserting.addition_for, Inserting.row_of_tuple, Inserting.numbered, Inserting.new_rows, Inserting.inserted_row, Inserting.inserted, Inserting.insert_judged, Inserting.insert_rows, Inserting.insert_made, Inserting.insert_values, Inserting.tuples_tables, Inserting.insert_guarded, Inserting.insert_as, Inserting.insert_into, Inserting.insert, Updating.revision_for, Updating.revision_reads, Updating.places_set, Updating.updated_row, Updating.updated_rows, Updating.changed_rows, Updating.updated, Updating.update_judged, Updating.update_rows, Updating.update_made, Updating.update_values, Updating.update_hits, Updating.revision_tables, Updating.update_guarded, Updating.update_as, Updating.update_in, Updating.update, Deleting.removal_for, Deleting.removal_reads, Deleting.deleted_row, Deleting.deleted, Deleting.delete_hits, Deleting.delete_guarded, Deleting.delete_as, Deleting.delete_from, Deleting.delete}
 use Rattle.rls_judging.specs.{Judging.hit_row, Judging.hits_of, Judging.judged_all, Judging.judged_old, Judging.with_judged, Judging.decisions_of, Valuing.settings_of, Valuing.tuples_of, Candidates.pinned_key, Candidates.candidates_with, Candidates.candidates}
 
 -- ---- numbers
@@ -240,6 +240,12 @@ each_with_length {B = B} give (x ∷ xs) values =
     given_then (λ ys. length ys ≡ suc (length xs)) (give x (first_of values)) (λ y. and_then (each_with give xs (behind_first values)) (λ ys. Ok (y ∷ ys))) (λ y.
     given_after (λ ys. length ys ≡ length xs) (λ ys. length ys ≡ suc (length xs)) (each_with give xs (behind_first values)) (λ ys. Ok (y ∷ ys)) (each_with_length give xs (behind_first values)) (λ ys same. ap suc same))
 
+each_taking_length : {A B : Type 0} (many : ℕ) (give : A → List Value → Result B Refusal) (xs : List A) (values : List Value) → IfOk (each_taking many give xs values) (λ ys. length ys ≡ length xs)
+each_taking_length many give [] values = refl
+each_taking_length {B = B} many give (x ∷ xs) values =
+    given_then (λ ys. length ys ≡ suc (length xs)) (give x (take many values)) (λ y. and_then (each_taking many give xs (drop many values)) (λ ys. Ok (y ∷ ys))) (λ y.
+    given_after (λ ys. length ys ≡ length xs) (λ ys. length ys ≡ suc (length xs)) (each_taking many give xs (drop many values)) (λ ys. Ok (y ∷ ys)) (each_taking_length many give xs (drop many values)) (λ ys same. ap suc same))
+
 -- ---- the rows that are hit
 
 -- it holds of what is gathered, whatever is told on the way
@@ -348,13 +354,13 @@ update_rows_done fact s role name table protection revision before old new is =
 
 update_values_done : (fact : List Change → Type 0) (s : State) (role name : List ℕ) (table : TableDef) (protection : Protection) (revision : Revision) (before : List Decision) (old : List Stored)
     → ((new : List Stored) → length new ≡ length old → fact (changed_rows name old new)) → IfDone ((update_values role name table protection revision before old).in_state s).gives fact
-unfolding update_values
+unfolding update_values update_made
 update_values_done fact s role name table protection revision before old all =
     done_then fact ((settings_of protection.fences role revision.settings old).in_state s).gives
-    (λ values. ((followed_by (known (each_with (updated_row table (places_set revision.settings)) old values)) (λ new. update_rows role name table protection revision before old new)).in_state s).gives) (λ values.
-    done_after (λ new. length new ≡ length old) fact (each_with (updated_row table (places_set revision.settings)) old values)
+    (λ values. ((followed_by (known (updated_rows table (places_set revision.settings) old values)) (λ new. update_rows role name table protection revision before old new)).in_state s).gives) (λ values.
+    done_after (λ new. length new ≡ length old) fact (updated_rows table (places_set revision.settings) old values)
     (λ new. ((update_rows role name table protection revision before old new).in_state s).gives)
-    (each_with_length (updated_row table (places_set revision.settings)) old values) (λ new same.
+    (each_taking_length (length (places_set revision.settings)) (updated_row table (places_set revision.settings)) old values) (λ new same.
     update_rows_done fact s role name table protection revision before old new (all new same)))
 
 -- an UPDATE overwrites the rows that are hit

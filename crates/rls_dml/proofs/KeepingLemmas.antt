@@ -1,5 +1,5 @@
 -- INSERT, UPDATE and DELETE keep the rows of a state sound.
-use Rattle.std.specs.Prelude.{◌≡◌, refl, ℕ, suc, List, [], ◌∷◌, ◌++◌, Option, Some, None, true, false, ◌||◌, Result, Ok, Err, IfOk, map}
+use Rattle.std.specs.Prelude.{◌≡◌, refl, ℕ, suc, List, [], ◌∷◌, ◌++◌, Option, Some, None, true, false, ◌||◌, Result, Ok, Err, IfOk, length, map, take, drop}
 use Rattle.std.specs.List.{AllByRecursion}
 use Rattle.std.proofs.{Common.ap, Common.sym, Common.◌∙◌, Common.subst, lemmas.Bool.true≢false, lemmas.Option.none-some}
 use Rattle.rls_value.specs.{declared.refusal.Refusal.Refusal, declared.refusal.Refusal.TheVariants.Undefined, declared.row.RowId.RowId, declared.value.Value.Value, Giving.and_then, declared.refusal.NameKind.NameKind, declared.verb.Privilege.Privilege, declared.verb.Kind.Kind}
@@ -10,7 +10,7 @@ use Rattle.rls_source.specs.{Asked.table_at, Askings.known, Askings.followed_by,
 use Rattle.rls_guard.specs.{declared.context.Ctx.Ctx, declared.reply.Decision.Decision, declared.standing.Standing.Standing, Standings.standing_of, Keeping.IfDone, Keeping.IsNoRow, Keeping.KeepsRowsSound, Keeping.LeavesRows}
 use Rattle.rls_expansion.specs.{declared.protection.Protection.Protection, Protecting.protection_of, Used.tables_if}
 use Rattle.rls_judging.specs.{Candidates.candidates, Judging.decisions_of, Judging.hits_of, Valuing.settings_of, Valuing.tuples_of}
-use Rattle.rls_dml.{specs.declared.addition.Addition.Addition, specs.declared.deleting.Removal.Removal, specs.declared.revision.Revision.Revision, specs.declared.selecting.Query.Query, specs.Checking.returning_reads, specs.NextRows.NumberOn, specs.Numbers.has_number, specs.Selecting.listed_by, specs.Selecting.listed_for, specs.Selecting.listed_from, specs.Selecting.qualifier_of, specs.Selecting.query_for, specs.Selecting.select, specs.Selecting.select_as, specs.Selecting.select_from, specs.Writing.assigned, specs.Writing.behind_first, specs.Writing.each_with, specs.Writing.first_of, specs.Writing.key_at, specs.Writing.order_of, specs.Writing.privileges_or_denied, specs.Writing.rows_or_refused, specs.Deleting.delete, specs.Deleting.delete_as, specs.Deleting.delete_from, specs.Deleting.delete_guarded, specs.Deleting.delete_hits, specs.Deleting.deleted, specs.Deleting.deleted_row, specs.Deleting.removal_for, specs.Deleting.removal_reads, specs.Inserting.addition_for, specs.Inserting.insert, specs.Inserting.insert_as, specs.Inserting.insert_guarded, specs.Inserting.insert_into, specs.Inserting.insert_judged, specs.Inserting.insert_made, specs.Inserting.insert_rows, specs.Inserting.insert_values, specs.Inserting.inserted, specs.Inserting.inserted_row, specs.Inserting.new_rows, specs.Inserting.numbered, specs.Inserting.row_of_tuple, specs.Inserting.tuples_tables, specs.Updating.changed_rows, specs.Updating.places_set, specs.Updating.revision_for, specs.Updating.revision_reads, specs.Updating.revision_tables, specs.Updating.update, specs.Updating.update_as, specs.Updating.update_guarded, specs.Updating.update_hits, specs.Updating.update_in, specs.Updating.update_judged, specs.Updating.update_rows, specs.Updating.update_values, specs.Updating.updated, specs.Updating.updated_row, proofs.FittingLemmas.Apart, proofs.FittingLemmas.OtherThan, proofs.FittingLemmas.StandIn, proofs.FittingLemmas.candidates_stand, proofs.FittingLemmas.done_after, proofs.FittingLemmas.done_then, proofs.FittingLemmas.given_after, proofs.FittingLemmas.given_then, proofs.FittingLemmas.hits_stand, proofs.FittingLemmas.insert_done, proofs.FittingLemmas.numbered_apart, proofs.PassingLemmas.KeysAreMade, proofs.PassingLemmas.Pass, proofs.PassingLemmas.each_free, proofs.PassingLemmas.rows_carry, proofs.PassingLemmas.rows_passed, proofs.SoundLemmas.AreRenewed, proofs.SoundLemmas.changed_leave, proofs.SoundLemmas.deleted_leave, proofs.SoundLemmas.inserted_leave, proofs.SoundLemmas.left_rows_sound, proofs.SoundLemmas.sound_in, proofs.WrittenLemmas.MayStand, proofs.WrittenLemmas.keyed_of, proofs.WrittenLemmas.left_sound, proofs.WrittenLemmas.with_rows, proofs.WrittenLemmas.without_rows, proofs.WrittenLemmas.written_sound}
+use Rattle.rls_dml.{specs.declared.addition.Addition.Addition, specs.declared.deleting.Removal.Removal, specs.declared.revision.Revision.Revision, specs.declared.selecting.Query.Query, specs.Checking.returning_reads, specs.NextRows.NumberOn, specs.Numbers.has_number, specs.Selecting.listed_by, specs.Selecting.listed_for, specs.Selecting.listed_from, specs.Selecting.qualifier_of, specs.Selecting.query_for, specs.Selecting.select, specs.Selecting.select_as, specs.Selecting.select_from, specs.Writing.assigned, specs.Writing.each_with, specs.Writing.key_at, specs.Writing.order_of, specs.Writing.privileges_or_denied, specs.Writing.rows_or_refused, specs.Deleting.delete, specs.Deleting.delete_as, specs.Deleting.delete_from, specs.Deleting.delete_guarded, specs.Deleting.delete_hits, specs.Deleting.deleted, specs.Deleting.deleted_row, specs.Deleting.removal_for, specs.Deleting.removal_reads, specs.Inserting.addition_for, specs.Inserting.insert, specs.Inserting.insert_as, specs.Inserting.insert_guarded, specs.Inserting.insert_into, specs.Inserting.insert_judged, specs.Inserting.insert_made, specs.Inserting.insert_rows, specs.Inserting.insert_values, specs.Inserting.inserted, specs.Inserting.inserted_row, specs.Inserting.new_rows, specs.Inserting.numbered, specs.Inserting.row_of_tuple, specs.Inserting.tuples_tables, specs.Updating.changed_rows, specs.Updating.places_set, specs.Updating.revision_for, specs.Updating.revision_reads, specs.Updating.revision_tables, specs.Updating.update, specs.Updating.update_as, specs.Updating.update_guarded, specs.Updating.update_hits, specs.Updating.update_in, specs.Updating.update_judged, specs.Updating.update_rows, specs.Updating.update_made, specs.Updating.update_values, specs.Updating.updated, specs.Updating.updated_row, specs.Updating.updated_rows, proofs.FittingLemmas.Apart, proofs.FittingLemmas.OtherThan, proofs.FittingLemmas.StandIn, proofs.FittingLemmas.candidates_stand, proofs.FittingLemmas.done_after, proofs.FittingLemmas.done_then, proofs.FittingLemmas.given_after, proofs.FittingLemmas.given_then, proofs.FittingLemmas.hits_stand, proofs.FittingLemmas.insert_done, proofs.FittingLemmas.numbered_apart, proofs.PassingLemmas.KeysAreMade, proofs.PassingLemmas.Pass, proofs.PassingLemmas.each_free, proofs.PassingLemmas.rows_carry, proofs.PassingLemmas.rows_passed, proofs.SoundLemmas.AreRenewed, proofs.SoundLemmas.changed_leave, proofs.SoundLemmas.deleted_leave, proofs.SoundLemmas.inserted_leave, proofs.SoundLemmas.left_rows_sound, proofs.SoundLemmas.sound_in, proofs.WrittenLemmas.MayStand, proofs.WrittenLemmas.keyed_of, proofs.WrittenLemmas.left_sound, proofs.WrittenLemmas.with_rows, proofs.WrittenLemmas.without_rows, proofs.WrittenLemmas.written_sound}
 
 -- the rows are sound with the changes
 abbrev pub Keeps : State → List Change → Type 0
@@ -143,13 +143,13 @@ row_made table places stored values =
     (assigned table.columns places values stored.row)
     (λ row. Ok (record { id = stored.id; key = key_at table.key row; row = row })) (λ row. (refl, refl))
 
-updated_made : (table : TableDef) (places : List ℕ) (old : List Stored) (values : List (List Value)) → IfOk (each_with (updated_row table places) old values) (AreUpdated table old)
+updated_made : (table : TableDef) (places : List ℕ) (old : List Stored) (values : List Value) → IfOk (updated_rows table places old values) (AreUpdated table old)
 updated_made table places [] values = record { renewed = tt; keys = tt }
 updated_made table places (stored ∷ old) values =
-    given_after (λ new. (stored.id ≡ new.id) × (new.key ≡ key_at table.key new.row)) (AreUpdated table (stored ∷ old)) (updated_row table places stored (first_of values))
-    (λ new. and_then (each_with (updated_row table places) old (behind_first values)) (λ news. Ok (new ∷ news)))
-    (row_made table places stored (first_of values)) (λ new one.
-    given_after (AreUpdated table old) (AreUpdated table (stored ∷ old)) (each_with (updated_row table places) old (behind_first values)) (λ news. Ok (new ∷ news)) (updated_made table places old (behind_first values)) (λ news others.
+    given_after (λ new. (stored.id ≡ new.id) × (new.key ≡ key_at table.key new.row)) (AreUpdated table (stored ∷ old)) (updated_row table places stored (take (length places) values))
+    (λ new. and_then (updated_rows table places old (drop (length places) values)) (λ news. Ok (new ∷ news)))
+    (row_made table places stored (take (length places) values)) (λ new one.
+    given_after (AreUpdated table old) (AreUpdated table (stored ∷ old)) (updated_rows table places old (drop (length places) values)) (λ news. Ok (new ∷ news)) (updated_made table places old (drop (length places) values)) (λ news others.
     record { renewed = (one.0, others.renewed); keys = (one.1, others.keys) }))
 
 other_renewed : (id : RowId) (old new : List Stored) → AreRenewed old new → AllByRecursion (λ stored. is_same_id stored.id id ≡ false) old → AllByRecursion (λ stored. is_same_id stored.id id ≡ false) new
@@ -211,11 +211,11 @@ update_rows_hold fact s role name table protection revision before old new all t
 
 update_values_hold : (fact : List Change → Type 0) (s : State) (role name : List ℕ) (table : TableDef) (protection : Protection) (revision : Revision) (before : List Decision) (old : List Stored) → HoldsOfRenewed fact s name
     → table_of s name ≡ Some table → Apart old → IfDone ((update_values role name table protection revision before old).in_state s).gives fact
-unfolding update_values
+unfolding update_values update_made
 update_values_hold fact s role name table protection revision before old all there apart =
     done_then fact ((settings_of protection.fences role revision.settings old).in_state s).gives
-    (λ values. ((followed_by (known (each_with (updated_row table (places_set revision.settings)) old values)) (λ new. update_rows role name table protection revision before old new)).in_state s).gives) (λ values.
-    done_after (AreUpdated table old) fact (each_with (updated_row table (places_set revision.settings)) old values)
+    (λ values. ((followed_by (known (updated_rows table (places_set revision.settings) old values)) (λ new. update_rows role name table protection revision before old new)).in_state s).gives) (λ values.
+    done_after (AreUpdated table old) fact (updated_rows table (places_set revision.settings) old values)
     (λ new. ((update_rows role name table protection revision before old new).in_state s).gives) (updated_made table (places_set revision.settings) old values) (λ new made.
     update_rows_hold fact s role name table protection revision before old new all there apart made))
 

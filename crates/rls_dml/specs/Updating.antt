@@ -1,6 +1,6 @@
 -- UPDATE (PostgreSQL manual, UPDATE, and 5.9): names, then types, then the privileges; then the rows that row security
 -- lets change and that WHERE holds of get their new values: their ranges come before the new rows are judged.
-use Rattle.std.specs.Prelude.{ℕ, List, [], ◌∷◌, ◌++◌, Some, None, Bool, true, ◌&&◌, ◌||◌, Result, Ok, Err, map}
+use Rattle.std.specs.Prelude.{ℕ, List, [], ◌∷◌, ◌++◌, Some, None, Bool, true, ◌&&◌, ◌||◌, Result, Ok, Err, length, map}
 use Rattle.std.specs.List.{list_any}
 use Rattle.rls_value.specs.{declared.refusal.Refusal.Refusal, declared.value.Value.Value, Giving.and_then, declared.verb.Privilege.Privilege, declared.verb.Kind.Kind}
 use Rattle.rls_expr.specs.{declared.table.Column.Column, declared.table.TableDef.TableDef, Parts.mentions, Scopes.InScope, Placing.Names, Terms.Term, Naming.Step, Naming.Look, Naming.names_of}
@@ -10,7 +10,7 @@ use Rattle.rls_guard.specs.{declared.context.Ctx.Ctx, declared.standing.Standing
 use Rattle.rls_expansion.specs.{declared.protection.Protection.Protection, Protecting.protection_of, Used.all_tables, Used.tables_if}
 use Rattle.rls_guard.specs.declared.effect.Effect.TheVariants as effect
 use Rattle.rls_source.specs.{Askings.Asking, Askings.known, Askings.followed_by, Askings.settled, Sequences.each_of, Named.table_or_undefined}
-use Rattle.rls_dml.specs.{declared.revision.Revision.Revision, Listings.reply_of, Writing.privileges_or_denied, Writing.assigned, Writing.each_with, Writing.key_at, Writing.order_of, Writing.rows_or_refused, Checking.where_names, Checking.returning_names, Checking.place_in, Checking.where_placed, Checking.returning_placed, Checking.place_or_undefined, Checking.value_fits, Checking.where_fits, Checking.returning_fits, Checking.fitting_or_fault, Checking.where_unsupported, Checking.returning_unsupported, Checking.supported_or_refused, Checking.where_reads, Checking.returning_reads}
+use Rattle.rls_dml.specs.{declared.revision.Revision.Revision, Listings.reply_of, Writing.privileges_or_denied, Writing.assigned, Writing.each_taking, Writing.key_at, Writing.order_of, Writing.rows_or_refused, Checking.where_names, Checking.returning_names, Checking.place_in, Checking.where_placed, Checking.returning_placed, Checking.place_or_undefined, Checking.value_fits, Checking.where_fits, Checking.returning_fits, Checking.fitting_or_fault, Checking.where_unsupported, Checking.returning_unsupported, Checking.supported_or_refused, Checking.where_reads, Checking.returning_reads}
 use Rattle.rls_judging.specs.{Judging.hits_of, Judging.decisions_of, Valuing.settings_of, Candidates.candidates}
 
 -- ---- its parts
@@ -71,6 +71,10 @@ abbrev pub updated_row : TableDef → List ℕ → Stored → List Value → Res
 updated_row table places stored values =
     and_then (assigned table.columns places values stored.row) (λ row. Ok (record { id = stored.id; key = key_at table.key row; row = row }))
 
+-- the rows with their new values, as many for each as are set
+abbrev pub updated_rows : TableDef → List ℕ → List Stored → List Value → Result (List Stored) Refusal
+updated_rows table places old values = each_taking (length places) (updated_row table places) old values
+
 -- the change from the old row to the new one
 abbrev pub changed_row : List ℕ → Stored → Stored → Change
 changed_row table old new = Change.Row (record { table = table; id = old.id; before = Some (record { key = old.key; row = old.row }); after = Some (record { key = new.key; row = new.row }) })
@@ -97,11 +101,15 @@ update_judged role name table revision before old new after =
 unfoldable pub update_rows : List ℕ → List ℕ → TableDef → Protection → Revision → List Decision → List Stored → List Stored → Asking Effect
 update_rows role name table protection revision before old new = followed_by (decisions_of protection.new protection.fences role new) (update_judged role name table revision before old new)
 
+-- the ranges of the new values, and then the rows
+unfoldable pub update_made : List ℕ → List ℕ → TableDef → Protection → Revision → List Decision → List Stored → List Value → Asking Effect
+update_made role name table protection revision before old values = followed_by (known (updated_rows table (places_set revision.settings) old values)) (λ new.
+    update_rows role name table protection revision before old new)
+
 -- the new values of the rows that are hit, which are told of all before their ranges are
 unfoldable pub update_values : List ℕ → List ℕ → TableDef → Protection → Revision → List Decision → List Stored → Asking Effect
 update_values role name table protection revision before old = followed_by (settings_of protection.fences role revision.settings old) (λ values.
-    followed_by (known (each_with (updated_row table (places_set revision.settings)) old values)) (λ new.
-    update_rows role name table protection revision before old new))
+    update_made role name table protection revision before old values)
 
 -- the rows that are hit
 unfoldable pub update_hits : List ℕ → List ℕ → TableDef → Protection → Revision → List Stored → Asking Effect

@@ -1,6 +1,6 @@
 -- New rows (PostgreSQL manual, INSERT, UPDATE, and 5.5): the values that columns are given, and what new rows are refused
 -- for: row security, then NOT NULL, then the primary key.
-use Rattle.std.specs.Prelude.{ℕ, suc, List, [], ◌∷◌, ◌++◌, Option, Some, None, Bool, true, false, not, ◌&&◌, ◌||◌, nat_eq, Result, Ok, Err, if◌then◌else◌, map, filter, slice_get, slice_set}
+use Rattle.std.specs.Prelude.{ℕ, suc, List, [], ◌∷◌, ◌++◌, Option, Some, None, Bool, true, false, not, ◌&&◌, ◌||◌, nat_eq, Result, Ok, Err, if◌then◌else◌, map, filter, take, drop, slice_get, slice_set}
 use Rattle.std.specs.List.{list_any}
 use Rattle.std.specs.Cmp.Lexicographic.{slice_cmp}
 use Rattle.std.specs.Ordering.{is_eq, is_lt}
@@ -56,6 +56,11 @@ behind_first (values ∷ further) = further
 abbrev pub each_with : {A B : Type 0} → (A → List Value → Result B Refusal) → List A → List (List Value) → Result (List B) Refusal
 each_with give [] values = Ok []
 each_with give (x ∷ xs) values = and_then (give x (first_of values)) (λ y. and_then (each_with give xs (behind_first values)) (λ ys. Ok (y ∷ ys)))
+
+-- the same where the values stand in one list, so many for each
+abbrev pub each_taking : {A B : Type 0} → ℕ → (A → List Value → Result B Refusal) → List A → List Value → Result (List B) Refusal
+each_taking many give [] values = Ok []
+each_taking many give (x ∷ xs) values = and_then (give x (take many values)) (λ y. and_then (each_taking many give xs (drop many values)) (λ ys. Ok (y ∷ ys)))
 
 -- the values at the places of the key
 abbrev pub key_at : List ℕ → List Value → List Value

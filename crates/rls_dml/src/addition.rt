@@ -40,6 +40,7 @@ pub fn known_addition<'c, S: RowSource<'c>>(
     ensures given { Answers S.state S.after (spec.addition_for ctx.now insert.now table.now) source.old source.new notes.old notes.new result }
     ensures room { IfOk result (λ addition. ctx.now.next + length addition.tuples ≤ 4294967295) }
 {
+    // Its proof takes seconds: six places hold what a failing call would drop.
     let places = places_of(alloc, table, &insert.columns)?;
     match found_for(alloc, source, notes, insert, table) {
         Ok(found) => {
@@ -64,6 +65,7 @@ fn found_for<'c, S: RowSource<'c>>(
 ) -> Result<Found<'c>, Refusal>
     ensures { Answers S.state S.after (spec.addition_named insert.now (insert.now.table, table.now)) source.old source.new notes.old notes.new result }
 {
+    // Its proof takes seconds: one call that may fail.
     let found = found_in_tuples(alloc, source, notes, insert.tuples.as_slice())?;
     found_in_returning(alloc, source, notes, insert, table, found)
 }
@@ -112,6 +114,7 @@ fn found_in_returning<'c, S: RowSource<'c>>(
 ) -> Result<Found<'c>, Refusal>
     ensures { Answers S.state S.after (named (returning_names insert.now.returning) ((insert.now.table, table.now) ∷ []) found.entry) source.old source.new notes.old notes.new result }
 {
+    // Its proof takes seconds: two places hold what failing calls would drop.
     let steps = names_of_returning(alloc, &insert.returning)?;
     let tables = table_of(alloc, insert, table)?;
     let found = named(alloc, source, notes, &steps, tables, found);
@@ -155,6 +158,7 @@ fn check_addition<'x>(
     ensures given { Gives result (spec.addition_in next insert.now (insert.now.table, table.now) places known.now) }
     ensures room { IfOk result (λ addition. next + length addition.tuples ≤ 4294967295) }
 {
+    // Its proof takes seconds: one call that may fail.
     let addition = place_addition(alloc, insert, table, places, known)?;
     allowed(next, table.columns.as_slice(), addition)
 }
@@ -164,6 +168,7 @@ fn allowed(next: u32, columns: &[Column], addition: Addition) -> Result<Addition
     ensures given { Gives result (and_then (spec.addition_or_refused next columns.now addition) (λ _. Ok addition)) }
     ensures room { IfOk result (λ addition. next + length addition.tuples ≤ 4294967295) }
 {
+    // Its proof takes seconds: one place holds what a failing call would drop.
     match require_addition(next, columns, &addition) {
         Ok(()) => Ok(addition),
         Err(refusal) => {
@@ -183,6 +188,7 @@ fn place_addition<'x>(
 ) -> Result<Addition, AllocError>
     ensures { IfOk result (λ addition. addition ≡ spec.addition_placed insert.now (insert.now.table, table.now) places known.now) }
 {
+    // Its proof takes seconds: five places hold what a failing call would drop.
     let tuples = place_tuples(alloc, insert.tuples.as_slice(), known)?;
     match place_answer(alloc, insert, table, known) {
         Ok(returning) => Ok(Addition {
@@ -284,6 +290,7 @@ fn known_places(alloc: Global, table: &TableDef, names: &[Name]) -> Result<Items
 fn tuples_fit(tuples: &[Items<Expr>], places: &[usize], columns: &[Column]) -> bool
     ensures { result ≡ list_all (spec.tuple_fits columns.now places.now) tuples.now }
 {
+    // Its proof takes seconds: four places hold what a failing call would drop.
     tuples
         .iter()
         .all(|tuple| tuple_fits(tuple.as_slice(), places, columns))
@@ -292,6 +299,7 @@ fn tuples_fit(tuples: &[Items<Expr>], places: &[usize], columns: &[Column]) -> b
 fn tuple_fits(mut tuple: &[Expr], mut places: &[usize], columns: &[Column]) -> bool
     ensures { result ≡ spec.tuple_fits columns.now places.entry.now tuple.entry.now }
 {
+    // Its proof takes seconds: a loop.
     while let [expr, rest @ ..] = tuple {
         match places {
             [place, others @ ..] => {

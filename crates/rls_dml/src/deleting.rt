@@ -43,6 +43,7 @@ pub fn run_delete<'c, S: RowSource<'c>>(
 ) -> Result<Effect, Refusal>
     ensures { Answers S.state S.after (spec.delete ctx.now delete.now) source.old source.new notes.old notes.new result }
 {
+    // Its proof takes seconds: one place holds what failing calls would drop.
     let table = table_named(alloc, source, notes, &delete.table)?;
     let from = FromTable {
         name: &delete.table,
@@ -104,6 +105,7 @@ fn check_removal<'x>(
 ) -> Result<Removal, Refusal>
     ensures { Gives result (spec.removal_in delete.now (delete.now.table, table.now) known.now) }
 {
+    // Its proof takes seconds: two places hold what failing calls would drop.
     let tables = [NamedTable::new(&delete.table, table)?];
     let removal = place_removal(
         alloc,
@@ -173,6 +175,7 @@ fn delete_from<'c, 'x, S: RowSource<'c>>(
 ) -> Result<Effect, Refusal>
     ensures { Answers S.state S.after (spec.delete_from role.now from.entry.name.now from.entry.table.now removal.now) source.old source.new notes.old notes.new result }
 {
+    // Its proof takes seconds: one place holds what a failing call would drop, one cited law.
     let standing = standing_of(alloc, source, notes, role)?;
     let deleted = delete_as(alloc, source, notes, &standing, role, from, removal);
     drop(standing);
@@ -192,6 +195,7 @@ fn delete_as<'c, 'x, S: RowSource<'c>>(
 ) -> Result<Effect, Refusal>
     ensures { Answers S.state S.after (spec.delete_as standing.now role.now from.entry.name.now from.entry.table.now removal.now) source.old source.new notes.old notes.new result }
 {
+    // Its proof takes seconds: two places hold what a failing call would drop, one cited law.
     let protection = protection(alloc, source, notes, standing, from, removal)?;
     let deleted = delete_guarded(
         alloc,
@@ -248,6 +252,7 @@ fn delete_guarded<'c, 'x, S: RowSource<'c>>(
 ) -> Result<Effect, Refusal>
     ensures { Answers S.state S.after (spec.delete_guarded standing.now protection.now removal.now role.now from.entry.name.now from.entry.table.now) source.old source.new notes.old notes.new result }
 {
+    // Its proof takes seconds: three calls that may fail, one cited law.
     let reads = reads(removal);
     require_privileges(
         alloc,
@@ -287,6 +292,7 @@ fn delete_hits<'a, 'c, S: RowSource<'c>>(
 ) -> Result<Effect, AllocError>
     ensures { Tells S.state S.after (spec.delete_hits role.now name.now protection.now removal.now candidates.now) source.old source.new notes.old notes.new result }
 {
+    // Its proof takes seconds: one call that may fail, one cited law.
     let (decisions, hits) = hits_under(
         alloc,
         source,
@@ -310,6 +316,7 @@ fn deleted<'c>(
 ) -> Result<Effect, AllocError>
     ensures { IfOk result (λ effect. effect ≡ spec.deleted name.now removal.now role.now (decisions.items, map (λ hit. hit.now) hits.now)) }
 {
+    // Its proof takes seconds: one place holds what failing calls would drop.
     let rows = standing_rows(alloc, hits)?;
     let reply = reply_of(alloc, &removal.returning, role, &rows)?;
     drop(rows);

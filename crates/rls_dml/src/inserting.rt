@@ -37,6 +37,7 @@ pub fn run_insert<'c, S: RowSource<'c>>(
 ) -> Result<Effect, Refusal>
     ensures { Answers S.state S.after (spec.insert ctx.now insert.now) source.old source.new notes.old notes.new result }
 {
+    // Its proof takes seconds: one place holds what failing calls would drop.
     let table = table_named(alloc, source, notes, &insert.table)?;
     let from = FromTable {
         name: &insert.table,
@@ -81,6 +82,7 @@ fn insert_as<'c, 'x, S: RowSource<'c>>(
     requires { ctx.now.next + length addition.now.tuples ≤ 4294967295 }
     ensures { Answers S.state S.after (spec.insert_as ctx.now from.entry.name.now from.entry.table.now standing.now addition.now) source.old source.new notes.old notes.new result }
 {
+    // Its proof takes seconds: two places hold what a failing call would drop, one cited law.
     let protection = protection(alloc, source, notes, standing, from, addition)?;
     let inserted = insert_guarded(
         alloc,
@@ -149,6 +151,7 @@ fn insert_guarded<'c, 'x, S: RowSource<'c>>(
     requires { ctx.now.next + length addition.now.tuples ≤ 4294967295 }
     ensures { Answers S.state S.after (spec.insert_guarded ctx.now from.entry.name.now from.entry.table.now standing.now protection.now addition.now) source.old source.new notes.old notes.new result }
 {
+    // Its proof takes seconds: one call that may fail, one cited law.
     let reads = returning_reads(&addition.returning);
     require_privileges(
         alloc,
@@ -177,6 +180,7 @@ fn insert_values<'a, 'c, 'x, S: RowSource<'c>>(
     requires { ctx.now.next + length addition.now.tuples ≤ 4294967295 }
     ensures { Answers S.state S.after (spec.insert_values ctx.now from.entry.name.now from.entry.table.now protection.now addition.now) source.old source.new notes.old notes.new result }
 {
+    // Its proof takes seconds: four places hold what a failing call would drop, one cited law.
     let values = tuples_under(alloc, source, notes, ctx, protection, addition)?;
     let inserted = insert_made(
         alloc, source, notes, ctx, from, protection, addition, &values,
@@ -221,6 +225,7 @@ fn insert_made<'c, 'x, S: RowSource<'c>>(
     requires { ctx.now.next + length addition.now.tuples ≤ 4294967295 }
     ensures { Answers S.state S.after (spec.insert_made ctx.now from.entry.name.now from.entry.table.now protection.now addition.now (map values_held values.now)) source.old source.new notes.old notes.new result }
 {
+    // Its proof takes seconds: two calls that may fail, one cited law.
     let rows = new_rows(alloc, ctx, from.table, addition, values)?;
     Ok(insert_rows(
         alloc,
@@ -265,6 +270,7 @@ fn rows_of(
     ensures given { Gives result (each_with (spec.row_of_tuple table.now places.now) tuples.now (map values_held values.now)) }
     ensures count { IfOk result (λ rows. length rows ≡ length tuples.now) }
 {
+    // Its proof takes seconds: two places hold what failing calls would drop, a loop.
     let mut rows = Items::new(alloc);
     let mut left = values;
     for _tuple in tuples {
@@ -309,6 +315,7 @@ fn numbered(
     requires { ctx.now.next + length rows.items ≤ 4294967295 }
     ensures { IfOk result (λ new. new ≡ spec.numbered places.now ctx.now.txn ctx.now.next rows.items) }
 {
+    // Its proof takes seconds: eight places hold what failing calls would drop, a loop.
     let mut new = Items::new(alloc);
     let mut n = ctx.next;
     for row in rows {
@@ -352,6 +359,7 @@ fn insert_judged<'c, 'x, S: RowSource<'c>>(
 ) -> Result<Effect, AllocError>
     ensures { Tells S.state S.after (spec.insert_judged role.now from.entry.name.now from.entry.table.now addition.now rows decisions.items) source.old source.new notes.old notes.new result }
 {
+    // Its proof takes seconds: two places hold what a failing call would drop, one cited law.
     match require_inserted(
         alloc,
         source,

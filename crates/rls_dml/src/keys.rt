@@ -79,6 +79,7 @@ pub fn require_unique<'c, S: RowSource<'c>>(
 ) -> Result<(), Refusal>
     ensures { Answers S.state S.after (unique_or_refused name.now replaced.now (spec.keys_of rows.now)) source.old source.new notes.old notes.new result }
 {
+    // Its proof takes seconds: one place holds what failing calls would drop.
     let keys = whole_keys(alloc, rows)?;
     let taken = are_taken(alloc, source, notes, name, replaced, &keys)?;
     if taken || have_doubles(alloc, &keys)? {
@@ -128,6 +129,7 @@ fn are_taken<'c, S: RowSource<'c>>(
 ) -> Result<bool, AllocError>
     ensures { Tells S.state S.after (keys_taken name.now replaced.now keys.now) source.old source.new notes.old notes.new result }
 {
+    // Its proof takes seconds: two places hold what failing calls would drop, two cited laws.
     if let [] = keys {
         Ok(false)
     } else if none_stays(alloc, &*source, name, &*replaced)? {
@@ -210,6 +212,7 @@ fn have_taken<'c, S: RowSource<'c>>(
 ) -> Result<bool, AllocError>
     ensures { Tells S.state S.after (keys_taken name.now replaced.now keys.now) source.old source.new notes.old notes.new result }
 {
+    // Its proof takes seconds: a loop over a call that may fail.
     let mut taken = false;
     for key in keys {
         let found = noted_key(alloc, source, notes, name, key)?;

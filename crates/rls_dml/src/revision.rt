@@ -96,6 +96,7 @@ fn check_revision<'x>(
 ) -> Result<Revision, Refusal>
     ensures { Gives result (spec.revision_in update.now (update.now.table, table.now) known.now) }
 {
+    // Its proof takes seconds: three places hold what failing calls would drop.
     let tables = [NamedTable::new(&update.table, table)?];
     let revision = place_revision(
         alloc,
@@ -123,6 +124,7 @@ fn place_revision(
 ) -> Result<Revision, Refusal>
     ensures { Gives result (spec.revision_placed update.now table.now.columns (names_in scope.now)) }
 {
+    // Its proof takes seconds: eight places hold what failing calls would drop.
     let settings = place_settings(alloc, update.settings.as_slice(), table, scope)?;
     let condition = place_where(alloc, &update.condition, scope)?;
     let returning = place_returning(alloc, &update.returning, scope)?;

@@ -42,6 +42,7 @@ pub fn run_select<'c, S: RowSource<'c>>(
 ) -> Result<Effect, Refusal>
     ensures { Answers S.state S.after (spec.select ctx.now select.now) source.old source.new notes.old notes.new result }
 {
+    // Its proof takes seconds: one place holds what failing calls would drop.
     let table = table_named(alloc, source, notes, &select.table)?;
     let from = FromTable {
         name: &select.table,
@@ -182,6 +183,7 @@ fn select_as<'c, 'x, S: RowSource<'c>>(
 ) -> Result<Effect, Refusal>
     ensures { Answers S.state S.after (spec.select_as standing.now role.now from.entry.name.now from.entry.table.now query.now) source.old source.new notes.old notes.new result }
 {
+    // Its proof takes seconds: two places hold what a failing call would drop, one cited law.
     let protection = protection(alloc, source, notes, standing, from, query)?;
     let listed = list_guarded(
         alloc,
@@ -237,6 +239,7 @@ fn list_guarded<'c, 'x, S: RowSource<'c>>(
 ) -> Result<Effect, Refusal>
     ensures { Answers S.state S.after (spec.listed_for standing.now protection.now query.now role.now from.entry.name.now from.entry.table.now) source.old source.new notes.old notes.new result }
 {
+    // Its proof takes seconds: three calls that may fail, one cited law.
     require_privileges(
         alloc,
         source,
@@ -295,6 +298,7 @@ fn answer<'c>(
 ) -> Result<Effect, AllocError>
     ensures { IfOk result (λ effect. effect ≡ spec.listed_by query.now role.now (decisions.items, map (λ hit. hit.now) hits.now)) }
 {
+    // Its proof takes seconds: one place holds what a failing call would drop.
     let rows = standing_rows(alloc, hits)?;
     match answered(alloc, &query.items, role, &rows) {
         Ok(rows) => Ok(Effect::Done(

@@ -13,7 +13,7 @@ use rls_source::{Reads, RowSource};
 use rls_value::{Items, Name};
 use std::alloc::{AllocError, Global};
 
-/// The decisions on the rows that are looked at, and those that are hit.
+/// The decisions on the rows that are looked at, and those that are hit. The decisions have room for those on new rows.
 pub fn hits_under<'a, 'c, S: RowSource<'c>>(
     alloc: Global,
     source: &mut S,
@@ -30,7 +30,15 @@ pub fn hits_under<'a, 'c, S: RowSource<'c>>(
         fences: protection.fences.as_slice(),
         role,
     };
-    hits_of(alloc, source, notes, sight, condition, candidates)
+    hits_of(
+        alloc,
+        source,
+        notes,
+        sight,
+        condition,
+        candidates,
+        protection.new.len(),
+    )
 }
 
 /// The decisions on new rows.

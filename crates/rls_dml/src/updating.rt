@@ -1,13 +1,12 @@
 //! UPDATE.
 
-ghost use Rattle.std.specs.Prelude.{◌≡◌, ◌++◌, [], ◌∷◌, None, map, IfOk};
+ghost use Rattle.std.specs.Prelude.{◌≡◌, ◌++◌, [], ◌∷◌, ◌≤◌, None, length, map, take, drop, IfOk};
 ghost use Rattle.rls_value.specs.Giving.{Gives};
 ghost use Rattle.rls_evaluation.specs.Scoping.{held_value};
 ghost use Rattle.rls_source.specs.Answering.{Answers, Tells};
 ghost use Rattle.rls_dml.specs.Listings as listings;
-ghost use Rattle.rls_dml.specs.Writing.{each_with, rows_or_refused, order_of as spec_order_of};
+ghost use Rattle.rls_dml.specs.Writing.{rows_or_refused, order_of as spec_order_of};
 ghost use Rattle.rls_expansion.specs.Protecting.{protection_of};
-ghost use Rattle.rls_judging.specs.Handed.{values_held};
 ghost use Rattle.rls_dml.specs.Updating as spec;
 
 use crate::keys::key_like;
@@ -15,7 +14,7 @@ use crate::replaced::Replaced;
 use crate::replying::reply_of_new;
 use crate::revision::{Revision, known_revision, places_set, reads, revision_tables};
 use crate::sighting::{hits_under, judged_under};
-use crate::writing::{assign, behind_first, first_of, order_of, require_privileges, require_rows};
+use crate::writing::{assign, order_of, require_privileges, require_rows};
 use rls_catalog::{Change, Delta, Keyed, Lent, RowChange, Stored};
 use rls_evaluation::{Held, Scoped};
 use rls_expansion::{Protection, protection_of};
@@ -38,6 +37,7 @@ pub fn run_update<'c, S: RowSource<'c>>(
 ) -> Result<Effect, Refusal>
     ensures { Answers S.state S.after (spec.update ctx.now update.now) source.old source.new notes.old notes.new result }
 {
+    // Its proof takes seconds: one place holds what failing calls would drop.
     let table = table_named(alloc, source, notes, &update.table)?;
     let from = FromTable {
         name: &update.table,
@@ -80,6 +80,7 @@ fn update_as<'c, 'x, S: RowSource<'c>>(
 ) -> Result<Effect, Refusal>
     ensures { Answers S.state S.after (spec.update_as standing.now role.now from.entry.name.now from.entry.table.now revision.now) source.old source.new notes.old notes.new result }
 {
+    // Its proof takes seconds: two places hold what a failing call would drop, one cited law.
     let protection = protection(alloc, source, notes, standing, from, revision)?;
     let updated = update_guarded(
         alloc,
@@ -136,6 +137,7 @@ fn update_guarded<'c, 'x, S: RowSource<'c>>(
 ) -> Result<Effect, Refusal>
     ensures { Answers S.state S.after (spec.update_guarded standing.now protection.now revision.now role.now from.entry.name.now from.entry.table.now) source.old source.new notes.old notes.new result }
 {
+    // Its proof takes seconds: two calls that may fail, one cited law.
     let reads = reads(revision);
     require_privileges(
         alloc,
@@ -231,11 +233,38 @@ fn update_values<'a, 'c, 'x, S: RowSource<'c>>(
         revision.settings.as_slice(),
         replaced.rows(),
     )?;
-    let new = updated_rows(alloc, from.table, revision, replaced.rows(), &values)?;
+    let updated = update_made(
+        alloc, source, notes, protection, revision, role, from, decisions, replaced, &values,
+    );
     drop(values);
-    Ok(update_rows(
-        alloc, source, notes, protection, revision, role, from, decisions, replaced, new,
-    )?)
+    updated
+}
+
+/// The ranges of the new values, and then the rows.
+#[tactic(auto, unfolding(crate::specs::Updating::update_made))]
+fn update_made<'a, 'c, 'x, S: RowSource<'c>>(
+    alloc: Global,
+    source: &mut S,
+    notes: &mut Reads,
+    protection: &'a Protection<'c>,
+    revision: &'a Revision,
+    role: &'a Name,
+    from: FromTable<'x>,
+    decisions: Vec<Decision>,
+    replaced: &Replaced<'a, 'c>,
+    values: &[Held],
+) -> Result<Effect, Refusal>
+    ensures { Answers S.state S.after (spec.update_made role.now from.entry.name.now from.entry.table.now protection.now revision.now decisions.items replaced.now (map held_value values.now)) source.old source.new notes.old notes.new result }
+{
+    match updated_rows(alloc, from.table, revision, replaced.rows(), values) {
+        Ok(new) => Ok(update_rows(
+            alloc, source, notes, protection, revision, role, from, decisions, replaced, new,
+        )?),
+        Err(refusal) => {
+            drop(decisions);
+            Err(refusal)
+        }
+    }
 }
 
 /// The new rows, whose values are in range.
@@ -244,9 +273,9 @@ fn updated_rows<'c>(
     table: &TableDef,
     revision: &Revision,
     hits: &[&Lent<'c>],
-    values: &[Vec<Held>],
+    values: &[Held],
 ) -> Result<Items<Stored>, Refusal>
-    ensures { Gives result (each_with (spec.updated_row table.now (spec.places_set revision.now.settings)) (map (λ hit. hit.now) hits.now) (map values_held values.now)) }
+    ensures { Gives result (spec.updated_rows table.now (spec.places_set revision.now.settings) (map (λ hit. hit.now) hits.now) (map held_value values.now)) }
 {
     let places = places_set(alloc, revision.settings.as_slice())?;
     let rows = rows_with(alloc, table, &places, hits, values);
@@ -259,18 +288,46 @@ fn rows_with<'c>(
     table: &TableDef,
     places: &[usize],
     hits: &[&Lent<'c>],
-    values: &[Vec<Held>],
+    values: &[Held],
 ) -> Result<Items<Stored>, Refusal>
-    ensures { Gives result (each_with (spec.updated_row table.now places.now) (map (λ hit. hit.now) hits.now) (map values_held values.now)) }
+    ensures { Gives result (spec.updated_rows table.now places.now (map (λ hit. hit.now) hits.now) (map held_value values.now)) }
 {
+    // Its proof takes seconds: three places hold what failing calls would drop, a loop.
     let mut rows = Items::with_capacity(alloc, hits.len())?;
     let mut left = values;
     for hit in hits {
-        let row = updated_row(alloc, table, places, hit, first_of(left))?;
+        let row = updated_row(alloc, table, places, hit, share_of(left, places.len()))?;
         rows.push(row)?;
-        left = behind_first(left);
+        left = behind_share(left, places.len());
     }
     Ok(rows)
+}
+
+/// The first so many of the values, or all where there are fewer.
+fn share_of<'x, 'a>(values: &'x [Held<'a>], many: usize) -> &'x [Held<'a>]
+    ensures { map held_value result.now ≡ take many (map held_value values.now) }
+{
+    &values[..within(values, many)]
+}
+
+/// And those behind them.
+fn behind_share<'x, 'a>(values: &'x [Held<'a>], many: usize) -> &'x [Held<'a>]
+    ensures { map held_value result.now ≡ drop many (map held_value values.now) }
+{
+    &values[within(values, many)..]
+}
+
+/// The number, or how many values there are where there are fewer.
+fn within(values: &[Held], many: usize) -> usize
+    ensures count { result ≤ length values.now }
+    ensures share { take result values.now ≡ take many values.now }
+    ensures behind { drop result values.now ≡ drop many values.now }
+{
+    if many < values.len() {
+        many
+    } else {
+        values.len()
+    }
 }
 
 fn updated_row<'c>(
@@ -308,6 +365,7 @@ fn update_rows<'a, 'c, 'x, S: RowSource<'c>>(
 ) -> Result<Effect, AllocError>
     ensures { Tells S.state S.after (spec.update_rows role.now from.entry.name.now from.entry.table.now protection.now revision.now before.items replaced.now new) source.old source.new notes.old notes.new result }
 {
+    // Its proof takes seconds: two places hold what a failing call would drop, one cited law.
     let after = judged_under(alloc, source, notes, &*protection, &*role, &new)?;
     update_judged(
         alloc, source, notes, revision, role, from, before, after, replaced, new,
@@ -330,6 +388,7 @@ fn update_judged<'c, 'x, S: RowSource<'c>>(
 ) -> Result<Effect, AllocError>
     ensures { Tells S.state S.after (spec.update_judged role.now from.entry.name.now from.entry.table.now revision.now before.items replaced.now new after.items) source.old source.new notes.old notes.new result }
 {
+    // Its proof takes seconds: two places hold what a failing call would drop, one cited law.
     match require_updated(
         alloc,
         source,
@@ -438,6 +497,7 @@ fn changes_of<'c>(
 ) -> Result<Delta, AllocError>
     ensures { IfOk result (λ delta. delta ≡ spec.changed_rows name.now (map (λ hit. hit.now) hits.entry.now) new.items) }
 {
+    // Its proof takes seconds: six places hold what failing calls would drop, a loop.
     let mut delta = Delta::with_capacity(alloc, hits.len())?;
     for row in new {
         match hits {

@@ -46,6 +46,7 @@ fn require_own<'c, S: RowSource<'c>>(
 ) -> Result<(), Refusal>
     ensures { Answers S.state S.after (spec.own_or_denied standing.now privilege reads name.now) source.old source.new notes.old notes.new result }
 {
+    // Its proof takes seconds: one call that may fail.
     standing.require_privilege(alloc, source, notes, privilege, name)?;
     if reads {
         standing.require_privilege(alloc, source, notes, Privilege::Select, name)
@@ -63,6 +64,7 @@ fn require_readable<'c, S: RowSource<'c>>(
 ) -> Result<(), Refusal>
     ensures { Answers S.state S.after (spec.readable_or_denied standing.now names.now) source.old source.new notes.old notes.new result }
 {
+    // Its proof takes seconds: a loop over a call that may fail.
     for name in names {
         standing.require_privilege(alloc, source, notes, Privilege::Select, name)?;
     }
@@ -79,6 +81,7 @@ pub fn assign(
 ) -> Result<Row, Refusal>
     ensures { Gives result (spec.assigned columns.now places.now (map held_value values.now) row.items) }
 {
+    // Its proof takes seconds: one place holds what failing calls would drop, a loop.
     let mut row = row;
     let mut places_left = places;
     let mut left = values;

@@ -40,6 +40,7 @@ pub fn eval<'a, 'c, S: Tables>(
     ensures tells { Tells (value_of expr.now (shows (drop view.entry.from view.entry.fences.now) env.now.user.now) (env_of env.now)) (S.state source.old) (S.state source.new) work.old.notes work.new.notes (held_now result) }
     ensures holds { OnOk result (Holds view.entry.fences.now env.now.user.now (S.state source.new) work.new) }
 {
+    // Its proof takes seconds: 17 arms.
     match expr.node() {
         Node::Literal(value) => Ok(held_of(value)),
         Node::Column(_) => Ok(Held::Null),
@@ -543,6 +544,7 @@ fn items_over<'a, 'c, S: Tables>(
     ensures tells { Tells (gathered with_item [] (λ row. means.item_if (meets (maybe_term query.now.condition) (shows (drop view.entry.from view.entry.fences.now) env.now.user.now) (inside row (env_of env.now))) (item_of (items_for has_items (terms_of query.now.items.items)) (shows (drop view.entry.from view.entry.fences.now) env.now.user.now) (inside row (env_of env.now)))) rows.now) (S.state source.old) (S.state source.new) work.old.notes work.new.notes result }
     ensures holds { OnOk result (Holds view.entry.fences.now env.now.user.now (S.state source.new) work.new) }
 {
+    // Its proof takes seconds: one place holds what failing calls would drop, a loop.
     let mut values = Items::new(alloc);
     for row in rows {
         let inner = Env {
@@ -640,6 +642,7 @@ fn first_item<'a, 'b, 'c, S: Tables>(
     ensures tells { Tells (gathered (λ row item rest. item_or item rest) Null (λ row. means.item_if (meets (maybe_term query.now.condition) (shows (drop view.entry.from view.entry.fences.now) env.now.user.now) (inside row (env_of env.now))) (item_of (terms_of query.now.items.items) (shows (drop view.entry.from view.entry.fences.now) env.now.user.now) (inside row (env_of env.now)))) rows.now) (S.state source.old) (S.state source.new) work.old.notes work.new.notes (held_now result) }
     ensures holds { OnOk result (Holds view.entry.fences.now env.now.user.now (S.state source.new) work.new) }
 {
+    // Its proof takes seconds: a loop over two calls that may fail.
     let mut first = None;
     for row in rows {
         let inner = Env {
@@ -979,6 +982,7 @@ fn put_judgements<'a, 'c, S: Tables>(
     ensures tells { Tells (judgements_on conditions.now (shows (drop view.entry.from view.entry.fences.now) user.now) user.now row.now) (S.state source.old) (S.state source.new) work.old.notes work.new.notes (put_in judgements.new.items result) }
     ensures holds { OnOk result (Holds view.entry.fences.now user.now (S.state source.new) work.new) }
 {
+    // Its proof takes seconds: a loop over two calls that may fail.
     let nothing = Scoped::Nothing;
     let env = Env {
         user,

@@ -200,6 +200,7 @@ fn protected<'c, 'x>(
 ) -> Result<Protection<'c>, AllocError>
     ensures { IfOk result (λ made. made ≡ spec.protected standing.now command.kind command.reads (in_scope from.entry) (option_copied policies.entry) rooms.now reached) }
 {
+    // Its proof takes seconds: 14 places hold what failing calls would drop.
     let Reached { fenced, asked } = reached;
     let found = known_in(alloc, rooms)?;
     let fences = fences_of(alloc, found.as_slice(), rooms, fenced.as_slice())?;

@@ -29,6 +29,7 @@ pub fn rooms_of<'c, S: RowSource<'c>>(
 ) -> Result<Items<Room<'c>>, AllocError>
     ensures { Tells S.state S.after (spec.rooms_of standing.now tables.now) source.old source.new notes.old notes.new result }
 {
+    // Its proof takes seconds: three places hold what failing calls would drop, a loop.
     let mut names = Vec::new(alloc);
     add_fresh(&mut names, tables)?;
     let mut rooms = Items::new(alloc);

@@ -1,16 +1,17 @@
 -- What is told of rows, one after another.
 use Rattle.std.specs.{Borrow.Bor, declared.alloc.AllocError.AllocError}
-use Rattle.std.specs.Prelude.{◌≡◌, refl, ℕ, List, [], ◌∷◌, ◌++◌, Bool, true, false, ◌&&◌, Result, Ok, Err, OnOk, map, drop, length, get_or, ◌<◌, ◌+◌}
-use Rattle.std.proofs.Common.{ap, sym, ◌∙◌, subst, append-nil, append_assoc}
+use Rattle.std.specs.Prelude.{◌≡◌, refl, ℕ, List, [], ◌∷◌, ◌++◌, Bool, true, false, ◌&&◌, Result, Ok, Err, OnOk, map, drop, length, get_or, ◌<◌, ◌≤◌, ◌+◌}
+use Rattle.std.proofs.Common.{ap, arith, sym, ◌∙◌, subst, append-nil, append_assoc}
 use Rattle.std.proofs.lemmas.Bool.{true≢false}
-use Rattle.rls_value.specs.{declared.refusal.Refusal.Refusal, declared.object.Object.Object, declared.value.Value.Value, Giving.and_then}
+use Rattle.rls_value.specs.{declared.refusal.Refusal.Refusal, declared.row.RowId.RowId, declared.object.Object.Object, declared.value.Value.Value, Giving.and_then}
 use Rattle.rls_expr.specs.Terms.{Terms}
-use Rattle.rls_catalog.specs.{State.State, declared.stored.Stored.Stored}
-use Rattle.rls_source.specs.{Footprints.with_reads, Footprints.footprint_of, Readings.unread, Readings.next_reads, Once.each_once, Answering.Tells as Reading, Askings.Asking, Askings.known, Askings.followed_by}
-use Rattle.rls_evaluation.specs.{Eval.Shows, Showing.allows, Gathering.gathered, Holding.Tells}
-use Rattle.rls_evaluation.proofs.Telling.{Leads, turn, tells_then, tells_map, leads_whole, leads_map, drop_at}
+use Rattle.rls_catalog.specs.{State.State, declared.stored.Stored.Stored, declared.verdict.Verdict.Verdict}
+use Rattle.rls_source.specs.{Footprints.with_reads, Footprints.footprint_of, Footprints.IsInOrder, Readings.unread, Readings.next_reads, Once.each_once, Answering.Tells as Reading, Askings.Asking, Askings.known, Askings.followed_by}
+use Rattle.rls_evaluation.specs.{Eval.Shows, Showing.allows, Showing.verdict_on, Gathering.gathered, Holding.Tells}
+use Rattle.rls_evaluation.proofs.Telling.{Leads, turn, tells_then, tells_map, tells_known, leads_whole, leads_map, drop_at}
+use Rattle.rls_evaluation.proofs.Absorbing.{noted_absorbed}
 use Rattle.rls_guard.specs.{declared.guard.Watch.Watch, declared.reply.Decision.Decision}
-use Rattle.rls_judging.specs.{Judging.decisions_on, Judging.are_allowed, Judging.hit_if, Judging.judged_old, Judging.hit_row, Judging.with_judged, Handed.beside, Handed.allowing, Handed.behind}
+use Rattle.rls_judging.specs.{Alike.decided_by, Judging.decision_by, Judging.decisions_on, Judging.are_allowed, Judging.hit_if, Judging.judged_old, Judging.hit_row, Judging.with_judged, Handed.beside, Handed.allowing, Handed.behind}
 
 -- ---- what is told of a call, of which more is made
 
@@ -64,6 +65,52 @@ old_told watches condition sees user stored decisions left allowed before mid af
     subst (λ left. Tells (followed_by (judged_old watches condition sees user stored) (λ judged. known (Ok (behind decisions judged)))) before after old new (Ok (left, is))) (ap (λ pair. pair.0) parts.1.1)
     (tells_map (judged_old watches condition sees user stored) (behind decisions) before after old new (parts.0, is) judged)
 old_told watches condition sees user stored decisions left allowed before mid after old between new (Err refused) said hit = record { given = tt; noted = tt; stands = hit.stands ∙ said.stands }
+
+-- ---- two watches by one guard
+
+twice : (b : Bool) → (b && (b && true)) ≡ b
+twice true = refl
+twice false = refl
+
+-- what was told is told again, and nothing more is read
+told_again : {A : Type 0} (asking : Asking A) (before after : State) (old new : List Object) (a : A) → IsInOrder new → Tells asking before after old new (Ok a) → Tells asking after after new new (Ok a)
+told_again asking before after old new a ordered told =
+    let reads : List Object = (asking.in_state before).reads in
+    let absorbed : with_reads new reads ≡ new = subst (λ n. with_reads n reads ≡ n) (sym told.noted) (noted_absorbed old reads (subst IsInOrder told.noted ordered)) in
+    record {
+      given = subst (λ s. (asking.in_state s).gives ≡ Ok a) (sym told.stands) told.given;
+      noted = subst (λ s. new ≡ with_reads new (asking.in_state s).reads) (sym told.stands) (sym absorbed);
+      stands = refl;
+    }
+
+-- one verdict makes the decisions of both
+pub both_told : (first second : Watch) (sees : Shows) (user : List ℕ) (id : RowId) (row : List Value) (before after : State) (old new : List Object) (verdict : Verdict)
+    → second.guard ≡ first.guard → IsInOrder new → Tells (verdict_on first.guard sees user row) before after old new (Ok verdict)
+    → Tells (decisions_on (first ∷ second ∷ []) sees user id row) before after old new (Ok (decided_by id verdict first ∷ decided_by id verdict second ∷ []))
+both_told first second sees user id row before after old new verdict alike ordered told =
+    let by = decision_by sees user id row in
+    let again : Tells (verdict_on second.guard sees user row) after after new new (Ok verdict) =
+    subst (λ guard. Tells (verdict_on guard sees user row) after after new new (Ok verdict)) (sym alike) (told_again (verdict_on first.guard sees user row) before after old new verdict ordered told) in
+    let last : Tells (decisions_on (second ∷ []) sees user id row) after after new new (Ok (decided_by id verdict second ∷ [])) =
+    tells_then (by second) (λ decision. followed_by (known (Ok [])) (λ rest. known (Ok (decision ∷ rest)))) after after after new new new (decided_by id verdict second) (decided_by id verdict second ∷ [])
+    (tells_map (verdict_on second.guard sees user row) (λ verdict. decided_by id verdict second) after after new new verdict again)
+    (tells_map (known (Ok [])) (λ rest. decided_by id verdict second ∷ rest) after after new new [] (tells_known after after new [] refl)) in
+    tells_then (by first) (λ decision. followed_by (decisions_on (second ∷ []) sees user id row) (λ rest. known (Ok (decision ∷ rest)))) before after after old new new (decided_by id verdict first) (decided_by id verdict first ∷ decided_by id verdict second ∷ [])
+    (tells_map (verdict_on first.guard sees user row) (λ verdict. decided_by id verdict first) before after old new verdict told)
+    (tells_map (decisions_on (second ∷ []) sees user id row) (λ rest. decided_by id verdict first ∷ rest) after after new new (decided_by id verdict second ∷ []) last)
+
+-- a list of two
+pub two_items : {A : Type 0} (xs : List A) (first second : A) → 2 ≤ length xs → length xs < 3 → first ≡ get_or xs 0 first → second ≡ get_or xs 1 second → xs ≡ first ∷ second ∷ []
+two_items [] first second least most one other = absurd (omega (arith, least))
+two_items (x ∷ []) first second least most one other = absurd (omega (arith, least))
+two_items (x ∷ y ∷ []) first second least most one other = λ i. sym one i ∷ sym other i ∷ []
+two_items (x ∷ y ∷ z ∷ xs) first second least most one other = absurd (omega (arith, most))
+
+-- what both say stands behind the others, and both allow the row or neither does
+pub both_put : (id : RowId) (verdict : Verdict) (first second : Watch) (decisions left : List Decision) (allowed : Bool)
+    → left ≡ decisions ++ decided_by id verdict first ∷ decided_by id verdict second ∷ [] → allowed ≡ allows verdict
+    → ◌≡◌ {A = List Decision × Bool} (left, allowed) (allowing decisions (decided_by id verdict first ∷ decided_by id verdict second ∷ []))
+both_put id verdict first second decisions left allowed put is i = (put i, (is ∙ sym (twice (allows verdict))) i)
 
 -- ---- loops
 

@@ -19,6 +19,10 @@ pub mapped_more : {A B : Type 0} (f : A → B) (xs next : List A) (x : A) (y : B
 mapped_more f xs next x y rest added is =
     ap (λ n. map f n ++ rest) added ∙ ap (λ n. n ++ rest) (map-append f xs (x ∷ [])) ∙ append_assoc (map f xs) (f x ∷ []) rest ∙ ap (λ y. map f xs ++ y ∷ rest) is
 
+-- the values of one row more
+pub values_more : (values left given rest : List Value) → values ++ given ≡ left → left ++ rest ≡ values ++ (given ++ rest)
+values_more values left given rest same = ap (λ n. n ++ rest) (sym same) ∙ append_assoc values given rest
+
 -- ---- one row
 
 -- what is told of a row over which nothing is in scope

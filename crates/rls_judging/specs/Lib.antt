@@ -1,3 +1,4 @@
+pub mod Alike
 pub mod Candidates
 pub mod Judging
 pub mod Valuing

@@ -1,6 +1,6 @@
 -- The values that a statement gives to rows: of each row that is hit, or of each tuple. What is read for all of them is
 -- read once.
-use Rattle.std.specs.Prelude.{ℕ, List, [], ◌∷◌, map}
+use Rattle.std.specs.Prelude.{ℕ, List, [], ◌∷◌, ◌++◌, map}
 use Rattle.rls_value.specs.declared.value.Value.{Value}
 use Rattle.rls_expr.specs.Terms.{Term}
 use Rattle.rls_catalog.specs.declared.stored.Stored.{Stored}
@@ -20,16 +20,20 @@ with_value term value values = value ∷ values
 abbrev pub values_on : List Term → Shows → Environment → Asking (List Value)
 values_on terms sees env = gathered with_value [] (λ term. value_of term sees env) terms
 
--- the values for a row in front of those for the others
+-- the values for a tuple in front of those for the others
 abbrev pub with_values : {A : Type 0} → A → List Value → List (List Value) → List (List Value)
 with_values x values further = values ∷ further
 
--- what each row is set to
-abbrev pub values_set : List Fence → List ℕ → List (ℕ × Term) → List Stored → Asking (List (List Value))
-values_set fences user settings rows = gathered with_values [] (λ stored. values_on (map (λ setting. setting.1) settings) (shows fences user) (over user stored.row)) rows
+-- the values for a row in front of those for the others, in one list
+abbrev pub with_row_values : Stored → List Value → List Value → List Value
+with_row_values stored values further = values ++ further
+
+-- what the rows are set to: of each row as many values as there are settings
+abbrev pub values_set : List Fence → List ℕ → List (ℕ × Term) → List Stored → Asking (List Value)
+values_set fences user settings rows = gathered with_row_values [] (λ stored. values_on (map (λ setting. setting.1) settings) (shows fences user) (over user stored.row)) rows
 
 -- the same, what is read being read once
-abbrev pub settings_of : List Fence → List ℕ → List (ℕ × Term) → List Stored → Asking (List (List Value))
+abbrev pub settings_of : List Fence → List ℕ → List (ℕ × Term) → List Stored → Asking (List Value)
 settings_of fences user settings rows = each_once (values_set fences user settings rows)
 
 -- what the terms of each tuple come to, no row being in scope

@@ -1,24 +1,27 @@
 //! What row security says of rows, and which rows a statement hits.
 
-ghost use Rattle.std.specs.Prelude.{◌≡◌, ◌++◌, ◌&&◌, OnOk};
+ghost use Rattle.std.specs.Prelude.{◌≡◌, [], ◌∷◌, ◌++◌, ◌&&◌, IsTrue, OnOk};
 ghost use Rattle.rls_expr.specs.Terms.{maybe_term};
 ghost use Rattle.rls_source.specs.{Answering.Tells as Reading, Askings.followed_by, Askings.known};
 ghost use Rattle.rls_evaluation.specs.{Holding.Holds, Holding.Tells, Showing.shows};
 ghost use Rattle.rls_judging.specs.Handed.{TellsAt, allowing, behind, beside, items_now, judged_now, rows_lent};
+ghost use Rattle.rls_judging.specs.Alike.{AreAlike};
 ghost use Rattle.rls_judging.specs.Judging as spec;
 
+use crate::alike::{are_alike, put_both};
 use crate::sight::{Sight, mark_all};
 use rls_catalog::{Lent, Stored};
 use rls_evaluation::{
     Env, Looked, Scoped, Tables, View, Work, allows, meets_condition, verdict_on,
 };
 use rls_expr::Expr;
-use rls_guard::{Decision, Judgement};
+use rls_guard::{Decision, Judgement, Watch};
 use rls_source::{Reads, RowSource};
 use rls_value::{Row, RowId};
 use std::alloc::{AllocError, Global};
 
-/// Judges each candidate as it stands, and gives the decisions and those that are allowed and meet the condition.
+/// Judges each candidate as it stands, and gives the decisions and those that are allowed and meet the condition. The
+/// decisions have room for so many more on each.
 pub fn hits_of<'a, 'c, S: RowSource<'c>>(
     alloc: Global,
     source: &mut S,
@@ -26,11 +29,14 @@ pub fn hits_of<'a, 'c, S: RowSource<'c>>(
     sight: Sight<'a, 'c>,
     condition: &'a Option<Expr>,
     candidates: &'a [Lent<'c>],
+    further: usize,
 ) -> Result<(Vec<Decision>, Vec<&'a Lent<'c>>), AllocError>
     ensures { Reading S.state S.after (spec.hits_of sight.entry.watches.now sight.entry.fences.now sight.entry.role.now condition.now candidates.now) source.old source.new notes.old notes.new (judged_now result) }
 {
     let mut work = Work::new(alloc);
-    let found = judge_over(alloc, &*source, &mut work, sight, condition, candidates)?;
+    let found = judge_over(
+        alloc, &*source, &mut work, sight, condition, candidates, further,
+    )?;
     match mark_all(alloc, source, notes, work) {
         Ok(()) => Ok(found),
         Err(refused) => {
@@ -69,12 +75,21 @@ fn judge_over<'s, 'a, 'c, S: RowSource<'c>>(
     sight: Sight<'a, 'c>,
     condition: &'a Option<Expr>,
     candidates: &'a [Lent<'c>],
+    further: usize,
 ) -> Result<(Vec<Decision>, Vec<&'a Lent<'c>>), AllocError>
     requires { Holds sight.fences.now sight.role.now (S.state source.now) work.old }
     ensures { TellsAt (spec.judged_all sight.entry.watches.now sight.entry.fences.now sight.entry.role.now condition.now candidates.now) (S.state source.now) work.old.notes work.new.notes (judged_now result) }
 {
     let mut tables: Looked<'s, 'c, S> = Looked::new(source);
-    judge_all(alloc, &mut tables, work, sight, condition, candidates)
+    judge_all(
+        alloc,
+        &mut tables,
+        work,
+        sight,
+        condition,
+        candidates,
+        further,
+    )
 }
 
 /// Judges each new row, while the source is looked at.
@@ -100,13 +115,17 @@ fn judge_all<'a, 'c, T: Tables>(
     sight: Sight<'a, 'c>,
     condition: &'a Option<Expr>,
     candidates: &'a [Lent<'c>],
+    further: usize,
 ) -> Result<(Vec<Decision>, Vec<&'a Lent<'c>>), AllocError>
     requires { Holds sight.fences.now sight.role.now (T.state tables.old) work.old }
     ensures { Tells (spec.judged_all sight.entry.watches.now sight.entry.fences.now sight.entry.role.now condition.now candidates.now) (T.state tables.old) (T.state tables.new) work.old.notes work.new.notes (judged_now result) }
 {
-    let most = candidates.len().saturating_mul(sight.watches.len());
+    // Its proof takes seconds: one place holds what failing calls would drop, a loop.
+    let alike = candidates.len() > 1 && are_alike(sight.watches);
+    let each = sight.watches.len().saturating_add(further);
+    let most = candidates.len().saturating_mul(each);
     let mut decisions = Vec::with_capacity(alloc, most)?;
-    let mut hits = Vec::new(alloc);
+    let mut hits = Vec::with_capacity(alloc, candidates.len())?;
     let mut judgements = Vec::new(alloc);
     for stored in candidates {
         let is = judge_old(
@@ -116,6 +135,7 @@ fn judge_all<'a, 'c, T: Tables>(
             &mut judgements,
             &mut decisions,
             sight,
+            alike,
             condition,
             stored,
         )?;
@@ -147,10 +167,12 @@ fn judge_old<'a, 'c, T: Tables>(
     judgements: &mut Vec<Judgement<'c>>,
     decisions: &mut Vec<Decision>,
     sight: Sight<'a, 'c>,
+    alike: bool,
     condition: &'a Option<Expr>,
     stored: &'a Lent<'c>,
 ) -> Result<bool, AllocError>
-    requires { Holds sight.fences.now sight.role.now (T.state tables.old) work.old }
+    requires holds { Holds sight.fences.now sight.role.now (T.state tables.old) work.old }
+    requires alike { IsTrue alike → AreAlike sight.watches.now }
     ensures tells { Tells (followed_by (spec.judged_old sight.entry.watches.now (maybe_term condition.now) (shows sight.entry.fences.now sight.entry.role.now) sight.entry.role.now stored.now) (λ judged. known (Ok (behind decisions.old.items judged)))) (T.state tables.old) (T.state tables.new) work.old.notes work.new.notes (beside decisions.new.items result) }
     ensures holds { OnOk result (Holds sight.entry.fences.now sight.entry.role.now (T.state tables.new) work.new) }
 {
@@ -162,6 +184,7 @@ fn judge_old<'a, 'c, T: Tables>(
         judgements,
         decisions,
         sight,
+        alike,
         stored.id(),
         row,
     )?;
@@ -198,7 +221,65 @@ fn is_hit<'a, 'c, T: Tables>(
 }
 
 /// What row security says of the row for each type of command, put behind the decisions; whether all of them allow it.
+/// Watches that are alike are told one verdict.
 fn judge<'a, 'c, T: Tables>(
+    alloc: Global,
+    tables: &mut T,
+    work: &mut Work,
+    judgements: &mut Vec<Judgement<'c>>,
+    decisions: &mut Vec<Decision>,
+    sight: Sight<'a, 'c>,
+    alike: bool,
+    id: RowId,
+    row: &'a Row,
+) -> Result<bool, AllocError>
+    requires holds { Holds sight.fences.now sight.role.now (T.state tables.old) work.old }
+    requires alike { IsTrue alike → AreAlike sight.watches.now }
+    ensures tells { Tells (followed_by (spec.decisions_on sight.entry.watches.now (shows sight.entry.fences.now sight.entry.role.now) sight.entry.role.now id row.now) (λ said. known (Ok (allowing decisions.old.items said)))) (T.state tables.old) (T.state tables.new) work.old.notes work.new.notes (beside decisions.new.items result) }
+    ensures holds { OnOk result (Holds sight.entry.fences.now sight.entry.role.now (T.state tables.new) work.new) }
+{
+    // Its proof takes seconds: one place holds what failing calls would drop, a loop.
+    match sight.watches {
+        [first, second] if alike => judge_both(
+            alloc, tables, work, judgements, decisions, sight, first, second, id, row,
+        ),
+        _ => judge_each(alloc, tables, work, judgements, decisions, sight, id, row),
+    }
+}
+
+/// The same for two watches that are alike: the guard is asked once.
+fn judge_both<'a, 'c, T: Tables>(
+    alloc: Global,
+    tables: &mut T,
+    work: &mut Work,
+    judgements: &mut Vec<Judgement<'c>>,
+    decisions: &mut Vec<Decision>,
+    sight: Sight<'a, 'c>,
+    first: &'a Watch<'c>,
+    second: &Watch<'c>,
+    id: RowId,
+    row: &'a Row,
+) -> Result<bool, AllocError>
+    requires holds { Holds sight.fences.now sight.role.now (T.state tables.old) work.old }
+    requires alike { second.now.guard ≡ first.now.guard }
+    ensures tells { Tells (followed_by (spec.decisions_on (first.now ∷ second.now ∷ []) (shows sight.entry.fences.now sight.entry.role.now) sight.entry.role.now id row.now) (λ said. known (Ok (allowing decisions.old.items said)))) (T.state tables.old) (T.state tables.new) work.old.notes work.new.notes (beside decisions.new.items result) }
+    ensures holds { OnOk result (Holds sight.entry.fences.now sight.entry.role.now (T.state tables.new) work.new) }
+{
+    let view = View {
+        fences: sight.fences,
+        from: 0,
+    };
+    let guard = &first.guard;
+    let verdict = verdict_on(
+        alloc, tables, work, view, judgements, guard, sight.role, row,
+    )?;
+    let allowed = allows(&verdict);
+    put_both(decisions, first, second, id, verdict)?;
+    Ok(allowed)
+}
+
+/// The same for whatever watches: each is asked.
+fn judge_each<'a, 'c, T: Tables>(
     alloc: Global,
     tables: &mut T,
     work: &mut Work,
@@ -256,6 +337,8 @@ fn judge_new<'a, 'c, T: Tables>(
     requires { Holds sight.fences.now sight.role.now (T.state tables.old) work.old }
     ensures { Tells (spec.judged_new sight.entry.watches.now sight.entry.fences.now sight.entry.role.now rows.now) (T.state tables.old) (T.state tables.new) work.old.notes work.new.notes (items_now result) }
 {
+    // Its proof takes seconds: one place holds what failing calls would drop, a loop.
+    let alike = rows.len() > 1 && are_alike(sight.watches);
     let most = rows.len().saturating_mul(sight.watches.len());
     let mut decisions = Vec::with_capacity(alloc, most)?;
     let mut judgements = Vec::new(alloc);
@@ -267,6 +350,7 @@ fn judge_new<'a, 'c, T: Tables>(
             &mut judgements,
             &mut decisions,
             sight,
+            alike,
             stored.id,
             &stored.row,
         )?;

@@ -1,6 +1,7 @@
 //! Which rows of a table a statement looks at, what row security says of each, and the values that rows are given.
 #![tactic(auto)]
 
+mod alike;
 mod judging;
 mod reading;
 mod sight;

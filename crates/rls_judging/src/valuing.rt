@@ -1,9 +1,9 @@
 //! The values that a statement gives to rows.
 
-ghost use Rattle.std.specs.Prelude.{◌≡◌, [], OnOk, map};
-ghost use Rattle.rls_source.specs.Answering.{Tells as Reading};
-ghost use Rattle.rls_evaluation.specs.{Holding.Holds, Holding.Tells, Scoping.env_of, Scoping.rows_in, Showing.shows};
-ghost use Rattle.rls_judging.specs.Handed.{TellsAt, held_all, held_each};
+ghost use Rattle.std.specs.Prelude.{◌≡◌, ◌++◌, [], Ok, OnOk, map};
+ghost use Rattle.rls_source.specs.{Answering.Tells as Reading, Askings.followed_by, Askings.known};
+ghost use Rattle.rls_evaluation.specs.{Holding.Holds, Holding.Tells, Holding.put_in, Scoping.env_of, Scoping.rows_in, Showing.shows};
+ghost use Rattle.rls_judging.specs.Handed.{TellsAt, held_all, held_each, values_held};
 ghost use Rattle.rls_judging.specs.Valuing as spec;
 
 use crate::sight::mark_all;
@@ -14,8 +14,8 @@ use rls_source::{Reads, RowSource};
 use rls_value::{Items, Name};
 use std::alloc::{AllocError, Global};
 
-/// What each of the rows is set to, in the order of the settings. No row is in scope round it, and what says so has to live
-/// as long as the values.
+/// What the rows are set to, in the order of the settings, one row's values behind another's. No row is in scope round
+/// them, and what says so has to live as long as the values.
 pub fn settings_of<'a, 'c, S: RowSource<'c>>(
     alloc: Global,
     source: &mut S,
@@ -25,9 +25,9 @@ pub fn settings_of<'a, 'c, S: RowSource<'c>>(
     nothing: &'a Scoped<'a>,
     settings: &'a [(usize, Expr)],
     rows: &[&'a Lent<'c>],
-) -> Result<Vec<Vec<Held<'a>>>, AllocError>
+) -> Result<Vec<Held<'a>>, AllocError>
     requires { rows_in nothing.now ≡ [] }
-    ensures { Reading S.state S.after (spec.settings_of fences.now role.now settings.now (map (λ row. row.now) rows.now)) source.old source.new notes.old notes.new (held_each result) }
+    ensures { Reading S.state S.after (spec.settings_of fences.now role.now settings.now (map (λ row. row.now) rows.now)) source.old source.new notes.old notes.new (held_all result) }
 {
     let mut work = Work::new(alloc);
     let values = set_over(
@@ -52,10 +52,10 @@ fn set_over<'s, 'a, 'c, S: RowSource<'c>>(
     nothing: &'a Scoped<'a>,
     settings: &'a [(usize, Expr)],
     rows: &[&'a Lent<'c>],
-) -> Result<Vec<Vec<Held<'a>>>, AllocError>
+) -> Result<Vec<Held<'a>>, AllocError>
     requires holds { Holds fences.now role.now (S.state source.now) work.old }
     requires nothing { rows_in nothing.now ≡ [] }
-    ensures { TellsAt (spec.values_set fences.now role.now settings.now (map (λ row. row.now) rows.now)) (S.state source.now) work.old.notes work.new.notes (held_each result) }
+    ensures { TellsAt (spec.values_set fences.now role.now settings.now (map (λ row. row.now) rows.now)) (S.state source.now) work.old.notes work.new.notes (held_all result) }
 {
     let mut tables: Looked<'s, 'c, S> = Looked::new(source);
     values_set(
@@ -79,42 +79,44 @@ fn values_set<'a, 'c, T: Tables>(
     nothing: &'a Scoped<'a>,
     settings: &'a [(usize, Expr)],
     rows: &[&'a Lent<'c>],
-) -> Result<Vec<Vec<Held<'a>>>, AllocError>
+) -> Result<Vec<Held<'a>>, AllocError>
     requires holds { Holds fences.now role.now (T.state tables.old) work.old }
     requires nothing { rows_in nothing.now ≡ [] }
-    ensures { Tells (spec.values_set fences.now role.now settings.now (map (λ row. row.now) rows.now)) (T.state tables.old) (T.state tables.new) work.old.notes work.new.notes (held_each result) }
+    ensures { Tells (spec.values_set fences.now role.now settings.now (map (λ row. row.now) rows.now)) (T.state tables.old) (T.state tables.new) work.old.notes work.new.notes (held_all result) }
 {
-    let mut all = Vec::with_capacity(alloc, rows.len())?;
+    // Its proof takes seconds: eight places hold what failing calls would drop, a loop.
+    let most = rows.len().saturating_mul(settings.len());
+    let mut values = Vec::with_capacity(alloc, most)?;
     for stored in rows {
         let env = Env {
             user: role,
             rows: Scoped::Over(stored.row(), nothing),
         };
-        let values = values_over(alloc, tables, work, fences, settings, &env)?;
-        all.push(values)?;
+        put_values(alloc, tables, work, fences, settings, &env, &mut values)?;
     }
-    Ok(all)
+    Ok(values)
 }
 
-fn values_over<'a, 'c, T: Tables>(
+/// What a row is set to, behind the other values.
+fn put_values<'a, 'c, T: Tables>(
     alloc: Global,
     tables: &mut T,
     work: &mut Work,
     fences: &'a [Fence<'c>],
     settings: &'a [(usize, Expr)],
     env: &Env<'a>,
-) -> Result<Vec<Held<'a>>, AllocError>
+    values: &mut Vec<Held<'a>>,
+) -> Result<(), AllocError>
     requires { Holds fences.now env.now.user.now (T.state tables.old) work.old }
-    ensures tells { Tells (spec.values_on (map (λ setting. setting.1) settings.now) (shows fences.now env.now.user.now) (env_of env.now)) (T.state tables.old) (T.state tables.new) work.old.notes work.new.notes (held_all result) }
+    ensures tells { Tells (followed_by (spec.values_on (map (λ setting. setting.1) settings.now) (shows fences.now env.now.user.now) (env_of env.now)) (λ given. known (Ok (values_held values.old ++ given)))) (T.state tables.old) (T.state tables.new) work.old.notes work.new.notes (put_in (values_held values.new) result) }
     ensures holds { OnOk result (Holds fences.now env.now.user.now (T.state tables.new) work.new) }
 {
     let view = View { fences, from: 0 };
-    let mut values = Vec::with_capacity(alloc, settings.len())?;
     for (_, expr) in settings {
         let held = eval(alloc, tables, work, view, expr, env)?;
         values.push(held)?;
     }
-    Ok(values)
+    Ok(())
 }
 
 /// What the expressions of each tuple come to.
@@ -166,6 +168,7 @@ fn values_put<'a, 'c, T: Tables>(
     requires { Holds fences.now role.now (T.state tables.old) work.old }
     ensures { Tells (spec.values_put fences.now role.now tuples.now) (T.state tables.old) (T.state tables.new) work.old.notes work.new.notes (held_each result) }
 {
+    // Its proof takes seconds: eight places hold what failing calls would drop, a loop.
     let env = Env {
         user: role,
         rows: Scoped::Nothing,
@@ -190,6 +193,7 @@ fn values_alone<'a, 'c, T: Tables>(
     ensures tells { Tells (spec.values_on exprs.now (shows fences.now env.now.user.now) (env_of env.now)) (T.state tables.old) (T.state tables.new) work.old.notes work.new.notes (held_all result) }
     ensures holds { OnOk result (Holds fences.now env.now.user.now (T.state tables.new) work.new) }
 {
+    // Its proof takes seconds: four places hold what failing calls would drop, a loop.
     let view = View { fences, from: 0 };
     let mut values = Vec::with_capacity(alloc, exprs.len())?;
     for expr in exprs {

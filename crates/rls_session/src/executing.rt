@@ -68,6 +68,7 @@ fn connect(
     ensures database_kept { OnErr result (database.new ≡ database.old) }
     ensures session_kept { OnErr result (session.new ≡ session.old) }
 {
+    // Its proof takes seconds: two places hold what a failing call would drop.
     let login = role.copy()?;
     match database.connect(&role) {
         Ok(_) => {

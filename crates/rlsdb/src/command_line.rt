@@ -5,7 +5,7 @@ use crate::fault::RunFault;
 use crate::script::run_script;
 use clap::error::ErrorKind;
 use clap::{Arg, Command};
-use std::alloc::Global;
+use std::alloc::{AllocError, Global};
 use std::convert::AsStr;
 use std::fs::File;
 use std::io::Read;
@@ -49,24 +49,31 @@ pub fn file_named<'a, T: AsStr>(
     alloc: Global,
     words: &'a [T],
 ) -> Result<Option<&'a str>, clap::Error> {
-    let file = Arg::new(alloc, "FILE")
-        .required(true)
-        .help("The script to run, or `-` for standard input");
-    let run = Command::new(alloc, "run")
-        .about("Runs a script on an empty database and writes each answer under its label")
-        .after_help(AFTER_HELP)
-        .arg(file)?;
-    let command = Command::new(alloc, "rlsdb")
-        .about("A database with row-level security")
-        .after_help(AFTER_HELP)
-        .subcommand_required(true)
-        .subcommand(run)?;
-    let matches = command.try_get_matches_from(words)?;
+    let matches = command(alloc)?.try_get_matches_from(words)?;
     Ok(
         matches
             .subcommand()
             .and_then(|(_, run)| run.get_str("FILE")),
     )
+}
+
+fn command<'a>(alloc: Global) -> Result<Command<'a>, AllocError> {
+    let run = run_command(alloc)?;
+    Command::new(alloc, "rlsdb")
+        .about("A database with row-level security")
+        .after_help(AFTER_HELP)
+        .subcommand_required(true)
+        .subcommand(run)
+}
+
+fn run_command<'a>(alloc: Global) -> Result<Command<'a>, AllocError> {
+    let file = Arg::new(alloc, "FILE")
+        .required(true)
+        .help("The script to run, or `-` for standard input");
+    Command::new(alloc, "run")
+        .about("Runs a script on an empty database and writes each answer under its label")
+        .after_help(AFTER_HELP)
+        .arg(file)
 }
 
 // Help goes to standard output, all else to standard error.
@@ -105,6 +112,7 @@ fn run_reader<R: Read + Drop>(rt: &HostRuntime, reader: R) -> u8 {
 }
 
 fn run_from<R: Read + Drop>(rt: &HostRuntime, reader: R) -> Result<(), RunFault> {
+    // Its proof takes seconds: 21 places hold what failing calls would drop.
     let mut input = DeviceIn::new(rt.alloc(), reader).map_err(|_| RunFault::NoMemory)?;
     let mut output = DeviceOut::new(rt.alloc(), io::writer(rt)).map_err(|_| RunFault::NoMemory)?;
     let ran = run_script(rt.alloc(), &mut input, &mut output);

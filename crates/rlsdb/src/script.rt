@@ -1,6 +1,6 @@
 //! A script, run line by line.
 
-ghost use Rattle.std.specs.Prelude.{◌≡◌, ◌⊎◌, ◌+◌, ◌<◌, ◌≤◌, ◌++◌, length, true, IfOk, OnOk, OnErr, IsErrOf};
+ghost use Rattle.std.specs.Prelude.{◌≡◌, [], ◌⊎◌, ◌+◌, ◌<◌, ◌≤◌, ◌++◌, length, true, IfOk, OnOk, OnErr, IsErrOf};
 ghost use Rattle.rls_session.specs.Rendering.{answer_text};
 ghost use Rattle.rlsdb.specs.Scripts.{GrewBy, IsScriptText, RunsRead, RunsScript};
 
@@ -36,6 +36,9 @@ pub fn run_script<R: ScriptIn, W: ScriptOut>(
     run_lines(alloc, script.as_slice(), output)
 }
 
+/// The script, in as much memory as it takes. What it is read into has room for the longest one and is given back before a
+/// line runs: glibc keeps free memory by the largest block that it got back, so that large statements don't ask the system
+/// for theirs again and again.
 fn read_script<R: ScriptIn>(alloc: Global, input: &mut R) -> Result<Vec<u8>, RunFault>
     ensures read { IsErrOf result RunFault.Read → (R.failures input.old < R.failures input.new) ⊎ (length (R.given input.old) + MAX_SCRIPT < length (R.given input.new)) }
     ensures read_failed { R.failures input.old < R.failures input.new → IsErrOf result RunFault.Read }
@@ -45,16 +48,40 @@ fn read_script<R: ScriptIn>(alloc: Global, input: &mut R) -> Result<Vec<u8>, Run
     ensures ok { IfOk result (λ script. R.given input.new ≡ R.given input.old ++ script.items) }
     ensures ended { OnOk result (R.ended input.new ≡ true) }
 {
-    let mut script = Vec::new(alloc);
+    let mut buffer = Vec::with_capacity(alloc, MAX_SCRIPT)?;
+    match fill(input, &mut buffer) {
+        Ok(()) => {
+            let script = buffer.to_vec(alloc);
+            drop(buffer);
+            Ok(script?)
+        }
+        Err(fault) => {
+            drop(buffer);
+            Err(fault)
+        }
+    }
+}
+
+/// Reads to the end, behind nothing.
+fn fill<R: ScriptIn>(input: &mut R, script: &mut Vec<u8>) -> Result<(), RunFault>
+    requires { script.old.items ≡ [] }
+    ensures read { IsErrOf result RunFault.Read → (R.failures input.old < R.failures input.new) ⊎ (length (R.given input.old) + MAX_SCRIPT < length (R.given input.new)) }
+    ensures read_failed { R.failures input.old < R.failures input.new → IsErrOf result RunFault.Read }
+    ensures too_long { length (R.given input.old) + MAX_SCRIPT < length (R.given input.new) → IsErrOf result RunFault.Read }
+    ensures write { ¬ IsErrOf result RunFault.Write }
+    ensures reads { length (R.given input.new) ≤ length (R.given input.old) + MAX_SCRIPT + 1 }
+    ensures ok { OnOk result (R.given input.new ≡ R.given input.old ++ script.new.items) }
+    ensures ended { OnOk result (R.ended input.new ≡ true) }
+{
     for _ in 0..MAX_SCRIPT {
         match input.next_byte() {
             Ok(Some(byte)) => script.push(byte)?,
-            Ok(None) => return Ok(script),
+            Ok(None) => return Ok(()),
             Err(Failed) => return Err(RunFault::Read),
         }
     }
     match input.next_byte() {
-        Ok(None) => Ok(script),
+        Ok(None) => Ok(()),
         Ok(Some(_)) | Err(Failed) => Err(RunFault::Read),
     }
 }
@@ -69,6 +96,7 @@ fn run_lines<W: ScriptOut>(
     ensures write { IsErrOf result RunFault.Write → W.failures output.old < W.failures output.new }
     ensures write_failed { W.failures output.old < W.failures output.new → IsErrOf result RunFault.Write }
 {
+    // Its proof takes seconds: 16 places hold what failing calls would drop, a loop.
     let mut sessions = Sessions::new(alloc)?;
     let mut rest = script;
     while !rest.is_empty() {

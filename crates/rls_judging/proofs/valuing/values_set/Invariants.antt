@@ -14,6 +14,6 @@ invariant-loop-stored g l =
     record {
       stands : g.T.Tables.state l.tables ≡ now;
       leads : Leads (values_set l.fences l.role l.settings (map (λ row. row.now) l.rows)) (values_set l.fences l.role l.settings (map (λ row. row.now) (drop l.stored-index l.rows)))
-          (λ (rest : List (List Value)). map values_held l.all.items ++ rest) now l.fn.work.notes l.work.notes;
+          (λ (rest : List Value). values_held l.values ++ rest) now l.fn.work.notes l.work.notes;
       holds : Holds l.fences l.role (g.T.Tables.state l.tables) l.work;
     }

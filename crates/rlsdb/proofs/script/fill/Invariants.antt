@@ -1,5 +1,5 @@
 use Rattle.std.proofs.Common.{◌≡◌, ◌++◌, length}
-use Rattle.rlsdb.proofs.script.read_script.Given as goal
+use Rattle.rlsdb.proofs.script.fill.Given as goal
 
 -- each turn gave a byte, which is kept, and no read has failed since
 abbrev pub invariant-loop : goal.invariant-loop

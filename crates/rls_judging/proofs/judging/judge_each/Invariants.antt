@@ -8,7 +8,7 @@ use Rattle.rls_evaluation.proofs.Telling.{Leads}
 use Rattle.rls_guard.specs.declared.reply.Decision.{Decision}
 use Rattle.rls_judging.specs.Judging.{decisions_on, decision_by, with_decision, are_allowed}
 use Rattle.rls_judging.specs.Handed.{allowing}
-use Rattle.rls_judging.proofs.judging.judge.Given as goal
+use Rattle.rls_judging.proofs.judging.judge_each.Given as goal
 
 -- what was said, and what is left to ask, lead to the whole; what was shown is kept
 abbrev pub invariant-loop-watch : goal.invariant-loop-watch
