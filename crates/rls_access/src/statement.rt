@@ -39,6 +39,7 @@ pub fn run_statement<'c, S: RowSource<'c>>(
     ensures read { OnOk result (source.new ≡ S.after source.old ((step ctx.now statement.now).in_state (S.state source.old)).reads) }
     ensures state { S.state source.new ≡ S.state source.old }
 {
+    // Its proof takes seconds: two places hold what failing calls would drop.
     let mut reads = Reads::with_capacity(alloc, USUAL_READS)?;
     let effect = effect_of(alloc, source, &mut reads, ctx, statement)?;
     match seen_of(alloc, reads, &ctx.role, &effect) {

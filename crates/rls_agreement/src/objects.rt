@@ -49,6 +49,7 @@ fn role_agrees<'c, A: RowSource<'c>, B: RowSource<'c>>(
     ensures left { A.state left.new ≡ A.state left.old }
     ensures right { B.state right.new ≡ B.state right.old }
 {
+    // Its proof takes seconds: two calls that may fail.
     let found = left.role(alloc, name)?;
     let other = right.role(alloc, name)?;
     Ok(are_both_same(found, other))
@@ -134,6 +135,7 @@ fn rows_agree<'c, A: RowSource<'c>, B: RowSource<'c>>(
     ensures left { A.state left.new ≡ A.state left.old }
     ensures right { B.state right.new ≡ B.state right.old }
 {
+    // Its proof takes seconds: two places hold what a failing call would drop.
     let found = left.scan(alloc, table)?;
     match right.scan(alloc, table) {
         Ok(others) => Ok(are_same(found.as_slice(), others.as_slice())),
@@ -157,6 +159,7 @@ fn key_agrees<'c, A: RowSource<'c>, B: RowSource<'c>>(
     ensures left { A.state left.new ≡ A.state left.old }
     ensures right { B.state right.new ≡ B.state right.old }
 {
+    // Its proof takes seconds: two places hold what a failing call would drop.
     let found = left.by_key(alloc, table, key)?;
     match right.by_key(alloc, table, key) {
         Ok(others) => Ok(are_same(found.as_slice(), others.as_slice())),

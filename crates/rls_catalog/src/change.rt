@@ -142,6 +142,7 @@ impl Delta {
 fn copy_changes(alloc: Global, changes: &[Change]) -> Result<Vec<Change>, AllocError>
     ensures { IfOk result (λ copies. copies.items ≡ changes.now) }
 {
+    // Its proof takes seconds: two places hold what failing calls would drop, a loop.
     let mut copies = Vec::with_capacity(alloc, changes.len())?;
     for change in changes {
         copies.push(change.copy(alloc)?)?;

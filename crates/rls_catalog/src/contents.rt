@@ -297,6 +297,7 @@ fn put_row(
     ensures first { IfOk result (λ undo. NotesFirst (Undo.Rows undo) tables.old.entries tables.new.entries) }
     ensures err { OnErr result (tables.new.entries ≡ tables.old.entries) }
 {
+    // Its proof takes seconds: two places hold what a failing call would drop, six arms.
     let table = change.table.copy()?;
     match tables.get_mut(&change.table) {
         Some(slots) => match slots.set(alloc, change.id, &change.after) {

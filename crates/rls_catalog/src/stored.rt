@@ -46,6 +46,7 @@ impl Stored {
     pub fn copy_all(alloc: Global, rows: &[Stored]) -> Result<Items<Stored>, AllocError>
         ensures { IfOk result (λ copies. copies ≡ rows.now) }
     {
+        // Its proof takes seconds: two places hold what failing calls would drop, a loop.
         let mut copies = Vec::with_capacity(alloc, rows.len())?;
         for row in rows {
             copies.push(row.copy(alloc)?)?;

@@ -30,6 +30,7 @@ pub fn run_alter_policy<'c, S: RowSource<'c>>(
 ) -> Result<Effect, Refusal>
     ensures { Answers S.state S.after (alter_policy ctx.now alter.now) source.old source.new notes.old notes.new result }
 {
+    // Its proof takes seconds: one call that may fail.
     let table = table_named(alloc, source, notes, &alter.table)?;
     alter_on(alloc, source, notes, &ctx.role, table, alter)
 }
@@ -127,6 +128,7 @@ fn make_alteration<'c, S: RowSource<'c>>(
     requires ordered { InNameOrder policies.now }
     ensures { Answers S.state S.after (alteration_made role.now table.now policies.now alter.now) source.old source.new notes.old notes.new result }
 {
+    // Its proof takes seconds: two calls that may fail, one cited law.
     require_ownership(alloc, source, notes, role, &alter.table, table)?;
     Ok(policies_changed(alloc, policies, alter)?)
 }

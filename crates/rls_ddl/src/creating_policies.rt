@@ -32,6 +32,7 @@ pub fn run_create_policy<'c, S: RowSource<'c>>(
 ) -> Result<Effect, Refusal>
     ensures { Answers S.state S.after (create_policy ctx.now create.now) source.old source.new notes.old notes.new result }
 {
+    // Its proof takes seconds: one call that may fail.
     let table = table_named(alloc, source, notes, &create.table)?;
     policy_on(
         alloc,
@@ -168,6 +169,7 @@ fn require_policy<'x>(
     ensures given { Gives result (policy_or_refused (names_over (name.now, table.now) known.now) policies.now policy.now) }
     ensures new { OnOk result (has_policy policies.now policy.now.name ≡ false) }
 {
+    // Its proof takes seconds: three calls that may fail.
     if is_there(policies, &policy.name) {
         return Err(Refusal::Duplicate(DefinedKind::Policy, policy.name.copy()?));
     }

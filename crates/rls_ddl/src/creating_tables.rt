@@ -117,6 +117,7 @@ fn grants_change(
 fn with_own(alloc: Global, owner: &Name, grants: &[Grant]) -> Result<Items<Grant>, AllocError>
     ensures { IfOk result (λ all. all ≡ with_grants grants.now (own_grants owner.now)) }
 {
+    // Its proof takes seconds: three places hold what a failing call would drop.
     let own = own_grants(alloc, owner)?;
     match Grant::copy_all(alloc, grants) {
         Ok(grants) => put_grants(alloc, grants, own),

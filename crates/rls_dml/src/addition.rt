@@ -78,6 +78,7 @@ fn found_in_tuples<'c, S: RowSource<'c>>(
 ) -> Result<Found<'c>, Refusal>
     ensures { Answers S.state S.after (named (spec.tuples_names tuples.now) [] []) source.old source.new notes.old notes.new result }
 {
+    // Its proof takes seconds: one call that may fail.
     let steps = tuples_names(alloc, tuples)?;
     let found = named(
         alloc,
@@ -97,6 +98,7 @@ fn tuples_names<'x>(
 ) -> Result<Vec<NameStep<'x>>, AllocError>
     ensures { IfOk result (λ steps. map step_of steps.items ≡ spec.tuples_names tuples.now) }
 {
+    // Its proof takes seconds: a loop over a call that may fail.
     let mut steps = Vec::new(alloc);
     for tuple in tuples {
         put_all_names(&mut steps, tuple.as_slice())?;
@@ -243,6 +245,7 @@ fn require_addition(next: u32, columns: &[Column], addition: &Addition) -> Resul
     ensures given { Gives result (spec.addition_or_refused next columns.now addition.now) }
     ensures room { OnOk result (next + length addition.now.tuples ≤ 4294967295) }
 {
+    // Its proof takes seconds: two calls that may fail.
     let tuples = addition.tuples.as_slice();
     require_fitting(
         tuples_fit(tuples, addition.places.as_slice(), columns)
@@ -279,6 +282,7 @@ fn all_places(alloc: Global, columns: &[Column]) -> Result<Items<usize>, AllocEr
 fn known_places(alloc: Global, table: &TableDef, names: &[Name]) -> Result<Items<usize>, Refusal>
     ensures { Gives result (each_of (place_or_undefined table.now.columns) names.now) }
 {
+    // Its proof takes seconds: a loop over two calls that may fail.
     let mut places = Items::new(alloc);
     for name in names {
         let place = known_place(table, name)?;

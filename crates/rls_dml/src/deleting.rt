@@ -346,6 +346,7 @@ fn taken_out<'c>(
 fn changes_of<'c>(alloc: Global, name: &Name, hits: &[&Lent<'c>]) -> Result<Delta, AllocError>
     ensures { IfOk result (λ delta. delta ≡ map (spec.deleted_row name.now) (map (λ hit. hit.now) hits.now)) }
 {
+    // Its proof takes seconds: one place holds what failing calls would drop, a loop.
     let mut delta = Delta::with_capacity(alloc, hits.len())?;
     for hit in hits {
         delta.push(deleted_row(alloc, name, hit)?)?;

@@ -62,6 +62,7 @@ fn insert_into<'c, 'x, S: RowSource<'c>>(
     requires { ctx.now.next + length addition.now.tuples ≤ 4294967295 }
     ensures { Answers S.state S.after (spec.insert_into ctx.now from.entry.name.now from.entry.table.now addition.now) source.old source.new notes.old notes.new result }
 {
+    // Its proof takes seconds: one place holds what a failing call would drop, one cited law.
     let standing = standing_of(alloc, source, notes, &ctx.role)?;
     let inserted = insert_as(alloc, source, notes, ctx, from, &standing, addition);
     drop(standing);
@@ -298,6 +299,7 @@ fn row_of(
 fn nulls(alloc: Global, columns: &[Column]) -> Result<Vec<Value>, AllocError>
     ensures { IfOk result (λ values. values.items ≡ spec.nulls columns.now) }
 {
+    // Its proof takes seconds: two places hold what failing calls would drop, a loop.
     let mut values = Vec::with_capacity(alloc, columns.len())?;
     for _column in columns {
         values.push(Value::Null)?;
@@ -341,6 +343,7 @@ fn insert_rows<'a, 'c, 'x, S: RowSource<'c>>(
 ) -> Result<Effect, AllocError>
     ensures { Tells S.state S.after (spec.insert_rows role.now from.entry.name.now from.entry.table.now protection.now addition.now rows) source.old source.new notes.old notes.new result }
 {
+    // Its proof takes seconds: one place holds what a failing call would drop, one cited law.
     let decisions = judged_under(alloc, source, notes, &*protection, &*role, &rows)?;
     insert_judged(alloc, source, notes, role, from, addition, rows, decisions)
 }
@@ -407,6 +410,7 @@ fn inserted(
 ) -> Result<Effect, AllocError>
     ensures { IfOk result (λ effect. effect ≡ Effect.Done (spec_reply_of returning.now role.now (map (λ stored. stored.row) rows)) decisions.items (map (spec.inserted_row table.now) rows) None) }
 {
+    // Its proof takes seconds: three places hold what a failing call would drop.
     let reply = reply_of_new(alloc, returning, role, rows.as_slice())?;
     match put_in(alloc, table, rows.into_vec()) {
         Ok(delta) => Ok(Effect::Done(reply, Items::from_vec(decisions), delta, None)),
@@ -421,6 +425,7 @@ fn inserted(
 fn put_in(alloc: Global, table: &Name, rows: Vec<Stored>) -> Result<Delta, AllocError>
     ensures { IfOk result (λ delta. delta ≡ map (spec.inserted_row table.now) rows.items) }
 {
+    // Its proof takes seconds: four places hold what failing calls would drop, a loop.
     let mut delta = Delta::new(alloc);
     for stored in rows {
         delta.push(inserted_row(table, stored)?)?;

@@ -181,6 +181,7 @@ fn read_keys<'c, S: RowSource<'c>>(
 fn key_objects(alloc: Global, name: &Name, keys: &[Row]) -> Result<Vec<Object>, AllocError>
     ensures { IfOk result (λ objects. objects.items ≡ spec.keys_read name.now keys.now) }
 {
+    // Its proof takes seconds: two places hold what failing calls would drop, a loop.
     let mut objects = Vec::with_capacity(alloc, keys.len())?;
     for key in keys {
         objects.push(key_object(alloc, name, key)?)?;

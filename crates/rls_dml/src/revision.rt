@@ -42,6 +42,7 @@ pub fn known_revision<'c, S: RowSource<'c>>(
 ) -> Result<Revision, Refusal>
     ensures { Answers S.state S.after (spec.revision_for update.now table.now) source.old source.new notes.old notes.new result }
 {
+    // Its proof takes seconds: four places hold what a failing call would drop.
     let found = found_for(alloc, source, notes, update, table)?;
     let revision = check_revision(alloc, update, table, found.as_slice());
     drop(found);
@@ -80,6 +81,7 @@ fn put_settings_names<'x>(
 ) -> Result<(), AllocError>
     ensures { OnOk result (map step_of steps.new.items ≡ map step_of steps.old.items ++ spec.settings_names settings.now) }
 {
+    // Its proof takes seconds: a loop over two calls that may fail.
     for setting in settings {
         put_step(steps, NameStep::Target(&setting.column))?;
         put_names(steps, &setting.value)?;
@@ -143,6 +145,7 @@ fn place_settings(
 ) -> Result<Items<(usize, Expr)>, Refusal>
     ensures { Gives result (each_of (spec.setting_placed table.now.columns (names_in scope.now)) settings.now) }
 {
+    // Its proof takes seconds: six places hold what failing calls would drop, a loop.
     let mut known = Items::new(alloc);
     for setting in settings {
         let found = place_setting(alloc, setting, table, scope)?;
@@ -227,6 +230,7 @@ pub fn revision_tables(alloc: Global, revision: &Revision) -> Result<Items<Name>
 pub fn places_set(alloc: Global, settings: &[(usize, Expr)]) -> Result<Vec<usize>, AllocError>
     ensures { IfOk result (λ places. places.items ≡ spec.places_set settings.now) }
 {
+    // Its proof takes seconds: a loop over two calls that may fail.
     let mut places = Vec::with_capacity(alloc, settings.len())?;
     for setting in settings {
         places.push(setting.0)?;

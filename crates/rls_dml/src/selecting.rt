@@ -64,6 +64,7 @@ fn known_query<'c, S: RowSource<'c>>(
 ) -> Result<Query, Refusal>
     ensures { Answers S.state S.after (spec.query_for select.now (spec.qualifier_of select.now, table.now)) source.old source.new notes.old notes.new result }
 {
+    // Its proof takes seconds: four places hold what a failing call would drop.
     let found = found_for(alloc, source, notes, select, table)?;
     let query = check_query(alloc, select, table, found.as_slice());
     drop(found);
@@ -114,6 +115,7 @@ fn check_query<'x>(
 ) -> Result<Query, Refusal>
     ensures { Gives result (spec.query_in select.now (spec.qualifier_of select.now, table.now) known.now) }
 {
+    // Its proof takes seconds: three places hold what failing calls would drop.
     let tables = [NamedTable::new(qualifier(select), table)?];
     let query = place_query(
         alloc,
@@ -276,6 +278,7 @@ fn list<'a, 'c, S: RowSource<'c>>(
 ) -> Result<Effect, AllocError>
     ensures { Tells S.state S.after (spec.listed_from role.now protection.now query.now candidates.now) source.old source.new notes.old notes.new result }
 {
+    // Its proof takes seconds: one call that may fail, one cited law.
     let (decisions, hits) = hits_under(
         alloc,
         source,

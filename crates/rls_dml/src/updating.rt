@@ -61,6 +61,7 @@ fn update_in<'c, 'x, S: RowSource<'c>>(
 ) -> Result<Effect, Refusal>
     ensures { Answers S.state S.after (spec.update_in role.now from.entry.name.now from.entry.table.now revision.now) source.old source.new notes.old notes.new result }
 {
+    // Its proof takes seconds: one place holds what a failing call would drop, one cited law.
     let standing = standing_of(alloc, source, notes, role)?;
     let updated = update_as(alloc, source, notes, &standing, role, from, revision);
     drop(standing);
@@ -176,6 +177,7 @@ fn update_hits<'a, 'c, 'x, S: RowSource<'c>>(
 ) -> Result<Effect, Refusal>
     ensures { Answers S.state S.after (spec.update_hits role.now from.entry.name.now from.entry.table.now protection.now revision.now candidates.now) source.old source.new notes.old notes.new result }
 {
+    // Its proof takes seconds: one call that may fail, one cited law.
     let (decisions, hits) = hits_under(
         alloc,
         source,
@@ -339,6 +341,7 @@ fn updated_row<'c>(
 ) -> Result<Stored, Refusal>
     ensures { Gives result (spec.updated_row table.now places.now stored.now (map held_value values.now)) }
 {
+    // Its proof takes seconds: three places hold what failing calls would drop.
     let old = stored.row().to_vec(alloc)?;
     let row = assign(alloc, table.columns.as_slice(), places, values, old)?;
     let key = key_like(alloc, table.key.as_slice(), &row, stored.key())?;
@@ -427,6 +430,7 @@ fn require_updated<'c, 'x, S: RowSource<'c>>(
 ) -> Result<(), Refusal>
     ensures { Answers S.state S.after (rows_or_refused from.entry.name.now from.entry.table.now.columns (spec_order_of (spec.places_set revision.now.settings) from.entry.table.now.columns) decisions.now replaced.now new.now) source.old source.new notes.old notes.new result }
 {
+    // Its proof takes seconds: two calls that may fail.
     let places = places_set(alloc, revision.settings.as_slice())?;
     let order = order_of(alloc, &places, from.table.columns.as_slice())?;
     drop(places);
@@ -476,6 +480,7 @@ fn updated<'c>(
 ) -> Result<Effect, AllocError>
     ensures { IfOk result (λ effect. effect ≡ Effect.Done (listings.reply_of revision.now.returning role.now (map (λ stored. stored.row) new)) (before.items ++ after.items) (spec.changed_rows name.now (map (λ hit. hit.now) hits.now) new) None) }
 {
+    // Its proof takes seconds: six places hold what failing calls would drop.
     let decisions = joined(before, after)?;
     let reply = reply_of_new(alloc, &revision.returning, role, new.as_slice())?;
     match changes_of(alloc, name, hits, new.into_vec()) {

@@ -31,6 +31,7 @@ pub fn require_privileges<'c, S: RowSource<'c>>(
 ) -> Result<(), Refusal>
     ensures { Answers S.state S.after (spec.privileges_or_denied standing.now privilege reads name.now others.now) source.old source.new notes.old notes.new result }
 {
+    // Its proof takes seconds: one call that may fail.
     require_own(alloc, source, notes, standing, privilege, reads, name)?;
     require_readable(alloc, source, notes, standing, others)
 }
@@ -146,6 +147,7 @@ pub fn order_of(
 ) -> Result<Vec<usize>, AllocError>
     ensures { IfOk result (λ order. order.items ≡ spec.order_of places.now columns.now) }
 {
+    // Its proof takes seconds: a loop over two calls that may fail.
     let mut order = places.to_vec(alloc)?;
     for (place, _column) in columns.iter().enumerate() {
         if !is_written(places, place) {
@@ -192,6 +194,7 @@ fn require_constraints<'c, 'x, S: RowSource<'c>>(
 ) -> Result<(), Refusal>
     ensures { Answers S.state S.after (spec.constraints_or_refused from.entry.name.now from.entry.table.now.columns order.now replaced.now rows.now) source.old source.new notes.old notes.new result }
 {
+    // Its proof takes seconds: one call that may fail, one cited law.
     require_values(rows, from.table.columns.as_slice(), order)?;
     require_unique(alloc, source, notes, from.name, replaced, rows)
 }

@@ -104,6 +104,7 @@ fn comparison<'a, 'c, S: Tables>(
     ensures tells { Tells (value_of (t.Compare how left.now right.now) (shows (drop view.entry.from view.entry.fences.now) env.now.user.now) (env_of env.now)) (S.state source.old) (S.state source.new) work.old.notes work.new.notes (held_now result) }
     ensures holds { OnOk result (Holds view.entry.fences.now env.now.user.now (S.state source.new) work.new) }
 {
+    // Its proof takes seconds: two calls that may fail.
     let left = eval(alloc, source, work, view, left, env)?;
     let right = eval(alloc, source, work, view, right, env)?;
     Ok(held_truth(compare(how, &left, &right)))
@@ -293,6 +294,7 @@ fn sum_from<'a, 'c, S: Tables>(
     ensures tells { Tells (means.sum_from (number_value first) signs.now (terms_of parts.now) (shows (drop view.entry.from view.entry.fences.now) env.now.user.now) (env_of env.now)) (S.state source.old) (S.state source.new) work.old.notes work.new.notes (held_now result) }
     ensures holds { OnOk result (Holds view.entry.fences.now env.now.user.now (S.state source.new) work.new) }
 {
+    // Its proof takes seconds: two places hold what a failing call would drop, four arms.
     match (signs, parts) {
         ([sign, other_signs @ ..], [part, other_parts @ ..]) => {
             let held = eval(alloc, source, work, view, part, env)?;
@@ -479,6 +481,7 @@ fn is_within_alone<'a, 'c, S: Tables>(
     ensures tells { Tells (among_items (held_value value.now) (query_of query.now) (shows (drop view.entry.from view.entry.fences.now) env.now.user.now) (env_of env.now)) (S.state source.old) (S.state source.new) work.old.notes work.new.notes result }
     ensures holds { OnOk result (Holds view.entry.fences.now env.now.user.now (S.state source.new) work.new) }
 {
+    // Its proof takes seconds: one place holds what failing calls would drop.
     let found = place_of_answer(&work.answers, work.next, view.from, true, query);
     match found {
         Some(place) => {
@@ -595,6 +598,7 @@ fn is_item<'a, 'c, S: Tables>(
     ensures tells { Tells (gathered (λ row item rest. or_item (held_value value.now) item rest) False (λ row. means.item_if (meets (maybe_term query.now.condition) (shows (drop view.entry.from view.entry.fences.now) env.now.user.now) (inside row (env_of env.now))) (item_of (terms_of query.now.items.items) (shows (drop view.entry.from view.entry.fences.now) env.now.user.now) (inside row (env_of env.now)))) rows.now) (S.state source.old) (S.state source.new) work.old.notes work.new.notes result }
     ensures holds { OnOk result (Holds view.entry.fences.now env.now.user.now (S.state source.new) work.new) }
 {
+    // Its proof takes seconds: a loop over a call that may fail.
     let mut so_far = Truth::False;
     for row in rows {
         let inner = Env {
@@ -823,6 +827,7 @@ fn shown<'a, 'c, S: Tables>(
     ensures tells { Tells (shown_at view.entry.fences.now user.now view.entry.from object.now) (S.state source.old) (S.state source.new) work.old.notes work.new.notes result }
     ensures holds { OnOk result (Holds view.entry.fences.now user.now (S.state source.new) work.new) }
 {
+    // Its proof takes seconds: one place holds what failing calls would drop.
     if view.from >= view.fences.len() {
         return Rows::new(Vec::new(alloc));
     }
@@ -898,6 +903,7 @@ fn kept_rows<'a, 'c, S: Tables>(
     ensures tells { Tells (kept (is_allowed guard.now (shows (drop view.entry.from view.entry.fences.now) user.now) user.now) rows.now) (S.state source.old) (S.state source.new) work.old.notes work.new.notes result }
     ensures holds { OnOk result (Holds view.entry.fences.now user.now (S.state source.new) work.new) }
 {
+    // Its proof takes seconds: one place holds what failing calls would drop, a loop.
     let mut judgements = Vec::new(alloc);
     let mut kept = Items::new(alloc);
     for row in rows {

@@ -77,6 +77,7 @@ fn room_of<'c, S: RowSource<'c>>(
 ) -> Result<Room<'c>, AllocError>
     ensures { Tells S.state S.after (spec.room_of standing.now name.now) source.old source.new notes.old notes.new result }
 {
+    // Its proof takes seconds: one call that may fail, one cited law.
     match noted_table(alloc, source, notes, name)? {
         Some(table) => room_in(alloc, source, notes, standing, name, table),
         None => absent(alloc, name),

@@ -236,6 +236,7 @@ impl Subquery {
 fn copy_query(alloc: Global, query: &Subquery) -> Result<Box<Subquery>, AllocError>
     ensures { IfOk result (λ copy. query_of copy.value ≡ query_of query.now) }
 {
+    // Its proof takes seconds: three places hold what failing calls would drop.
     let from = query.from.copy()?;
     let key = query.key.as_slice().to_vec(alloc)?;
     let items = copy_parts(alloc, &query.items)?;

@@ -285,6 +285,7 @@ fn new_grant(
 pub fn own_grants(alloc: Global, owner: &Name) -> Result<Items<Grant>, AllocError>
     ensures { IfOk result (λ grants. grants ≡ spec.own_grants owner.now) }
 {
+    // Its proof takes seconds: two places hold what failing calls would drop.
     let mut grants = Items::new(alloc);
     grants.push(own_grant(Privilege::Select, owner)?)?;
     grants.push(own_grant(Privilege::Insert, owner)?)?;

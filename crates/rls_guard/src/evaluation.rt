@@ -75,6 +75,7 @@ pub fn value_alone<'x>(alloc: Global, expr: &'x Expr, user: &'x Name) -> Result<
 fn eval<'a>(expr: &'a Expr, env: &Env<'a>) -> Result<Held<'a>, AllocError>
     ensures { IfOk result (λ held. held_value held ≡ value_of expr.now (env_of env.now)) }
 {
+    // Its proof takes seconds: 13 arms.
     match expr.node() {
         Node::Literal(value) => Ok(held_of(value)),
         Node::Column(_)

@@ -33,6 +33,7 @@ pub fn hits_of<'a, 'c, S: RowSource<'c>>(
 ) -> Result<(Vec<Decision>, Vec<&'a Lent<'c>>), AllocError>
     ensures { Reading S.state S.after (spec.hits_of sight.entry.watches.now sight.entry.fences.now sight.entry.role.now condition.now candidates.now) source.old source.new notes.old notes.new (judged_now result) }
 {
+    // Its proof takes seconds: 11 places hold what a failing call would drop.
     let mut work = Work::new(alloc);
     let found = judge_over(
         alloc, &*source, &mut work, sight, condition, candidates, further,
@@ -176,6 +177,7 @@ fn judge_old<'a, 'c, T: Tables>(
     ensures tells { Tells (followed_by (spec.judged_old sight.entry.watches.now (maybe_term condition.now) (shows sight.entry.fences.now sight.entry.role.now) sight.entry.role.now stored.now) (λ judged. known (Ok (behind decisions.old.items judged)))) (T.state tables.old) (T.state tables.new) work.old.notes work.new.notes (beside decisions.new.items result) }
     ensures holds { OnOk result (Holds sight.entry.fences.now sight.entry.role.now (T.state tables.new) work.new) }
 {
+    // Its proof takes seconds: one call that may fail.
     let row = stored.row();
     let allowed = judge(
         alloc,

@@ -63,6 +63,7 @@ pub(crate) fn merge<'c>(
 ) -> Result<Items<Lent<'c>>, AllocError>
     ensures { IfOk result (λ all. all ≡ merged rows.entry own.now) }
 {
+    // Its proof takes seconds: a loop over two calls that may fail.
     let mut merging = Merging {
         all: Vec::with_capacity(alloc, rows.len())?,
         own,

@@ -74,6 +74,7 @@ impl<'c, S: RowSource<'c>> RowSource<'c> for Overlay<'c, S> {
 
     #[tactic(auto, using(crate::proofs::Laws::rows_behind, crate::proofs::Laws::in_order_behind))]
     fn scan(&mut self, alloc: Global, table: &Name) -> Result<Items<Lent<'c>>, AllocError> {
+        // Its proof takes seconds: one call that may fail, two cited laws.
         let found = self.source.scan(alloc, table)?;
         self.changes.rows_over(alloc, found, table)
     }
@@ -85,6 +86,7 @@ impl<'c, S: RowSource<'c>> RowSource<'c> for Overlay<'c, S> {
         table: &Name,
         key: &Row,
     ) -> Result<Items<Lent<'c>>, AllocError> {
+        // Its proof takes seconds: one call that may fail, two cited laws.
         let found = self.source.by_key(alloc, table, key)?;
         self.changes.keyed_over(alloc, found, table, key)
     }

@@ -57,6 +57,7 @@ fn add_first<'c>(
     requires { lookup (is_at (key_order keyed.now.key)) keys.old.entries ≡ None }
     ensures { OnOk result ((key : List Datum) → under key keys.new.entries ≡ cond (is_at (key_order keyed.now.key) key) (under key keys.old.entries ++ (id, Some keyed.now) ∷ []) (under key keys.old.entries)) }
 {
+    // Its proof takes seconds: six places hold what failing calls would drop.
     let mut rows = Items::new(alloc);
     rows.push(OwnRow::there(id, keyed))?;
     keys.insert(keyed.key.copy(alloc)?, rows)?;

@@ -83,6 +83,7 @@ impl<'c> Written<'c> {
     fn put(&mut self, alloc: Global, change: &'c Change) -> Result<(), AllocError>
         ensures { OnOk result (self.new ≡ with_change self.old change.now) }
     {
+        // Its proof takes seconds: six arms.
         match change {
             Change::Role(name, def) => note(&mut self.roles, name, Loan::new(def)),
             Change::Members(name, content) => note(&mut self.members, name, Loan::new(content)),

@@ -173,6 +173,7 @@ fn asked<'c>(
 ) -> Result<Items<Loan<'c, Policy>>, AllocError>
     ensures { IfOk result (λ asked. asked ≡ filter (spec.is_asked kind side) policies.now) }
 {
+    // Its proof takes seconds: a loop over a call that may fail.
     let mut kept = Vec::new(alloc);
     for policy in policies {
         if is_asked(policy, kind, side) {

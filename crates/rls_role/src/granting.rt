@@ -181,6 +181,7 @@ fn joined(
 ) -> Result<Items<Held>, AllocError>
     ensures { IfOk result (λ all. all ≡ spec.joined written role.now member.now held) }
 {
+    // Its proof takes seconds: five places hold what failing calls would drop, a loop.
     let mut all = Items::new(alloc);
     for one in held.into_vec() {
         all.push(joined_in(alloc, written, role, member, one)?)?;

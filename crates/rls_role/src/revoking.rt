@@ -28,6 +28,7 @@ pub fn revoke_member<'c, S: RowSource<'c>>(
 ) -> Result<Delta, Refusal>
     ensures { Answers S.state S.after (spec.revoke_member current.now revoke.now) source.old source.new notes.old notes.new result }
 {
+    // Its proof takes seconds: two calls that may fail.
     require_roles(alloc, source, notes, revoke.roles.as_slice())?;
     require_roles(alloc, source, notes, revoke.from.as_slice())?;
     revoke_roles(alloc, source, notes, current, revoke)

@@ -49,6 +49,7 @@ fn give(
     ensures session_kept { OnErr result (session.new ≡ session.old) }
     ensures at_once { IsNothing asked → IsOk result }
 {
+    // Its proof takes seconds: the length of what it says.
     match asked {
         Asked::Nothing(refusal) => Ok(Answer::Refused(refusal)),
         Asked::Connect(role) => connect(database, session, role),
@@ -96,6 +97,7 @@ fn run(
     ensures database_kept { OnErr result (database.new ≡ database.old) }
     ensures session_kept { OnErr result (session.new ≡ session.old) }
 {
+    // Its proof takes seconds: one place holds what a failing call would drop.
     let came = database.run(alloc, begin, &statement);
     let tag = statement.tag();
     drop(statement);

@@ -97,6 +97,7 @@ impl Footprint {
     pub fn copy(&self, alloc: Global) -> Result<Footprint, AllocError>
         ensures { IfOk result (λ footprint. footprint ≡ self.now) }
     {
+        // Its proof takes seconds: one place holds what failing calls would drop, a loop, one cited law.
         let mut footprint = Footprint::new(alloc);
         for object in self.objects.iter() {
             footprint.note(object.copy(alloc)?)?;

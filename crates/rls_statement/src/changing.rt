@@ -60,6 +60,7 @@ impl Setting {
 fn copy_settings(alloc: Global, settings: &[Setting]) -> Result<Items<Setting>, AllocError>
     ensures { IfOk result (λ copies. copies ≡ settings.now) }
 {
+    // Its proof takes seconds: two places hold what failing calls would drop, a loop.
     let mut copies = Vec::with_capacity(alloc, settings.len())?;
     for setting in settings {
         copies.push(setting.copy(alloc)?)?;
@@ -71,6 +72,7 @@ impl Delete {
     pub fn copy(&self, alloc: Global) -> Result<Delete, AllocError>
         ensures { IfOk result (λ delete. delete ≡ self.now) }
     {
+        // Its proof takes seconds: five places hold what failing calls would drop.
         Ok(Delete {
             table: self.table.copy()?,
             condition: copy_condition(alloc, &self.condition)?,

@@ -531,6 +531,7 @@ impl Select {
     pub fn copy(&self, alloc: Global) -> Result<Select, AllocError>
         ensures { IfOk result (λ select. select ≡ self.now) }
     {
+        // Its proof takes seconds: three places hold what failing calls would drop.
         Ok(Select {
             table: self.table.copy()?,
             alias: copy_alias(&self.alias)?,
@@ -570,6 +571,7 @@ impl Selected {
 fn copy_tuples(alloc: Global, tuples: &[Items<Expr>]) -> Result<Vec<Items<Expr>>, AllocError>
     ensures { IfOk result (λ copies. copies.items ≡ tuples.now) }
 {
+    // Its proof takes seconds: six places hold what failing calls would drop, a loop.
     let mut copies = Vec::with_capacity(alloc, tuples.len())?;
     for tuple in tuples {
         copies.push(Items::from_vec(copy_exprs(alloc, tuple.as_slice())?))?;

@@ -172,6 +172,7 @@ fn exempts_on(
     role: &str,
     table: &TableDef,
 ) -> Result<bool, Refusal> {
+    // Its proof takes seconds: one place holds what failing calls would drop.
     let role = Name::new(alloc, role)?;
     let exempt = is_exempt(alloc, &mut Plain::new(catalog), &role, table);
     drop(role);
@@ -247,6 +248,7 @@ fn add_linked(
 
 /// A chain of a thousand roles from `r0` up to `c`; the membership of the role numbered `broken` is without INHERIT.
 fn long_chain(catalog: &mut Catalog, alloc: Global, broken: u32) -> Result<(), Refusal> {
+    // Its proof takes seconds: a loop over three calls that may fail.
     for n in 0..1000 {
         add_link(catalog, alloc, n, n + 1, n != broken)?;
     }

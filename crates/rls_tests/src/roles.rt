@@ -60,6 +60,7 @@ fn are(
     role: &Name,
     want: (bool, bool),
 ) -> Result<bool, AllocError> {
+    // Its proof takes seconds: two calls that may fail.
     let has = has(alloc, &mut Plain::new(catalog), member, role)?;
     let can = can_set(alloc, &mut Plain::new(catalog), member, role)?;
     Ok((has, can) == want)

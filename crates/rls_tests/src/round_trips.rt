@@ -57,6 +57,7 @@ fn reads_roles_and_memberships_again(rt: HostRuntime) {
 /// Statements on tables and policies.
 #[test]
 fn reads_tables_and_policies_again(rt: HostRuntime) {
+    // Its proof takes seconds: a loop.
     for text in [
         "CREATE TABLE t (a int, c bigint, s text, b bool)",
         "create TABLE Policy (Row int, LEVEL text)",

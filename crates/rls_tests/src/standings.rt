@@ -104,6 +104,7 @@ fn put_member(catalog: &mut Catalog, alloc: Global) -> Result<(), Refusal> {
 
 /// `a` is a member of `b`; `c` owns `t`, and granted `b` SELECT with its option; `t` has a policy for SELECT.
 fn small(catalog: &mut Catalog, alloc: Global) -> Result<(), Refusal> {
+    // Its proof takes seconds: six calls that may fail.
     add_role(catalog, alloc, "a", false)?;
     add_role(catalog, alloc, "b", false)?;
     add_role(catalog, alloc, "c", false)?;

@@ -44,6 +44,7 @@ fn reads_items(rt: HostRuntime) {
 /// Items, qualifiers and aliases outside the grammar.
 #[test]
 fn refuses_items(rt: HostRuntime) {
+    // Its proof takes seconds: a loop.
     for text in [
         "SELECT a.b.c FROM t",
         "SELECT t.* FROM t",
@@ -123,6 +124,7 @@ fn reads_subqueries(rt: HostRuntime) {
 /// Subqueries outside the grammar.
 #[test]
 fn refuses_subqueries(rt: HostRuntime) {
+    // Its proof takes seconds: a loop.
     for text in [
         "SELECT a FROM t WHERE SELECT b FROM u",
         "SELECT a FROM t WHERE a = SELECT b FROM u",
@@ -167,6 +169,7 @@ fn refuses(rt: HostRuntime) {
 /// The limits, one above, and which of them comes first.
 #[test]
 fn keeps_limits(rt: HostRuntime) {
+    // Its proof takes seconds: a loop.
     for (count, part, end, want) in [
         (63, "NOT ", "a", "SELECT"),
         (64, "NOT ", "a", "nesting"),

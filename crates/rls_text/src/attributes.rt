@@ -116,6 +116,7 @@ fn more_attributes(
 ) -> Result<(Items<RoleAttribute>, &[Token]), Fault>
     ensures { Gives result (with_front first (read_many (attribute_heads) g.attribute.parses.read (length tokens.now) tokens.now)) }
 {
+    // Its proof takes seconds: a loop, five cited laws.
     let mut all = first;
     let mut rest = tokens;
     for _turn in 0..tokens.len() {

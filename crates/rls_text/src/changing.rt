@@ -25,6 +25,7 @@ type Ending = (Option<Tree>, Option<Selected>);
 pub fn update(alloc: Global, depth: usize, tokens: &[Token]) -> Result<(Draft, &[Token]), Fault>
     ensures { Gives result ((g.update (g.expr depth)).read tokens.now) }
 {
+    // Its proof takes seconds: one place holds what a failing call would drop, four arms, one cited law.
     let Some(rest) = word(tokens, b"update") else {
         return Err(Fault::Syntax);
     };
@@ -186,6 +187,7 @@ fn set_columns(
 fn are_distinct_settings(alloc: Global, mut settings: &[Setting]) -> Result<bool, AllocError>
     ensures { IfOk result (λ distinct. distinct ≡ values.are_distinct (values.set_names settings.entry.now)) }
 {
+    // Its proof takes seconds: a loop over a call that may fail.
     let mut seen = BTreeSet::new(alloc);
     while let [first, rest @ ..] = settings {
         if !seen.insert(first.column.as_str())? {

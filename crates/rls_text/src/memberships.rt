@@ -81,6 +81,7 @@ fn option_second(tokens: &[Token]) -> bool
 fn revoked_option(alloc: Global, tokens: &[Token]) -> Result<(Statement, &[Token]), Fault>
     ensures { Gives result (g.revoked_option.parses.read tokens.now) }
 {
+    // Its proof takes seconds: one call that may fail, one cited law.
     let (option, rest) = option_for(tokens)?;
     match roles_from(alloc, rest) {
         Ok(((roles, from), rest)) => {

@@ -58,6 +58,7 @@ fn answer(alloc: Global, tokens: &[Token]) -> Result<Statement, Refusal>
 fn limited(draft: Draft) -> Result<Statement, Refusal>
     ensures { result ≡ within_limits draft }
 {
+    // Its proof takes seconds: one place holds what a failing call would drop.
     let (statement, depth) = draft;
     if column_count(&statement) > MAX_COLUMNS {
         drop(statement);
@@ -145,6 +146,7 @@ fn body(alloc: Global, depth: usize, tokens: &[Token]) -> Result<(Draft, &[Token
 fn flat_body(alloc: Global, tokens: &[Token]) -> Result<(Statement, &[Token]), Fault>
     ensures { Gives result (g.flat_body.parses.read tokens.now) }
 {
+    // Its proof takes seconds: one cited law.
     if sees_word(tokens, b"drop") {
         dropped_policy(alloc, tokens)
     } else if sees_word(tokens, b"grant") {

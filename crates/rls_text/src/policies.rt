@@ -27,6 +27,7 @@ type PolicyChange = (Option<Items<Grantee>>, Conditions);
 pub fn policy(alloc: Global, depth: usize, tokens: &[Token]) -> Result<(Draft, &[Token]), Fault>
     ensures { Gives result ((g.policy (g.expr depth)).read tokens.now) }
 {
+    // Its proof takes seconds: four places hold what a failing call would drop, four arms, one cited law.
     match policy_on(alloc, tokens) {
         Ok((names, rest)) => match proper_description(alloc, depth, rest) {
             Ok((description, rest)) => Ok((created(names, description), rest)),

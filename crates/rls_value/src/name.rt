@@ -202,6 +202,7 @@ fn is_letter_or_digit(byte: u8) -> bool
 pub fn is_reserved(word: &[u8]) -> bool
     ensures { result ≡ reserved word.now }
 {
+    // Its proof takes seconds: 16 arms, one cited law.
     match word {
         [b'a', ..] => is_one_of(&[b"all", b"and", b"as"], word),
         [b'c', ..] => is_one_of(&[b"check", b"create", b"current_user"], word),

@@ -619,6 +619,7 @@ fn write_structure<W: fmt::Write>(
 ) -> fmt::Result
     ensures { WritesOnOk W.write_str_gives f.old result ((decimal first ++ (codes " read " ++ (object_text read_by_first.now ++ (codes ", " ++ (decimal pivot ++ codes " wrote it; "))))) ++ (decimal pivot ++ (codes " read " ++ (object_text read_by_pivot.now ++ (codes ", " ++ (decimal last ++ codes " wrote it")))))) f.new }
 {
+    // Its proof takes seconds: one call that may fail.
     write!(f, "{first} read {read_by_first}, {pivot} wrote it; ")?;
     write!(f, "{pivot} read {read_by_pivot}, {last} wrote it")
 }

@@ -141,6 +141,7 @@ fn write_answer<W: ScriptOut>(
     ensures write { IsErrOf result RunFault.Write → W.failures output.old < W.failures output.new }
     ensures write_failed { W.failures output.old < W.failures output.new → IsErrOf result RunFault.Write }
 {
+    // Its proof takes seconds: one place holds what a failing call would drop.
     let rendered = render(alloc, label, &answer);
     drop(answer);
     let bytes = rendered?;
