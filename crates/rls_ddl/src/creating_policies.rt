@@ -119,6 +119,7 @@ fn make_policy<'c, S: RowSource<'c>>(
     requires new { has_policy policies.now policy.now.name ≡ false }
     ensures { Answers S.state S.after (policy_made role.now name.now table.now policies.now policy.now) source.old source.new notes.old notes.new result }
 {
+    // Its proof takes seconds: two calls that may fail, one cited law.
     require_ownership(alloc, source, notes, role, name, table)?;
     Ok(policies_changed(alloc, name, policies, policy)?)
 }

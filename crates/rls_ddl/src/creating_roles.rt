@@ -39,6 +39,7 @@ fn make_role<'c, S: RowSource<'c>>(
 ) -> Result<Effect, Refusal>
     ensures { Answers S.state S.after (role_made role.now create.now) source.old source.new notes.old notes.new result }
 {
+    // Its proof takes seconds: two calls that may fail, one cited law.
     require_superuser(alloc, source, notes, role, &create.name)?;
     Ok(made(alloc, create)?)
 }

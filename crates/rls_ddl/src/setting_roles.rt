@@ -44,6 +44,7 @@ fn set_role<'c, S: RowSource<'c>>(
 ) -> Result<Effect, Refusal>
     ensures { Answers S.state S.after (role_set login.now role.now) source.old source.new notes.old notes.new result }
 {
+    // Its proof takes seconds: three calls that may fail, one cited law.
     if may_set(alloc, source, notes, login, role)? {
         Ok(role_to(alloc, role)?)
     } else {

@@ -132,6 +132,7 @@ fn table_of<'c>(
 ) -> Result<Vec<NamedTable<'c>>, AllocError>
     ensures { IfOk result (λ tables. tables.items ≡ (insert.now.table, table.now) ∷ []) }
 {
+    // Its proof takes seconds: four places hold what failing calls would drop.
     let mut tables = Vec::with_capacity(alloc, 1)?;
     tables.push(NamedTable::new(&insert.table, table)?)?;
     Ok(tables)
@@ -214,6 +215,7 @@ fn place_answer<'x>(
 ) -> Result<Option<Selected>, AllocError>
     ensures { IfOk result (λ returning. returning ≡ returning_placed (names_over (insert.now.table, table.now) known.now) insert.now.returning) }
 {
+    // Its proof takes seconds: two places hold what a failing call would drop.
     let tables = [NamedTable::new(&insert.table, table)?];
     place_returning(
         alloc,
@@ -232,6 +234,7 @@ fn place_tuples<'x>(
 ) -> Result<Items<Items<Expr>>, AllocError>
     ensures { IfOk result (λ placed. placed ≡ map (spec.tuple_placed (names_over_none known.now)) tuples.now) }
 {
+    // Its proof takes seconds: six places hold what failing calls would drop, a loop.
     let mut placed = Items::new(alloc);
     for tuple in tuples {
         let tuple = place_terms(alloc, tuple.as_slice(), &Scope { tables: &[], known })?;
@@ -272,6 +275,7 @@ fn places_of(
 fn all_places(alloc: Global, columns: &[Column]) -> Result<Items<usize>, AllocError>
     ensures { IfOk result (λ places. places ≡ spec.places_from 0 columns.now) }
 {
+    // Its proof takes seconds: a loop over a call that may fail.
     let mut places = Items::new(alloc);
     for (place, _column) in columns.iter().enumerate() {
         places.push(place)?;

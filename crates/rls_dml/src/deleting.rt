@@ -65,6 +65,7 @@ fn known_removal<'c, S: RowSource<'c>>(
 ) -> Result<Removal, Refusal>
     ensures { Answers S.state S.after (spec.removal_for delete.now table.now) source.old source.new notes.old notes.new result }
 {
+    // Its proof takes seconds: four places hold what a failing call would drop.
     let found = found_for(alloc, source, notes, delete, table)?;
     let removal = check_removal(alloc, delete, table, found.as_slice());
     drop(found);
@@ -81,6 +82,7 @@ fn found_for<'c, S: RowSource<'c>>(
 ) -> Result<Found<'c>, Refusal>
     ensures { Answers S.state S.after (named (spec.removal_names delete.now) ((delete.now.table, table.now) ∷ []) []) source.old source.new notes.old notes.new result }
 {
+    // Its proof takes seconds: one call that may fail.
     let steps = names_of(alloc, delete)?;
     let found = named_over(alloc, source, notes, &steps, &delete.table, table);
     drop(steps);
@@ -222,6 +224,7 @@ fn protection<'c, 'x, S: RowSource<'c>>(
 ) -> Result<Protection<'c>, Refusal>
     ensures { Answers S.state S.after (protection_of standing.now from.entry.name.now from.entry.table.now Kind.Delete (spec.removal_reads removal.now) (tables_if removal.now.condition)) source.old source.new notes.old notes.new result }
 {
+    // Its proof takes seconds: three places hold what a failing call would drop.
     let reads = reads(removal);
     let tables = where_tables(alloc, &removal.condition)?;
     let protection = protection_of(
@@ -357,6 +360,7 @@ fn changes_of<'c>(alloc: Global, name: &Name, hits: &[&Lent<'c>]) -> Result<Delt
 fn deleted_row<'c>(alloc: Global, table: &Name, stored: &Lent<'c>) -> Result<Change, AllocError>
     ensures { IfOk result (λ change. change ≡ spec.deleted_row table.now stored.now) }
 {
+    // Its proof takes seconds: four places hold what failing calls would drop.
     let before = Keyed {
         key: stored.key().copy(alloc)?,
         row: stored.row().copy(alloc)?,

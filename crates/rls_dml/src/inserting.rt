@@ -110,6 +110,7 @@ fn protection<'c, 'x, S: RowSource<'c>>(
 ) -> Result<Protection<'c>, Refusal>
     ensures { Answers S.state S.after (protection_of standing.now from.entry.name.now from.entry.table.now Kind.Insert (spec_returning_reads addition.now.returning) (spec.tuples_tables addition.now.tuples)) source.old source.new notes.old notes.new result }
 {
+    // Its proof takes seconds: three places hold what a failing call would drop.
     let reads = returning_reads(&addition.returning);
     let tables = tuples_tables(alloc, addition.tuples.as_slice())?;
     let protection = protection_of(
@@ -251,6 +252,7 @@ fn new_rows(
     requires { ctx.now.next + length addition.now.tuples ≤ 4294967295 }
     ensures { Gives result (spec.new_rows ctx.now table.now addition.now (map values_held values.now)) }
 {
+    // Its proof takes seconds: two calls that may fail.
     let rows = rows_of(
         alloc,
         addition.tuples.as_slice(),
@@ -390,6 +392,7 @@ fn require_inserted<'c, 'x, S: RowSource<'c>>(
 ) -> Result<(), Refusal>
     ensures { Answers S.state S.after (rows_or_refused from.entry.name.now from.entry.table.now.columns (spec_order_of places.now from.entry.table.now.columns) decisions.now [] rows.now) source.old source.new notes.old notes.new result }
 {
+    // Its proof takes seconds: one call that may fail.
     let order = order_of(alloc, places, from.table.columns.as_slice())?;
     let replaced = Replaced::new(&[], false);
     let found = require_rows(

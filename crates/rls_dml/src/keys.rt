@@ -20,6 +20,7 @@ use std::collections::BTreeSet;
 pub fn key_at(alloc: Global, places: &[usize], row: &Row) -> Result<Row, AllocError>
     ensures { IfOk result (λ key. key ≡ spec.key_at places.now row.now) }
 {
+    // Its proof takes seconds: two places hold what failing calls would drop, a loop.
     let mut values = Vec::with_capacity(alloc, places.len())?;
     for place in places {
         values.push(row.value(*place)?)?;
@@ -92,6 +93,7 @@ pub fn require_unique<'c, S: RowSource<'c>>(
 fn whole_keys(alloc: Global, rows: &[Stored]) -> Result<Vec<Row>, AllocError>
     ensures { IfOk result (λ keys. keys.items ≡ spec.keys_of rows.now) }
 {
+    // Its proof takes seconds: two places hold what failing calls would drop, a loop.
     let mut keys = Vec::with_capacity(alloc, rows.len())?;
     for stored in rows {
         if is_whole(stored.key.as_slice()) {
@@ -153,6 +155,7 @@ fn none_stays<'c, S: RowSource<'c>>(
 ) -> Result<bool, AllocError>
     ensures { IfOk result (λ none. IsTrue none → spec.stays_any replaced.now (rows_of (S.state source.now) name.now) ≡ false) }
 {
+    // Its proof takes seconds: one call that may fail, one cited law.
     if replaced.may_be_all() {
         let rows = source.look(alloc, name)?;
         Ok(replaced.are_numbered_as(rows.as_slice()))
@@ -268,6 +271,7 @@ fn is_below(key: &Row, keys: &[Row]) -> bool
 fn have_doubles_anywhere(alloc: Global, mut keys: &[Row]) -> Result<bool, AllocError>
     ensures { IfOk result (λ doubles. doubles ≡ has_doubles keys.entry.now) }
 {
+    // Its proof takes seconds: a loop over a call that may fail.
     let mut seen = BTreeSet::new(alloc);
     while let [key, rest @ ..] = keys {
         if !seen.insert(key)? {

@@ -61,6 +61,7 @@ pub fn answered(
 fn whole_rows(alloc: Global, rows: &[&Row]) -> Result<Items<Row>, AllocError>
     ensures { IfOk result (λ listed. listed ≡ spec.listing (map (λ row. row.now) rows.now)) }
 {
+    // Its proof takes seconds: two places hold what failing calls would drop, a loop.
     let mut copies = Vec::with_capacity(alloc, rows.len())?;
     for row in rows {
         copies.push(row.copy(alloc)?)?;
@@ -99,6 +100,7 @@ fn values_over(alloc: Global, items: &[Expr], role: &Name, row: &Row) -> Result<
 fn number_alone(alloc: Global, number: i64) -> Result<Items<Row>, AllocError>
     ensures { IfOk result (λ rows. rows ≡ (Value.Int number ∷ []) ∷ []) }
 {
+    // Its proof takes seconds: four places hold what failing calls would drop.
     let mut values = Vec::with_capacity(alloc, 1)?;
     values.push(Value::Int(number))?;
     let mut rows = Vec::with_capacity(alloc, 1)?;
@@ -113,6 +115,7 @@ pub fn standing_rows<'r, 'c>(
 ) -> Result<Vec<&'r Row>, AllocError>
     ensures { IfOk result (λ rows. map (λ row. row.now) rows.items ≡ map (λ stored. stored.row) (map (λ hit. hit.now) hits.now)) }
 {
+    // Its proof takes seconds: a loop over two calls that may fail.
     let mut rows = Vec::with_capacity(alloc, hits.len())?;
     for hit in hits {
         rows.push(hit.row())?;

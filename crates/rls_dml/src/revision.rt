@@ -59,6 +59,7 @@ fn found_for<'c, S: RowSource<'c>>(
 ) -> Result<Found<'c>, Refusal>
     ensures { Answers S.state S.after (named (spec.revision_names update.now) ((update.now.table, table.now) ∷ []) []) source.old source.new notes.old notes.new result }
 {
+    // Its proof takes seconds: one call that may fail.
     let steps = names_of(alloc, update)?;
     let found = named_over(alloc, source, notes, &steps, &update.table, table);
     drop(steps);
@@ -162,6 +163,7 @@ fn place_setting(
 ) -> Result<(usize, Expr), Refusal>
     ensures { Gives result (spec.setting_placed table.now.columns (names_in scope.now) setting.now) }
 {
+    // Its proof takes seconds: two calls that may fail.
     let place = known_place(table, &setting.column)?;
     let value = place_columns(alloc, &setting.value, scope)?;
     Ok((place, value))
@@ -170,6 +172,7 @@ fn place_setting(
 fn require_revision(columns: &[Column], revision: &Revision) -> Result<(), Refusal>
     ensures { Gives result (spec.revision_or_refused columns.now revision.now) }
 {
+    // Its proof takes seconds: one call that may fail.
     require_fitting(
         settings_fit(revision.settings.as_slice(), columns)
             && (where_fits(&revision.condition) && returning_fits(&revision.returning)),

@@ -81,6 +81,7 @@ fn found_for<'c, S: RowSource<'c>>(
 ) -> Result<Found<'c>, Refusal>
     ensures { Answers S.state S.after (named (spec.query_names select.now) ((spec.qualifier_of select.now, table.now) ∷ []) []) source.old source.new notes.old notes.new result }
 {
+    // Its proof takes seconds: one call that may fail.
     let steps = names_of(alloc, select)?;
     let found = named_over(alloc, source, notes, &steps, qualifier(select), table);
     drop(steps);
@@ -166,6 +167,7 @@ fn select_from<'c, 'x, S: RowSource<'c>>(
 ) -> Result<Effect, Refusal>
     ensures { Answers S.state S.after (spec.select_from role.now from.entry.name.now from.entry.table.now query.now) source.old source.new notes.old notes.new result }
 {
+    // Its proof takes seconds: one place holds what a failing call would drop, one cited law.
     let standing = standing_of(alloc, source, notes, role)?;
     let listed = select_as(alloc, source, notes, &standing, role, from, query);
     drop(standing);
@@ -212,6 +214,7 @@ fn protection<'c, 'x, S: RowSource<'c>>(
 ) -> Result<Protection<'c>, Refusal>
     ensures { Answers S.state S.after (protection_of standing.now from.entry.name.now from.entry.table.now Kind.Select false (tables_if query.now.condition)) source.old source.new notes.old notes.new result }
 {
+    // Its proof takes seconds: three places hold what a failing call would drop.
     let tables = where_tables(alloc, &query.condition)?;
     let protection = protection_of(
         alloc,

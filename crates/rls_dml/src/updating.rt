@@ -108,6 +108,7 @@ fn protection<'c, 'x, S: RowSource<'c>>(
 ) -> Result<Protection<'c>, Refusal>
     ensures { Answers S.state S.after (protection_of standing.now from.entry.name.now from.entry.table.now Kind.Update (spec.revision_reads revision.now) (spec.revision_tables revision.now)) source.old source.new notes.old notes.new result }
 {
+    // Its proof takes seconds: three places hold what a failing call would drop.
     let reads = reads(revision);
     let tables = revision_tables(alloc, revision)?;
     let protection = protection_of(
@@ -224,6 +225,7 @@ fn update_values<'a, 'c, 'x, S: RowSource<'c>>(
 ) -> Result<Effect, Refusal>
     ensures { Answers S.state S.after (spec.update_values role.now from.entry.name.now from.entry.table.now protection.now revision.now decisions.items replaced.now) source.old source.new notes.old notes.new result }
 {
+    // Its proof takes seconds: three places hold what a failing call would drop, one cited law.
     let nothing = Scoped::Nothing;
     let values = settings_of(
         alloc,
@@ -258,6 +260,7 @@ fn update_made<'a, 'c, 'x, S: RowSource<'c>>(
 ) -> Result<Effect, Refusal>
     ensures { Answers S.state S.after (spec.update_made role.now from.entry.name.now from.entry.table.now protection.now revision.now decisions.items replaced.now (map held_value values.now)) source.old source.new notes.old notes.new result }
 {
+    // Its proof takes seconds: one place holds what a failing call would drop, one cited law.
     match updated_rows(alloc, from.table, revision, replaced.rows(), values) {
         Ok(new) => Ok(update_rows(
             alloc, source, notes, protection, revision, role, from, decisions, replaced, new,

@@ -177,6 +177,7 @@ pub fn require_rows<'c, 'x, S: RowSource<'c>>(
 ) -> Result<(), Refusal>
     ensures { Answers S.state S.after (spec.rows_or_refused from.entry.name.now from.entry.table.now.columns order.now decisions.now replaced.now rows.now) source.old source.new notes.old notes.new result }
 {
+    // Its proof takes seconds: one call that may fail, one cited law.
     require_allowed(from.name, decisions)?;
     require_constraints(alloc, source, notes, from, order, replaced, rows)
 }
@@ -252,6 +253,7 @@ fn require_values(rows: &[Stored], columns: &[Column], order: &[usize]) -> Resul
 fn row_has_values(stored: &Stored, columns: &[Column], order: &[usize]) -> Result<(), Refusal>
     ensures { Gives result (spec.has_values columns.now order.now stored.now) }
 {
+    // Its proof takes seconds: a loop over a call that may fail.
     for place in order {
         require_value(&stored.row, columns, *place)?;
     }
@@ -261,6 +263,7 @@ fn row_has_values(stored: &Stored, columns: &[Column], order: &[usize]) -> Resul
 fn require_value(row: &Row, columns: &[Column], place: usize) -> Result<(), Refusal>
     ensures { Gives result (spec.value_or_not_null (slice_get columns.now place) (value_at row.now place)) }
 {
+    // Its proof takes seconds: one call that may fail.
     match columns.get(place) {
         None => Ok(()),
         Some(column) => {

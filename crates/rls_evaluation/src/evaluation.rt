@@ -124,6 +124,7 @@ fn conjunction<'a, 'c, S: Tables>(
     ensures tells { Tells (value_of (t.And (terms_of parts.now)) (shows (drop view.entry.from view.entry.fences.now) env.now.user.now) (env_of env.now)) (S.state source.old) (S.state source.new) work.old.notes work.new.notes (held_now result) }
     ensures holds { OnOk result (Holds view.entry.fences.now env.now.user.now (S.state source.new) work.new) }
 {
+    // Its proof takes seconds: a loop over a call that may fail.
     let mut so_far = Truth::True;
     for part in parts {
         let held = condition_value(alloc, source, work, view, part, env)?;
@@ -224,6 +225,7 @@ fn among<'a, 'c, S: Tables>(
     ensures tells { Tells (followed_by (value_of operand.now (shows (drop view.entry.from view.entry.fences.now) env.now.user.now) (env_of env.now)) (λ x. turned_value is_negated (together (or_equal x) False (terms_of list.now) (shows (drop view.entry.from view.entry.fences.now) env.now.user.now) (env_of env.now)))) (S.state source.old) (S.state source.new) work.old.notes work.new.notes (held_now result) }
     ensures holds { OnOk result (Holds view.entry.fences.now env.now.user.now (S.state source.new) work.new) }
 {
+    // Its proof takes seconds: two calls that may fail.
     let held = eval(alloc, source, work, view, operand, env)?;
     let truth = is_one_of(alloc, source, work, view, &held, list, env)?;
     Ok(held_truth(turned(truth, is_negated)))
@@ -267,6 +269,7 @@ fn sum<'a, 'c, S: Tables>(
     ensures tells { Tells (value_of (t.Sum signs.now (terms_of parts.now)) (shows (drop view.entry.from view.entry.fences.now) env.now.user.now) (env_of env.now)) (S.state source.old) (S.state source.new) work.old.notes work.new.notes (held_now result) }
     ensures holds { OnOk result (Holds view.entry.fences.now env.now.user.now (S.state source.new) work.new) }
 {
+    // Its proof takes seconds: two places hold what a failing call would drop.
     match parts {
         [] => Ok(Held::Null),
         [first, further @ ..] => {
@@ -334,6 +337,7 @@ fn exists<'a, 'c, S: Tables>(
     ensures tells { Tells (value_of (t.Exists (query_of query.now)) (shows (drop view.entry.from view.entry.fences.now) env.now.user.now) (env_of env.now)) (S.state source.old) (S.state source.new) work.old.notes work.new.notes (held_now result) }
     ensures holds { OnOk result (Holds view.entry.fences.now env.now.user.now (S.state source.new) work.new) }
 {
+    // Its proof takes seconds: one place holds what a failing call would drop.
     if is_alone(query) {
         return exists_alone(alloc, source, work, view, query, env);
     }
@@ -369,6 +373,7 @@ fn exists_alone<'a, 'c, S: Tables>(
     ensures tells { Tells (value_of (t.Exists (query_of query.now)) (shows (drop view.entry.from view.entry.fences.now) env.now.user.now) (env_of env.now)) (S.state source.old) (S.state source.new) work.old.notes work.new.notes (held_now result) }
     ensures holds { OnOk result (Holds view.entry.fences.now env.now.user.now (S.state source.new) work.new) }
 {
+    // Its proof takes seconds: two calls that may fail.
     let found = place_of_answer(&work.answers, work.next, view.from, false, query);
     match found {
         Some(place) => {
@@ -427,6 +432,7 @@ fn within<'a, 'c, S: Tables>(
     ensures tells { Tells (followed_by (value_of operand.now (shows (drop view.entry.from view.entry.fences.now) env.now.user.now) (env_of env.now)) (λ x. turned_value is_negated (among_items x (query_of query.now) (shows (drop view.entry.from view.entry.fences.now) env.now.user.now) (env_of env.now)))) (S.state source.old) (S.state source.new) work.old.notes work.new.notes (held_now result) }
     ensures holds { OnOk result (Holds view.entry.fences.now env.now.user.now (S.state source.new) work.new) }
 {
+    // Its proof takes seconds: two calls that may fail.
     let held = eval(alloc, source, work, view, operand, env)?;
     let truth = is_within(alloc, source, work, view, &held, query, env)?;
     Ok(held_truth(turned(truth, is_negated)))
@@ -513,6 +519,7 @@ fn items_alone<'a, 'c, S: Tables>(
     ensures stands { S.state source.new ≡ S.state source.old }
     ensures holds { OnOk result (Holds view.entry.fences.now env.now.user.now (S.state source.new) work.new) }
 {
+    // Its proof takes seconds: one place holds what a failing call would drop.
     let rows = rows_for(alloc, source, work, view, query, env)?;
     let values = items_over(
         alloc,
@@ -673,6 +680,7 @@ fn item_if<'a, 'c, S: Tables>(
     ensures tells { Tells (means.item_if (meets (maybe_term query.now.condition) (shows (drop view.entry.from view.entry.fences.now) env.now.user.now) (env_of env.now)) (item_of (terms_of query.now.items.items) (shows (drop view.entry.from view.entry.fences.now) env.now.user.now) (env_of env.now))) (S.state source.old) (S.state source.new) work.old.notes work.new.notes (maybe_now result) }
     ensures holds { OnOk result (Holds view.entry.fences.now env.now.user.now (S.state source.new) work.new) }
 {
+    // Its proof takes seconds: two calls that may fail.
     let is = meets_condition(alloc, source, work, view, &query.condition, env)?;
     if !is {
         return Ok(None);
@@ -788,6 +796,7 @@ fn shown_once<'a, 'c, S: Tables>(
     ensures tells { Tells (shown_at view.entry.fences.now user.now view.entry.from object) (S.state source.old) (S.state source.new) work.old.notes work.new.notes result }
     ensures holds { OnOk result (Holds view.entry.fences.now user.now (S.state source.new) work.new) }
 {
+    // Its proof takes seconds: one place holds what a failing call would drop, five arms.
     if is_looked_up(view, &object) {
         let rows = shown(alloc, source, work, view, user, &object);
         drop(object);
@@ -857,6 +866,7 @@ fn asked<'a, 'c, S: Tables>(
     ensures tells { Tells (asked_of object.now) (S.state source.old) (S.state source.new) work.old.notes work.new.notes result }
     ensures holds { OnOk result (Holds view.entry.fences.now user.now (S.state source.new) work.new) }
 {
+    // Its proof takes seconds: two calls that may fail.
     match object {
         Object::Rows(table) => {
             note_of(alloc, &mut work.notes, object)?;
@@ -951,6 +961,7 @@ pub fn verdict_on<'a, 'c, S: Tables>(
     ensures tells { Tells (spec.verdict_on guard.now (shows (drop view.entry.from view.entry.fences.now) user.now) user.now row.now) (S.state source.old) (S.state source.new) work.old.notes work.new.notes result }
     ensures holds { OnOk result (Holds view.entry.fences.now user.now (S.state source.new) work.new) }
 {
+    // Its proof takes seconds: one call that may fail.
     match guard {
         Guard::Exempt => Ok(Verdict::Exempt),
         Guard::Policies(conditions) => {

@@ -270,6 +270,7 @@ fn place_over(
 ) -> Result<Box<Subquery>, AllocError>
     ensures { IfOk result (λ query_placed. query_of query_placed.value ≡ spec.query_over (query_of query.now) (names_in scope.now) (Some table.now)) }
 {
+    // Its proof takes seconds: three places hold what failing calls would drop.
     let from = NamedTable::new(query.from.qualifier(), table)?;
     let tables = inside(alloc, from, scope.tables)?;
     let inner = Scope {

@@ -51,6 +51,7 @@ fn grant_for<'c, S: RowSource<'c>>(
 ) -> Result<Delta, Refusal>
     ensures { Answers S.state S.after (grant_on role.now table.now grant.now) source.old source.new notes.old notes.new result }
 {
+    // Its proof takes seconds: one place holds what failing calls would drop, one cited law.
     let grants = noted_grants(alloc, source, notes, &grant.table)?;
     let reach = noted_reach(alloc, source, notes, role)?;
     let made = make_grants(alloc, &reach, role, table, grants, grant);

@@ -54,6 +54,7 @@ fn revoke_for<'c, S: RowSource<'c>>(
 ) -> Result<Delta, Refusal>
     ensures { Answers S.state S.after (revoke_on role.now table.now revoke.now) source.old source.new notes.old notes.new result }
 {
+    // Its proof takes seconds: one place holds what failing calls would drop, one cited law.
     let grants = noted_grants(alloc, source, notes, &revoke.table)?;
     let reach = noted_reach(alloc, source, notes, role)?;
     let left = leave_grants(alloc, &reach, role, table, grants, revoke);

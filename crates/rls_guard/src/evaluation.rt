@@ -222,6 +222,7 @@ fn sum_from<'a>(
 ) -> Result<Held<'a>, AllocError>
     ensures { IfOk result (λ held. held_value held ≡ spec.sum_from (held_value first.entry) signs.now (terms_of parts.now) (env_of env.now)) }
 {
+    // Its proof takes seconds: a loop over two calls that may fail.
     let mut so_far = first;
     let mut signs_left = signs;
     let mut parts_left = parts;

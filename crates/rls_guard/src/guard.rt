@@ -78,6 +78,7 @@ fn guard_by<'c, 'x>(
 ) -> Result<Guard<'c>, AllocError>
     ensures { IfOk result (λ guard. guard ≡ spec.guard_by standing.now kind side (in_scope scope.entry.from) scope.entry.found.now policies.now) }
 {
+    // Its proof takes seconds: two places hold what a failing call would drop.
     let policies = chosen(alloc, policies, &standing.reach, kind, side)?;
     let conditions = conditions_of(alloc, policies.as_slice(), scope, kind, side);
     drop(policies);

@@ -57,6 +57,7 @@ pub fn judged<'a, 'c, S: RowSource<'c>>(
 ) -> Result<Vec<Decision>, AllocError>
     ensures { Reading S.state S.after (spec.decisions_of sight.entry.watches.now sight.entry.fences.now sight.entry.role.now rows.now) source.old source.new notes.old notes.new (items_now result) }
 {
+    // Its proof takes seconds: five places hold what a failing call would drop.
     let mut work = Work::new(alloc);
     let decisions = judge_new_over(alloc, &*source, &mut work, sight, rows)?;
     match mark_all(alloc, source, notes, work) {

@@ -29,6 +29,7 @@ pub fn settings_of<'a, 'c, S: RowSource<'c>>(
     requires { rows_in nothing.now ≡ [] }
     ensures { Reading S.state S.after (spec.settings_of fences.now role.now settings.now (map (λ row. row.now) rows.now)) source.old source.new notes.old notes.new (held_all result) }
 {
+    // Its proof takes seconds: eight places hold what a failing call would drop.
     let mut work = Work::new(alloc);
     let values = set_over(
         alloc, &*source, &mut work, fences, role, nothing, settings, rows,
@@ -130,6 +131,7 @@ pub fn tuples_of<'a, 'c, S: RowSource<'c>>(
 ) -> Result<Vec<Vec<Held<'a>>>, AllocError>
     ensures { Reading S.state S.after (spec.tuples_of fences.now role.now tuples.now) source.old source.new notes.old notes.new (held_each result) }
 {
+    // Its proof takes seconds: eight places hold what a failing call would drop.
     let mut work = Work::new(alloc);
     let values = put_over(alloc, &*source, &mut work, fences, role, tuples)?;
     match mark_all(alloc, source, notes, work) {

@@ -48,6 +48,7 @@ fn grant_roles<'c, S: RowSource<'c>>(
 ) -> Result<Delta, Refusal>
     ensures { Answers S.state S.after (roles_granted current.now grant.now) source.old source.new notes.old notes.new result }
 {
+    // Its proof takes seconds: one call that may fail, one cited law.
     require_managed(alloc, source, notes, current, grant.roles.as_slice())?;
     grant_memberships(alloc, source, notes, grant)
 }

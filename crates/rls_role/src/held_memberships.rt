@@ -69,6 +69,7 @@ fn held_by<'c, S: RowSource<'c>>(
     ensures noted { OnOk result (notes.new ≡ notes.old ++ Object.Members member.now ∷ []) }
     ensures state { S.state source.new ≡ S.state source.old }
 {
+    // Its proof takes seconds: three places hold what failing calls would drop, one cited law.
     let memberships = noted_members(alloc, source, notes, member)?;
     let memberships = Membership::copy_all(alloc, memberships)?;
     match member.copy() {

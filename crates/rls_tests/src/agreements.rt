@@ -14,6 +14,7 @@ fn agree(
     alloc: Global,
     footprint: &Footprint,
 ) -> Result<bool, AllocError> {
+    // Its proof takes seconds: the length of what it says.
     let mut left = Plain::new(left);
     let mut right = Plain::new(right);
     agrees_on(alloc, &mut left, &mut right, footprint)
@@ -56,6 +57,7 @@ fn with_a(alloc: Global) -> Result<Catalog, Refusal> {
 
 /// Whether the opening state and the one with the role `a` agree on the role.
 fn still_agree(alloc: Global, role: &str) -> Result<bool, Refusal> {
+    // Its proof takes seconds: one place holds what a failing call would drop.
     let later = with_a(alloc)?;
     match Catalog::new(alloc) {
         Ok(opening) => {
@@ -74,6 +76,7 @@ fn still_agree(alloc: Global, role: &str) -> Result<bool, Refusal> {
 /// What a change writes is told apart, all else is the same.
 #[test]
 fn states_agree_but_on_what_changed(rt: HostRuntime) {
+    // Its proof takes seconds: the length of what it says.
     assert!(rt; says(still_agree(rt.alloc(), "b"), true));
     assert!(rt; says(still_agree(rt.alloc(), "a"), false));
 }

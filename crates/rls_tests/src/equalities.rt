@@ -35,6 +35,7 @@ fn is_same_refusal(
     other: u32,
     another: &str,
 ) -> Result<bool, Refusal> {
+    // Its proof takes seconds: one place holds what a failing call would drop.
     let left = made(number, Name::new(alloc, name)?);
     match Name::new(alloc, another) {
         Ok(another) => {

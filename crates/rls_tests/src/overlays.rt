@@ -10,6 +10,7 @@ use std::alloc::{AllocError, Global};
 
 /// Whether `a` has the privileges of `postgres`, behind the changes.
 fn has_all(catalog: &Catalog, alloc: Global, changes: &[Change]) -> Result<bool, Refusal> {
+    // Its proof takes seconds: one place holds what failing calls would drop.
     let a = Name::new(alloc, "a")?;
     let has = has_those_of_postgres(catalog, alloc, changes, &a);
     drop(a);

@@ -21,6 +21,7 @@ fn policy(alloc: Global, name: &str, permissive: bool) -> Result<Policy, Refusal
 
 /// Whether a permissive policy `p` and a restrictive one `r` say it together, by what each says.
 fn both_say(alloc: Global, p: Truth, r: Truth, want: &str) -> Result<bool, Refusal> {
+    // Its proof takes seconds: one place holds what failing calls would drop.
     let permissive = policy(alloc, "p", true)?;
     match policy(alloc, "r", false) {
         Ok(restrictive) => {
@@ -49,6 +50,7 @@ fn say_both<'a>(
 
 /// Whether a restrictive policy alone says it, where it passes.
 fn restrictive_says(alloc: Global, want: &str) -> Result<bool, Refusal> {
+    // Its proof takes seconds: one place holds what failing calls would drop.
     let restrictive = policy(alloc, "r", false)?;
     let said = say(&[(Loan::new(&restrictive), Truth::True)], want);
     drop(restrictive);
@@ -74,6 +76,7 @@ fn named(verdict: &Verdict) -> &str {
 /// Only what is true passes, for both, and no permissive policy comes first.
 #[test]
 fn null_passes_no_policy(rt: HostRuntime) {
+    // Its proof takes seconds: a loop.
     let rows = [
         (Truth::True, Truth::True, "p"),
         (Truth::True, Truth::Unknown, "r"),
@@ -102,6 +105,7 @@ fn one_policy(alloc: Global, name: &str) -> Result<PolicyList, Refusal> {
 
 /// How many policies are left after one is exchanged and one taken away.
 fn left_after(alloc: Global, list: PolicyList, name: &str) -> Result<usize, Refusal> {
+    // Its proof takes seconds: three places hold what failing calls would drop.
     let exchanged = list.replaced(policy(alloc, name, false)?);
     let name = Name::new(alloc, name)?;
     let left = exchanged.without(&name);
@@ -110,6 +114,7 @@ fn left_after(alloc: Global, list: PolicyList, name: &str) -> Result<usize, Refu
 
 /// Whether a list has one policy, and none once that is exchanged and taken away.
 fn is_put_and_taken(alloc: Global, name: &str) -> Result<bool, Refusal> {
+    // Its proof takes seconds: two calls that may fail.
     let list = one_policy(alloc, name)?;
     let has_one = list.as_slice().len() == 1;
     let left = left_after(alloc, list, name)?;
@@ -151,6 +156,7 @@ fn chain(
     bypass_rls: bool,
     inherit: bool,
 ) -> Result<(), Refusal> {
+    // Its proof takes seconds: four calls that may fail.
     add_role(catalog, alloc, "a", false)?;
     add_role(catalog, alloc, "b", bypass_rls)?;
     add_role(catalog, alloc, "c", false)?;
@@ -199,6 +205,7 @@ fn exempts_by_chain(
 /// Whether `b` has BYPASSRLS, whether it inherits from `c`, the role that asks, FORCE, and whether it is exempt.
 #[test]
 fn exemption_follows_ownership_and_nothing_else(rt: HostRuntime) {
+    // Its proof takes seconds: a loop.
     let rows = [
         (false, true, "a", false, true),
         (false, false, "a", false, false),
@@ -239,6 +246,7 @@ fn add_linked(
     next: u32,
     inherit: bool,
 ) -> Result<(), Refusal> {
+    // Its proof takes seconds: two places hold what failing calls would drop.
     add_role(catalog, alloc, role, false)?;
     let next = format!(in alloc; "r{next}")?;
     let added = add_member(catalog, alloc, role, next.as_str(), inherit);

@@ -113,6 +113,7 @@ fn are_in_crews(
 /// Who, which role, whether it has its privileges, whether it may set it.
 #[test]
 fn inherit_and_set_are_told_apart(rt: HostRuntime) {
+    // Its proof takes seconds: a loop.
     let rows = [
         ("bob", "bob", true, true),
         ("bob", "crew", false, true),

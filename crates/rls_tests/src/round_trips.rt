@@ -172,6 +172,7 @@ fn is_printed_again(alloc: Global, statement: &Statement) -> Result<bool, Refusa
 
 /// Whether the text's statement is that one, and is printed as this text.
 fn is_said_by(alloc: Global, text: &str, statement: &Statement) -> Result<bool, Refusal> {
+    // Its proof takes seconds: one place holds what a failing call would drop.
     let again = parse(alloc, text)?;
     let is = is_same_and_gives(alloc, &again, statement, text);
     drop(again);

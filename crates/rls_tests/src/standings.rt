@@ -49,6 +49,7 @@ fn select_for_b(alloc: Global) -> Result<Grant, Refusal> {
 }
 
 fn put_grant(catalog: &mut Catalog, alloc: Global) -> Result<(), Refusal> {
+    // Its proof takes seconds: five places hold what failing calls would drop.
     let mut grants = Items::new(alloc);
     grants.push(select_for_b(alloc)?)?;
     match Name::new(alloc, "t") {
@@ -85,6 +86,7 @@ fn policy_to(name: Name, to: Items<Grantee>) -> Policy {
 }
 
 fn put_policy(catalog: &mut Catalog, alloc: Global) -> Result<(), Refusal> {
+    // Its proof takes seconds: one place holds what failing calls would drop.
     let only = policy(alloc)?;
     let list = PolicyList::new(alloc).with(only)?;
     match Name::new(alloc, "t") {
@@ -185,6 +187,7 @@ fn optioned(
     table: &Name,
     privilege: Privilege,
 ) -> Result<usize, Refusal> {
+    // Its proof takes seconds: one place holds what a failing call would drop.
     let holders = option(alloc, &mut Plain::new(catalog), table, privilege)?;
     Ok(holders.len())
 }
@@ -196,6 +199,7 @@ fn applied(
     table: &Name,
     kind: Kind,
 ) -> Result<usize, Refusal> {
+    // Its proof takes seconds: one call that may fail.
     let policies = applying(
         alloc,
         &mut Plain::new(catalog),

@@ -9,6 +9,7 @@ use std::alloc::{AllocError, Global};
 /// Texts of the grammar, each with the tag of its statement.
 #[test]
 fn reads(rt: HostRuntime) {
+    // Its proof takes seconds: a loop.
     for (text, want) in [
         ("create user r with NOLOGIN Superuser;", "CREATE ROLE"),
         ("CREATE TABLE Policy (Row int, b boolean)", "CREATE TABLE"),
@@ -244,6 +245,7 @@ fn answers_repeated(
 }
 
 fn repeated(alloc: Global, count: u32, part: &str, end: &str) -> Result<String, AllocError> {
+    // Its proof takes seconds: a loop over three calls that may fail.
     let mut text = String::from_str(alloc, "SELECT * FROM t WHERE ")?;
     for _turn in 0..count {
         text.push_str(part)?;

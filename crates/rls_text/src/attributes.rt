@@ -66,6 +66,7 @@ fn attributes_if_any(
 ) -> Result<(Items<RoleAttribute>, &[Token]), Fault>
     ensures { Gives result (or_no_items (g.attributes_if_any.parses.read tokens.now)) }
 {
+    // Its proof takes seconds: two cited laws.
     if let Some(rest) = word(tokens, b"with") {
         attributes(alloc, rest)
     } else if starts_attribute(tokens) {
@@ -170,6 +171,7 @@ const ATTRIBUTES: [&[u8]; 6] = [
 fn starts_attribute(tokens: &[Token]) -> bool
     ensures { result ≡ sees attribute_heads tokens.now }
 {
+    // Its proof takes seconds: the length of what it says.
     sees_one_of(tokens, &ATTRIBUTES)
 }
 

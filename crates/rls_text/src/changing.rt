@@ -84,6 +84,7 @@ fn updated(table: Name, columns: SetColumns, ending: Ending) -> Draft
 pub fn delete(alloc: Global, depth: usize, tokens: &[Token]) -> Result<(Draft, &[Token]), Fault>
     ensures { Gives result ((g.delete (g.expr depth)).read tokens.now) }
 {
+    // Its proof takes seconds: one place holds what a failing call would drop, four arms, one cited law.
     let Some(rest) = word(tokens, b"delete") else {
         return Err(Fault::Syntax);
     };
@@ -285,6 +286,7 @@ fn set_column(alloc: Global, depth: usize, tokens: &[Token]) -> Result<(SetColum
 fn set_value(alloc: Global, depth: usize, tokens: &[Token]) -> Result<(Tree, &[Token]), Fault>
     ensures { Gives result (and_then (read_token (Token.Symbol Symbol.Equal) tokens.now) (λ _ rest. (g.expr depth).read rest)) }
 {
+    // Its proof takes seconds: the length of what it says.
     match symbol(tokens, Symbol::Equal) {
         Some(rest) => expr(alloc, depth, rest),
         None => Err(Fault::Syntax),

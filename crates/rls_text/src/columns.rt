@@ -25,6 +25,7 @@ pub enum ColumnMark {
 pub fn column(alloc: Global, tokens: &[Token]) -> Result<(MarkedColumn, &[Token]), Fault>
     ensures { Gives result (g.column_definition.parses.read tokens.now) }
 {
+    // Its proof takes seconds: three places hold what a failing call would drop, six arms, one cited law.
     match name(alloc, tokens) {
         Ok((name, rest)) => match column_type(rest) {
             Ok((kind, rest)) => match column_marks(alloc, rest) {
@@ -65,6 +66,7 @@ fn marked(name: Name, kind: ColType, marks: &[ColumnMark]) -> MarkedColumn
 fn column_type(tokens: &[Token]) -> Result<(ColType, &[Token]), Fault>
     ensures { Gives result (g.column_type.parses.read tokens.now) }
 {
+    // Its proof takes seconds: one cited law.
     if let Some(rest) = word(tokens, b"integer") {
         Ok((ColType::Integer, rest))
     } else if let Some(rest) = word(tokens, b"int") {
@@ -86,6 +88,7 @@ fn column_type(tokens: &[Token]) -> Result<(ColType, &[Token]), Fault>
 fn column_marks(alloc: Global, tokens: &[Token]) -> Result<(Items<ColumnMark>, &[Token]), Fault>
     ensures { Gives result (g.column_marks.parses.read tokens.now) }
 {
+    // Its proof takes seconds: two places hold what a failing call would drop, one cited law.
     match all_marks(alloc, tokens) {
         Ok((marks, rest)) => {
             if marked_once(marks.as_slice()) {
@@ -134,6 +137,7 @@ fn starts_mark(tokens: &[Token]) -> bool
 fn column_mark(tokens: &[Token]) -> Result<(ColumnMark, &[Token]), Fault>
     ensures { Gives result (g.column_mark.parses.read tokens.now) }
 {
+    // Its proof takes seconds: four arms, one cited law.
     if let Some(rest) = word(tokens, b"not") {
         match word(rest, b"null") {
             Some(rest) => Ok((ColumnMark::NotNull, rest)),

@@ -79,6 +79,7 @@ pub fn alter(alloc: Global, depth: usize, tokens: &[Token]) -> Result<(Draft, &[
 fn altered_role(alloc: Global, tokens: &[Token]) -> Result<(Draft, &[Token]), Fault>
     ensures { Gives result (read_mapped flat g.altered_role.parses.read tokens.now) }
 {
+    // Its proof takes seconds: one place holds what a failing call would drop, four arms, one cited law.
     match name(alloc, tokens) {
         Ok((name, rest)) => match written_attributes(alloc, rest) {
             Ok((attributes, rest)) => {

@@ -19,6 +19,7 @@ use std::alloc::Global;
 pub fn granted_roles(alloc: Global, tokens: &[Token]) -> Result<(Statement, &[Token]), Fault>
     ensures { Gives result (g.granted_roles.parses.read tokens.now) }
 {
+    // Its proof takes seconds: three places hold what a failing call would drop, four arms, one cited law.
     match names(alloc, tokens) {
         Ok((roles, rest)) => match to_members(alloc, rest) {
             Ok(((to, options), rest)) => {
@@ -349,6 +350,7 @@ fn more_settings(
 ) -> Result<(Items<(MembershipOption, bool)>, &[Token]), Fault>
     ensures { Gives result (with_front first (read_many (Sign Symbol.Comma ∷ []) (with_comma g.setting).parses.read (length tokens.now) tokens.now)) }
 {
+    // Its proof takes seconds: a loop, five cited laws.
     let mut all = first;
     let mut rest = tokens;
     for _turn in 0..tokens.len() {

@@ -37,6 +37,7 @@ pub fn parse(alloc: Global, text: &str) -> Result<Statement, Refusal>
     // It is what the grammar and the limits say, unless memory runs out.
     ensures answer { ¬ (result ≡ Err Refusal.NoMemory) → Answers (words_of text.now) result }
 {
+    // Its proof takes seconds: one place holds what a failing call would drop.
     let tokens = words(alloc, text)?;
     answer(alloc, tokens.as_slice())
 }
@@ -90,6 +91,7 @@ fn whole(alloc: Global, tokens: &[Token]) -> Result<Draft, Fault>
     requires { spec.first_limit tokens.now ≡ None }
     ensures { GivesWhole result (whole_of tokens.now) }
 {
+    // Its proof takes seconds: three places hold what a failing call would drop, four arms, one cited law.
     match statement(alloc, tokens.len() + 1, tokens) {
         Ok((statement, rest)) => match rest {
             [] => Ok(statement),

@@ -18,6 +18,7 @@ use std::alloc::Global;
 pub fn revoke(alloc: Global, tokens: &[Token]) -> Result<(Statement, &[Token]), Fault>
     ensures { Gives result (g.revoke.parses.read tokens.now) }
 {
+    // Its proof takes seconds: one cited law.
     let Some(rest) = word(tokens, b"revoke") else {
         return Err(Fault::Syntax);
     };

@@ -119,6 +119,7 @@ fn run_line<W: ScriptOut>(
     ensures write { IsErrOf result RunFault.Write → W.failures output.old < W.failures output.new }
     ensures write_failed { W.failures output.old < W.failures output.new → IsErrOf result RunFault.Write }
 {
+    // Its proof takes seconds: one call that may fail.
     match line {
         Line::Skipped | Line::Phase => Ok(()),
         Line::Command { label, command } => {
