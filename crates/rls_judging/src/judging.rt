@@ -241,7 +241,7 @@ fn judge<'a, 'c, T: Tables>(
     ensures tells { Tells (followed_by (spec.decisions_on sight.entry.watches.now (shows sight.entry.fences.now sight.entry.role.now) sight.entry.role.now id row.now) (λ said. known (Ok (allowing decisions.old.items said)))) (T.state tables.old) (T.state tables.new) work.old.notes work.new.notes (beside decisions.new.items result) }
     ensures holds { OnOk result (Holds sight.entry.fences.now sight.entry.role.now (T.state tables.new) work.new) }
 {
-    // Its proof takes seconds: one place holds what failing calls would drop, a loop.
+    // Its proof takes seconds: the length of what it says.
     match sight.watches {
         [first, second] if alike => judge_both(
             alloc, tables, work, judgements, decisions, sight, first, second, id, row,
@@ -268,6 +268,7 @@ fn judge_both<'a, 'c, T: Tables>(
     ensures tells { Tells (followed_by (spec.decisions_on (first.now ∷ second.now ∷ []) (shows sight.entry.fences.now sight.entry.role.now) sight.entry.role.now id row.now) (λ said. known (Ok (allowing decisions.old.items said)))) (T.state tables.old) (T.state tables.new) work.old.notes work.new.notes (beside decisions.new.items result) }
     ensures holds { OnOk result (Holds sight.entry.fences.now sight.entry.role.now (T.state tables.new) work.new) }
 {
+    // Its proof takes seconds: two calls that may fail.
     let view = View {
         fences: sight.fences,
         from: 0,
@@ -296,6 +297,7 @@ fn judge_each<'a, 'c, T: Tables>(
     ensures tells { Tells (followed_by (spec.decisions_on sight.entry.watches.now (shows sight.entry.fences.now sight.entry.role.now) sight.entry.role.now id row.now) (λ said. known (Ok (allowing decisions.old.items said)))) (T.state tables.old) (T.state tables.new) work.old.notes work.new.notes (beside decisions.new.items result) }
     ensures holds { OnOk result (Holds sight.entry.fences.now sight.entry.role.now (T.state tables.new) work.new) }
 {
+    // Its proof takes seconds: one place holds what failing calls would drop, a loop.
     let view = View {
         fences: sight.fences,
         from: 0,

@@ -29,7 +29,7 @@ pub fn settings_of<'a, 'c, S: RowSource<'c>>(
     requires { rows_in nothing.now ≡ [] }
     ensures { Reading S.state S.after (spec.settings_of fences.now role.now settings.now (map (λ row. row.now) rows.now)) source.old source.new notes.old notes.new (held_all result) }
 {
-    // Its proof takes seconds: eight places hold what a failing call would drop.
+    // Its proof takes seconds: six places hold what a failing call would drop.
     let mut work = Work::new(alloc);
     let values = set_over(
         alloc, &*source, &mut work, fences, role, nothing, settings, rows,
@@ -85,7 +85,7 @@ fn values_set<'a, 'c, T: Tables>(
     requires nothing { rows_in nothing.now ≡ [] }
     ensures { Tells (spec.values_set fences.now role.now settings.now (map (λ row. row.now) rows.now)) (T.state tables.old) (T.state tables.new) work.old.notes work.new.notes (held_all result) }
 {
-    // Its proof takes seconds: eight places hold what failing calls would drop, a loop.
+    // Its proof takes seconds: two places hold what failing calls would drop, a loop.
     let most = rows.len().saturating_mul(settings.len());
     let mut values = Vec::with_capacity(alloc, most)?;
     for stored in rows {
@@ -112,6 +112,7 @@ fn put_values<'a, 'c, T: Tables>(
     ensures tells { Tells (followed_by (spec.values_on (map (λ setting. setting.1) settings.now) (shows fences.now env.now.user.now) (env_of env.now)) (λ given. known (Ok (values_held values.old ++ given)))) (T.state tables.old) (T.state tables.new) work.old.notes work.new.notes (put_in (values_held values.new) result) }
     ensures holds { OnOk result (Holds fences.now env.now.user.now (T.state tables.new) work.new) }
 {
+    // Its proof takes seconds: two places hold what failing calls would drop, a loop.
     let view = View { fences, from: 0 };
     for (_, expr) in settings {
         let held = eval(alloc, tables, work, view, expr, env)?;
