@@ -50,6 +50,7 @@ pub fn file_named<'a, T: AsStr>(
     alloc: Global,
     words: &'a [T],
 ) -> Result<Option<&'a str>, clap::Error> {
+    // Its proof takes seconds: eight places hold what failing calls would drop.
     let matches = command(alloc)?.try_get_matches_from(words)?;
     Ok(
         matches
@@ -59,6 +60,7 @@ pub fn file_named<'a, T: AsStr>(
 }
 
 fn command<'a>(alloc: Global) -> Result<Command<'a>, AllocError> {
+    // Its proof takes seconds: one call that may fail.
     let run = run_command(alloc)?;
     Command::new(alloc, "rlsdb")
         .about("A database with row-level security")
@@ -68,6 +70,7 @@ fn command<'a>(alloc: Global) -> Result<Command<'a>, AllocError> {
 }
 
 fn run_command<'a>(alloc: Global) -> Result<Command<'a>, AllocError> {
+    // Its proof takes seconds: the length of what it says.
     let file = Arg::new(alloc, "FILE")
         .required(true)
         .help("The script to run, or `-` for standard input");
