@@ -78,6 +78,7 @@ impl Contents {
         ensures firsts { OnOk result (LogsFirsts log.new.items self.new.rows) }
         ensures undo { undone_all log.new.items self.new ≡ self.old }
     {
+        // Its proof takes seconds: a loop over a call that may fail.
         for change in changes {
             let undo = self.put(alloc, change)?;
             if let Err(refused) = log.push(undo) {
@@ -222,6 +223,7 @@ impl Contents {
     fn undo(&mut self, undo: Undo)
         ensures { self.new ≡ undone undo self.old }
     {
+        // Its proof takes seconds: eight places hold what a failing call would drop, six arms.
         match undo {
             Undo::Role(name, before) => take_back(&mut self.roles, name, before),
             Undo::Members(name, before) => take_back(&mut self.members, name, before),
@@ -377,6 +379,7 @@ fn put_slots(
 fn undo_row(tables: &mut BTreeMap<Name, Slots>, undo: RowsUndo)
     ensures { tables.new.entries ≡ rows_undone undo tables.old.entries }
 {
+    // Its proof takes seconds: ten places hold what a failing call would drop, four arms.
     match undo {
         RowsUndo::Place(table, _) => {
             match tables.get_mut(&table) {

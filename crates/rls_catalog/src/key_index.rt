@@ -48,6 +48,7 @@ pub(crate) fn add(
     ensures proper { IsProper index.old.entries → IsProper index.new.entries }
     ensures err { OnErr result (has index.new.entries ≡ has index.old.entries) }
 {
+    // Its proof takes seconds: six arms.
     if is_empty(key) {
         return Ok(false);
     }

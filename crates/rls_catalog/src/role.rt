@@ -60,6 +60,7 @@ impl Membership {
     ) -> Result<Items<Membership>, AllocError>
         ensures { IfOk result (λ copies. copies ≡ memberships.now) }
     {
+        // Its proof takes seconds: two places hold what failing calls would drop, a loop.
         let mut copies = Vec::with_capacity(alloc, memberships.len())?;
         for membership in memberships {
             copies.push(membership.copy()?)?;

@@ -92,6 +92,7 @@ impl Slots {
         ensures first { IfOk result (λ is_first. is_first ≡ is_settled self.old) }
         ensures err { OnErr result (self.new ≡ self.old) }
     {
+        // Its proof takes seconds: one call that may fail.
         let is_first = self.past.is_empty();
         let before = place(&mut self.slots, &mut self.index, alloc, id, content)?;
         match self.past.push(before) {
