@@ -136,6 +136,7 @@ fn guarded<'c>(
 ) -> Result<Room<'c>, AllocError>
     ensures { IfOk result (λ room. room ≡ spec.guarded standing.now name.now table.now policies.now) }
 {
+    // Its proof takes seconds: one place holds what failing calls would drop.
     let next = tables_used(
         alloc,
         policies,

@@ -20,6 +20,7 @@ pub(crate) fn keys_of<'c>(
 ) -> Result<BTreeMap<Row, Items<OwnRow<'c>>>, AllocError>
     ensures { IfOk result (λ keys. Indexes keys.entries rows.now.entries) }
 {
+    // Its proof takes seconds: three places hold what a failing call would drop, a loop.
     let mut keys = BTreeMap::new(alloc);
     for (id, content) in rows {
         if let Some(keyed) = content.get() {

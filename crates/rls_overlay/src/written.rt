@@ -213,6 +213,7 @@ fn put_first_row<'c>(
     requires { at change.now.table tables.old.entries ≡ None }
     ensures { OnOk result (tables.new.entries ≡ with_own_row tables.old.entries change.now) }
 {
+    // Its proof takes seconds: nine places hold what failing calls would drop.
     let own = OwnRows::of_one(alloc, change)?;
     tables.insert(change.table.copy()?, own)?;
     Ok(())

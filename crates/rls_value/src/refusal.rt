@@ -267,6 +267,7 @@ impl Why {
     pub fn copy(&self) -> Result<Why, AllocError>
         ensures { IfOk result (λ why. why ≡ self.now) }
     {
+        // Its proof takes seconds: two places hold what failing calls would drop, seven arms.
         match self {
             Why::Privilege(privilege, table) => Ok(Why::Privilege(*privilege, table.copy()?)),
             Why::Owner(table) => Ok(Why::Owner(table.copy()?)),
