@@ -67,6 +67,7 @@ fn members_agree<'c, A: RowSource<'c>, B: RowSource<'c>>(
     ensures left { A.state left.new ≡ A.state left.old }
     ensures right { B.state right.new ≡ B.state right.old }
 {
+    // Its proof takes seconds: two calls that may fail.
     let found = left.members(alloc, member)?;
     let others = right.members(alloc, member)?;
     Ok(are_same(found, others))
@@ -84,6 +85,7 @@ fn table_agrees<'c, A: RowSource<'c>, B: RowSource<'c>>(
     ensures left { A.state left.new ≡ A.state left.old }
     ensures right { B.state right.new ≡ B.state right.old }
 {
+    // Its proof takes seconds: two calls that may fail.
     let found = left.table(alloc, name)?;
     let other = right.table(alloc, name)?;
     Ok(are_both_same(found, other))
@@ -101,6 +103,7 @@ fn grants_agree<'c, A: RowSource<'c>, B: RowSource<'c>>(
     ensures left { A.state left.new ≡ A.state left.old }
     ensures right { B.state right.new ≡ B.state right.old }
 {
+    // Its proof takes seconds: two calls that may fail.
     let found = left.grants(alloc, table)?;
     let others = right.grants(alloc, table)?;
     Ok(are_same(found, others))
@@ -118,6 +121,7 @@ fn policies_agree<'c, A: RowSource<'c>, B: RowSource<'c>>(
     ensures left { A.state left.new ≡ A.state left.old }
     ensures right { B.state right.new ≡ B.state right.old }
 {
+    // Its proof takes seconds: two calls that may fail.
     let found = left.policies(alloc, table)?;
     let others = right.policies(alloc, table)?;
     Ok(are_same(found, others))

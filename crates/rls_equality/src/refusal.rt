@@ -39,6 +39,7 @@ impl Same for Refusal {
 
 impl Same for Why {
     fn is_same(&self, other: &Why) -> bool {
+        // Its proof takes seconds: eight arms.
         match (self, other) {
             (Why::Privilege(privilege, table), Why::Privilege(other, another)) => {
                 *privilege == *other && table.is_same(another)

@@ -21,6 +21,7 @@ pub fn table_named<'c, S: RowSource<'c>>(
 ) -> Result<&'c TableDef, Refusal>
     ensures { Answers S.state S.after (table_or_undefined name.now) source.old source.new notes.old notes.new (lent_now result) }
 {
+    // Its proof takes seconds: two calls that may fail.
     match noted_table(alloc, source, notes, name)? {
         Some(table) => Ok(table),
         None => Err(Refusal::Undefined(NameKind::Relation, name.copy()?)),

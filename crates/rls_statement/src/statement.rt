@@ -338,6 +338,7 @@ impl SetRole {
 fn copy_names(alloc: Global, names: &[Name]) -> Result<Items<Name>, AllocError>
     ensures { IfOk result (λ copies. copies ≡ names.now) }
 {
+    // Its proof takes seconds: two places hold what failing calls would drop, a loop.
     let mut copies = Vec::with_capacity(alloc, names.len())?;
     for name in names {
         copies.push(name.copy()?)?;
@@ -360,6 +361,7 @@ impl CreateTable {
 fn copy_columns(alloc: Global, columns: &[MarkedColumn]) -> Result<Items<MarkedColumn>, AllocError>
     ensures { IfOk result (λ copies. copies ≡ columns.now) }
 {
+    // Its proof takes seconds: two places hold what failing calls would drop, a loop.
     let mut copies = Vec::with_capacity(alloc, columns.len())?;
     for column in columns {
         copies.push(column.copy()?)?;
@@ -582,6 +584,7 @@ fn copy_tuples(alloc: Global, tuples: &[Items<Expr>]) -> Result<Vec<Items<Expr>>
 fn copy_exprs(alloc: Global, exprs: &[Expr]) -> Result<Vec<Expr>, AllocError>
     ensures { IfOk result (λ copies. copies.items ≡ exprs.now) }
 {
+    // Its proof takes seconds: two places hold what failing calls would drop, a loop.
     let mut copies = Vec::with_capacity(alloc, exprs.len())?;
     for expr in exprs {
         copies.push(expr.copy(alloc)?)?;
