@@ -6,7 +6,7 @@ use Rattle.rls_value.specs.{declared.refusal.Refusal.Refusal, Giving.and_then}
 use Rattle.rls_catalog.specs.{declared.change.Change.Change, Bases.FitsAll, SoundRows.RowsAreSound, State.State, Changed.changed, Changed.changed_all}
 use Rattle.rls_statement.specs.{declared.changing.Delete.Delete, declared.changing.Update.Update, declared.statement.AlterPolicy.AlterPolicy, declared.statement.AlterRole.AlterRole, declared.statement.AlterTable.AlterTable, declared.statement.CreatePolicy.CreatePolicy, declared.statement.CreateRole.CreateRole, declared.statement.CreateTable.CreateTable, declared.statement.DropPolicy.DropPolicy, declared.statement.GrantPrivileges.GrantPrivileges, declared.statement.GrantRoles.GrantRoles, declared.statement.Insert.Insert, declared.statement.RevokePrivileges.RevokePrivileges, declared.statement.RevokeRoles.RevokeRoles, declared.statement.Select.Select, declared.statement.SetRole.SetRole, declared.statement.Statement.Statement, Tags.tag_of}
 use Rattle.rls_statement.specs.declared.statement.Statement.TheVariants as statement
-use Rattle.rls_guard.specs.{declared.context.Ctx.Ctx, declared.effect.Effect.Effect, Effects.changes_of, Effects.shown, Keeping.IfDone, Keeping.IsNoRow, Keeping.KeepsRowsSound, Keeping.LeavesRows}
+use Rattle.rls_guard.specs.{declared.context.Ctx.Ctx, declared.effect.Effect.Effect, Effects.changes_of, Effects.shown, Keeping.IfDone, Keeping.IsNoRow, Keeping.KeepsRowsSound, Keeping.KeepsTables, Keeping.LeavesRows, Keeping.TablesStay}
 use Rattle.rls_guard.specs.declared.effect.Effect.TheVariants as effect
 use Rattle.rls_ddl.specs.{AlteringPolicies.alter_policy, AlteringRoles.alter_role, AlteringTables.alter_table, CreatingPolicies.create_policy, CreatingRoles.create_role, CreatingTables.create_table, DroppingPolicies.drop_policy, SettingRoles.set_role, Granting.grant, Granting.grant_roles, Granting.revoke, Granting.revoke_roles}
 use Rattle.rls_dml.specs.{Deleting.delete, Fitting.NumbersFree, Inserting.insert, Selecting.select, Updating.update, NextRows.AllFree, NextRows.InRange, NextRows.NumberOn}
@@ -35,6 +35,12 @@ pub record KeepRows : Type 0 where
   pub insert : (ctx : Ctx) (asked : Insert) → KeepsRowsSound (insert ctx asked)
   pub update : (ctx : Ctx) (asked : Update) → KeepsRowsSound (update ctx asked)
   pub delete : (ctx : Ctx) (asked : Delete) → KeepsRowsSound (delete ctx asked)
+
+-- they leave the tables
+pub record KeepEachTable : Type 0 where
+  pub insert : (ctx : Ctx) (asked : Insert) → KeepsTables (insert ctx asked)
+  pub update : (ctx : Ctx) (asked : Update) → KeepsTables (update ctx asked)
+  pub delete : (ctx : Ctx) (asked : Delete) → KeepsTables (delete ctx asked)
 
 -- a statement whose changes go on
 abbrev pub GoesOn : State → Ctx → Result Effect Refusal → Type 0
@@ -114,6 +120,30 @@ step_sound none rows s ctx asked sound =
     let fact : List Change → Type 0 = λ changes. RowsAreSound (changed_all s changes) in
     of_effect fact ((step ctx asked).in_state s).gives sound
     (done_then fact (mode_or_refused ctx.mode (tag_of asked)) (λ _. ((done_by ctx asked).in_state s).gives) (λ _. each_sound none rows ctx asked s sound))
+
+each_tables : WriteNoRows → KeepEachTable → (ctx : Ctx) (asked : Statement) → KeepsTables (done_by ctx asked)
+each_tables none rows ctx (statement.CreateRole asked) = (none.create_role ctx asked).tables
+each_tables none rows ctx (statement.AlterRole asked) = (none.alter_role ctx asked).tables
+each_tables none rows ctx (statement.CreateTable asked) = (none.create_table ctx asked).tables
+each_tables none rows ctx (statement.AlterTable asked) = (none.alter_table ctx asked).tables
+each_tables none rows ctx (statement.CreatePolicy asked) = (none.create_policy ctx asked).tables
+each_tables none rows ctx (statement.AlterPolicy asked) = (none.alter_policy ctx asked).tables
+each_tables none rows ctx (statement.DropPolicy asked) = (none.drop_policy ctx asked).tables
+each_tables none rows ctx (statement.Grant asked) = (none.grant ctx asked).tables
+each_tables none rows ctx (statement.GrantRoles asked) = (none.grant_roles ctx asked).tables
+each_tables none rows ctx (statement.Revoke asked) = (none.revoke ctx asked).tables
+each_tables none rows ctx (statement.RevokeRoles asked) = (none.revoke_roles ctx asked).tables
+each_tables none rows ctx (statement.SetRole asked) = (none.set_role ctx asked).tables
+each_tables none rows ctx (statement.Insert asked) = rows.insert ctx asked
+each_tables none rows ctx (statement.Update asked) = rows.update ctx asked
+each_tables none rows ctx (statement.Delete asked) = rows.delete ctx asked
+each_tables none rows ctx (statement.Select asked) = (none.select ctx asked).tables
+
+-- a statement leaves the tables
+pub step_tables : WriteNoRows → KeepEachTable → (s : State) (ctx : Ctx) (asked : Statement) → RowsAreSound s → TablesStay s (changes_of (effect_in s ctx asked))
+step_tables none rows s ctx asked sound =
+    of_effect (TablesStay s) ((step ctx asked).in_state s).gives (λ name def there. (def, there, refl))
+    (done_then (TablesStay s) (mode_or_refused ctx.mode (tag_of asked)) (λ _. ((done_by ctx asked).in_state s).gives) (λ _. each_tables none rows ctx asked s sound))
 
 each_goes_on : WriteNoRows → RowsGoOn → (s : State) (ctx : Ctx) (asked : Statement) → RowsAreSound s → AllFree s ctx.txn ctx.next → GoesOn s ctx ((done_by ctx asked).in_state s).gives
 each_goes_on none rows s ctx (statement.CreateRole asked) sound free = none_goes_on s ctx ((create_role ctx asked).in_state s).gives ((none.create_role ctx asked).writes_none s)

@@ -7,6 +7,7 @@ ghost use Rattle.rls_catalog.specs.State.{State};
 ghost use Rattle.rls_statement.specs.declared.statement.Statement.{Statement};
 ghost use Rattle.rls_guard.specs.declared.context.Ctx.{Ctx};
 ghost use Rattle.rls_guard.specs.Effects.{changes_of};
+ghost use Rattle.rls_guard.specs.Keeping.{TablesStay};
 ghost use Rattle.rls_dml.specs.NextRows.{AllFree, next_row};
 ghost use Rattle.rls_access.specs.Leaving.{GoOn};
 ghost use Rattle.rls_access.specs.Statements.{effect_in};
@@ -14,18 +15,21 @@ ghost use Rattle.rls_access.specs.Statements.{effect_in};
 use rls_ddl::{grants_leave_rows, roles_and_policies_leave_rows, tables_leave_rows};
 use rls_dml::{
     changes_fit, numbers_stay_free, numbers_stay_in_range, rows_are_numbered_on, sound_rows_mean,
+    tables_stay,
 };
 
 /// The rows of the opening state are sound, and a statement leaves sound rows sound: keys that were unique stay unique,
-/// each row carries its own, without a null, and rows stand in tables that there are.
+/// each row carries its own, without a null, and rows stand in tables that there are. A table stays, with its primary key.
 pub fn rows_stay_sound()
     ensures opening { RowsAreSound opening }
     ensures step { (s : State) (ctx : Ctx) (asked : Statement) → RowsAreSound s → RowsAreSound (changed_all s (changes_of (effect_in s ctx asked))) }
+    ensures tables { (s : State) (ctx : Ctx) (asked : Statement) → RowsAreSound s → TablesStay s (changes_of (effect_in s ctx asked)) }
 {
     tables_leave_rows();
     roles_and_policies_leave_rows();
     grants_leave_rows();
     rls_dml::rows_stay_sound();
+    tables_stay();
 }
 
 /// Where the rows of a state are sound, and no row has a number of the transaction from its next on, the changes of a

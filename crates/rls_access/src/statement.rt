@@ -39,7 +39,6 @@ pub fn run_statement<'c, S: RowSource<'c>>(
     ensures read { OnOk result (source.new ≡ S.after source.old ((step ctx.now statement.now).in_state (S.state source.old)).reads) }
     ensures state { S.state source.new ≡ S.state source.old }
 {
-    // Its proof takes seconds: two places hold what failing calls would drop.
     let mut reads = Reads::with_capacity(alloc, USUAL_READS)?;
     let effect = effect_of(alloc, source, &mut reads, ctx, statement)?;
     match seen_of(alloc, reads, &ctx.role, &effect) {
@@ -126,7 +125,6 @@ fn done_by<'c, S: RowSource<'c>>(
 ) -> Result<Effect, Refusal>
     ensures { Answers S.state S.after (spec.done_by ctx.now statement.now) source.old source.new notes.old notes.new result }
 {
-    // Its proof takes seconds: 16 arms.
     match statement {
         Statement::CreateRole(create) => run_create_role(alloc, source, notes, ctx, create),
         Statement::AlterRole(alter) => run_alter_role(alloc, source, notes, ctx, alter),

@@ -22,7 +22,6 @@ pub fn agrees_on<'c, A: RowSource<'c>, B: RowSource<'c>>(
     ensures left { A.state left.new ≡ A.state left.old }
     ensures right { B.state right.new ≡ B.state right.old }
 {
-    // Its proof takes seconds: a loop over a call that may fail.
     for object in footprint.iter() {
         if !agrees_at(alloc, left, right, object)? {
             return Ok(false);

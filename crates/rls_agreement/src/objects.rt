@@ -24,7 +24,6 @@ pub(crate) fn agrees_at<'c, A: RowSource<'c>, B: RowSource<'c>>(
     ensures left { A.state left.new ≡ A.state left.old }
     ensures right { B.state right.new ≡ B.state right.old }
 {
-    // Its proof takes seconds: eight arms.
     match object {
         Object::Role(name) => role_agrees(alloc, left, right, name),
         Object::Members(member) => members_agree(alloc, left, right, member),
@@ -49,7 +48,6 @@ fn role_agrees<'c, A: RowSource<'c>, B: RowSource<'c>>(
     ensures left { A.state left.new ≡ A.state left.old }
     ensures right { B.state right.new ≡ B.state right.old }
 {
-    // Its proof takes seconds: two calls that may fail.
     let found = left.role(alloc, name)?;
     let other = right.role(alloc, name)?;
     Ok(are_both_same(found, other))
@@ -67,7 +65,6 @@ fn members_agree<'c, A: RowSource<'c>, B: RowSource<'c>>(
     ensures left { A.state left.new ≡ A.state left.old }
     ensures right { B.state right.new ≡ B.state right.old }
 {
-    // Its proof takes seconds: two calls that may fail.
     let found = left.members(alloc, member)?;
     let others = right.members(alloc, member)?;
     Ok(are_same(found, others))
@@ -85,7 +82,6 @@ fn table_agrees<'c, A: RowSource<'c>, B: RowSource<'c>>(
     ensures left { A.state left.new ≡ A.state left.old }
     ensures right { B.state right.new ≡ B.state right.old }
 {
-    // Its proof takes seconds: two calls that may fail.
     let found = left.table(alloc, name)?;
     let other = right.table(alloc, name)?;
     Ok(are_both_same(found, other))
@@ -103,7 +99,6 @@ fn grants_agree<'c, A: RowSource<'c>, B: RowSource<'c>>(
     ensures left { A.state left.new ≡ A.state left.old }
     ensures right { B.state right.new ≡ B.state right.old }
 {
-    // Its proof takes seconds: two calls that may fail.
     let found = left.grants(alloc, table)?;
     let others = right.grants(alloc, table)?;
     Ok(are_same(found, others))
@@ -121,7 +116,6 @@ fn policies_agree<'c, A: RowSource<'c>, B: RowSource<'c>>(
     ensures left { A.state left.new ≡ A.state left.old }
     ensures right { B.state right.new ≡ B.state right.old }
 {
-    // Its proof takes seconds: two calls that may fail.
     let found = left.policies(alloc, table)?;
     let others = right.policies(alloc, table)?;
     Ok(are_same(found, others))
@@ -139,7 +133,6 @@ fn rows_agree<'c, A: RowSource<'c>, B: RowSource<'c>>(
     ensures left { A.state left.new ≡ A.state left.old }
     ensures right { B.state right.new ≡ B.state right.old }
 {
-    // Its proof takes seconds: two places hold what a failing call would drop.
     let found = left.scan(alloc, table)?;
     match right.scan(alloc, table) {
         Ok(others) => Ok(are_same(found.as_slice(), others.as_slice())),
@@ -163,7 +156,6 @@ fn key_agrees<'c, A: RowSource<'c>, B: RowSource<'c>>(
     ensures left { A.state left.new ≡ A.state left.old }
     ensures right { B.state right.new ≡ B.state right.old }
 {
-    // Its proof takes seconds: two places hold what a failing call would drop.
     let found = left.by_key(alloc, table, key)?;
     match right.by_key(alloc, table, key) {
         Ok(others) => Ok(are_same(found.as_slice(), others.as_slice())),
@@ -187,7 +179,6 @@ fn row_agrees<'c, A: RowSource<'c>, B: RowSource<'c>>(
     ensures left { A.state left.new ≡ A.state left.old }
     ensures right { B.state right.new ≡ B.state right.old }
 {
-    // Its proof takes seconds: two places hold what a failing call would drop.
     let found = with_number(left.scan(alloc, table)?, id);
     match right.scan(alloc, table) {
         Ok(others) => {

@@ -36,7 +36,7 @@ turned true false v w rest same = refl
 turned false true v w rest same = refl
 turned false false v w rest same = refl
 
-own_name : (name other : List ℕ) → name ≡ other → is_name name other ≡ true
+pub own_name : (name other : List ℕ) → name ≡ other → is_name name other ≡ true
 own_name name other same = is_eq-slice_cmp name other ∙ (bytes_eq-Decides name other).1 same
 
 put_if : {X : Type 0} (o : Ordering) (q k : List ℕ) (v : X) (e : List ℕ × X) (es more : List (List ℕ × X)) → name_order k e.0 ≡ o

@@ -14,13 +14,12 @@ pub mod Revoking
 pub mod Frames
 pub mod PathFrames
 pub mod ApplyingLaws
-pub mod RowsListed
-pub mod Deltas
 pub mod Places
 pub mod KeyIndexLemmas
-pub mod TidyLemmas
-pub mod SettledLemmas
+pub mod IndexLemmas
+pub mod RowsPut
 pub mod Picking
+pub mod UnderKey
 pub mod Examples
 pub mod CoveringExamples
 pub mod Laws

@@ -34,6 +34,10 @@ with_row_in table id content None tables = with_first_row table id content table
 abbrev pub rows_changed : List (List ℕ × List (RowId × Keyed)) → RowChange → List (List ℕ × List (RowId × Keyed))
 rows_changed tables change = with_row_in change.table change.id change.after (at change.table tables) tables
 
+-- the state with these rows of a table
+abbrev pub with_rows : List ℕ → List (RowId × Keyed) → State → State
+with_rows table rows s = record s { rows = insert_entry name_order s.rows table rows }
+
 -- the state after a change
 abbrev pub changed : State → Change → State
 changed s (c.Role name def) = record s { roles = insert_entry name_order s.roles name def }

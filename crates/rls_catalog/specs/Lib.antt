@@ -1,16 +1,12 @@
 pub mod State
 pub mod StateCode
 pub mod Changed
-pub mod Kept
 pub mod InOrder
 pub mod PolicyLists
-pub mod KeptCode
-pub mod Undone
 pub mod KeyIndex
-pub mod Tidy
-pub mod Settled
 pub mod Bases
 pub mod Writes
+pub mod Contents
 pub mod SoundRows
 pub mod Membership
 pub mod HasPrivileges

@@ -16,6 +16,10 @@ use Rattle.rls_catalog.specs.contracts.stored.Keyed as keyed
 abbrev pub under_names : {X : Type 0} → Coded X → Coded (List (List ℕ × X))
 under_names code = coded_list (coded× (coded_list coded_ℕ) code)
 
+-- the code of the rows of a table
+abbrev pub rows_code : Coded (List (RowId × Keyed))
+rows_code = coded_list (coded× id.the_row.coded keyed.the_row.coded)
+
 -- what a state consists of
 abbrev pub Parts : Type 0
 Parts = List (List ℕ × RoleDef) × (List (List ℕ × List Membership) × (List (List ℕ × TableDef) × (List (List ℕ × List Grant) × (List (List ℕ × List Policy) × List (List ℕ × List (RowId × Keyed))))))
@@ -23,7 +27,7 @@ Parts = List (List ℕ × RoleDef) × (List (List ℕ × List Membership) × (Li
 -- the code of what a state consists of
 abbrev pub parts_code : Coded Parts
 parts_code =
-    coded× (under_names role.the_row.coded) (coded× (under_names (coded_list membership.the_row.coded)) (coded× (under_names table.the_row.coded) (coded× (under_names (coded_list grant.the_row.coded)) (coded× (under_names (coded_list policy.the_row.coded)) (under_names (coded_list (coded× id.the_row.coded keyed.the_row.coded)))))))
+    coded× (under_names role.the_row.coded) (coded× (under_names (coded_list membership.the_row.coded)) (coded× (under_names table.the_row.coded) (coded× (under_names (coded_list grant.the_row.coded)) (coded× (under_names (coded_list policy.the_row.coded)) (under_names rows_code)))))
 
 -- the code of a state
 abbrev pub state_code : Coded State

@@ -4,20 +4,28 @@ ghost use Rattle.std.specs.Prelude.{◌≡◌, IfOk, OnOk, OnErr};
 ghost use Rattle.std.specs.Option.{option_copied};
 ghost use Rattle.rls_catalog.specs.{State.role_of, State.members_of, State.table_of, State.grants_of, State.policies_of, State.rows_of, State.rows_with_key, Changed.opening, Changed.changed_all, InOrder.RowsInOrder, PolicyLists.InNameOrder};
 
-use crate::change::Delta;
-use crate::contents::Contents;
+use crate::change::{Change, Delta};
 use crate::grant::Grant;
 use crate::lent::Lent;
+use crate::policy_list::PolicyList;
 use crate::role::{Membership, RoleDef};
+use crate::table_rows::Rows;
 use rls_expr::{Policy, TableDef};
 use rls_value::{Items, Name, Row};
+use shared_map::{Share, SharedMap};
 use std::alloc::{AllocError, Global};
 use std::marker::Model;
 
-/// A whole state, seen as a `State`. What is looked up is found in logarithmic time.
+/// A whole state, seen as a `State`. What is looked up is found in logarithmic time. Copies share everything, and a state
+/// with changes on shares all that they leave.
 #[derive(Drop)]
 pub struct Catalog {
-    contents: Contents,
+    pub(crate) roles: SharedMap<Name, RoleDef>,
+    pub(crate) members: SharedMap<Name, Share<Items<Membership>>>,
+    pub(crate) tables: SharedMap<Name, Share<TableDef>>,
+    pub(crate) grants: SharedMap<Name, Share<Items<Grant>>>,
+    pub(crate) policies: SharedMap<Name, Share<PolicyList>>,
+    pub(crate) rows: SharedMap<Name, Rows>,
 }
 
 impl Model for Catalog {
@@ -28,14 +36,7 @@ impl Model for Catalog {
 
     ghost coded = { state_code };
 
-    ghost use Rattle.rls_catalog.specs.Kept.{state_of};
-
-    ghost view = { λ c. state_of c.contents };
-
-    ghost use Rattle.rls_catalog.specs.Settled.{AllSettled};
-
-    // Between two calls nothing can be taken back, so that nothing is kept for it (README.md, "How nothing is left over").
-    ghost invariant = { λ c. AllSettled c.contents.rows };
+    ghost view = { λ c. record { roles = c.roles; members = c.members; tables = c.tables; grants = c.grants; policies = c.policies; rows = c.rows } };
 }
 
 impl Catalog {
@@ -44,24 +45,41 @@ impl Catalog {
         ensures { IfOk result (λ catalog. catalog ≡ opening) }
     {
         Ok(Catalog {
-            contents: Contents::new(alloc)?,
+            roles: opening_roles(alloc)?,
+            members: SharedMap::new(),
+            tables: SharedMap::new(),
+            grants: SharedMap::new(),
+            policies: SharedMap::new(),
+            rows: SharedMap::new(),
+        })
+    }
+
+    /// The same state, all of it shared: a few counts, whatever the size.
+    pub fn copy(&self, _: Global) -> Result<Catalog, AllocError>
+        ensures { IfOk result (λ copy. copy ≡ self.now) }
+    {
+        Ok(Catalog {
+            roles: self.roles.copy()?,
+            members: self.members.copy()?,
+            tables: self.tables.copy()?,
+            grants: self.grants.copy()?,
+            policies: self.policies.copy()?,
+            rows: self.rows.copy()?,
         })
     }
 
     pub fn role(&self, name: &Name) -> Option<&RoleDef>
         ensures { option_copied result ≡ role_of self.now name.now }
     {
-        let contents = &self.contents;
-        contents.roles.get(name)
+        self.roles.get(name)
     }
 
     /// The memberships that the role has.
     pub fn members(&self, member: &Name) -> &[Membership]
         ensures { result.now ≡ members_of self.now member.now }
     {
-        let contents = &self.contents;
-        match contents.members.get(member) {
-            Some(content) => content.as_slice(),
+        match self.members.get(member) {
+            Some(content) => content.get().as_slice(),
             None => &[],
         }
     }
@@ -69,17 +87,18 @@ impl Catalog {
     pub fn table(&self, name: &Name) -> Option<&TableDef>
         ensures { option_copied result ≡ table_of self.now name.now }
     {
-        let contents = &self.contents;
-        contents.tables.get(name)
+        match self.tables.get(name) {
+            Some(def) => Some(def.get()),
+            None => None,
+        }
     }
 
     /// The grants on the table.
     pub fn grants(&self, table: &Name) -> &[Grant]
         ensures { result.now ≡ grants_of self.now table.now }
     {
-        let contents = &self.contents;
-        match contents.grants.get(table) {
-            Some(content) => content.as_slice(),
+        match self.grants.get(table) {
+            Some(content) => content.get().as_slice(),
             None => &[],
         }
     }
@@ -90,29 +109,27 @@ impl Catalog {
         ensures policies { result.now ≡ policies_of self.now table.now }
         ensures ordered { InNameOrder result.now }
     {
-        let contents = &self.contents;
-        match contents.policies.get(table) {
-            Some(content) => content.as_slice(),
+        match self.policies.get(table) {
+            Some(content) => content.get().as_slice(),
             None => &[],
         }
     }
 
     /// The rows of the table, in order of their numbers.
-    #[tactic(auto, using(crate::proofs::RowsListed::at_rows_listed))]
+    #[tactic(auto, using(crate::proofs::InOrderLaws::none_in_order))]
     pub fn rows(&self, alloc: Global, table: &Name) -> Result<Items<Lent<'_>>, AllocError>
         ensures rows { IfOk result (λ rows. rows ≡ rows_of self.now table.now) }
         ensures ordered { RowsInOrder self.now table.now }
     {
-        let contents = &self.contents;
-        match contents.rows.get(table) {
-            Some(slots) => slots.lend_rows(alloc),
+        match self.rows.get(table) {
+            Some(rows) => rows.lend(alloc),
             None => Ok(Items::new(alloc)),
         }
     }
 
     /// The rows of the table that have the key, in order of their numbers. An index
     /// tells where they are; only for the empty key it looks at every row of the table.
-    #[tactic(auto, using(crate::proofs::RowsListed::at_rows_listed))]
+    #[tactic(auto, using(crate::proofs::InOrderLaws::none_in_order))]
     pub fn rows_with_key(
         &self,
         alloc: Global,
@@ -122,29 +139,44 @@ impl Catalog {
         ensures rows { IfOk result (λ rows. rows ≡ rows_with_key self.now table.now key.now) }
         ensures ordered { RowsInOrder self.now table.now }
     {
-        let contents = &self.contents;
-        match contents.rows.get(table) {
-            Some(slots) => slots.lend_rows_with_key(alloc, key),
+        match self.rows.get(table) {
+            Some(rows) => rows.lend_with_key(alloc, key),
             None => Ok(Items::new(alloc)),
         }
     }
 
-    /// Puts the changes on, one after another. An `Err` leaves the state as it was.
+    /// Puts the changes on, one after another. An `Err` leaves the state as it was: they go on a copy, which then takes its place.
     pub fn apply(&mut self, alloc: Global, delta: &Delta) -> Result<(), AllocError>
         ensures ok { OnOk result (self.new ≡ changed_all self.old delta.now) }
         ensures err { OnErr result (self.new ≡ self.old) }
     {
-        let mut log = Vec::with_capacity(alloc, delta.as_slice().len())?;
-        let contents = &mut self.contents;
-        match contents.put_all(alloc, delta.as_slice(), &mut log) {
-            Ok(()) => {
-                contents.settle_all(alloc, log);
-                Ok(())
-            }
-            Err(refused) => {
-                contents.undo_all(log);
-                Err(refused)
-            }
-        }
+        let mut next = self.copy(alloc)?;
+        next.put_all(alloc, delta.as_slice())?;
+        *self = next;
+        Ok(())
     }
+
+    /// Puts the changes on, as far as there is memory.
+    fn put_all(&mut self, alloc: Global, mut changes: &[Change]) -> Result<(), AllocError>
+        ensures { OnOk result (self.new ≡ changed_all self.old changes.entry.now) }
+    {
+        while let [first, others @ ..] = changes {
+            changes = self.put(alloc, first, others)?;
+        }
+        Ok(())
+    }
+}
+
+/// The role postgres, which may do everything.
+fn opening_roles(alloc: Global) -> Result<SharedMap<Name, RoleDef>, AllocError>
+    ensures { IfOk result (λ roles. roles ≡ opening.roles) }
+{
+    let mut roles = SharedMap::new();
+    let all = RoleDef {
+        superuser: true,
+        login: true,
+        bypass_rls: true,
+    };
+    roles.insert(alloc, Name::postgres(alloc)?, all)?;
+    Ok(roles)
 }

@@ -56,7 +56,6 @@ impl Change {
     pub fn copy(&self, alloc: Global) -> Result<Change, AllocError>
         ensures { IfOk result (λ change. change ≡ self.now) }
     {
-        // Its proof takes seconds: two places hold what failing calls would drop, six arms.
         match self {
             Change::Role(name, def) => Ok(Change::Role(name.copy()?, *def)),
             Change::Members(name, content) => Ok(Change::Members(
@@ -142,7 +141,6 @@ impl Delta {
 fn copy_changes(alloc: Global, changes: &[Change]) -> Result<Vec<Change>, AllocError>
     ensures { IfOk result (λ copies. copies.items ≡ changes.now) }
 {
-    // Its proof takes seconds: two places hold what failing calls would drop, a loop.
     let mut copies = Vec::with_capacity(alloc, changes.len())?;
     for change in changes {
         copies.push(change.copy(alloc)?)?;

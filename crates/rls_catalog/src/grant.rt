@@ -32,7 +32,6 @@ impl Grant {
     pub fn copy_all(alloc: Global, grants: &[Grant]) -> Result<Items<Grant>, AllocError>
         ensures { IfOk result (λ copies. copies ≡ grants.now) }
     {
-        // Its proof takes seconds: two places hold what failing calls would drop, a loop.
         let mut copies = Vec::with_capacity(alloc, grants.len())?;
         for grant in grants {
             copies.push(grant.copy()?)?;

@@ -3,19 +3,16 @@
 
 mod catalog;
 mod change;
-mod contents;
-mod entries;
 mod grant;
-mod key_index;
+mod index_key;
 mod lent;
-mod placing;
 mod policy_list;
+mod putting;
 mod role;
 mod same;
-mod settling;
-mod slots;
 mod stored;
-mod undo;
+mod table_index;
+mod table_rows;
 mod verdict;
 
 pub use catalog::Catalog;

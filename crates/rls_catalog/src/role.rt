@@ -5,6 +5,7 @@ ghost use Rattle.std.specs.Option.{option_copied};
 ghost use Rattle.rls_catalog.specs.Membership.{attributes_in};
 
 use rls_value::{Items, Name};
+use shared_map::Shared;
 use std::alloc::{AllocError, Global};
 
 /// The attributes of a role (PostgreSQL manual, 22.2, "Role Attributes"). None of them is inherited.
@@ -13,6 +14,12 @@ pub struct RoleDef {
     pub superuser: bool,
     pub login: bool,
     pub bypass_rls: bool,
+}
+
+impl Shared for RoleDef {
+    ghost use Rattle.std.proofs.Common.{rules};
+
+    ghost same = { Prim.search rules };
 }
 
 impl RoleDef {
@@ -60,7 +67,6 @@ impl Membership {
     ) -> Result<Items<Membership>, AllocError>
         ensures { IfOk result (λ copies. copies ≡ memberships.now) }
     {
-        // Its proof takes seconds: two places hold what failing calls would drop, a loop.
         let mut copies = Vec::with_capacity(alloc, memberships.len())?;
         for membership in memberships {
             copies.push(membership.copy()?)?;

@@ -3,6 +3,7 @@
 ghost use Rattle.std.specs.Prelude.{◌≡◌, IfOk};
 
 use rls_value::{Items, Row, RowId};
+use shared_map::Shared;
 use std::alloc::{AllocError, Global};
 
 /// A row with the values of its primary key, in the key's order; empty where there is none.
@@ -31,6 +32,23 @@ impl Keyed {
     }
 }
 
+impl Clone for Keyed {
+    ghost use Rattle.std.specs.Prelude.{◌≡◌};
+
+    ghost is_clone = { λ x y. y ≡ x };
+
+    fn clone(&self) -> Result<Keyed, AllocError> {
+        Ok(Keyed {
+            key: self.key.clone()?,
+            row: self.row.clone()?,
+        })
+    }
+}
+
+impl Shared for Keyed {
+    ghost same = { λ x y h. h };
+}
+
 impl Stored {
     pub fn copy(&self, alloc: Global) -> Result<Stored, AllocError>
         ensures { IfOk result (λ stored. stored ≡ self.now) }
@@ -46,7 +64,6 @@ impl Stored {
     pub fn copy_all(alloc: Global, rows: &[Stored]) -> Result<Items<Stored>, AllocError>
         ensures { IfOk result (λ copies. copies ≡ rows.now) }
     {
-        // Its proof takes seconds: two places hold what failing calls would drop, a loop.
         let mut copies = Vec::with_capacity(alloc, rows.len())?;
         for row in rows {
             copies.push(row.copy(alloc)?)?;

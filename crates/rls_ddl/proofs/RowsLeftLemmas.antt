@@ -1,13 +1,13 @@
 -- Statements that define write no row, and keep the rows of a state sound.
-use Rattle.std.{specs.Prelude.ℕ, specs.Prelude.List, specs.Prelude.[], specs.Prelude.◌∷◌, specs.Prelude.Bool, specs.Prelude.true, specs.Prelude.false, specs.Prelude.Result, specs.Prelude.Ok, specs.Prelude.Err, specs.Prelude.IfOk, specs.Prelude.is_some, specs.Prelude.map, specs.List.AllByRecursion}
+use Rattle.std.{specs.Prelude.◌≡◌, specs.Prelude.refl, proofs.Common.◌∙◌, specs.Prelude.ℕ, specs.Prelude.List, specs.Prelude.[], specs.Prelude.◌∷◌, specs.Prelude.Bool, specs.Prelude.true, specs.Prelude.false, specs.Prelude.Result, specs.Prelude.Ok, specs.Prelude.Err, specs.Prelude.IfOk, specs.Prelude.is_some, specs.Prelude.map, specs.List.AllByRecursion}
 use Rattle.rls_value.specs.{declared.refusal.Refusal.Refusal, declared.refusal.Refusal.TheVariants.Duplicate, Giving.and_then, declared.refusal.DefinedKind.DefinedKind}
 use Rattle.rls_expr.specs.{declared.table.TableDef.TableDef, declared.policy.Policy.Policy, Scopes.InScope}
-use Rattle.rls_catalog.specs.{declared.change.Change.Change, declared.grant.Grant.Grant, declared.role.RoleDef.RoleDef, Membership.fresh, SoundRows.RowsAreSound, State.State, Changed.changed, Changed.changed_all, PolicyLists.with_policy, PolicyLists.without_policy}
+use Rattle.rls_catalog.specs.{declared.change.Change.Change, declared.grant.Grant.Grant, declared.role.RoleDef.RoleDef, Membership.fresh, SoundRows.RowsAreSound, State.State, State.table_of, Changed.changed, Changed.changed_all, PolicyLists.with_policy, PolicyLists.without_policy}
 use Rattle.rls_source.specs.{Asked.asked_grants, Asked.asked_policies, Asked.asked_role, Askings.Asking, Askings.asked_if, Askings.followed_by, Askings.known, Named.grantees_or_undefined, Named.role_or_undefined, Named.roles_or_undefined, Named.table_or_undefined}
 use Rattle.rls_role.specs.{declared.holding.Held.Held, declared.reach.Reach.Reach, Reaching.reach_of}
 use Rattle.rls_role.specs as members
 use Rattle.rls_grant.specs as privileges
-use Rattle.rls_guard.specs.{declared.context.Ctx.Ctx, declared.effect.Effect.Effect, Checks.superuser_or_denied, Effects.writes, Standings.ownership, Keeping.IfDone, Keeping.IsNoRow, Keeping.LeavesRows, Naming.named, Naming.names_over}
+use Rattle.rls_guard.specs.{declared.context.Ctx.Ctx, declared.effect.Effect.Effect, Checks.superuser_or_denied, Effects.writes, Standings.ownership, Keeping.IfDone, Keeping.IsNoRow, Keeping.LeavesRows, Keeping.TablesStay, Naming.named, Naming.names_over}
 use Rattle.rls_statement.specs.{declared.statement.SetRole.SetRole, declared.statement.AlterPolicy.AlterPolicy, declared.statement.AlterRole.AlterRole, declared.statement.CreatePolicy.CreatePolicy, declared.statement.CreateRole.CreateRole, declared.statement.DropPolicy.DropPolicy, declared.statement.GrantPrivileges.GrantPrivileges, declared.statement.GrantRoles.GrantRoles, declared.statement.RevokePrivileges.RevokePrivileges, declared.statement.RevokeRoles.RevokeRoles}
 use Rattle.rls_ddl.specs.{AlteringPolicies.alter_policy, AlteringPolicies.alteration_made, AlteringPolicies.alteration_of, AlteringPolicies.alteration_over, AlteringPolicies.alteration_on, AlteringPolicies.conditions_or_refused, AlteringPolicies.with_altered, AlteringRoles.alter_role, AlteringRoles.role_altered, AlteringRoles.role_changed, Conditions.condition_names, NamedPolicies.policy_or_undefined, CreatingRoles.create_role, CreatingRoles.role_made, CreatingRoles.role_with, DroppingPolicies.drop_on, DroppingPolicies.drop_policy, DroppingPolicies.policy_dropped, CreatingPolicies.create_policy, CreatingPolicies.policy_added, CreatingPolicies.policy_made, CreatingPolicies.policy_on, CreatingPolicies.policy_or_refused, Granting.grant, Granting.grant_roles, Granting.revoke, Granting.revoke_roles, Granting.written, SettingRoles.asked_may_set, SettingRoles.role_set, SettingRoles.set_or_denied, SettingRoles.set_role, AlteringPolicies.roles_or_undefined as policy_roles_or_undefined}
 
@@ -60,6 +60,19 @@ beside_no_row (Change.Grants name content ∷ changes) beside = (tt, beside_no_r
 beside_no_row (Change.Policies name content ∷ changes) beside = (tt, beside_no_row changes beside.1)
 beside_no_row (Change.Row change ∷ changes) beside = absurd beside.0
 
+-- such changes leave the tables
+beside_tables : (s : State) (changes : List Change) → AreBeside changes → (name : List ℕ) → table_of (changed_all s changes) name ≡ table_of s name
+beside_tables s [] beside name = refl
+beside_tables s (Change.Role n def ∷ changes) beside name = beside_tables (changed s (Change.Role n def)) changes beside.1 name
+beside_tables s (Change.Members n content ∷ changes) beside name = beside_tables (changed s (Change.Members n content)) changes beside.1 name
+beside_tables s (Change.Table n def ∷ changes) beside name = absurd beside.0
+beside_tables s (Change.Grants n content ∷ changes) beside name = beside_tables (changed s (Change.Grants n content)) changes beside.1 name
+beside_tables s (Change.Policies n content ∷ changes) beside name = beside_tables (changed s (Change.Policies n content)) changes beside.1 name
+beside_tables s (Change.Row change ∷ changes) beside name = absurd beside.0
+
+beside_stay : (s : State) (changes : List Change) → AreBeside changes → TablesStay s changes
+beside_stay s changes beside name def there = (def, beside_tables s changes beside name ∙ there, refl)
+
 -- a statement whose changes are such ones
 abbrev StaysBeside : Asking Effect → Type 0
 StaysBeside asking = (s : State) → IfDone (asking.in_state s).gives AreBeside
@@ -68,6 +81,7 @@ leaves : (asking : Asking Effect) → StaysBeside asking → LeavesRows asking
 leaves asking beside = record {
   writes_none = λ s. done_more AreBeside (AllByRecursion IsNoRow) (asking.in_state s).gives beside_no_row (beside s);
   sound = λ s sound. done_more AreBeside (λ changes. RowsAreSound (changed_all s changes)) (asking.in_state s).gives (λ changes is. beside_sound s changes sound is) (beside s);
+  tables = λ s sound. done_more AreBeside (TablesStay s) (asking.in_state s).gives (beside_stay s) (beside s);
 }
 
 after_any : {A : Type 0} (first : Asking A) (next : A → Asking Effect) → ((a : A) → StaysBeside (next a)) → StaysBeside (followed_by first next)

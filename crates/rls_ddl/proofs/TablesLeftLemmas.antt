@@ -9,7 +9,7 @@ use Rattle.rls_catalog.specs.{declared.change.Change.Change, declared.grant.Gran
 use Rattle.rls_catalog.proofs.{ContentsLaws.is_name, ContentsLaws.same_name, ContentsLaws.table_of_changed, InOrderLaws.none_ascend}
 use Rattle.rls_source.specs.{Asked.asked_grants, Asked.table_at, Askings.Asking, Askings.known, Named.found_or}
 use Rattle.rls_grant.specs.Granting.{own_grants, with_grants}
-use Rattle.rls_guard.specs.{declared.context.Ctx.Ctx, declared.effect.Effect.Effect, Effects.writes, Standings.ownership, Keeping.IfDone, Keeping.IsNoRow, Keeping.LeavesRows}
+use Rattle.rls_guard.specs.{declared.context.Ctx.Ctx, declared.effect.Effect.Effect, Effects.writes, Standings.ownership, Keeping.IfDone, Keeping.IsNoRow, Keeping.LeavesRows, Keeping.TablesStay}
 use Rattle.rls_statement.specs.{declared.statement.AlterTable.AlterTable, declared.statement.CreateTable.CreateTable, declared.statement.RowSecurity.RowSecurity, declared.statement.RowSecurity.TheVariants.Disable, declared.statement.RowSecurity.TheVariants.Enable, declared.statement.RowSecurity.TheVariants.Force, declared.statement.RowSecurity.TheVariants.NoForce}
 use Rattle.rls_ddl.{specs.AlteringTables.alter_table, specs.AlteringTables.altered, specs.CreatingTables.create_table, specs.CreatingTables.key_or_undefined, specs.CreatingTables.table_made, specs.CreatingTables.table_unless_taken, specs.CreatingTables.table_with, proofs.PrimaryKeyLaws.key_takes_no_null, proofs.RowsLeftLemmas.done_then}
 
@@ -29,6 +29,7 @@ defined_sound s name def sound here = λ other.
 record Left (s : State) (changes : List Change) : Type 0 where
   writes_none : AllByRecursion IsNoRow changes
   sound : RowsAreSound s → RowsAreSound (changed_all s changes)
+  tables : TablesStay s changes
 
 none_written : (s : State) (given : Result Effect Refusal) → IfDone given (Left s) → IfDone given (AllByRecursion IsNoRow)
 none_written s (Ok (Effect.Done reply decisions changes role)) left = left.writes_none
@@ -40,10 +41,16 @@ left_sound s (Ok (Effect.Done reply decisions changes role)) sound left = left.s
 left_sound s (Ok (Effect.Refused refusal decisions)) sound left = tt
 left_sound s (Err refusal) sound left = tt
 
+left_tables : (s : State) (given : Result Effect Refusal) → IfDone given (Left s) → IfDone given (TablesStay s)
+left_tables s (Ok (Effect.Done reply decisions changes role)) left = left.tables
+left_tables s (Ok (Effect.Refused refusal decisions)) left = tt
+left_tables s (Err refusal) left = tt
+
 leaves_rows : (asking : Asking Effect) → ((s : State) → IfDone (asking.in_state s).gives (Left s)) → LeavesRows asking
 leaves_rows asking all = record {
   writes_none = λ s. none_written s (asking.in_state s).gives (all s);
   sound = λ s sound. left_sound s (asking.in_state s).gives sound (all s);
+  tables = λ s sound. left_tables s (asking.in_state s).gives (all s);
 }
 
 -- ---- CREATE TABLE
@@ -57,12 +64,21 @@ none_sound def takes = record {
   unique = λ has id other keyed same first second is. absurd (none-some keyed first);
 }
 
+-- a table under a name that none has leaves the others
+created_at : (b : Bool) (s : State) (name : List ℕ) (def : TableDef) (other : List ℕ) (old : TableDef) → is_name other name ≡ b → table_of s name ≡ None → table_of s other ≡ Some old
+    → (later : TableDef) × (cond b (Some def) (table_of s other) ≡ Some later) × (later.key ≡ old.key)
+created_at true s name def other old is absent there = absurd (none-some old (sym absent ∙ ap (table_of s) (sym (same_name other name is)) ∙ there))
+created_at false s name def other old is absent there = (old, there, refl)
+
 created_sound : (s : State) (name : List ℕ) (def : TableDef) (grants : List Grant) → table_of s name ≡ None → All (λ place. takes_no_null (slice_get def.columns place) ≡ true) def.key
     → Left s (Change.Table name def ∷ Change.Grants name grants ∷ [])
 created_sound s name def grants absent takes = record {
   writes_none = (tt, (tt, tt));
   sound = λ sound. defined_sound s name def sound
       (subst (AreSound def) (sym (subst (λ found. AreSoundIn found (entries_of s name)) absent (sound name))) (none_sound def takes));
+  tables = λ other old there.
+      let r = created_at (is_name other name) s name def other old refl absent there in
+      (r.0, table_of_changed s name def other ∙ r.1, r.2);
 }
 
 created_if : (found : Option TableDef) (s : State) (ctx : Ctx) (asked : CreateTable) (key : List ℕ) → table_of s asked.name ≡ found → key_or_undefined asked ≡ Ok key
@@ -107,11 +123,28 @@ altered_same Disable table rows sound = same_sound table (altered Disable table)
 altered_same Force table rows sound = same_sound table (altered Force table) rows refl refl sound
 altered_same NoForce table rows sound = same_sound table (altered NoForce table) rows refl refl sound
 
+altered_key : (change : RowSecurity) (table : TableDef) → (altered change table).key ≡ table.key
+altered_key Enable table = refl
+altered_key Disable table = refl
+altered_key Force table = refl
+altered_key NoForce table = refl
+
+altered_at : (b : Bool) (s : State) (name : List ℕ) (change : RowSecurity) (table : TableDef) (other : List ℕ) (old : TableDef) → is_name other name ≡ b → table_of s name ≡ Some table → table_of s other ≡ Some old
+    → (later : TableDef) × (cond b (Some (altered change table)) (table_of s other) ≡ Some later) × (later.key ≡ old.key)
+altered_at true s name change table other old is here there =
+    let same : Some table ≡ Some old = sym here ∙ ap (table_of s) (sym (same_name other name is)) ∙ there in
+    let t : table ≡ old = cc in
+    (altered change table, refl, altered_key change table ∙ ap (λ d. d.key) t)
+altered_at false s name change table other old is here there = (old, there, refl)
+
 altered_left : (s : State) (name : List ℕ) (change : RowSecurity) (table : TableDef) → table_of s name ≡ Some table → Left s (Change.Table name (altered change table) ∷ [])
 altered_left s name change table there = record {
   writes_none = (tt, tt);
   sound = λ sound. defined_sound s name (altered change table) sound
       (altered_same change table (entries_of s name) (subst (λ found. AreSoundIn found (entries_of s name)) there (sound name)));
+  tables = λ other old stands.
+      let r = altered_at (is_name other name) s name change table other old refl there stands in
+      (r.0, table_of_changed s name (altered change table) other ∙ r.1, r.2);
 }
 
 altered_if : (found : Option TableDef) (s : State) (ctx : Ctx) (asked : AlterTable) → table_of s asked.table ≡ found

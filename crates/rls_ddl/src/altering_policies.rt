@@ -30,7 +30,6 @@ pub fn run_alter_policy<'c, S: RowSource<'c>>(
 ) -> Result<Effect, Refusal>
     ensures { Answers S.state S.after (alter_policy ctx.now alter.now) source.old source.new notes.old notes.new result }
 {
-    // Its proof takes seconds: one call that may fail.
     let table = table_named(alloc, source, notes, &alter.table)?;
     alter_on(alloc, source, notes, &ctx.role, table, alter)
 }
@@ -47,7 +46,6 @@ fn alter_on<'c, S: RowSource<'c>>(
 ) -> Result<Effect, Refusal>
     ensures { Answers S.state S.after (alteration_on role.now table.now alter.now) source.old source.new notes.old notes.new result }
 {
-    // Its proof takes seconds: two calls that may fail, one cited law.
     let policies = noted_policies(alloc, source, notes, &alter.table)?;
     let policy = policy_named(policies, &alter.name)?;
     alter_named(alloc, source, notes, role, table, policies, policy, alter)
@@ -68,7 +66,6 @@ fn alter_named<'c, S: RowSource<'c>>(
     requires ordered { InNameOrder policies.now }
     ensures { Answers S.state S.after (alteration_of role.now table.now policies.now policy.now alter.now) source.old source.new notes.old notes.new result }
 {
-    // Its proof takes seconds: four places hold what failing calls would drop, one cited law.
     require_roles(alloc, source, notes, &alter.to)?;
     let found = found_for(
         alloc,
@@ -128,7 +125,6 @@ fn make_alteration<'c, S: RowSource<'c>>(
     requires ordered { InNameOrder policies.now }
     ensures { Answers S.state S.after (alteration_made role.now table.now policies.now alter.now) source.old source.new notes.old notes.new result }
 {
-    // Its proof takes seconds: two calls that may fail, one cited law.
     require_ownership(alloc, source, notes, role, &alter.table, table)?;
     Ok(policies_changed(alloc, policies, alter)?)
 }
@@ -241,7 +237,6 @@ fn with_one_altered(
 fn altered(alloc: Global, policy: &Policy, alter: &AlterPolicy) -> Result<Policy, AllocError>
     ensures { IfOk result (λ altered. altered ≡ spec.altered alter.now policy.now) }
 {
-    // Its proof takes seconds: six places hold what failing calls would drop.
     Ok(Policy {
         name: policy.name.copy()?,
         permissive: policy.permissive,

@@ -22,7 +22,6 @@ pub fn run_alter_role<'c, S: RowSource<'c>>(
 ) -> Result<Effect, Refusal>
     ensures { Answers S.state S.after (alter_role ctx.now alter.now) source.old source.new notes.old notes.new result }
 {
-    // Its proof takes seconds: one call that may fail.
     let role = role_named(alloc, source, notes, &alter.name)?;
     change_role(alloc, source, notes, &ctx.role, alter, role)
 }
@@ -38,7 +37,6 @@ fn change_role<'c, S: RowSource<'c>>(
 ) -> Result<Effect, Refusal>
     ensures { Answers S.state S.after (role_changed role.now alter.now def.now) source.old source.new notes.old notes.new result }
 {
-    // Its proof takes seconds: two calls that may fail, one cited law.
     require_superuser(alloc, source, notes, role, &alter.name)?;
     Ok(altered(alloc, alter, def)?)
 }

@@ -24,7 +24,6 @@ pub fn run_alter_table<'c, S: RowSource<'c>>(
 ) -> Result<Effect, Refusal>
     ensures { Answers S.state S.after (alter_table ctx.now alter.now) source.old source.new notes.old notes.new result }
 {
-    // Its proof takes seconds: three calls that may fail.
     let table = table_named(alloc, source, notes, &alter.table)?;
     require_ownership(alloc, source, notes, &ctx.role, &alter.table, table)?;
     Ok(table_changed(alloc, alter, table)?)

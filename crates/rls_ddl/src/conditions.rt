@@ -58,7 +58,6 @@ pub fn require_booleans<'x>(
 ) -> Result<(), Refusal>
     ensures { Gives result (both_conditions (condition_fits (names_over (name.now, table.now) known.now)) «using».now check.now) }
 {
-    // Its proof takes seconds: two places hold what failing calls would drop.
     let tables = [NamedTable::new(name, table)?];
     let scope = Scope {
         tables: &tables,

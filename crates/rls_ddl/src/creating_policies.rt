@@ -32,7 +32,6 @@ pub fn run_create_policy<'c, S: RowSource<'c>>(
 ) -> Result<Effect, Refusal>
     ensures { Answers S.state S.after (create_policy ctx.now create.now) source.old source.new notes.old notes.new result }
 {
-    // Its proof takes seconds: one call that may fail.
     let table = table_named(alloc, source, notes, &create.table)?;
     policy_on(
         alloc,
@@ -58,7 +57,6 @@ fn policy_on<'c, S: RowSource<'c>>(
 ) -> Result<Effect, Refusal>
     ensures { Answers S.state S.after (spec.policy_on role.now name.now table.now policy.now) source.old source.new notes.old notes.new result }
 {
-    // Its proof takes seconds: four places hold what failing calls would drop, one cited law.
     require_grantees(alloc, source, notes, policy.to.as_slice())?;
     let found = found_for(
         alloc,
@@ -97,7 +95,6 @@ fn add_policy<'c, 'x, S: RowSource<'c>>(
 ) -> Result<Effect, Refusal>
     ensures { Answers S.state S.after (policy_added role.now name.now table.now known.now policy.now) source.old source.new notes.old notes.new result }
 {
-    // Its proof takes seconds: two calls that may fail, one cited law.
     let policies = noted_policies(alloc, source, notes, name)?;
     require_policy(alloc, policies, name, table, known, policy)?;
     make_policy(alloc, source, notes, role, name, table, policies, policy)
@@ -119,7 +116,6 @@ fn make_policy<'c, S: RowSource<'c>>(
     requires new { has_policy policies.now policy.now.name ≡ false }
     ensures { Answers S.state S.after (policy_made role.now name.now table.now policies.now policy.now) source.old source.new notes.old notes.new result }
 {
-    // Its proof takes seconds: two calls that may fail, one cited law.
     require_ownership(alloc, source, notes, role, name, table)?;
     Ok(policies_changed(alloc, name, policies, policy)?)
 }
@@ -170,7 +166,6 @@ fn require_policy<'x>(
     ensures given { Gives result (policy_or_refused (names_over (name.now, table.now) known.now) policies.now policy.now) }
     ensures new { OnOk result (has_policy policies.now policy.now.name ≡ false) }
 {
-    // Its proof takes seconds: three calls that may fail.
     if is_there(policies, &policy.name) {
         return Err(Refusal::Duplicate(DefinedKind::Policy, policy.name.copy()?));
     }

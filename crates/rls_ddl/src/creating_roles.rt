@@ -22,7 +22,6 @@ pub fn run_create_role<'c, S: RowSource<'c>>(
 ) -> Result<Effect, Refusal>
     ensures { Answers S.state S.after (create_role ctx.now create.now) source.old source.new notes.old notes.new result }
 {
-    // Its proof takes seconds: two calls that may fail.
     if noted_role(alloc, source, notes, &create.name)?.is_some() {
         return Err(Refusal::Duplicate(DefinedKind::Role, create.name.copy()?));
     }
@@ -39,7 +38,6 @@ fn make_role<'c, S: RowSource<'c>>(
 ) -> Result<Effect, Refusal>
     ensures { Answers S.state S.after (role_made role.now create.now) source.old source.new notes.old notes.new result }
 {
-    // Its proof takes seconds: two calls that may fail, one cited law.
     require_superuser(alloc, source, notes, role, &create.name)?;
     Ok(made(alloc, create)?)
 }

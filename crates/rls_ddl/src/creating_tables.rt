@@ -27,7 +27,6 @@ pub fn run_create_table<'c, S: RowSource<'c>>(
 ) -> Result<Effect, Refusal>
     ensures { Answers S.state S.after (spec.create_table ctx.now create.now) source.old source.new notes.old notes.new result }
 {
-    // Its proof takes seconds: two places hold what a failing call would drop.
     let key = key_places(alloc, create)?;
     let effect = make_unless_taken(alloc, source, notes, ctx, create, key.as_slice());
     drop(key);
@@ -45,7 +44,6 @@ fn make_unless_taken<'c, S: RowSource<'c>>(
 ) -> Result<Effect, Refusal>
     ensures { Answers S.state S.after (spec.table_unless_taken ctx.now create.now key.now) source.old source.new notes.old notes.new result }
 {
-    // Its proof takes seconds: two calls that may fail, one cited law.
     if noted_table(alloc, source, notes, &create.name)?.is_some() {
         return Err(Refusal::Duplicate(DefinedKind::Relation, create.name.copy()?));
     }
@@ -63,7 +61,6 @@ fn make_table<'c, S: RowSource<'c>>(
 ) -> Result<Effect, Refusal>
     ensures { Answers S.state S.after (spec.table_made ctx.now create.now key.now) source.old source.new notes.old notes.new result }
 {
-    // Its proof takes seconds: two calls that may fail, one cited law.
     let grants = noted_grants(alloc, source, notes, &create.name)?;
     Ok(made(alloc, &ctx.role, create, key, grants)?)
 }
@@ -77,7 +74,6 @@ fn made(
 ) -> Result<Effect, AllocError>
     ensures { IfOk result (λ effect. effect ≡ writes (Change.Table create.now.name (table_with owner.now create.now key.now) ∷ Change.Grants create.now.name (with_grants grants.now (own_grants owner.now)) ∷ [])) }
 {
-    // Its proof takes seconds: one place holds what failing calls would drop.
     let mut delta = Delta::new(alloc);
     delta.push(table_change(alloc, owner, create, key)?)?;
     delta.push(grants_change(alloc, owner, create, grants)?)?;
@@ -120,7 +116,6 @@ fn grants_change(
 fn with_own(alloc: Global, owner: &Name, grants: &[Grant]) -> Result<Items<Grant>, AllocError>
     ensures { IfOk result (λ all. all ≡ with_grants grants.now (own_grants owner.now)) }
 {
-    // Its proof takes seconds: three places hold what a failing call would drop.
     let own = own_grants(alloc, owner)?;
     match Grant::copy_all(alloc, grants) {
         Ok(grants) => put_grants(alloc, grants, own),

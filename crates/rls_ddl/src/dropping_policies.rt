@@ -27,7 +27,6 @@ pub fn run_drop_policy<'c, S: RowSource<'c>>(
 ) -> Result<Effect, Refusal>
     ensures { Answers S.state S.after (drop_policy ctx.now drop.now) source.old source.new notes.old notes.new result }
 {
-    // Its proof takes seconds: one call that may fail.
     let table = table_named(alloc, source, notes, &drop.table)?;
     drop_on(alloc, source, notes, &ctx.role, table, drop)
 }
@@ -44,7 +43,6 @@ fn drop_on<'c, S: RowSource<'c>>(
 ) -> Result<Effect, Refusal>
     ensures { Answers S.state S.after (spec.drop_on role.now table.now drop.now) source.old source.new notes.old notes.new result }
 {
-    // Its proof takes seconds: two calls that may fail, one cited law.
     let policies = noted_policies(alloc, source, notes, &drop.table)?;
     policy_named(policies, &drop.name)?;
     drop_named(alloc, source, notes, role, table, policies, drop)
@@ -64,7 +62,6 @@ fn drop_named<'c, S: RowSource<'c>>(
     requires ordered { InNameOrder policies.now }
     ensures { Answers S.state S.after (policy_dropped role.now table.now policies.now drop.now) source.old source.new notes.old notes.new result }
 {
-    // Its proof takes seconds: two calls that may fail, one cited law.
     require_ownership(alloc, source, notes, role, &drop.table, table)?;
     Ok(policies_changed(alloc, policies, drop)?)
 }

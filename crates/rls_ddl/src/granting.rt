@@ -21,7 +21,6 @@ pub fn run_grant<'c, S: RowSource<'c>>(
 ) -> Result<Effect, Refusal>
     ensures { Answers S.state S.after (spec.grant ctx.now privileges.now) source.old source.new notes.old notes.new result }
 {
-    // Its proof takes seconds: one call that may fail.
     let delta = grant(alloc, source, notes, &ctx.role, privileges)?;
     Ok(Effect::done(alloc, delta))
 }
@@ -50,7 +49,6 @@ pub fn run_grant_roles<'c, S: RowSource<'c>>(
 ) -> Result<Effect, Refusal>
     ensures { Answers S.state S.after (spec.grant_roles ctx.now roles.now) source.old source.new notes.old notes.new result }
 {
-    // Its proof takes seconds: one call that may fail.
     let delta = grant_member(alloc, source, notes, &ctx.role, roles)?;
     Ok(Effect::done(alloc, delta))
 }

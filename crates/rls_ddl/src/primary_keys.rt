@@ -39,7 +39,6 @@ fn columns_with(
 ) -> Result<Items<Column>, AllocError>
     ensures { IfOk result (λ columns. columns ≡ map (spec.column_in key.now) marked.now) }
 {
-    // Its proof takes seconds: two places hold what failing calls would drop, a loop.
     let mut columns = Vec::with_capacity(alloc, marked.len())?;
     for column in marked {
         columns.push(column_with(column, key)?)?;
@@ -85,7 +84,6 @@ fn key_names<'x>(
 fn lent<'x>(alloc: Global, names: &'x [Name]) -> Result<Items<Loan<'x, Name>>, AllocError>
     ensures { IfOk result (λ lent. lent ≡ names.now) }
 {
-    // Its proof takes seconds: a loop over two calls that may fail.
     let mut lent = Vec::with_capacity(alloc, names.len())?;
     for name in names {
         lent.push(Loan::new(name))?;
@@ -115,7 +113,6 @@ fn places_of(
 ) -> Result<Items<usize>, Refusal>
     ensures { Gives result (each_of (place_or_undefined columns.now) names.now) }
 {
-    // Its proof takes seconds: a loop over two calls that may fail.
     let mut places = Items::new(alloc);
     for name in names {
         let place = place_named(columns, name.get())?;

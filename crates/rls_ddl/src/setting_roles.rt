@@ -23,7 +23,6 @@ pub fn run_set_role<'c, S: RowSource<'c>>(
 ) -> Result<Effect, Refusal>
     ensures { Answers S.state S.after (spec.set_role ctx.now set.now) source.old source.new notes.old notes.new result }
 {
-    // Its proof takes seconds: two calls that may fail.
     match set {
         SetRole::To(role) => {
             role_named(alloc, source, notes, role)?;
@@ -44,7 +43,6 @@ fn set_role<'c, S: RowSource<'c>>(
 ) -> Result<Effect, Refusal>
     ensures { Answers S.state S.after (role_set login.now role.now) source.old source.new notes.old notes.new result }
 {
-    // Its proof takes seconds: three calls that may fail, one cited law.
     if may_set(alloc, source, notes, login, role)? {
         Ok(role_to(alloc, role)?)
     } else {

@@ -4,13 +4,17 @@ use Rattle.std.specs.List.{AllByRecursion}
 use Rattle.std.proofs.{Common.ap, Common.sym, Common.◌∙◌, Common.subst, lemmas.Bool.true≢false, lemmas.Option.none-some}
 use Rattle.rls_value.specs.{declared.refusal.Refusal.Refusal, declared.refusal.Refusal.TheVariants.Undefined, declared.row.RowId.RowId, declared.value.Value.Value, Giving.and_then, declared.refusal.NameKind.NameKind, declared.verb.Privilege.Privilege, declared.verb.Kind.Kind}
 use Rattle.rls_expr.specs.declared.table.TableDef.{TableDef}
-use Rattle.rls_catalog.specs.{declared.change.Change.Change, declared.stored.Stored.Stored, Changed.changed_all, InOrder.RowsInOrder, State.State, State.is_same_id, State.table_of, State.entries_of, SoundRows.AreSound, SoundRows.RowsAreSound}
+use Rattle.rls_catalog.specs.{declared.change.Change.Change, declared.stored.Stored.Stored, Changed.changed, Changed.changed_all, InOrder.RowsInOrder, State.State, State.is_same_id, State.table_of, State.entries_of, SoundRows.AreSound, SoundRows.RowsAreSound}
 use Rattle.rls_statement.specs.{declared.changing.Delete.Delete, declared.changing.Update.Update, declared.statement.Insert.Insert, declared.statement.Select.Select, declared.statement.Selected.Selected}
 use Rattle.rls_source.specs.{Asked.table_at, Askings.known, Askings.followed_by, Named.found_or, Named.table_or_undefined}
-use Rattle.rls_guard.specs.{declared.context.Ctx.Ctx, declared.reply.Decision.Decision, declared.standing.Standing.Standing, Standings.standing_of, Keeping.IfDone, Keeping.IsNoRow, Keeping.KeepsRowsSound, Keeping.LeavesRows}
+use Rattle.rls_guard.specs.{declared.context.Ctx.Ctx, declared.reply.Decision.Decision, declared.standing.Standing.Standing, Standings.standing_of, Keeping.IfDone, Keeping.IsNoRow, Keeping.KeepsRowsSound, Keeping.KeepsTables, Keeping.LeavesRows, Keeping.TablesStay}
 use Rattle.rls_expansion.specs.{declared.protection.Protection.Protection, Protecting.protection_of, Used.tables_if}
 use Rattle.rls_judging.specs.{Candidates.candidates, Judging.decisions_of, Judging.hits_of, Valuing.settings_of, Valuing.tuples_of}
-use Rattle.rls_dml.{specs.declared.addition.Addition.Addition, specs.declared.deleting.Removal.Removal, specs.declared.revision.Revision.Revision, specs.declared.selecting.Query.Query, specs.Checking.returning_reads, specs.NextRows.NumberOn, specs.Numbers.has_number, specs.Selecting.listed_by, specs.Selecting.listed_for, specs.Selecting.listed_from, specs.Selecting.qualifier_of, specs.Selecting.query_for, specs.Selecting.select, specs.Selecting.select_as, specs.Selecting.select_from, specs.Writing.assigned, specs.Writing.each_with, specs.Writing.key_at, specs.Writing.order_of, specs.Writing.privileges_or_denied, specs.Writing.rows_or_refused, specs.Deleting.delete, specs.Deleting.delete_as, specs.Deleting.delete_from, specs.Deleting.delete_guarded, specs.Deleting.delete_hits, specs.Deleting.deleted, specs.Deleting.deleted_row, specs.Deleting.removal_for, specs.Deleting.removal_reads, specs.Inserting.addition_for, specs.Inserting.insert, specs.Inserting.insert_as, specs.Inserting.insert_guarded, specs.Inserting.insert_into, specs.Inserting.insert_judged, specs.Inserting.insert_made, specs.Inserting.insert_rows, specs.Inserting.insert_values, specs.Inserting.inserted, specs.Inserting.inserted_row, specs.Inserting.new_rows, specs.Inserting.numbered, specs.Inserting.row_of_tuple, specs.Inserting.tuples_tables, specs.Updating.changed_rows, specs.Updating.places_set, specs.Updating.revision_for, specs.Updating.revision_reads, specs.Updating.revision_tables, specs.Updating.update, specs.Updating.update_as, specs.Updating.update_guarded, specs.Updating.update_hits, specs.Updating.update_in, specs.Updating.update_judged, specs.Updating.update_rows, specs.Updating.update_made, specs.Updating.update_values, specs.Updating.updated, specs.Updating.updated_row, specs.Updating.updated_rows, proofs.FittingLemmas.Apart, proofs.FittingLemmas.OtherThan, proofs.FittingLemmas.StandIn, proofs.FittingLemmas.candidates_stand, proofs.FittingLemmas.done_after, proofs.FittingLemmas.done_then, proofs.FittingLemmas.given_after, proofs.FittingLemmas.given_then, proofs.FittingLemmas.hits_stand, proofs.FittingLemmas.insert_done, proofs.FittingLemmas.numbered_apart, proofs.PassingLemmas.KeysAreMade, proofs.PassingLemmas.Pass, proofs.PassingLemmas.each_free, proofs.PassingLemmas.rows_carry, proofs.PassingLemmas.rows_passed, proofs.SoundLemmas.AreRenewed, proofs.SoundLemmas.changed_leave, proofs.SoundLemmas.deleted_leave, proofs.SoundLemmas.inserted_leave, proofs.SoundLemmas.left_rows_sound, proofs.SoundLemmas.sound_in, proofs.WrittenLemmas.MayStand, proofs.WrittenLemmas.keyed_of, proofs.WrittenLemmas.left_sound, proofs.WrittenLemmas.with_rows, proofs.WrittenLemmas.without_rows, proofs.WrittenLemmas.written_sound}
+use Rattle.rls_dml.{specs.declared.addition.Addition.Addition, specs.declared.deleting.Removal.Removal, specs.declared.revision.Revision.Revision, specs.declared.selecting.Query.Query, specs.Checking.returning_reads, specs.NextRows.NumberOn, specs.Numbers.has_number, specs.Selecting.listed_by, specs.Selecting.listed_for, specs.Selecting.listed_from, specs.Selecting.qualifier_of, specs.Selecting.query_for, specs.Selecting.select, specs.Selecting.select_as, specs.Selecting.select_from, specs.Writing.assigned, specs.Writing.each_with, specs.Writing.key_at, specs.Writing.order_of, specs.Writing.privileges_or_denied, specs.Writing.rows_or_refused, specs.Deleting.delete, specs.Deleting.delete_as, specs.Deleting.delete_from, specs.Deleting.delete_guarded, specs.Deleting.delete_hits, specs.Deleting.deleted, specs.Deleting.deleted_row, specs.Deleting.removal_for, specs.Deleting.removal_reads, specs.Inserting.addition_for, specs.Inserting.insert, specs.Inserting.insert_as, specs.Inserting.insert_guarded, specs.Inserting.insert_into, specs.Inserting.insert_judged, specs.Inserting.insert_made, specs.Inserting.insert_rows, specs.Inserting.insert_values, specs.Inserting.inserted, specs.Inserting.inserted_row, specs.Inserting.new_rows, specs.Inserting.numbered, specs.Inserting.row_of_tuple, specs.Inserting.tuples_tables, specs.Updating.changed_row, specs.Updating.changed_rows, specs.Updating.places_set, specs.Updating.revision_for, specs.Updating.revision_reads, specs.Updating.revision_tables, specs.Updating.update, specs.Updating.update_as, specs.Updating.update_guarded, specs.Updating.update_hits, specs.Updating.update_in, specs.Updating.update_judged, specs.Updating.update_rows, specs.Updating.update_made, specs.Updating.update_values, specs.Updating.updated, specs.Updating.updated_row, specs.Updating.updated_rows, proofs.FittingLemmas.Apart, proofs.FittingLemmas.OtherThan, proofs.FittingLemmas.StandIn, proofs.FittingLemmas.candidates_stand, proofs.FittingLemmas.done_after, proofs.FittingLemmas.done_then, proofs.FittingLemmas.given_after, proofs.FittingLemmas.given_then, proofs.FittingLemmas.hits_stand, proofs.FittingLemmas.insert_done, proofs.FittingLemmas.numbered_apart, proofs.PassingLemmas.KeysAreMade, proofs.PassingLemmas.Pass, proofs.PassingLemmas.each_free, proofs.PassingLemmas.rows_carry, proofs.PassingLemmas.rows_passed, proofs.SoundLemmas.AreRenewed, proofs.SoundLemmas.changed_leave, proofs.SoundLemmas.deleted_leave, proofs.SoundLemmas.inserted_leave, proofs.SoundLemmas.left_rows_sound, proofs.SoundLemmas.sound_in, proofs.WrittenLemmas.MayStand, proofs.WrittenLemmas.keyed_of, proofs.WrittenLemmas.left_sound, proofs.WrittenLemmas.with_rows, proofs.WrittenLemmas.without_rows, proofs.WrittenLemmas.written_sound}
+
+-- tables that are the same stay
+same_stay : (s : State) (changes : List Change) → ((name : List ℕ) → table_of (changed_all s changes) name ≡ table_of s name) → TablesStay s changes
+same_stay s changes same name def there = (def, same name ∙ there, refl)
 
 -- the rows are sound with the changes
 abbrev pub Keeps : State → List Change → Type 0
@@ -376,4 +380,27 @@ pub select_leaves : (ctx : Ctx) (asked : Select) → LeavesRows (select ctx aske
 select_leaves ctx asked = record {
   writes_none = λ s. select_holds (AllByRecursion IsNoRow) s ctx asked tt;
   sound = λ s sound. select_holds (Keeps s) s ctx asked sound;
+  tables = λ s sound. select_holds (TablesStay s) s ctx asked (same_stay s [] (λ name. refl));
 }
+
+-- ---- tables
+
+-- an INSERT leaves them
+pub insert_tables : (ctx : Ctx) (asked : Insert) → KeepsTables (insert ctx asked)
+insert_tables ctx asked s sound = insert_done (TablesStay s) s ctx asked (λ places rows _.
+    let made : List Stored = numbered places ctx.txn ctx.next rows in
+    same_stay s (map (inserted_row asked.table) made) (inserted_leave s asked.table made).tables)
+
+row_tables : (s : State) (table : List ℕ) (old new : List Stored) (name : List ℕ) → table_of (changed_all s (changed_rows table old new)) name ≡ table_of s name
+row_tables s table [] [] name = refl
+row_tables s table [] (new ∷ news) name = refl
+row_tables s table (old ∷ olds) [] name = refl
+row_tables s table (old ∷ olds) (new ∷ news) name = row_tables (changed s (changed_row table old new)) table olds news name
+
+-- so does an UPDATE
+pub update_tables : (ctx : Ctx) (asked : Update) → KeepsTables (update ctx asked)
+update_tables ctx asked s sound = update_holds (TablesStay s) s ctx asked (λ old new _. same_stay s (changed_rows asked.table old new) (row_tables s asked.table old new)) sound
+
+-- and a DELETE
+pub delete_tables : (ctx : Ctx) (asked : Delete) → KeepsTables (delete ctx asked)
+delete_tables ctx asked s sound = delete_holds (TablesStay s) s ctx asked (λ table rows _. same_stay s (map (deleted_row asked.table) rows) (deleted_leave s asked.table rows).tables)

@@ -40,7 +40,6 @@ pub fn known_addition<'c, S: RowSource<'c>>(
     ensures given { Answers S.state S.after (spec.addition_for ctx.now insert.now table.now) source.old source.new notes.old notes.new result }
     ensures room { IfOk result (λ addition. ctx.now.next + length addition.tuples ≤ 4294967295) }
 {
-    // Its proof takes seconds: six places hold what a failing call would drop.
     let places = places_of(alloc, table, &insert.columns)?;
     match found_for(alloc, source, notes, insert, table) {
         Ok(found) => {
@@ -65,7 +64,6 @@ fn found_for<'c, S: RowSource<'c>>(
 ) -> Result<Found<'c>, Refusal>
     ensures { Answers S.state S.after (spec.addition_named insert.now (insert.now.table, table.now)) source.old source.new notes.old notes.new result }
 {
-    // Its proof takes seconds: one call that may fail.
     let found = found_in_tuples(alloc, source, notes, insert.tuples.as_slice())?;
     found_in_returning(alloc, source, notes, insert, table, found)
 }
@@ -78,7 +76,6 @@ fn found_in_tuples<'c, S: RowSource<'c>>(
 ) -> Result<Found<'c>, Refusal>
     ensures { Answers S.state S.after (named (spec.tuples_names tuples.now) [] []) source.old source.new notes.old notes.new result }
 {
-    // Its proof takes seconds: one call that may fail.
     let steps = tuples_names(alloc, tuples)?;
     let found = named(
         alloc,
@@ -98,7 +95,6 @@ fn tuples_names<'x>(
 ) -> Result<Vec<NameStep<'x>>, AllocError>
     ensures { IfOk result (λ steps. map step_of steps.items ≡ spec.tuples_names tuples.now) }
 {
-    // Its proof takes seconds: a loop over a call that may fail.
     let mut steps = Vec::new(alloc);
     for tuple in tuples {
         put_all_names(&mut steps, tuple.as_slice())?;
@@ -116,7 +112,6 @@ fn found_in_returning<'c, S: RowSource<'c>>(
 ) -> Result<Found<'c>, Refusal>
     ensures { Answers S.state S.after (named (returning_names insert.now.returning) ((insert.now.table, table.now) ∷ []) found.entry) source.old source.new notes.old notes.new result }
 {
-    // Its proof takes seconds: two places hold what failing calls would drop.
     let steps = names_of_returning(alloc, &insert.returning)?;
     let tables = table_of(alloc, insert, table)?;
     let found = named(alloc, source, notes, &steps, tables, found);
@@ -132,7 +127,6 @@ fn table_of<'c>(
 ) -> Result<Vec<NamedTable<'c>>, AllocError>
     ensures { IfOk result (λ tables. tables.items ≡ (insert.now.table, table.now) ∷ []) }
 {
-    // Its proof takes seconds: four places hold what failing calls would drop.
     let mut tables = Vec::with_capacity(alloc, 1)?;
     tables.push(NamedTable::new(&insert.table, table)?)?;
     Ok(tables)
@@ -161,7 +155,6 @@ fn check_addition<'x>(
     ensures given { Gives result (spec.addition_in next insert.now (insert.now.table, table.now) places known.now) }
     ensures room { IfOk result (λ addition. next + length addition.tuples ≤ 4294967295) }
 {
-    // Its proof takes seconds: one call that may fail.
     let addition = place_addition(alloc, insert, table, places, known)?;
     allowed(next, table.columns.as_slice(), addition)
 }
@@ -171,7 +164,6 @@ fn allowed(next: u32, columns: &[Column], addition: Addition) -> Result<Addition
     ensures given { Gives result (and_then (spec.addition_or_refused next columns.now addition) (λ _. Ok addition)) }
     ensures room { IfOk result (λ addition. next + length addition.tuples ≤ 4294967295) }
 {
-    // Its proof takes seconds: one place holds what a failing call would drop.
     match require_addition(next, columns, &addition) {
         Ok(()) => Ok(addition),
         Err(refusal) => {
@@ -191,7 +183,6 @@ fn place_addition<'x>(
 ) -> Result<Addition, AllocError>
     ensures { IfOk result (λ addition. addition ≡ spec.addition_placed insert.now (insert.now.table, table.now) places known.now) }
 {
-    // Its proof takes seconds: five places hold what a failing call would drop.
     let tuples = place_tuples(alloc, insert.tuples.as_slice(), known)?;
     match place_answer(alloc, insert, table, known) {
         Ok(returning) => Ok(Addition {
@@ -215,7 +206,6 @@ fn place_answer<'x>(
 ) -> Result<Option<Selected>, AllocError>
     ensures { IfOk result (λ returning. returning ≡ returning_placed (names_over (insert.now.table, table.now) known.now) insert.now.returning) }
 {
-    // Its proof takes seconds: two places hold what a failing call would drop.
     let tables = [NamedTable::new(&insert.table, table)?];
     place_returning(
         alloc,
@@ -234,7 +224,6 @@ fn place_tuples<'x>(
 ) -> Result<Items<Items<Expr>>, AllocError>
     ensures { IfOk result (λ placed. placed ≡ map (spec.tuple_placed (names_over_none known.now)) tuples.now) }
 {
-    // Its proof takes seconds: six places hold what failing calls would drop, a loop.
     let mut placed = Items::new(alloc);
     for tuple in tuples {
         let tuple = place_terms(alloc, tuple.as_slice(), &Scope { tables: &[], known })?;
@@ -248,7 +237,6 @@ fn require_addition(next: u32, columns: &[Column], addition: &Addition) -> Resul
     ensures given { Gives result (spec.addition_or_refused next columns.now addition.now) }
     ensures room { OnOk result (next + length addition.now.tuples ≤ 4294967295) }
 {
-    // Its proof takes seconds: two calls that may fail.
     let tuples = addition.tuples.as_slice();
     require_fitting(
         tuples_fit(tuples, addition.places.as_slice(), columns)
@@ -275,7 +263,6 @@ fn places_of(
 fn all_places(alloc: Global, columns: &[Column]) -> Result<Items<usize>, AllocError>
     ensures { IfOk result (λ places. places ≡ spec.places_from 0 columns.now) }
 {
-    // Its proof takes seconds: a loop over a call that may fail.
     let mut places = Items::new(alloc);
     for (place, _column) in columns.iter().enumerate() {
         places.push(place)?;
@@ -286,7 +273,6 @@ fn all_places(alloc: Global, columns: &[Column]) -> Result<Items<usize>, AllocEr
 fn known_places(alloc: Global, table: &TableDef, names: &[Name]) -> Result<Items<usize>, Refusal>
     ensures { Gives result (each_of (place_or_undefined table.now.columns) names.now) }
 {
-    // Its proof takes seconds: a loop over two calls that may fail.
     let mut places = Items::new(alloc);
     for name in names {
         let place = known_place(table, name)?;
@@ -298,7 +284,6 @@ fn known_places(alloc: Global, table: &TableDef, names: &[Name]) -> Result<Items
 fn tuples_fit(tuples: &[Items<Expr>], places: &[usize], columns: &[Column]) -> bool
     ensures { result ≡ list_all (spec.tuple_fits columns.now places.now) tuples.now }
 {
-    // Its proof takes seconds: four places hold what a failing call would drop.
     tuples
         .iter()
         .all(|tuple| tuple_fits(tuple.as_slice(), places, columns))
@@ -307,7 +292,6 @@ fn tuples_fit(tuples: &[Items<Expr>], places: &[usize], columns: &[Column]) -> b
 fn tuple_fits(mut tuple: &[Expr], mut places: &[usize], columns: &[Column]) -> bool
     ensures { result ≡ spec.tuple_fits columns.now places.entry.now tuple.entry.now }
 {
-    // Its proof takes seconds: a loop.
     while let [expr, rest @ ..] = tuple {
         match places {
             [place, others @ ..] => {

@@ -43,7 +43,6 @@ pub fn run_delete<'c, S: RowSource<'c>>(
 ) -> Result<Effect, Refusal>
     ensures { Answers S.state S.after (spec.delete ctx.now delete.now) source.old source.new notes.old notes.new result }
 {
-    // Its proof takes seconds: one place holds what failing calls would drop.
     let table = table_named(alloc, source, notes, &delete.table)?;
     let from = FromTable {
         name: &delete.table,
@@ -65,7 +64,6 @@ fn known_removal<'c, S: RowSource<'c>>(
 ) -> Result<Removal, Refusal>
     ensures { Answers S.state S.after (spec.removal_for delete.now table.now) source.old source.new notes.old notes.new result }
 {
-    // Its proof takes seconds: four places hold what a failing call would drop.
     let found = found_for(alloc, source, notes, delete, table)?;
     let removal = check_removal(alloc, delete, table, found.as_slice());
     drop(found);
@@ -82,7 +80,6 @@ fn found_for<'c, S: RowSource<'c>>(
 ) -> Result<Found<'c>, Refusal>
     ensures { Answers S.state S.after (named (spec.removal_names delete.now) ((delete.now.table, table.now) ∷ []) []) source.old source.new notes.old notes.new result }
 {
-    // Its proof takes seconds: one call that may fail.
     let steps = names_of(alloc, delete)?;
     let found = named_over(alloc, source, notes, &steps, &delete.table, table);
     drop(steps);
@@ -107,7 +104,6 @@ fn check_removal<'x>(
 ) -> Result<Removal, Refusal>
     ensures { Gives result (spec.removal_in delete.now (delete.now.table, table.now) known.now) }
 {
-    // Its proof takes seconds: two places hold what failing calls would drop.
     let tables = [NamedTable::new(&delete.table, table)?];
     let removal = place_removal(
         alloc,
@@ -177,7 +173,6 @@ fn delete_from<'c, 'x, S: RowSource<'c>>(
 ) -> Result<Effect, Refusal>
     ensures { Answers S.state S.after (spec.delete_from role.now from.entry.name.now from.entry.table.now removal.now) source.old source.new notes.old notes.new result }
 {
-    // Its proof takes seconds: one place holds what a failing call would drop, one cited law.
     let standing = standing_of(alloc, source, notes, role)?;
     let deleted = delete_as(alloc, source, notes, &standing, role, from, removal);
     drop(standing);
@@ -197,7 +192,6 @@ fn delete_as<'c, 'x, S: RowSource<'c>>(
 ) -> Result<Effect, Refusal>
     ensures { Answers S.state S.after (spec.delete_as standing.now role.now from.entry.name.now from.entry.table.now removal.now) source.old source.new notes.old notes.new result }
 {
-    // Its proof takes seconds: two places hold what a failing call would drop, one cited law.
     let protection = protection(alloc, source, notes, standing, from, removal)?;
     let deleted = delete_guarded(
         alloc,
@@ -224,7 +218,6 @@ fn protection<'c, 'x, S: RowSource<'c>>(
 ) -> Result<Protection<'c>, Refusal>
     ensures { Answers S.state S.after (protection_of standing.now from.entry.name.now from.entry.table.now Kind.Delete (spec.removal_reads removal.now) (tables_if removal.now.condition)) source.old source.new notes.old notes.new result }
 {
-    // Its proof takes seconds: three places hold what a failing call would drop.
     let reads = reads(removal);
     let tables = where_tables(alloc, &removal.condition)?;
     let protection = protection_of(
@@ -255,7 +248,6 @@ fn delete_guarded<'c, 'x, S: RowSource<'c>>(
 ) -> Result<Effect, Refusal>
     ensures { Answers S.state S.after (spec.delete_guarded standing.now protection.now removal.now role.now from.entry.name.now from.entry.table.now) source.old source.new notes.old notes.new result }
 {
-    // Its proof takes seconds: three calls that may fail, one cited law.
     let reads = reads(removal);
     require_privileges(
         alloc,
@@ -295,7 +287,6 @@ fn delete_hits<'a, 'c, S: RowSource<'c>>(
 ) -> Result<Effect, AllocError>
     ensures { Tells S.state S.after (spec.delete_hits role.now name.now protection.now removal.now candidates.now) source.old source.new notes.old notes.new result }
 {
-    // Its proof takes seconds: one call that may fail, one cited law.
     let (decisions, hits) = hits_under(
         alloc,
         source,
@@ -319,7 +310,6 @@ fn deleted<'c>(
 ) -> Result<Effect, AllocError>
     ensures { IfOk result (λ effect. effect ≡ spec.deleted name.now removal.now role.now (decisions.items, map (λ hit. hit.now) hits.now)) }
 {
-    // Its proof takes seconds: one place holds what failing calls would drop.
     let rows = standing_rows(alloc, hits)?;
     let reply = reply_of(alloc, &removal.returning, role, &rows)?;
     drop(rows);
@@ -349,7 +339,6 @@ fn taken_out<'c>(
 fn changes_of<'c>(alloc: Global, name: &Name, hits: &[&Lent<'c>]) -> Result<Delta, AllocError>
     ensures { IfOk result (λ delta. delta ≡ map (spec.deleted_row name.now) (map (λ hit. hit.now) hits.now)) }
 {
-    // Its proof takes seconds: one place holds what failing calls would drop, a loop.
     let mut delta = Delta::with_capacity(alloc, hits.len())?;
     for hit in hits {
         delta.push(deleted_row(alloc, name, hit)?)?;
@@ -360,7 +349,6 @@ fn changes_of<'c>(alloc: Global, name: &Name, hits: &[&Lent<'c>]) -> Result<Delt
 fn deleted_row<'c>(alloc: Global, table: &Name, stored: &Lent<'c>) -> Result<Change, AllocError>
     ensures { IfOk result (λ change. change ≡ spec.deleted_row table.now stored.now) }
 {
-    // Its proof takes seconds: four places hold what failing calls would drop.
     let before = Keyed {
         key: stored.key().copy(alloc)?,
         row: stored.row().copy(alloc)?,

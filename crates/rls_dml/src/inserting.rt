@@ -37,7 +37,6 @@ pub fn run_insert<'c, S: RowSource<'c>>(
 ) -> Result<Effect, Refusal>
     ensures { Answers S.state S.after (spec.insert ctx.now insert.now) source.old source.new notes.old notes.new result }
 {
-    // Its proof takes seconds: one place holds what failing calls would drop.
     let table = table_named(alloc, source, notes, &insert.table)?;
     let from = FromTable {
         name: &insert.table,
@@ -62,7 +61,6 @@ fn insert_into<'c, 'x, S: RowSource<'c>>(
     requires { ctx.now.next + length addition.now.tuples ≤ 4294967295 }
     ensures { Answers S.state S.after (spec.insert_into ctx.now from.entry.name.now from.entry.table.now addition.now) source.old source.new notes.old notes.new result }
 {
-    // Its proof takes seconds: one place holds what a failing call would drop, one cited law.
     let standing = standing_of(alloc, source, notes, &ctx.role)?;
     let inserted = insert_as(alloc, source, notes, ctx, from, &standing, addition);
     drop(standing);
@@ -83,7 +81,6 @@ fn insert_as<'c, 'x, S: RowSource<'c>>(
     requires { ctx.now.next + length addition.now.tuples ≤ 4294967295 }
     ensures { Answers S.state S.after (spec.insert_as ctx.now from.entry.name.now from.entry.table.now standing.now addition.now) source.old source.new notes.old notes.new result }
 {
-    // Its proof takes seconds: two places hold what a failing call would drop, one cited law.
     let protection = protection(alloc, source, notes, standing, from, addition)?;
     let inserted = insert_guarded(
         alloc,
@@ -110,7 +107,6 @@ fn protection<'c, 'x, S: RowSource<'c>>(
 ) -> Result<Protection<'c>, Refusal>
     ensures { Answers S.state S.after (protection_of standing.now from.entry.name.now from.entry.table.now Kind.Insert (spec_returning_reads addition.now.returning) (spec.tuples_tables addition.now.tuples)) source.old source.new notes.old notes.new result }
 {
-    // Its proof takes seconds: three places hold what a failing call would drop.
     let reads = returning_reads(&addition.returning);
     let tables = tuples_tables(alloc, addition.tuples.as_slice())?;
     let protection = protection_of(
@@ -153,7 +149,6 @@ fn insert_guarded<'c, 'x, S: RowSource<'c>>(
     requires { ctx.now.next + length addition.now.tuples ≤ 4294967295 }
     ensures { Answers S.state S.after (spec.insert_guarded ctx.now from.entry.name.now from.entry.table.now standing.now protection.now addition.now) source.old source.new notes.old notes.new result }
 {
-    // Its proof takes seconds: one call that may fail, one cited law.
     let reads = returning_reads(&addition.returning);
     require_privileges(
         alloc,
@@ -182,7 +177,6 @@ fn insert_values<'a, 'c, 'x, S: RowSource<'c>>(
     requires { ctx.now.next + length addition.now.tuples ≤ 4294967295 }
     ensures { Answers S.state S.after (spec.insert_values ctx.now from.entry.name.now from.entry.table.now protection.now addition.now) source.old source.new notes.old notes.new result }
 {
-    // Its proof takes seconds: four places hold what a failing call would drop, one cited law.
     let values = tuples_under(alloc, source, notes, ctx, protection, addition)?;
     let inserted = insert_made(
         alloc, source, notes, ctx, from, protection, addition, &values,
@@ -227,7 +221,6 @@ fn insert_made<'c, 'x, S: RowSource<'c>>(
     requires { ctx.now.next + length addition.now.tuples ≤ 4294967295 }
     ensures { Answers S.state S.after (spec.insert_made ctx.now from.entry.name.now from.entry.table.now protection.now addition.now (map values_held values.now)) source.old source.new notes.old notes.new result }
 {
-    // Its proof takes seconds: two calls that may fail, one cited law.
     let rows = new_rows(alloc, ctx, from.table, addition, values)?;
     Ok(insert_rows(
         alloc,
@@ -252,7 +245,6 @@ fn new_rows(
     requires { ctx.now.next + length addition.now.tuples ≤ 4294967295 }
     ensures { Gives result (spec.new_rows ctx.now table.now addition.now (map values_held values.now)) }
 {
-    // Its proof takes seconds: two calls that may fail.
     let rows = rows_of(
         alloc,
         addition.tuples.as_slice(),
@@ -273,7 +265,6 @@ fn rows_of(
     ensures given { Gives result (each_with (spec.row_of_tuple table.now places.now) tuples.now (map values_held values.now)) }
     ensures count { IfOk result (λ rows. length rows ≡ length tuples.now) }
 {
-    // Its proof takes seconds: two places hold what failing calls would drop, a loop.
     let mut rows = Items::new(alloc);
     let mut left = values;
     for _tuple in tuples {
@@ -301,7 +292,6 @@ fn row_of(
 fn nulls(alloc: Global, columns: &[Column]) -> Result<Vec<Value>, AllocError>
     ensures { IfOk result (λ values. values.items ≡ spec.nulls columns.now) }
 {
-    // Its proof takes seconds: two places hold what failing calls would drop, a loop.
     let mut values = Vec::with_capacity(alloc, columns.len())?;
     for _column in columns {
         values.push(Value::Null)?;
@@ -319,7 +309,6 @@ fn numbered(
     requires { ctx.now.next + length rows.items ≤ 4294967295 }
     ensures { IfOk result (λ new. new ≡ spec.numbered places.now ctx.now.txn ctx.now.next rows.items) }
 {
-    // Its proof takes seconds: eight places hold what failing calls would drop, a loop.
     let mut new = Items::new(alloc);
     let mut n = ctx.next;
     for row in rows {
@@ -345,7 +334,6 @@ fn insert_rows<'a, 'c, 'x, S: RowSource<'c>>(
 ) -> Result<Effect, AllocError>
     ensures { Tells S.state S.after (spec.insert_rows role.now from.entry.name.now from.entry.table.now protection.now addition.now rows) source.old source.new notes.old notes.new result }
 {
-    // Its proof takes seconds: one place holds what a failing call would drop, one cited law.
     let decisions = judged_under(alloc, source, notes, &*protection, &*role, &rows)?;
     insert_judged(alloc, source, notes, role, from, addition, rows, decisions)
 }
@@ -364,7 +352,6 @@ fn insert_judged<'c, 'x, S: RowSource<'c>>(
 ) -> Result<Effect, AllocError>
     ensures { Tells S.state S.after (spec.insert_judged role.now from.entry.name.now from.entry.table.now addition.now rows decisions.items) source.old source.new notes.old notes.new result }
 {
-    // Its proof takes seconds: two places hold what a failing call would drop, one cited law.
     match require_inserted(
         alloc,
         source,
@@ -392,7 +379,6 @@ fn require_inserted<'c, 'x, S: RowSource<'c>>(
 ) -> Result<(), Refusal>
     ensures { Answers S.state S.after (rows_or_refused from.entry.name.now from.entry.table.now.columns (spec_order_of places.now from.entry.table.now.columns) decisions.now [] rows.now) source.old source.new notes.old notes.new result }
 {
-    // Its proof takes seconds: one call that may fail.
     let order = order_of(alloc, places, from.table.columns.as_slice())?;
     let replaced = Replaced::new(&[], false);
     let found = require_rows(
@@ -413,7 +399,6 @@ fn inserted(
 ) -> Result<Effect, AllocError>
     ensures { IfOk result (λ effect. effect ≡ Effect.Done (spec_reply_of returning.now role.now (map (λ stored. stored.row) rows)) decisions.items (map (spec.inserted_row table.now) rows) None) }
 {
-    // Its proof takes seconds: three places hold what a failing call would drop.
     let reply = reply_of_new(alloc, returning, role, rows.as_slice())?;
     match put_in(alloc, table, rows.into_vec()) {
         Ok(delta) => Ok(Effect::Done(reply, Items::from_vec(decisions), delta, None)),
@@ -428,7 +413,6 @@ fn inserted(
 fn put_in(alloc: Global, table: &Name, rows: Vec<Stored>) -> Result<Delta, AllocError>
     ensures { IfOk result (λ delta. delta ≡ map (spec.inserted_row table.now) rows.items) }
 {
-    // Its proof takes seconds: four places hold what failing calls would drop, a loop.
     let mut delta = Delta::new(alloc);
     for stored in rows {
         delta.push(inserted_row(table, stored)?)?;

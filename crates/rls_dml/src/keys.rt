@@ -20,7 +20,6 @@ use std::collections::BTreeSet;
 pub fn key_at(alloc: Global, places: &[usize], row: &Row) -> Result<Row, AllocError>
     ensures { IfOk result (λ key. key ≡ spec.key_at places.now row.now) }
 {
-    // Its proof takes seconds: two places hold what failing calls would drop, a loop.
     let mut values = Vec::with_capacity(alloc, places.len())?;
     for place in places {
         values.push(row.value(*place)?)?;
@@ -80,7 +79,6 @@ pub fn require_unique<'c, S: RowSource<'c>>(
 ) -> Result<(), Refusal>
     ensures { Answers S.state S.after (unique_or_refused name.now replaced.now (spec.keys_of rows.now)) source.old source.new notes.old notes.new result }
 {
-    // Its proof takes seconds: one place holds what failing calls would drop.
     let keys = whole_keys(alloc, rows)?;
     let taken = are_taken(alloc, source, notes, name, replaced, &keys)?;
     if taken || have_doubles(alloc, &keys)? {
@@ -93,7 +91,6 @@ pub fn require_unique<'c, S: RowSource<'c>>(
 fn whole_keys(alloc: Global, rows: &[Stored]) -> Result<Vec<Row>, AllocError>
     ensures { IfOk result (λ keys. keys.items ≡ spec.keys_of rows.now) }
 {
-    // Its proof takes seconds: two places hold what failing calls would drop, a loop.
     let mut keys = Vec::with_capacity(alloc, rows.len())?;
     for stored in rows {
         if is_whole(stored.key.as_slice()) {
@@ -131,7 +128,6 @@ fn are_taken<'c, S: RowSource<'c>>(
 ) -> Result<bool, AllocError>
     ensures { Tells S.state S.after (keys_taken name.now replaced.now keys.now) source.old source.new notes.old notes.new result }
 {
-    // Its proof takes seconds: two places hold what failing calls would drop, two cited laws.
     if let [] = keys {
         Ok(false)
     } else if none_stays(alloc, &*source, name, &*replaced)? {
@@ -155,7 +151,6 @@ fn none_stays<'c, S: RowSource<'c>>(
 ) -> Result<bool, AllocError>
     ensures { IfOk result (λ none. IsTrue none → spec.stays_any replaced.now (rows_of (S.state source.now) name.now) ≡ false) }
 {
-    // Its proof takes seconds: one call that may fail, one cited law.
     if replaced.may_be_all() {
         let rows = source.look(alloc, name)?;
         Ok(replaced.are_numbered_as(rows.as_slice()))
@@ -184,7 +179,6 @@ fn read_keys<'c, S: RowSource<'c>>(
 fn key_objects(alloc: Global, name: &Name, keys: &[Row]) -> Result<Vec<Object>, AllocError>
     ensures { IfOk result (λ objects. objects.items ≡ spec.keys_read name.now keys.now) }
 {
-    // Its proof takes seconds: two places hold what failing calls would drop, a loop.
     let mut objects = Vec::with_capacity(alloc, keys.len())?;
     for key in keys {
         objects.push(key_object(alloc, name, key)?)?;
@@ -216,7 +210,6 @@ fn have_taken<'c, S: RowSource<'c>>(
 ) -> Result<bool, AllocError>
     ensures { Tells S.state S.after (keys_taken name.now replaced.now keys.now) source.old source.new notes.old notes.new result }
 {
-    // Its proof takes seconds: a loop over a call that may fail.
     let mut taken = false;
     for key in keys {
         let found = noted_key(alloc, source, notes, name, key)?;
@@ -271,7 +264,6 @@ fn is_below(key: &Row, keys: &[Row]) -> bool
 fn have_doubles_anywhere(alloc: Global, mut keys: &[Row]) -> Result<bool, AllocError>
     ensures { IfOk result (λ doubles. doubles ≡ has_doubles keys.entry.now) }
 {
-    // Its proof takes seconds: a loop over a call that may fail.
     let mut seen = BTreeSet::new(alloc);
     while let [key, rest @ ..] = keys {
         if !seen.insert(key)? {

@@ -26,7 +26,7 @@ pub use laws::pinned_key_means_rows;
 pub use revision::Revision;
 pub use rows_laws::{
     numbers_stay_free, numbers_stay_in_range, rows_are_numbered_on, rows_stay_sound,
-    sound_rows_mean,
+    sound_rows_mean, tables_stay,
 };
 pub use selecting::{Query, run_select};
 pub use updating::run_update;

@@ -122,7 +122,6 @@ fn numbers_of(alloc: Global, rows: &[&Lent<'_>]) -> Result<BTreeSet<RowId>, Allo
 fn list_numbers(alloc: Global, rows: &[&Lent<'_>]) -> Result<Vec<RowId>, AllocError>
     ensures { IfOk result (λ numbers. numbers.items ≡ map (λ stored. stored.id) (map (λ row. row.now) rows.now)) }
 {
-    // Its proof takes seconds: a loop over two calls that may fail.
     let mut numbers = Vec::with_capacity(alloc, rows.len())?;
     for row in rows {
         numbers.push(row.id())?;

@@ -61,7 +61,6 @@ pub fn answered(
 fn whole_rows(alloc: Global, rows: &[&Row]) -> Result<Items<Row>, AllocError>
     ensures { IfOk result (λ listed. listed ≡ spec.listing (map (λ row. row.now) rows.now)) }
 {
-    // Its proof takes seconds: two places hold what failing calls would drop, a loop.
     let mut copies = Vec::with_capacity(alloc, rows.len())?;
     for row in rows {
         copies.push(row.copy(alloc)?)?;
@@ -77,7 +76,6 @@ fn rows_of_items(
 ) -> Result<Items<Row>, AllocError>
     ensures { IfOk result (λ listed. listed ≡ spec.listing (map (spec.values_of items.now role.now) (map (λ row. row.now) rows.now))) }
 {
-    // Its proof takes seconds: two places hold what failing calls would drop, a loop.
     let mut all = Vec::with_capacity(alloc, rows.len())?;
     for row in rows {
         all.push(values_over(alloc, items, role, row)?)?;
@@ -88,7 +86,6 @@ fn rows_of_items(
 fn values_over(alloc: Global, items: &[Expr], role: &Name, row: &Row) -> Result<Row, AllocError>
     ensures { IfOk result (λ values. values ≡ spec.values_of items.now role.now row.now) }
 {
-    // Its proof takes seconds: two places hold what failing calls would drop, a loop.
     let mut values = Vec::with_capacity(alloc, items.len())?;
     for item in items {
         values.push(value_over(alloc, item, role, row)?)?;
@@ -100,7 +97,6 @@ fn values_over(alloc: Global, items: &[Expr], role: &Name, row: &Row) -> Result<
 fn number_alone(alloc: Global, number: i64) -> Result<Items<Row>, AllocError>
     ensures { IfOk result (λ rows. rows ≡ (Value.Int number ∷ []) ∷ []) }
 {
-    // Its proof takes seconds: four places hold what failing calls would drop.
     let mut values = Vec::with_capacity(alloc, 1)?;
     values.push(Value::Int(number))?;
     let mut rows = Vec::with_capacity(alloc, 1)?;
@@ -115,7 +111,6 @@ pub fn standing_rows<'r, 'c>(
 ) -> Result<Vec<&'r Row>, AllocError>
     ensures { IfOk result (λ rows. map (λ row. row.now) rows.items ≡ map (λ stored. stored.row) (map (λ hit. hit.now) hits.now)) }
 {
-    // Its proof takes seconds: a loop over two calls that may fail.
     let mut rows = Vec::with_capacity(alloc, hits.len())?;
     for hit in hits {
         rows.push(hit.row())?;
@@ -127,7 +122,6 @@ pub fn standing_rows<'r, 'c>(
 fn new_rows<'r>(alloc: Global, new: &'r [Stored]) -> Result<Vec<&'r Row>, AllocError>
     ensures { IfOk result (λ rows. map (λ row. row.now) rows.items ≡ map (λ stored. stored.row) new.now) }
 {
-    // Its proof takes seconds: a loop over two calls that may fail.
     let mut rows = Vec::with_capacity(alloc, new.len())?;
     for stored in new {
         rows.push(&stored.row)?;

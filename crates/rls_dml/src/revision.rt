@@ -42,7 +42,6 @@ pub fn known_revision<'c, S: RowSource<'c>>(
 ) -> Result<Revision, Refusal>
     ensures { Answers S.state S.after (spec.revision_for update.now table.now) source.old source.new notes.old notes.new result }
 {
-    // Its proof takes seconds: four places hold what a failing call would drop.
     let found = found_for(alloc, source, notes, update, table)?;
     let revision = check_revision(alloc, update, table, found.as_slice());
     drop(found);
@@ -59,7 +58,6 @@ fn found_for<'c, S: RowSource<'c>>(
 ) -> Result<Found<'c>, Refusal>
     ensures { Answers S.state S.after (named (spec.revision_names update.now) ((update.now.table, table.now) ∷ []) []) source.old source.new notes.old notes.new result }
 {
-    // Its proof takes seconds: one call that may fail.
     let steps = names_of(alloc, update)?;
     let found = named_over(alloc, source, notes, &steps, &update.table, table);
     drop(steps);
@@ -82,7 +80,6 @@ fn put_settings_names<'x>(
 ) -> Result<(), AllocError>
     ensures { OnOk result (map step_of steps.new.items ≡ map step_of steps.old.items ++ spec.settings_names settings.now) }
 {
-    // Its proof takes seconds: a loop over two calls that may fail.
     for setting in settings {
         put_step(steps, NameStep::Target(&setting.column))?;
         put_names(steps, &setting.value)?;
@@ -99,7 +96,6 @@ fn check_revision<'x>(
 ) -> Result<Revision, Refusal>
     ensures { Gives result (spec.revision_in update.now (update.now.table, table.now) known.now) }
 {
-    // Its proof takes seconds: three places hold what failing calls would drop.
     let tables = [NamedTable::new(&update.table, table)?];
     let revision = place_revision(
         alloc,
@@ -127,7 +123,6 @@ fn place_revision(
 ) -> Result<Revision, Refusal>
     ensures { Gives result (spec.revision_placed update.now table.now.columns (names_in scope.now)) }
 {
-    // Its proof takes seconds: eight places hold what failing calls would drop.
     let settings = place_settings(alloc, update.settings.as_slice(), table, scope)?;
     let condition = place_where(alloc, &update.condition, scope)?;
     let returning = place_returning(alloc, &update.returning, scope)?;
@@ -146,7 +141,6 @@ fn place_settings(
 ) -> Result<Items<(usize, Expr)>, Refusal>
     ensures { Gives result (each_of (spec.setting_placed table.now.columns (names_in scope.now)) settings.now) }
 {
-    // Its proof takes seconds: six places hold what failing calls would drop, a loop.
     let mut known = Items::new(alloc);
     for setting in settings {
         let found = place_setting(alloc, setting, table, scope)?;
@@ -163,7 +157,6 @@ fn place_setting(
 ) -> Result<(usize, Expr), Refusal>
     ensures { Gives result (spec.setting_placed table.now.columns (names_in scope.now) setting.now) }
 {
-    // Its proof takes seconds: two calls that may fail.
     let place = known_place(table, &setting.column)?;
     let value = place_columns(alloc, &setting.value, scope)?;
     Ok((place, value))
@@ -172,7 +165,6 @@ fn place_setting(
 fn require_revision(columns: &[Column], revision: &Revision) -> Result<(), Refusal>
     ensures { Gives result (spec.revision_or_refused columns.now revision.now) }
 {
-    // Its proof takes seconds: one call that may fail.
     require_fitting(
         settings_fit(revision.settings.as_slice(), columns)
             && (where_fits(&revision.condition) && returning_fits(&revision.returning)),
@@ -233,7 +225,6 @@ pub fn revision_tables(alloc: Global, revision: &Revision) -> Result<Items<Name>
 pub fn places_set(alloc: Global, settings: &[(usize, Expr)]) -> Result<Vec<usize>, AllocError>
     ensures { IfOk result (λ places. places.items ≡ spec.places_set settings.now) }
 {
-    // Its proof takes seconds: a loop over two calls that may fail.
     let mut places = Vec::with_capacity(alloc, settings.len())?;
     for setting in settings {
         places.push(setting.0)?;

@@ -5,7 +5,7 @@ ghost use Rattle.rls_expr.specs.declared.table.TableDef.{TableDef};
 ghost use Rattle.rls_catalog.specs.{declared.change.Change.Change, Bases.FitsAll, Changed.changed_all, SoundRows.RowsAreSound, InOrder.RowsInOrder};
 ghost use Rattle.rls_catalog.specs.State.{State, rows_of, table_of};
 ghost use Rattle.rls_statement.specs.{declared.changing.Delete.Delete, declared.changing.Update.Update, declared.statement.Insert.Insert, declared.statement.Select.Select};
-ghost use Rattle.rls_guard.specs.Keeping.{IfDone, KeepsRowsSound, LeavesRows};
+ghost use Rattle.rls_guard.specs.Keeping.{IfDone, KeepsRowsSound, KeepsTables, LeavesRows};
 ghost use Rattle.rls_guard.specs.declared.context.Ctx.{Ctx};
 ghost use Rattle.rls_dml.specs.{Deleting.delete, Inserting.insert, Keys.CarryKeys, Selecting.select, Updating.update};
 ghost use Rattle.rls_dml.specs.NextRows.{AllFree, InRange, NumberOn, next_row};
@@ -18,6 +18,14 @@ pub fn rows_stay_sound()
     ensures update { (ctx : Ctx) (asked : Update) → KeepsRowsSound (update ctx asked) }
     ensures delete { (ctx : Ctx) (asked : Delete) → KeepsRowsSound (delete ctx asked) }
     ensures select { (ctx : Ctx) (asked : Select) → LeavesRows (select ctx asked) }
+{}
+
+/// A statement on rows leaves each table, with its primary key.
+#[tactic(auto, using(crate::proofs::KeepingLemmas::insert_tables, crate::proofs::KeepingLemmas::update_tables, crate::proofs::KeepingLemmas::delete_tables))]
+pub fn tables_stay()
+    ensures insert { (ctx : Ctx) (asked : Insert) → KeepsTables (insert ctx asked) }
+    ensures update { (ctx : Ctx) (asked : Update) → KeepsTables (update ctx asked) }
+    ensures delete { (ctx : Ctx) (asked : Delete) → KeepsTables (delete ctx asked) }
 {}
 
 /// An INSERT numbers its rows on from the transaction's next; an UPDATE and a DELETE use no number.

@@ -42,7 +42,6 @@ pub fn run_select<'c, S: RowSource<'c>>(
 ) -> Result<Effect, Refusal>
     ensures { Answers S.state S.after (spec.select ctx.now select.now) source.old source.new notes.old notes.new result }
 {
-    // Its proof takes seconds: one place holds what failing calls would drop.
     let table = table_named(alloc, source, notes, &select.table)?;
     let from = FromTable {
         name: &select.table,
@@ -64,7 +63,6 @@ fn known_query<'c, S: RowSource<'c>>(
 ) -> Result<Query, Refusal>
     ensures { Answers S.state S.after (spec.query_for select.now (spec.qualifier_of select.now, table.now)) source.old source.new notes.old notes.new result }
 {
-    // Its proof takes seconds: four places hold what a failing call would drop.
     let found = found_for(alloc, source, notes, select, table)?;
     let query = check_query(alloc, select, table, found.as_slice());
     drop(found);
@@ -81,7 +79,6 @@ fn found_for<'c, S: RowSource<'c>>(
 ) -> Result<Found<'c>, Refusal>
     ensures { Answers S.state S.after (named (spec.query_names select.now) ((spec.qualifier_of select.now, table.now) ∷ []) []) source.old source.new notes.old notes.new result }
 {
-    // Its proof takes seconds: one call that may fail.
     let steps = names_of(alloc, select)?;
     let found = named_over(alloc, source, notes, &steps, qualifier(select), table);
     drop(steps);
@@ -116,7 +113,6 @@ fn check_query<'x>(
 ) -> Result<Query, Refusal>
     ensures { Gives result (spec.query_in select.now (spec.qualifier_of select.now, table.now) known.now) }
 {
-    // Its proof takes seconds: three places hold what failing calls would drop.
     let tables = [NamedTable::new(qualifier(select), table)?];
     let query = place_query(
         alloc,
@@ -167,7 +163,6 @@ fn select_from<'c, 'x, S: RowSource<'c>>(
 ) -> Result<Effect, Refusal>
     ensures { Answers S.state S.after (spec.select_from role.now from.entry.name.now from.entry.table.now query.now) source.old source.new notes.old notes.new result }
 {
-    // Its proof takes seconds: one place holds what a failing call would drop, one cited law.
     let standing = standing_of(alloc, source, notes, role)?;
     let listed = select_as(alloc, source, notes, &standing, role, from, query);
     drop(standing);
@@ -187,7 +182,6 @@ fn select_as<'c, 'x, S: RowSource<'c>>(
 ) -> Result<Effect, Refusal>
     ensures { Answers S.state S.after (spec.select_as standing.now role.now from.entry.name.now from.entry.table.now query.now) source.old source.new notes.old notes.new result }
 {
-    // Its proof takes seconds: two places hold what a failing call would drop, one cited law.
     let protection = protection(alloc, source, notes, standing, from, query)?;
     let listed = list_guarded(
         alloc,
@@ -214,7 +208,6 @@ fn protection<'c, 'x, S: RowSource<'c>>(
 ) -> Result<Protection<'c>, Refusal>
     ensures { Answers S.state S.after (protection_of standing.now from.entry.name.now from.entry.table.now Kind.Select false (tables_if query.now.condition)) source.old source.new notes.old notes.new result }
 {
-    // Its proof takes seconds: three places hold what a failing call would drop.
     let tables = where_tables(alloc, &query.condition)?;
     let protection = protection_of(
         alloc,
@@ -244,7 +237,6 @@ fn list_guarded<'c, 'x, S: RowSource<'c>>(
 ) -> Result<Effect, Refusal>
     ensures { Answers S.state S.after (spec.listed_for standing.now protection.now query.now role.now from.entry.name.now from.entry.table.now) source.old source.new notes.old notes.new result }
 {
-    // Its proof takes seconds: three calls that may fail, one cited law.
     require_privileges(
         alloc,
         source,
@@ -281,7 +273,6 @@ fn list<'a, 'c, S: RowSource<'c>>(
 ) -> Result<Effect, AllocError>
     ensures { Tells S.state S.after (spec.listed_from role.now protection.now query.now candidates.now) source.old source.new notes.old notes.new result }
 {
-    // Its proof takes seconds: one call that may fail, one cited law.
     let (decisions, hits) = hits_under(
         alloc,
         source,
@@ -304,7 +295,6 @@ fn answer<'c>(
 ) -> Result<Effect, AllocError>
     ensures { IfOk result (λ effect. effect ≡ spec.listed_by query.now role.now (decisions.items, map (λ hit. hit.now) hits.now)) }
 {
-    // Its proof takes seconds: one place holds what a failing call would drop.
     let rows = standing_rows(alloc, hits)?;
     match answered(alloc, &query.items, role, &rows) {
         Ok(rows) => Ok(Effect::Done(

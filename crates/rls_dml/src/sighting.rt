@@ -25,7 +25,6 @@ pub fn hits_under<'a, 'c, S: RowSource<'c>>(
 ) -> Result<(Vec<Decision>, Vec<&'a Lent<'c>>), AllocError>
     ensures { Tells S.state S.after (spec.hits_of protection.now.old protection.now.fences role.now condition.now candidates.now) source.old source.new notes.old notes.new (judged_now result) }
 {
-    // Its proof takes seconds: the length of what it says.
     let sight = Sight {
         watches: protection.old.as_slice(),
         fences: protection.fences.as_slice(),

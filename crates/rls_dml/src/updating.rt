@@ -37,7 +37,6 @@ pub fn run_update<'c, S: RowSource<'c>>(
 ) -> Result<Effect, Refusal>
     ensures { Answers S.state S.after (spec.update ctx.now update.now) source.old source.new notes.old notes.new result }
 {
-    // Its proof takes seconds: one place holds what failing calls would drop.
     let table = table_named(alloc, source, notes, &update.table)?;
     let from = FromTable {
         name: &update.table,
@@ -61,7 +60,6 @@ fn update_in<'c, 'x, S: RowSource<'c>>(
 ) -> Result<Effect, Refusal>
     ensures { Answers S.state S.after (spec.update_in role.now from.entry.name.now from.entry.table.now revision.now) source.old source.new notes.old notes.new result }
 {
-    // Its proof takes seconds: one place holds what a failing call would drop, one cited law.
     let standing = standing_of(alloc, source, notes, role)?;
     let updated = update_as(alloc, source, notes, &standing, role, from, revision);
     drop(standing);
@@ -81,7 +79,6 @@ fn update_as<'c, 'x, S: RowSource<'c>>(
 ) -> Result<Effect, Refusal>
     ensures { Answers S.state S.after (spec.update_as standing.now role.now from.entry.name.now from.entry.table.now revision.now) source.old source.new notes.old notes.new result }
 {
-    // Its proof takes seconds: two places hold what a failing call would drop, one cited law.
     let protection = protection(alloc, source, notes, standing, from, revision)?;
     let updated = update_guarded(
         alloc,
@@ -108,7 +105,6 @@ fn protection<'c, 'x, S: RowSource<'c>>(
 ) -> Result<Protection<'c>, Refusal>
     ensures { Answers S.state S.after (protection_of standing.now from.entry.name.now from.entry.table.now Kind.Update (spec.revision_reads revision.now) (spec.revision_tables revision.now)) source.old source.new notes.old notes.new result }
 {
-    // Its proof takes seconds: three places hold what a failing call would drop.
     let reads = reads(revision);
     let tables = revision_tables(alloc, revision)?;
     let protection = protection_of(
@@ -139,7 +135,6 @@ fn update_guarded<'c, 'x, S: RowSource<'c>>(
 ) -> Result<Effect, Refusal>
     ensures { Answers S.state S.after (spec.update_guarded standing.now protection.now revision.now role.now from.entry.name.now from.entry.table.now) source.old source.new notes.old notes.new result }
 {
-    // Its proof takes seconds: two calls that may fail, one cited law.
     let reads = reads(revision);
     require_privileges(
         alloc,
@@ -178,7 +173,6 @@ fn update_hits<'a, 'c, 'x, S: RowSource<'c>>(
 ) -> Result<Effect, Refusal>
     ensures { Answers S.state S.after (spec.update_hits role.now from.entry.name.now from.entry.table.now protection.now revision.now candidates.now) source.old source.new notes.old notes.new result }
 {
-    // Its proof takes seconds: one call that may fail, one cited law.
     let (decisions, hits) = hits_under(
         alloc,
         source,
@@ -225,7 +219,6 @@ fn update_values<'a, 'c, 'x, S: RowSource<'c>>(
 ) -> Result<Effect, Refusal>
     ensures { Answers S.state S.after (spec.update_values role.now from.entry.name.now from.entry.table.now protection.now revision.now decisions.items replaced.now) source.old source.new notes.old notes.new result }
 {
-    // Its proof takes seconds: three places hold what a failing call would drop, one cited law.
     let nothing = Scoped::Nothing;
     let values = settings_of(
         alloc,
@@ -260,7 +253,6 @@ fn update_made<'a, 'c, 'x, S: RowSource<'c>>(
 ) -> Result<Effect, Refusal>
     ensures { Answers S.state S.after (spec.update_made role.now from.entry.name.now from.entry.table.now protection.now revision.now decisions.items replaced.now (map held_value values.now)) source.old source.new notes.old notes.new result }
 {
-    // Its proof takes seconds: one place holds what a failing call would drop, one cited law.
     match updated_rows(alloc, from.table, revision, replaced.rows(), values) {
         Ok(new) => Ok(update_rows(
             alloc, source, notes, protection, revision, role, from, decisions, replaced, new,
@@ -297,7 +289,6 @@ fn rows_with<'c>(
 ) -> Result<Items<Stored>, Refusal>
     ensures { Gives result (spec.updated_rows table.now places.now (map (λ hit. hit.now) hits.now) (map held_value values.now)) }
 {
-    // Its proof takes seconds: three places hold what failing calls would drop, a loop.
     let mut rows = Items::with_capacity(alloc, hits.len())?;
     let mut left = values;
     for hit in hits {
@@ -344,7 +335,6 @@ fn updated_row<'c>(
 ) -> Result<Stored, Refusal>
     ensures { Gives result (spec.updated_row table.now places.now stored.now (map held_value values.now)) }
 {
-    // Its proof takes seconds: three places hold what failing calls would drop.
     let old = stored.row().to_vec(alloc)?;
     let row = assign(alloc, table.columns.as_slice(), places, values, old)?;
     let key = key_like(alloc, table.key.as_slice(), &row, stored.key())?;
@@ -371,7 +361,6 @@ fn update_rows<'a, 'c, 'x, S: RowSource<'c>>(
 ) -> Result<Effect, AllocError>
     ensures { Tells S.state S.after (spec.update_rows role.now from.entry.name.now from.entry.table.now protection.now revision.now before.items replaced.now new) source.old source.new notes.old notes.new result }
 {
-    // Its proof takes seconds: two places hold what a failing call would drop, one cited law.
     let after = judged_under(alloc, source, notes, &*protection, &*role, &new)?;
     update_judged(
         alloc, source, notes, revision, role, from, before, after, replaced, new,
@@ -394,7 +383,6 @@ fn update_judged<'c, 'x, S: RowSource<'c>>(
 ) -> Result<Effect, AllocError>
     ensures { Tells S.state S.after (spec.update_judged role.now from.entry.name.now from.entry.table.now revision.now before.items replaced.now new after.items) source.old source.new notes.old notes.new result }
 {
-    // Its proof takes seconds: two places hold what a failing call would drop, one cited law.
     match require_updated(
         alloc,
         source,
@@ -433,7 +421,6 @@ fn require_updated<'c, 'x, S: RowSource<'c>>(
 ) -> Result<(), Refusal>
     ensures { Answers S.state S.after (rows_or_refused from.entry.name.now from.entry.table.now.columns (spec_order_of (spec.places_set revision.now.settings) from.entry.table.now.columns) decisions.now replaced.now new.now) source.old source.new notes.old notes.new result }
 {
-    // Its proof takes seconds: two calls that may fail.
     let places = places_set(alloc, revision.settings.as_slice())?;
     let order = order_of(alloc, &places, from.table.columns.as_slice())?;
     drop(places);
@@ -483,7 +470,6 @@ fn updated<'c>(
 ) -> Result<Effect, AllocError>
     ensures { IfOk result (λ effect. effect ≡ Effect.Done (listings.reply_of revision.now.returning role.now (map (λ stored. stored.row) new)) (before.items ++ after.items) (spec.changed_rows name.now (map (λ hit. hit.now) hits.now) new) None) }
 {
-    // Its proof takes seconds: six places hold what failing calls would drop.
     let decisions = joined(before, after)?;
     let reply = reply_of_new(alloc, &revision.returning, role, new.as_slice())?;
     match changes_of(alloc, name, hits, new.into_vec()) {
@@ -505,7 +491,6 @@ fn changes_of<'c>(
 ) -> Result<Delta, AllocError>
     ensures { IfOk result (λ delta. delta ≡ spec.changed_rows name.now (map (λ hit. hit.now) hits.entry.now) new.items) }
 {
-    // Its proof takes seconds: six places hold what failing calls would drop, a loop.
     let mut delta = Delta::with_capacity(alloc, hits.len())?;
     for row in new {
         match hits {

@@ -31,7 +31,6 @@ pub fn require_privileges<'c, S: RowSource<'c>>(
 ) -> Result<(), Refusal>
     ensures { Answers S.state S.after (spec.privileges_or_denied standing.now privilege reads name.now others.now) source.old source.new notes.old notes.new result }
 {
-    // Its proof takes seconds: one call that may fail.
     require_own(alloc, source, notes, standing, privilege, reads, name)?;
     require_readable(alloc, source, notes, standing, others)
 }
@@ -47,7 +46,6 @@ fn require_own<'c, S: RowSource<'c>>(
 ) -> Result<(), Refusal>
     ensures { Answers S.state S.after (spec.own_or_denied standing.now privilege reads name.now) source.old source.new notes.old notes.new result }
 {
-    // Its proof takes seconds: one call that may fail.
     standing.require_privilege(alloc, source, notes, privilege, name)?;
     if reads {
         standing.require_privilege(alloc, source, notes, Privilege::Select, name)
@@ -65,7 +63,6 @@ fn require_readable<'c, S: RowSource<'c>>(
 ) -> Result<(), Refusal>
     ensures { Answers S.state S.after (spec.readable_or_denied standing.now names.now) source.old source.new notes.old notes.new result }
 {
-    // Its proof takes seconds: a loop over a call that may fail.
     for name in names {
         standing.require_privilege(alloc, source, notes, Privilege::Select, name)?;
     }
@@ -82,7 +79,6 @@ pub fn assign(
 ) -> Result<Row, Refusal>
     ensures { Gives result (spec.assigned columns.now places.now (map held_value values.now) row.items) }
 {
-    // Its proof takes seconds: one place holds what failing calls would drop, a loop.
     let mut row = row;
     let mut places_left = places;
     let mut left = values;
@@ -147,7 +143,6 @@ pub fn order_of(
 ) -> Result<Vec<usize>, AllocError>
     ensures { IfOk result (λ order. order.items ≡ spec.order_of places.now columns.now) }
 {
-    // Its proof takes seconds: a loop over two calls that may fail.
     let mut order = places.to_vec(alloc)?;
     for (place, _column) in columns.iter().enumerate() {
         if !is_written(places, place) {
@@ -177,7 +172,6 @@ pub fn require_rows<'c, 'x, S: RowSource<'c>>(
 ) -> Result<(), Refusal>
     ensures { Answers S.state S.after (spec.rows_or_refused from.entry.name.now from.entry.table.now.columns order.now decisions.now replaced.now rows.now) source.old source.new notes.old notes.new result }
 {
-    // Its proof takes seconds: one call that may fail, one cited law.
     require_allowed(from.name, decisions)?;
     require_constraints(alloc, source, notes, from, order, replaced, rows)
 }
@@ -195,7 +189,6 @@ fn require_constraints<'c, 'x, S: RowSource<'c>>(
 ) -> Result<(), Refusal>
     ensures { Answers S.state S.after (spec.constraints_or_refused from.entry.name.now from.entry.table.now.columns order.now replaced.now rows.now) source.old source.new notes.old notes.new result }
 {
-    // Its proof takes seconds: one call that may fail, one cited law.
     require_values(rows, from.table.columns.as_slice(), order)?;
     require_unique(alloc, source, notes, from.name, replaced, rows)
 }
@@ -253,7 +246,6 @@ fn require_values(rows: &[Stored], columns: &[Column], order: &[usize]) -> Resul
 fn row_has_values(stored: &Stored, columns: &[Column], order: &[usize]) -> Result<(), Refusal>
     ensures { Gives result (spec.has_values columns.now order.now stored.now) }
 {
-    // Its proof takes seconds: a loop over a call that may fail.
     for place in order {
         require_value(&stored.row, columns, *place)?;
     }
@@ -263,7 +255,6 @@ fn row_has_values(stored: &Stored, columns: &[Column], order: &[usize]) -> Resul
 fn require_value(row: &Row, columns: &[Column], place: usize) -> Result<(), Refusal>
     ensures { Gives result (spec.value_or_not_null (slice_get columns.now place) (value_at row.now place)) }
 {
-    // Its proof takes seconds: one call that may fail.
     match columns.get(place) {
         None => Ok(()),
         Some(column) => {

@@ -11,7 +11,6 @@ impl Same for Delta {
 
 impl Same for Change {
     fn is_same(&self, other: &Change) -> bool {
-        // Its proof takes seconds: seven arms.
         match (self, other) {
             (Change::Role(name, role), Change::Role(other, another)) => {
                 name.is_same(other) && role.is_same(another)

@@ -5,7 +5,6 @@ use rls_value::{Cause, GrantFault, Object, Refusal, Why};
 
 impl Same for Refusal {
     fn is_same(&self, other: &Refusal) -> bool {
-        // Its proof takes seconds: 20 arms.
         match (self, other) {
             (Refusal::NoMemory, Refusal::NoMemory) => true,
             (Refusal::Syntax, Refusal::Syntax) => true,
@@ -39,7 +38,6 @@ impl Same for Refusal {
 
 impl Same for Why {
     fn is_same(&self, other: &Why) -> bool {
-        // Its proof takes seconds: eight arms.
         match (self, other) {
             (Why::Privilege(privilege, table), Why::Privilege(other, another)) => {
                 *privilege == *other && table.is_same(another)

@@ -29,7 +29,6 @@ impl Same for Expr {
 pub fn is_same_term(left: &Expr, right: &Expr) -> bool
     ensures { (result ≡ true) ↔ (left.now ≡ right.now) }
 {
-    // Its proof takes seconds: 18 arms.
     match (left.node(), right.node()) {
         (Node::Literal(left), Node::Literal(right)) => left.is_same(right),
         (Node::Column(left), Node::Column(right)) => left.is_same(right),

@@ -58,7 +58,6 @@ fn stay_within(parts: &[Expr], tables: &Inside) -> bool
 fn stays_within(expr: &Expr, tables: &Inside) -> bool
     ensures { result ≡ spec.stays_within (tables_of tables.now) expr.now }
 {
-    // Its proof takes seconds: nine arms.
     match expr.node() {
         Node::Literal(_) | Node::Column(_) | Node::CurrentUser => true,
         Node::Place(place) => is_inside(place.out, tables),

@@ -29,7 +29,6 @@ pub fn deciding_on<'a, 'c>(
 ) -> Option<Deciding<'c>>
     ensures { IfSome result (λ it. IsDecided conditions.now user.now row.now (option_copied it.passing) (option_copied it.failing)) }
 {
-    // Its proof takes seconds: a loop.
     let nothing = Scoped::Nothing;
     let env = Env {
         user,

@@ -40,7 +40,6 @@ pub fn eval<'a, 'c, S: Tables>(
     ensures tells { Tells (value_of expr.now (shows (drop view.entry.from view.entry.fences.now) env.now.user.now) (env_of env.now)) (S.state source.old) (S.state source.new) work.old.notes work.new.notes (held_now result) }
     ensures holds { OnOk result (Holds view.entry.fences.now env.now.user.now (S.state source.new) work.new) }
 {
-    // Its proof takes seconds: 17 arms.
     match expr.node() {
         Node::Literal(value) => Ok(held_of(value)),
         Node::Column(_) => Ok(Held::Null),
@@ -104,7 +103,6 @@ fn comparison<'a, 'c, S: Tables>(
     ensures tells { Tells (value_of (t.Compare how left.now right.now) (shows (drop view.entry.from view.entry.fences.now) env.now.user.now) (env_of env.now)) (S.state source.old) (S.state source.new) work.old.notes work.new.notes (held_now result) }
     ensures holds { OnOk result (Holds view.entry.fences.now env.now.user.now (S.state source.new) work.new) }
 {
-    // Its proof takes seconds: two calls that may fail.
     let left = eval(alloc, source, work, view, left, env)?;
     let right = eval(alloc, source, work, view, right, env)?;
     Ok(held_truth(compare(how, &left, &right)))
@@ -124,7 +122,6 @@ fn conjunction<'a, 'c, S: Tables>(
     ensures tells { Tells (value_of (t.And (terms_of parts.now)) (shows (drop view.entry.from view.entry.fences.now) env.now.user.now) (env_of env.now)) (S.state source.old) (S.state source.new) work.old.notes work.new.notes (held_now result) }
     ensures holds { OnOk result (Holds view.entry.fences.now env.now.user.now (S.state source.new) work.new) }
 {
-    // Its proof takes seconds: a loop over a call that may fail.
     let mut so_far = Truth::True;
     for part in parts {
         let held = condition_value(alloc, source, work, view, part, env)?;
@@ -225,7 +222,6 @@ fn among<'a, 'c, S: Tables>(
     ensures tells { Tells (followed_by (value_of operand.now (shows (drop view.entry.from view.entry.fences.now) env.now.user.now) (env_of env.now)) (λ x. turned_value is_negated (together (or_equal x) False (terms_of list.now) (shows (drop view.entry.from view.entry.fences.now) env.now.user.now) (env_of env.now)))) (S.state source.old) (S.state source.new) work.old.notes work.new.notes (held_now result) }
     ensures holds { OnOk result (Holds view.entry.fences.now env.now.user.now (S.state source.new) work.new) }
 {
-    // Its proof takes seconds: two calls that may fail.
     let held = eval(alloc, source, work, view, operand, env)?;
     let truth = is_one_of(alloc, source, work, view, &held, list, env)?;
     Ok(held_truth(turned(truth, is_negated)))
@@ -269,7 +265,6 @@ fn sum<'a, 'c, S: Tables>(
     ensures tells { Tells (value_of (t.Sum signs.now (terms_of parts.now)) (shows (drop view.entry.from view.entry.fences.now) env.now.user.now) (env_of env.now)) (S.state source.old) (S.state source.new) work.old.notes work.new.notes (held_now result) }
     ensures holds { OnOk result (Holds view.entry.fences.now env.now.user.now (S.state source.new) work.new) }
 {
-    // Its proof takes seconds: two places hold what a failing call would drop.
     match parts {
         [] => Ok(Held::Null),
         [first, further @ ..] => {
@@ -297,7 +292,6 @@ fn sum_from<'a, 'c, S: Tables>(
     ensures tells { Tells (means.sum_from (number_value first) signs.now (terms_of parts.now) (shows (drop view.entry.from view.entry.fences.now) env.now.user.now) (env_of env.now)) (S.state source.old) (S.state source.new) work.old.notes work.new.notes (held_now result) }
     ensures holds { OnOk result (Holds view.entry.fences.now env.now.user.now (S.state source.new) work.new) }
 {
-    // Its proof takes seconds: two places hold what a failing call would drop, four arms.
     match (signs, parts) {
         ([sign, other_signs @ ..], [part, other_parts @ ..]) => {
             let held = eval(alloc, source, work, view, part, env)?;
@@ -337,7 +331,6 @@ fn exists<'a, 'c, S: Tables>(
     ensures tells { Tells (value_of (t.Exists (query_of query.now)) (shows (drop view.entry.from view.entry.fences.now) env.now.user.now) (env_of env.now)) (S.state source.old) (S.state source.new) work.old.notes work.new.notes (held_now result) }
     ensures holds { OnOk result (Holds view.entry.fences.now env.now.user.now (S.state source.new) work.new) }
 {
-    // Its proof takes seconds: one place holds what a failing call would drop.
     if is_alone(query) {
         return exists_alone(alloc, source, work, view, query, env);
     }
@@ -373,7 +366,6 @@ fn exists_alone<'a, 'c, S: Tables>(
     ensures tells { Tells (value_of (t.Exists (query_of query.now)) (shows (drop view.entry.from view.entry.fences.now) env.now.user.now) (env_of env.now)) (S.state source.old) (S.state source.new) work.old.notes work.new.notes (held_now result) }
     ensures holds { OnOk result (Holds view.entry.fences.now env.now.user.now (S.state source.new) work.new) }
 {
-    // Its proof takes seconds: two calls that may fail.
     let found = place_of_answer(&work.answers, work.next, view.from, false, query);
     match found {
         Some(place) => {
@@ -432,7 +424,6 @@ fn within<'a, 'c, S: Tables>(
     ensures tells { Tells (followed_by (value_of operand.now (shows (drop view.entry.from view.entry.fences.now) env.now.user.now) (env_of env.now)) (λ x. turned_value is_negated (among_items x (query_of query.now) (shows (drop view.entry.from view.entry.fences.now) env.now.user.now) (env_of env.now)))) (S.state source.old) (S.state source.new) work.old.notes work.new.notes (held_now result) }
     ensures holds { OnOk result (Holds view.entry.fences.now env.now.user.now (S.state source.new) work.new) }
 {
-    // Its proof takes seconds: two calls that may fail.
     let held = eval(alloc, source, work, view, operand, env)?;
     let truth = is_within(alloc, source, work, view, &held, query, env)?;
     Ok(held_truth(turned(truth, is_negated)))
@@ -487,7 +478,6 @@ fn is_within_alone<'a, 'c, S: Tables>(
     ensures tells { Tells (among_items (held_value value.now) (query_of query.now) (shows (drop view.entry.from view.entry.fences.now) env.now.user.now) (env_of env.now)) (S.state source.old) (S.state source.new) work.old.notes work.new.notes result }
     ensures holds { OnOk result (Holds view.entry.fences.now env.now.user.now (S.state source.new) work.new) }
 {
-    // Its proof takes seconds: one place holds what failing calls would drop.
     let found = place_of_answer(&work.answers, work.next, view.from, true, query);
     match found {
         Some(place) => {
@@ -519,7 +509,6 @@ fn items_alone<'a, 'c, S: Tables>(
     ensures stands { S.state source.new ≡ S.state source.old }
     ensures holds { OnOk result (Holds view.entry.fences.now env.now.user.now (S.state source.new) work.new) }
 {
-    // Its proof takes seconds: one place holds what a failing call would drop.
     let rows = rows_for(alloc, source, work, view, query, env)?;
     let values = items_over(
         alloc,
@@ -554,7 +543,6 @@ fn items_over<'a, 'c, S: Tables>(
     ensures tells { Tells (gathered with_item [] (λ row. means.item_if (meets (maybe_term query.now.condition) (shows (drop view.entry.from view.entry.fences.now) env.now.user.now) (inside row (env_of env.now))) (item_of (items_for has_items (terms_of query.now.items.items)) (shows (drop view.entry.from view.entry.fences.now) env.now.user.now) (inside row (env_of env.now)))) rows.now) (S.state source.old) (S.state source.new) work.old.notes work.new.notes result }
     ensures holds { OnOk result (Holds view.entry.fences.now env.now.user.now (S.state source.new) work.new) }
 {
-    // Its proof takes seconds: one place holds what failing calls would drop, a loop.
     let mut values = Items::new(alloc);
     for row in rows {
         let inner = Env {
@@ -605,7 +593,6 @@ fn is_item<'a, 'c, S: Tables>(
     ensures tells { Tells (gathered (λ row item rest. or_item (held_value value.now) item rest) False (λ row. means.item_if (meets (maybe_term query.now.condition) (shows (drop view.entry.from view.entry.fences.now) env.now.user.now) (inside row (env_of env.now))) (item_of (terms_of query.now.items.items) (shows (drop view.entry.from view.entry.fences.now) env.now.user.now) (inside row (env_of env.now)))) rows.now) (S.state source.old) (S.state source.new) work.old.notes work.new.notes result }
     ensures holds { OnOk result (Holds view.entry.fences.now env.now.user.now (S.state source.new) work.new) }
 {
-    // Its proof takes seconds: a loop over a call that may fail.
     let mut so_far = Truth::False;
     for row in rows {
         let inner = Env {
@@ -653,7 +640,6 @@ fn first_item<'a, 'b, 'c, S: Tables>(
     ensures tells { Tells (gathered (λ row item rest. item_or item rest) Null (λ row. means.item_if (meets (maybe_term query.now.condition) (shows (drop view.entry.from view.entry.fences.now) env.now.user.now) (inside row (env_of env.now))) (item_of (terms_of query.now.items.items) (shows (drop view.entry.from view.entry.fences.now) env.now.user.now) (inside row (env_of env.now)))) rows.now) (S.state source.old) (S.state source.new) work.old.notes work.new.notes (held_now result) }
     ensures holds { OnOk result (Holds view.entry.fences.now env.now.user.now (S.state source.new) work.new) }
 {
-    // Its proof takes seconds: a loop over two calls that may fail.
     let mut first = None;
     for row in rows {
         let inner = Env {
@@ -680,7 +666,6 @@ fn item_if<'a, 'c, S: Tables>(
     ensures tells { Tells (means.item_if (meets (maybe_term query.now.condition) (shows (drop view.entry.from view.entry.fences.now) env.now.user.now) (env_of env.now)) (item_of (terms_of query.now.items.items) (shows (drop view.entry.from view.entry.fences.now) env.now.user.now) (env_of env.now))) (S.state source.old) (S.state source.new) work.old.notes work.new.notes (maybe_now result) }
     ensures holds { OnOk result (Holds view.entry.fences.now env.now.user.now (S.state source.new) work.new) }
 {
-    // Its proof takes seconds: two calls that may fail.
     let is = meets_condition(alloc, source, work, view, &query.condition, env)?;
     if !is {
         return Ok(None);
@@ -796,7 +781,6 @@ fn shown_once<'a, 'c, S: Tables>(
     ensures tells { Tells (shown_at view.entry.fences.now user.now view.entry.from object) (S.state source.old) (S.state source.new) work.old.notes work.new.notes result }
     ensures holds { OnOk result (Holds view.entry.fences.now user.now (S.state source.new) work.new) }
 {
-    // Its proof takes seconds: one place holds what a failing call would drop, five arms.
     if is_looked_up(view, &object) {
         let rows = shown(alloc, source, work, view, user, &object);
         drop(object);
@@ -836,7 +820,6 @@ fn shown<'a, 'c, S: Tables>(
     ensures tells { Tells (shown_at view.entry.fences.now user.now view.entry.from object.now) (S.state source.old) (S.state source.new) work.old.notes work.new.notes result }
     ensures holds { OnOk result (Holds view.entry.fences.now user.now (S.state source.new) work.new) }
 {
-    // Its proof takes seconds: one place holds what failing calls would drop.
     if view.from >= view.fences.len() {
         return Rows::new(Vec::new(alloc));
     }
@@ -866,7 +849,6 @@ fn asked<'a, 'c, S: Tables>(
     ensures tells { Tells (asked_of object.now) (S.state source.old) (S.state source.new) work.old.notes work.new.notes result }
     ensures holds { OnOk result (Holds view.entry.fences.now user.now (S.state source.new) work.new) }
 {
-    // Its proof takes seconds: two calls that may fail.
     match object {
         Object::Rows(table) => {
             note_of(alloc, &mut work.notes, object)?;
@@ -913,7 +895,6 @@ fn kept_rows<'a, 'c, S: Tables>(
     ensures tells { Tells (kept (is_allowed guard.now (shows (drop view.entry.from view.entry.fences.now) user.now) user.now) rows.now) (S.state source.old) (S.state source.new) work.old.notes work.new.notes result }
     ensures holds { OnOk result (Holds view.entry.fences.now user.now (S.state source.new) work.new) }
 {
-    // Its proof takes seconds: one place holds what failing calls would drop, a loop.
     let mut judgements = Vec::new(alloc);
     let mut kept = Items::new(alloc);
     for row in rows {
@@ -961,7 +942,6 @@ pub fn verdict_on<'a, 'c, S: Tables>(
     ensures tells { Tells (spec.verdict_on guard.now (shows (drop view.entry.from view.entry.fences.now) user.now) user.now row.now) (S.state source.old) (S.state source.new) work.old.notes work.new.notes result }
     ensures holds { OnOk result (Holds view.entry.fences.now user.now (S.state source.new) work.new) }
 {
-    // Its proof takes seconds: one call that may fail.
     match guard {
         Guard::Exempt => Ok(Verdict::Exempt),
         Guard::Policies(conditions) => {
@@ -999,7 +979,6 @@ fn put_judgements<'a, 'c, S: Tables>(
     ensures tells { Tells (judgements_on conditions.now (shows (drop view.entry.from view.entry.fences.now) user.now) user.now row.now) (S.state source.old) (S.state source.new) work.old.notes work.new.notes (put_in judgements.new.items result) }
     ensures holds { OnOk result (Holds view.entry.fences.now user.now (S.state source.new) work.new) }
 {
-    // Its proof takes seconds: a loop over two calls that may fail.
     let nothing = Scoped::Nothing;
     let env = Env {
         user,

@@ -41,7 +41,6 @@ fn all_pinned(
 ) -> Result<Option<Row>, AllocError>
     ensures { IfOk result (λ key. key ≡ spec.pinned columns.now condition.now (env_of env.now)) }
 {
-    // Its proof takes seconds: two places hold what failing calls would drop, four arms, a loop.
     let mut values = Vec::with_capacity(alloc, columns.len())?;
     for column in columns {
         match pin_of(condition, *column, env) {

@@ -96,7 +96,6 @@ fn compare_plain(how: Comparison, left: Plain<'_>, right: Plain<'_>) -> Truth
 fn equal_plain(left: Plain<'_>, right: Plain<'_>) -> Truth
     ensures { result ≡ equal_values (plain_value left.entry) (plain_value right.entry) }
 {
-    // Its proof takes seconds: five arms.
     match (left, right) {
         (Plain::Lent(Value::Int(left)), Plain::Lent(Value::Int(right))) => {
             Truth::from_bool(*left == *right)
@@ -115,7 +114,6 @@ fn equal_plain(left: Plain<'_>, right: Plain<'_>) -> Truth
 fn less_plain(left: Plain<'_>, right: Plain<'_>) -> Truth
     ensures { result ≡ less_values (plain_value left.entry) (plain_value right.entry) }
 {
-    // Its proof takes seconds: five arms.
     match (left, right) {
         (Plain::Lent(Value::Int(left)), Plain::Lent(Value::Int(right))) => {
             Truth::from_bool(*left < *right)

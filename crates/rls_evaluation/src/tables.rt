@@ -73,7 +73,6 @@ impl<'s, 'c, S: RowSource<'c>> Tables for Looked<'s, 'c, S> {
 fn shared(alloc: Global, rows: &[Lent]) -> Result<Items<Row>, AllocError>
     ensures { IfOk result (λ copies. copies ≡ values_of rows.now) }
 {
-    // Its proof takes seconds: two places hold what failing calls would drop, a loop.
     let mut copies = Vec::with_capacity(alloc, rows.len())?;
     for row in rows {
         copies.push(row.row().copy(alloc)?)?;

@@ -21,7 +21,6 @@ pub(crate) fn known_in<'c>(
 ) -> Result<Items<NamedTable<'c>>, AllocError>
     ensures { IfOk result (λ known. known ≡ spec.known_in rooms.now) }
 {
-    // Its proof takes seconds: four places hold what failing calls would drop, a loop.
     let mut known = Items::new(alloc);
     for room in rooms {
         if let Some(table) = &room.known {

@@ -56,7 +56,6 @@ pub fn protection_of<'c, 'x, S: RowSource<'c>>(
 ) -> Result<Protection<'c>, Refusal>
     ensures { Answers S.state S.after (spec.protection_of standing.now from.entry.name.now from.entry.table.now kind reads queries.now) source.old source.new notes.old notes.new result }
 {
-    // Its proof takes seconds: one call that may fail, one cited law.
     let policies = policies_for(alloc, source, notes, standing, from.name, from.table)?;
     let command = Command { kind, reads };
     past_policies(
@@ -78,7 +77,6 @@ fn past_policies<'c, 'x, S: RowSource<'c>>(
 ) -> Result<Protection<'c>, Refusal>
     ensures { Answers S.state S.after (spec.past_policies standing.now from.entry.name.now from.entry.table.now command.kind command.reads queries.now (option_copied policies.entry)) source.old source.new notes.old notes.new result }
 {
-    // Its proof takes seconds: six places hold what failing calls would drop, one cited law.
     let tables = tables_from(alloc, standing, command, policies, queries)?;
     let rooms = rooms_of(alloc, source, notes, standing, tables.as_slice())?;
     drop(tables);
@@ -103,7 +101,6 @@ fn tables_from(
 ) -> Result<Items<Name>, AllocError>
     ensures { IfOk result (λ tables. tables ≡ spec.own_tables standing.now command.kind command.reads (option_copied policies.entry) ++ queries.now) }
 {
-    // Its proof takes seconds: two places hold what failing calls would drop, a loop.
     let mut tables = own_tables(alloc, standing, command, policies)?;
     for name in queries {
         tables.push(name.copy()?)?;
@@ -184,7 +181,6 @@ fn protect<'c, 'x>(
 ) -> Result<Protection<'c>, Refusal>
     ensures { Gives result (spec.protection_by standing.now command.kind command.reads (in_scope from.entry) (option_copied policies.entry) queries.now rooms.now) }
 {
-    // Its proof takes seconds: three places hold what failing calls would drop.
     let own = own_tables(alloc, standing, command, policies)?;
     let reached = search(alloc, rooms, from.name, own.as_slice(), queries);
     drop(own);
@@ -204,7 +200,6 @@ fn protected<'c, 'x>(
 ) -> Result<Protection<'c>, AllocError>
     ensures { IfOk result (λ made. made ≡ spec.protected standing.now command.kind command.reads (in_scope from.entry) (option_copied policies.entry) rooms.now reached) }
 {
-    // Its proof takes seconds: 14 places hold what failing calls would drop.
     let Reached { fenced, asked } = reached;
     let found = known_in(alloc, rooms)?;
     let fences = fences_of(alloc, found.as_slice(), rooms, fenced.as_slice())?;

@@ -29,7 +29,6 @@ pub fn rooms_of<'c, S: RowSource<'c>>(
 ) -> Result<Items<Room<'c>>, AllocError>
     ensures { Tells S.state S.after (spec.rooms_of standing.now tables.now) source.old source.new notes.old notes.new result }
 {
-    // Its proof takes seconds: three places hold what failing calls would drop, a loop.
     let mut names = Vec::new(alloc);
     add_fresh(&mut names, tables)?;
     let mut rooms = Items::new(alloc);
@@ -77,7 +76,6 @@ fn room_of<'c, S: RowSource<'c>>(
 ) -> Result<Room<'c>, AllocError>
     ensures { Tells S.state S.after (spec.room_of standing.now name.now) source.old source.new notes.old notes.new result }
 {
-    // Its proof takes seconds: one call that may fail, one cited law.
     match noted_table(alloc, source, notes, name)? {
         Some(table) => room_in(alloc, source, notes, standing, name, table),
         None => absent(alloc, name),
@@ -136,7 +134,6 @@ fn guarded<'c>(
 ) -> Result<Room<'c>, AllocError>
     ensures { IfOk result (λ room. room ≡ spec.guarded standing.now name.now table.now policies.now) }
 {
-    // Its proof takes seconds: one place holds what failing calls would drop.
     let next = tables_used(
         alloc,
         policies,

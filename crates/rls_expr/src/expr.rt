@@ -175,7 +175,6 @@ impl Expr {
     pub fn copy(&self, alloc: Global) -> Result<Expr, AllocError>
         ensures { IfOk result (λ expr. expr ≡ self.now) }
     {
-        // Its proof takes seconds: one place holds what failing calls would drop, 17 arms.
         let node = match &self.node {
             Node::Literal(value) => Node::Literal(value.copy()?),
             Node::Column(name) => Node::Column(name.copy()?),
@@ -236,7 +235,6 @@ impl Subquery {
 fn copy_query(alloc: Global, query: &Subquery) -> Result<Box<Subquery>, AllocError>
     ensures { IfOk result (λ copy. query_of copy.value ≡ query_of query.now) }
 {
-    // Its proof takes seconds: three places hold what failing calls would drop.
     let from = query.from.copy()?;
     let key = query.key.as_slice().to_vec(alloc)?;
     let items = copy_parts(alloc, &query.items)?;

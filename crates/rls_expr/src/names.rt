@@ -29,7 +29,6 @@ pub enum NameStep<'x> {
 pub fn put_names<'x>(steps: &mut Vec<NameStep<'x>>, expr: &'x Expr) -> Result<(), AllocError>
     ensures { OnOk result (map step_of steps.new.items ≡ map step_of steps.old.items ++ names_of expr.now) }
 {
-    // Its proof takes seconds: three calls that may fail, eight arms.
     match expr.node() {
         Node::Literal(_) | Node::Place(_) | Node::CurrentUser => Ok(()),
         Node::Column(name) => put_step(steps, NameStep::Column(name)),

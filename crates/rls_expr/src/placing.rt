@@ -32,7 +32,6 @@ pub struct Scope<'a> {
 pub fn place_columns(alloc: Global, expr: &Expr, scope: &Scope) -> Result<Expr, AllocError>
     ensures { IfOk result (λ expr_placed. expr_placed ≡ placed expr.now (names_in scope.now)) }
 {
-    // Its proof takes seconds: 27 arms.
     match expr.node() {
         Node::Literal(value) => literal_copy(value),
         Node::Column(name) => place_column(name, scope),
@@ -270,7 +269,6 @@ fn place_over(
 ) -> Result<Box<Subquery>, AllocError>
     ensures { IfOk result (λ query_placed. query_of query_placed.value ≡ spec.query_over (query_of query.now) (names_in scope.now) (Some table.now)) }
 {
-    // Its proof takes seconds: three places hold what failing calls would drop.
     let from = NamedTable::new(query.from.qualifier(), table)?;
     let tables = inside(alloc, from, scope.tables)?;
     let inner = Scope {

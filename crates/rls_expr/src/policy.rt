@@ -74,7 +74,6 @@ impl Policy {
     pub fn copy_all(alloc: Global, policies: &[Policy]) -> Result<Items<Policy>, AllocError>
         ensures { IfOk result (λ copies. copies ≡ policies.now) }
     {
-        // Its proof takes seconds: two places hold what failing calls would drop, a loop.
         let mut copies = Vec::with_capacity(alloc, policies.len())?;
         for policy in policies {
             copies.push(policy.copy(alloc)?)?;

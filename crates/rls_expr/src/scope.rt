@@ -75,7 +75,6 @@ pub fn inside<'c>(
 ) -> Result<Vec<NamedTable<'c>>, AllocError>
     ensures { IfOk result (λ all. all.items ≡ from.entry ∷ tables.now) }
 {
-    // Its proof takes seconds: six places hold what failing calls would drop, a loop.
     let mut all = Vec::with_capacity(alloc, tables.len())?;
     all.push(from)?;
     for table in tables {

@@ -43,7 +43,6 @@ impl Column {
     pub fn copy_all(alloc: Global, columns: &[Column]) -> Result<Items<Column>, AllocError>
         ensures { IfOk result (λ copies. copies ≡ columns.now) }
     {
-        // Its proof takes seconds: two places hold what failing calls would drop, a loop.
         let mut copies = Vec::with_capacity(alloc, columns.len())?;
         for column in columns {
             copies.push(column.copy()?)?;

@@ -34,7 +34,6 @@ pub fn goes_into(typing: Typing, column: ColType) -> bool
 pub fn typing_of(expr: &Expr) -> Typing
     ensures { result ≡ type_of expr.now }
 {
-    // Its proof takes seconds: 13 arms.
     match expr.node() {
         Node::Literal(value) => literal_typing(value),
         Node::Column(_) => Typing::Fault,

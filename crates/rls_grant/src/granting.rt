@@ -34,7 +34,6 @@ pub fn grant<'c, S: RowSource<'c>>(
     ensures answers { Answers S.state S.after (spec.grant role.now grant.now) source.old source.new notes.old notes.new result }
     ensures back { (owner : List ℕ) (grants : List Given) (privilege : Kind) (grantor grantee : List ℕ) → (goes_back owner grants privilege grantor grantee ≡ true) ↔ GoesBack owner grants privilege grantor grantee }
 {
-    // Its proof takes seconds: two calls that may fail, one cited law.
     let table = table_named(alloc, source, notes, &grant.table)?;
     require_grantees(alloc, source, notes, grant.to.as_slice())?;
     grant_for(alloc, source, notes, role, table, grant)
@@ -51,7 +50,6 @@ fn grant_for<'c, S: RowSource<'c>>(
 ) -> Result<Delta, Refusal>
     ensures { Answers S.state S.after (grant_on role.now table.now grant.now) source.old source.new notes.old notes.new result }
 {
-    // Its proof takes seconds: one place holds what failing calls would drop, one cited law.
     let grants = noted_grants(alloc, source, notes, &grant.table)?;
     let reach = noted_reach(alloc, source, notes, role)?;
     let made = make_grants(alloc, &reach, role, table, grants, grant);
@@ -286,7 +284,6 @@ fn new_grant(
 pub fn own_grants(alloc: Global, owner: &Name) -> Result<Items<Grant>, AllocError>
     ensures { IfOk result (λ grants. grants ≡ spec.own_grants owner.now) }
 {
-    // Its proof takes seconds: two places hold what failing calls would drop.
     let mut grants = Items::new(alloc);
     grants.push(own_grant(Privilege::Select, owner)?)?;
     grants.push(own_grant(Privilege::Insert, owner)?)?;

@@ -74,7 +74,6 @@ fn grantor_of_each(
 ) -> Result<Items<Grantor>, Refusal>
     ensures { Gives result (each_of (spec.granted_by reach.now role.now name.now table.now grants.now) privileges.now) }
 {
-    // Its proof takes seconds: two places hold what failing calls would drop, a loop.
     let mut grantors = Items::new(alloc);
     for privilege in privileges {
         let grantor = grantor_of(alloc, reach, role, name, table, grants, privilege)?;

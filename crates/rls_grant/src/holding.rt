@@ -28,7 +28,6 @@ pub fn holds<'c, S: RowSource<'c>>(
     ensures read { OnOk result (source.new ≡ S.after source.old (holds_reads (S.state source.old) role.now table.now)) }
     ensures state { S.state source.new ≡ S.state source.old }
 {
-    // Its proof takes seconds: one place holds what failing calls would drop, one cited law.
     let reach = reach_of(alloc, source, role)?;
     if reach.superuser {
         return Ok(true);

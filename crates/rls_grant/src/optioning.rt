@@ -173,7 +173,6 @@ fn holders_by(
 ) -> Result<BTreeSet<Name>, AllocError>
     ensures { IfOk result (λ holders. (grants : List Given) (privilege : Kind) → HandsOn index.now.entries grants privilege → AreHolders owner.now grants privilege holders) }
 {
-    // Its proof takes seconds: four places hold what failing calls would drop, a loop.
     let mut names = Vec::new(alloc);
     let mut seen = BTreeSet::new(alloc);
     add_unseen(&mut names, &mut seen, owner)?;

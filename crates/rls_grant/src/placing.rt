@@ -44,7 +44,6 @@ fn put_grant(alloc: Global, grants: Items<Grant>, grant: Grant) -> Result<Items<
 fn marked(alloc: Global, grants: Items<Grant>, grant: &Grant) -> Result<Items<Grant>, AllocError>
     ensures { IfOk result (λ all. all ≡ map (spec.with_mark grant.now) grants) }
 {
-    // Its proof takes seconds: five places hold what a failing call would drop, a loop.
     let mut all = Items::new(alloc);
     for other in grants.into_vec() {
         all.push(with_mark(grant, other))?;

@@ -37,7 +37,6 @@ pub fn revoke<'c, S: RowSource<'c>>(
     ensures left { (owner : List ℕ) (grants : List Given) (privilege : Kind) → LeftAfterRevoke owner grants privilege (filter (spec.stays (one_of (holders_of owner grants privilege)) privilege) grants) }
     ensures dependents { (owner : List ℕ) (grants : List Given) (privilege : Kind) → (list_any (λ grant. not (spec.stays (one_of (holders_of owner grants privilege)) privilege grant)) grants ≡ true) ↔ HasDependents owner grants privilege }
 {
-    // Its proof takes seconds: two calls that may fail, two cited laws.
     let table = table_named(alloc, source, notes, &revoke.table)?;
     require_grantees(alloc, source, notes, revoke.from.as_slice())?;
     revoke_for(alloc, source, notes, role, table, revoke)
@@ -54,7 +53,6 @@ fn revoke_for<'c, S: RowSource<'c>>(
 ) -> Result<Delta, Refusal>
     ensures { Answers S.state S.after (revoke_on role.now table.now revoke.now) source.old source.new notes.old notes.new result }
 {
-    // Its proof takes seconds: one place holds what failing calls would drop, one cited law.
     let grants = noted_grants(alloc, source, notes, &revoke.table)?;
     let reach = noted_reach(alloc, source, notes, role)?;
     let left = leave_grants(alloc, &reach, role, table, grants, revoke);

@@ -1,10 +1,11 @@
 -- What a statement that is done leaves of a state, with its changes put on.
-use Rattle.std.specs.Prelude.{List, Result, Ok, Err}
+use Rattle.std.specs.Prelude.{◌≡◌, ℕ, List, Some, Result, Ok, Err}
 use Rattle.std.specs.List.{AllByRecursion}
 use Rattle.rls_value.specs.declared.refusal.Refusal.{Refusal}
 use Rattle.rls_catalog.specs.declared.change.Change.{Change}
 use Rattle.rls_catalog.specs.declared.change.Change.TheVariants as c
-use Rattle.rls_catalog.specs.State.{State}
+use Rattle.rls_expr.specs.declared.table.TableDef.{TableDef}
+use Rattle.rls_catalog.specs.State.{State, table_of}
 use Rattle.rls_catalog.specs.Changed.{changed_all}
 use Rattle.rls_catalog.specs.SoundRows.{RowsAreSound}
 use Rattle.rls_source.specs.Askings.{Asking}
@@ -30,7 +31,16 @@ IsNoRow _ = Unit {0}
 abbrev pub WritesNoRow : Asking Effect → Type 0
 WritesNoRow asking = (s : State) → IfDone (asking.in_state s).gives (AllByRecursion IsNoRow)
 
--- it writes no row, and leaves sound rows sound
+-- each table of the state is there after the changes, with its primary key
+abbrev pub TablesStay : State → List Change → Type 0
+TablesStay s changes = (name : List ℕ) (def : TableDef) → table_of s name ≡ Some def → (later : TableDef) × (table_of (changed_all s changes) name ≡ Some later) × (later.key ≡ def.key)
+
+-- it leaves each table, with its primary key
+abbrev pub KeepsTables : Asking Effect → Type 0
+KeepsTables asking = (s : State) → RowsAreSound s → IfDone (asking.in_state s).gives (TablesStay s)
+
+-- it writes no row, and leaves sound rows sound, and the tables
 pub record LeavesRows (asking : Asking Effect) : Type 0 where
   pub writes_none : WritesNoRow asking
   pub sound : KeepsRowsSound asking
+  pub tables : KeepsTables asking

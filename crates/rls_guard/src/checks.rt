@@ -21,7 +21,6 @@ pub fn require_superuser<'c, S: RowSource<'c>>(
 ) -> Result<(), Refusal>
     ensures { Answers S.state S.after (superuser_or_denied role.now managed.now) source.old source.new notes.old notes.new result }
 {
-    // Its proof takes seconds: two calls that may fail.
     match noted_role(alloc, source, notes, role)? {
         Some(def) if def.superuser => Ok(()),
         _ => Err(Refusal::Denied(Why::Admin(managed.copy()?))),

@@ -75,7 +75,6 @@ pub fn value_alone<'x>(alloc: Global, expr: &'x Expr, user: &'x Name) -> Result<
 fn eval<'a>(expr: &'a Expr, env: &Env<'a>) -> Result<Held<'a>, AllocError>
     ensures { IfOk result (λ held. held_value held ≡ value_of expr.now (env_of env.now)) }
 {
-    // Its proof takes seconds: 13 arms.
     match expr.node() {
         Node::Literal(value) => Ok(held_of(value)),
         Node::Column(_)
@@ -222,7 +221,6 @@ fn sum_from<'a>(
 ) -> Result<Held<'a>, AllocError>
     ensures { IfOk result (λ held. held_value held ≡ spec.sum_from (held_value first.entry) signs.now (terms_of parts.now) (env_of env.now)) }
 {
-    // Its proof takes seconds: a loop over two calls that may fail.
     let mut so_far = first;
     let mut signs_left = signs;
     let mut parts_left = parts;

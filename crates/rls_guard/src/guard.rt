@@ -35,7 +35,6 @@ pub fn watches_by<'c, 'x>(
 ) -> Result<Items<Watch<'c>>, AllocError>
     ensures { IfOk result (λ watches. watches ≡ spec.watches_by standing.now kind reads (in_scope scope.entry.from) scope.entry.found.now (option_copied policies.entry) side) }
 {
-    // Its proof takes seconds: four places hold what failing calls would drop.
     let mut watches = Items::new(alloc);
     watches.push(watch_by(alloc, standing, scope, kind, side, policies)?)?;
     if reads {
@@ -78,7 +77,6 @@ fn guard_by<'c, 'x>(
 ) -> Result<Guard<'c>, AllocError>
     ensures { IfOk result (λ guard. guard ≡ spec.guard_by standing.now kind side (in_scope scope.entry.from) scope.entry.found.now policies.now) }
 {
-    // Its proof takes seconds: two places hold what a failing call would drop.
     let policies = chosen(alloc, policies, &standing.reach, kind, side)?;
     let conditions = conditions_of(alloc, policies.as_slice(), scope, kind, side);
     drop(policies);
@@ -98,7 +96,6 @@ pub fn conditions_of<'c, 'x>(
 ) -> Result<Items<(Loan<'c, Policy>, Expr)>, AllocError>
     ensures { IfOk result (λ conditions. conditions ≡ spec.conditions_of kind side (in_scope scope.entry.from) scope.entry.found.now policies.now) }
 {
-    // Its proof takes seconds: six places hold what failing calls would drop, a loop.
     let mut conditions = Items::new(alloc);
     for policy in policies {
         let policy = policy.get();

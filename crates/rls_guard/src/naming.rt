@@ -54,7 +54,6 @@ fn look_for<'c, S: RowSource<'c>>(
 ) -> Result<(), Refusal>
     ensures { Answers S.state S.after (spec.named (map step_of steps.now) tables.old.items found.old) source.old source.new notes.old notes.new (and_then result (λ _. Ok found.new)) }
 {
-    // Its proof takes seconds: a loop over four calls that may fail, four arms.
     for step in steps {
         match step {
             NameStep::Column(name) => require_column(tables, name)?,

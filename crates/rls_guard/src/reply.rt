@@ -41,7 +41,6 @@ impl Reply {
 fn copy_rows(alloc: Global, rows: &[Row]) -> Result<Items<Row>, AllocError>
     ensures { IfOk result (λ copies. copies ≡ rows.now) }
 {
-    // Its proof takes seconds: two places hold what failing calls would drop, a loop.
     let mut copies = Vec::with_capacity(alloc, rows.len())?;
     for row in rows {
         copies.push(row.copy(alloc)?)?;

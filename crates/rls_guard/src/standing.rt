@@ -32,7 +32,6 @@ pub fn standing_of<'c, S: RowSource<'c>>(
 ) -> Result<Standing, AllocError>
     ensures { Tells S.state S.after (spec.standing_of role.now) source.old source.new notes.old notes.new result }
 {
-    // Its proof takes seconds: two calls that may fail, five cited laws.
     let attributes = RoleDef::known(noted_role(alloc, source, notes, role)?);
     let reach = noted_reach(alloc, source, notes, role)?;
     Ok(Standing { attributes, reach })
@@ -68,7 +67,6 @@ impl Standing {
     ) -> Result<(), Refusal>
         ensures { Answers S.state S.after (spec.privilege_or_denied self.now privilege table.now) source.old source.new notes.old notes.new result }
     {
-        // Its proof takes seconds: two calls that may fail.
         if self.reach.superuser {
             return Ok(());
         }

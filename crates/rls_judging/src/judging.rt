@@ -33,7 +33,6 @@ pub fn hits_of<'a, 'c, S: RowSource<'c>>(
 ) -> Result<(Vec<Decision>, Vec<&'a Lent<'c>>), AllocError>
     ensures { Reading S.state S.after (spec.hits_of sight.entry.watches.now sight.entry.fences.now sight.entry.role.now condition.now candidates.now) source.old source.new notes.old notes.new (judged_now result) }
 {
-    // Its proof takes seconds: 11 places hold what a failing call would drop.
     let mut work = Work::new(alloc);
     let found = judge_over(
         alloc, &*source, &mut work, sight, condition, candidates, further,
@@ -57,7 +56,6 @@ pub fn judged<'a, 'c, S: RowSource<'c>>(
 ) -> Result<Vec<Decision>, AllocError>
     ensures { Reading S.state S.after (spec.decisions_of sight.entry.watches.now sight.entry.fences.now sight.entry.role.now rows.now) source.old source.new notes.old notes.new (items_now result) }
 {
-    // Its proof takes seconds: five places hold what a failing call would drop.
     let mut work = Work::new(alloc);
     let decisions = judge_new_over(alloc, &*source, &mut work, sight, rows)?;
     match mark_all(alloc, source, notes, work) {
@@ -122,7 +120,6 @@ fn judge_all<'a, 'c, T: Tables>(
     requires { Holds sight.fences.now sight.role.now (T.state tables.old) work.old }
     ensures { Tells (spec.judged_all sight.entry.watches.now sight.entry.fences.now sight.entry.role.now condition.now candidates.now) (T.state tables.old) (T.state tables.new) work.old.notes work.new.notes (judged_now result) }
 {
-    // Its proof takes seconds: one place holds what failing calls would drop, a loop.
     let alike = candidates.len() > 1 && are_alike(sight.watches);
     let each = sight.watches.len().saturating_add(further);
     let most = candidates.len().saturating_mul(each);
@@ -178,7 +175,6 @@ fn judge_old<'a, 'c, T: Tables>(
     ensures tells { Tells (followed_by (spec.judged_old sight.entry.watches.now (maybe_term condition.now) (shows sight.entry.fences.now sight.entry.role.now) sight.entry.role.now stored.now) (λ judged. known (Ok (behind decisions.old.items judged)))) (T.state tables.old) (T.state tables.new) work.old.notes work.new.notes (beside decisions.new.items result) }
     ensures holds { OnOk result (Holds sight.entry.fences.now sight.entry.role.now (T.state tables.new) work.new) }
 {
-    // Its proof takes seconds: one call that may fail.
     let row = stored.row();
     let allowed = judge(
         alloc,
@@ -241,7 +237,6 @@ fn judge<'a, 'c, T: Tables>(
     ensures tells { Tells (followed_by (spec.decisions_on sight.entry.watches.now (shows sight.entry.fences.now sight.entry.role.now) sight.entry.role.now id row.now) (λ said. known (Ok (allowing decisions.old.items said)))) (T.state tables.old) (T.state tables.new) work.old.notes work.new.notes (beside decisions.new.items result) }
     ensures holds { OnOk result (Holds sight.entry.fences.now sight.entry.role.now (T.state tables.new) work.new) }
 {
-    // Its proof takes seconds: the length of what it says.
     match sight.watches {
         [first, second] if alike => judge_both(
             alloc, tables, work, judgements, decisions, sight, first, second, id, row,
@@ -268,7 +263,6 @@ fn judge_both<'a, 'c, T: Tables>(
     ensures tells { Tells (followed_by (spec.decisions_on (first.now ∷ second.now ∷ []) (shows sight.entry.fences.now sight.entry.role.now) sight.entry.role.now id row.now) (λ said. known (Ok (allowing decisions.old.items said)))) (T.state tables.old) (T.state tables.new) work.old.notes work.new.notes (beside decisions.new.items result) }
     ensures holds { OnOk result (Holds sight.entry.fences.now sight.entry.role.now (T.state tables.new) work.new) }
 {
-    // Its proof takes seconds: two calls that may fail.
     let view = View {
         fences: sight.fences,
         from: 0,
@@ -297,7 +291,6 @@ fn judge_each<'a, 'c, T: Tables>(
     ensures tells { Tells (followed_by (spec.decisions_on sight.entry.watches.now (shows sight.entry.fences.now sight.entry.role.now) sight.entry.role.now id row.now) (λ said. known (Ok (allowing decisions.old.items said)))) (T.state tables.old) (T.state tables.new) work.old.notes work.new.notes (beside decisions.new.items result) }
     ensures holds { OnOk result (Holds sight.entry.fences.now sight.entry.role.now (T.state tables.new) work.new) }
 {
-    // Its proof takes seconds: one place holds what failing calls would drop, a loop.
     let view = View {
         fences: sight.fences,
         from: 0,
@@ -342,7 +335,6 @@ fn judge_new<'a, 'c, T: Tables>(
     requires { Holds sight.fences.now sight.role.now (T.state tables.old) work.old }
     ensures { Tells (spec.judged_new sight.entry.watches.now sight.entry.fences.now sight.entry.role.now rows.now) (T.state tables.old) (T.state tables.new) work.old.notes work.new.notes (items_now result) }
 {
-    // Its proof takes seconds: one place holds what failing calls would drop, a loop.
     let alike = rows.len() > 1 && are_alike(sight.watches);
     let most = rows.len().saturating_mul(sight.watches.len());
     let mut decisions = Vec::with_capacity(alloc, most)?;

@@ -82,7 +82,6 @@ fn pinned_values(
 ) -> Result<Option<Row>, AllocError>
     ensures { IfOk result (λ key. key ≡ spec.pinned_values role.now places.now condition.now) }
 {
-    // Its proof takes seconds: two places hold what failing calls would drop, a loop.
     let mut values = Vec::with_capacity(alloc, places.len())?;
     for place in places {
         match pin_of(condition, *place) {

@@ -29,7 +29,6 @@ pub fn settings_of<'a, 'c, S: RowSource<'c>>(
     requires { rows_in nothing.now ≡ [] }
     ensures { Reading S.state S.after (spec.settings_of fences.now role.now settings.now (map (λ row. row.now) rows.now)) source.old source.new notes.old notes.new (held_all result) }
 {
-    // Its proof takes seconds: six places hold what a failing call would drop.
     let mut work = Work::new(alloc);
     let values = set_over(
         alloc, &*source, &mut work, fences, role, nothing, settings, rows,
@@ -85,7 +84,6 @@ fn values_set<'a, 'c, T: Tables>(
     requires nothing { rows_in nothing.now ≡ [] }
     ensures { Tells (spec.values_set fences.now role.now settings.now (map (λ row. row.now) rows.now)) (T.state tables.old) (T.state tables.new) work.old.notes work.new.notes (held_all result) }
 {
-    // Its proof takes seconds: two places hold what failing calls would drop, a loop.
     let most = rows.len().saturating_mul(settings.len());
     let mut values = Vec::with_capacity(alloc, most)?;
     for stored in rows {
@@ -112,7 +110,6 @@ fn put_values<'a, 'c, T: Tables>(
     ensures tells { Tells (followed_by (spec.values_on (map (λ setting. setting.1) settings.now) (shows fences.now env.now.user.now) (env_of env.now)) (λ given. known (Ok (values_held values.old ++ given)))) (T.state tables.old) (T.state tables.new) work.old.notes work.new.notes (put_in (values_held values.new) result) }
     ensures holds { OnOk result (Holds fences.now env.now.user.now (T.state tables.new) work.new) }
 {
-    // Its proof takes seconds: two places hold what failing calls would drop, a loop.
     let view = View { fences, from: 0 };
     for (_, expr) in settings {
         let held = eval(alloc, tables, work, view, expr, env)?;
@@ -132,7 +129,6 @@ pub fn tuples_of<'a, 'c, S: RowSource<'c>>(
 ) -> Result<Vec<Vec<Held<'a>>>, AllocError>
     ensures { Reading S.state S.after (spec.tuples_of fences.now role.now tuples.now) source.old source.new notes.old notes.new (held_each result) }
 {
-    // Its proof takes seconds: eight places hold what a failing call would drop.
     let mut work = Work::new(alloc);
     let values = put_over(alloc, &*source, &mut work, fences, role, tuples)?;
     match mark_all(alloc, source, notes, work) {
@@ -171,7 +167,6 @@ fn values_put<'a, 'c, T: Tables>(
     requires { Holds fences.now role.now (T.state tables.old) work.old }
     ensures { Tells (spec.values_put fences.now role.now tuples.now) (T.state tables.old) (T.state tables.new) work.old.notes work.new.notes (held_each result) }
 {
-    // Its proof takes seconds: eight places hold what failing calls would drop, a loop.
     let env = Env {
         user: role,
         rows: Scoped::Nothing,
@@ -196,7 +191,6 @@ fn values_alone<'a, 'c, T: Tables>(
     ensures tells { Tells (spec.values_on exprs.now (shows fences.now env.now.user.now) (env_of env.now)) (T.state tables.old) (T.state tables.new) work.old.notes work.new.notes (held_all result) }
     ensures holds { OnOk result (Holds fences.now env.now.user.now (T.state tables.new) work.new) }
 {
-    // Its proof takes seconds: four places hold what failing calls would drop, a loop.
     let view = View { fences, from: 0 };
     let mut values = Vec::with_capacity(alloc, exprs.len())?;
     for expr in exprs {

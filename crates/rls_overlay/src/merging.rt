@@ -22,7 +22,6 @@ impl<'o, 'c> Merging<'o, 'c> {
     fn put(&mut self, row: Lent<'c>) -> Result<(), AllocError>
         ensures { OnOk result ((rows : List Seen) → self.new.all.items ++ merged rows self.new.own.now ≡ self.old.all.items ++ merged (row.entry ∷ rows) self.old.own.now) }
     {
-        // Its proof takes seconds: a loop over three calls that may fail.
         let id = row.id();
         while let [first, others @ ..] = self.own {
             match first.id().cmp(&id) {
@@ -46,7 +45,6 @@ impl<'o, 'c> Merging<'o, 'c> {
     fn finish(self) -> Result<Items<Lent<'c>>, AllocError>
         ensures { IfOk result (λ rows. rows ≡ self.entry.all.items ++ merged [] self.entry.own.now) }
     {
-        // Its proof takes seconds: a loop over a call that may fail.
         let Merging { mut all, own } = self;
         for row in own {
             row.put(&mut all)?;
@@ -63,7 +61,6 @@ pub(crate) fn merge<'c>(
 ) -> Result<Items<Lent<'c>>, AllocError>
     ensures { IfOk result (λ all. all ≡ merged rows.entry own.now) }
 {
-    // Its proof takes seconds: a loop over two calls that may fail.
     let mut merging = Merging {
         all: Vec::with_capacity(alloc, rows.len())?,
         own,

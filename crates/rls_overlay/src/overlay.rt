@@ -44,21 +44,18 @@ impl<'c, S: RowSource<'c>> RowSource<'c> for Overlay<'c, S> {
 
     #[tactic(auto, using(crate::proofs::Laws::role_behind))]
     fn role(&mut self, alloc: Global, name: &Name) -> Result<Option<&'c RoleDef>, AllocError> {
-        // Its proof takes seconds: one call that may fail, one cited law.
         let found = self.source.role(alloc, name)?;
         Ok(self.changes.role_over(found, name))
     }
 
     #[tactic(auto, using(crate::proofs::Laws::members_behind))]
     fn members(&mut self, alloc: Global, member: &Name) -> Result<&'c [Membership], AllocError> {
-        // Its proof takes seconds: one call that may fail, one cited law.
         let found = self.source.members(alloc, member)?;
         Ok(self.changes.members_over(found, member))
     }
 
     #[tactic(auto, using(crate::proofs::Laws::table_behind))]
     fn table(&mut self, alloc: Global, name: &Name) -> Result<Option<&'c TableDef>, AllocError> {
-        // Its proof takes seconds: one call that may fail, one cited law.
         let found = self.source.table(alloc, name)?;
         Ok(self.changes.table_over(found, name))
     }
@@ -71,14 +68,12 @@ impl<'c, S: RowSource<'c>> RowSource<'c> for Overlay<'c, S> {
 
     #[tactic(auto, using(crate::proofs::Laws::policies_behind))]
     fn policies(&mut self, alloc: Global, table: &Name) -> Result<&'c [Policy], AllocError> {
-        // Its proof takes seconds: one call that may fail, one cited law.
         let found = self.source.policies(alloc, table)?;
         Ok(self.changes.policies_over(found, table))
     }
 
     #[tactic(auto, using(crate::proofs::Laws::rows_behind, crate::proofs::Laws::in_order_behind))]
     fn scan(&mut self, alloc: Global, table: &Name) -> Result<Items<Lent<'c>>, AllocError> {
-        // Its proof takes seconds: one call that may fail, two cited laws.
         let found = self.source.scan(alloc, table)?;
         self.changes.rows_over(alloc, found, table)
     }
@@ -90,14 +85,12 @@ impl<'c, S: RowSource<'c>> RowSource<'c> for Overlay<'c, S> {
         table: &Name,
         key: &Row,
     ) -> Result<Items<Lent<'c>>, AllocError> {
-        // Its proof takes seconds: one call that may fail, two cited laws.
         let found = self.source.by_key(alloc, table, key)?;
         self.changes.keyed_over(alloc, found, table, key)
     }
 
     #[tactic(auto, using(crate::proofs::Laws::rows_behind, crate::proofs::Laws::in_order_behind))]
     fn look(&self, alloc: Global, table: &Name) -> Result<Items<Lent<'c>>, AllocError> {
-        // Its proof takes seconds: one call that may fail, two cited laws.
         let found = self.source.look(alloc, table)?;
         self.changes.rows_over(alloc, found, table)
     }
@@ -109,7 +102,6 @@ impl<'c, S: RowSource<'c>> RowSource<'c> for Overlay<'c, S> {
         table: &Name,
         key: &Row,
     ) -> Result<Items<Lent<'c>>, AllocError> {
-        // Its proof takes seconds: one call that may fail, two cited laws.
         let found = self.source.look_by_key(alloc, table, key)?;
         self.changes.keyed_over(alloc, found, table, key)
     }

@@ -20,7 +20,6 @@ pub(crate) fn keys_of<'c>(
 ) -> Result<BTreeMap<Row, Items<OwnRow<'c>>>, AllocError>
     ensures { IfOk result (λ keys. Indexes keys.entries rows.now.entries) }
 {
-    // Its proof takes seconds: three places hold what a failing call would drop, a loop.
     let mut keys = BTreeMap::new(alloc);
     for (id, content) in rows {
         if let Some(keyed) = content.get() {
@@ -58,7 +57,6 @@ fn add_first<'c>(
     requires { lookup (is_at (key_order keyed.now.key)) keys.old.entries ≡ None }
     ensures { OnOk result ((key : List Datum) → under key keys.new.entries ≡ cond (is_at (key_order keyed.now.key) key) (under key keys.old.entries ++ (id, Some keyed.now) ∷ []) (under key keys.old.entries)) }
 {
-    // Its proof takes seconds: six places hold what failing calls would drop.
     let mut rows = Items::new(alloc);
     rows.push(OwnRow::there(id, keyed))?;
     keys.insert(keyed.key.copy(alloc)?, rows)?;

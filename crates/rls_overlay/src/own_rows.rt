@@ -95,7 +95,6 @@ impl<'c> OwnRows<'c> {
     ) -> Result<Items<Lent<'c>>, AllocError>
         ensures { IfOk result (λ rows. rows ≡ merged (not_written self.now found.entry) (own_with_key key.now self.now)) }
     {
-        // Its proof takes seconds: two calls that may fail, one cited law.
         let others = others(alloc, &self.rows, found)?;
         if !self.indexed {
             let own = seek(alloc, &self.rows, key)?;
@@ -115,7 +114,6 @@ fn list<'c>(
 ) -> Result<Items<OwnRow<'c>>, AllocError>
     ensures { IfOk result (λ listed. listed ≡ rows.now.entries) }
 {
-    // Its proof takes seconds: a loop over two calls that may fail.
     let mut listed = Vec::with_capacity(alloc, rows.len())?;
     for (id, content) in rows {
         listed.push(OwnRow::new(*id, content.get()))?;
@@ -131,7 +129,6 @@ fn seek<'c>(
 ) -> Result<Items<OwnRow<'c>>, AllocError>
     ensures { IfOk result (λ listed. listed ≡ own_with_key key.now rows.now.entries) }
 {
-    // Its proof takes seconds: a loop over a call that may fail.
     let mut listed = Vec::new(alloc);
     for (id, content) in rows {
         if has_key(content.get(), key) {
@@ -149,7 +146,6 @@ fn others<'c>(
 ) -> Result<Items<Lent<'c>>, AllocError>
     ensures { IfOk result (λ rows. rows ≡ not_written own.now.entries found.entry) }
 {
-    // Its proof takes seconds: a loop over two calls that may fail.
     let mut others = Vec::with_capacity(alloc, found.len())?;
     for row in found.into_vec() {
         if is_other(own, row.id()) {

@@ -83,7 +83,6 @@ impl<'c> Written<'c> {
     fn put(&mut self, alloc: Global, change: &'c Change) -> Result<(), AllocError>
         ensures { OnOk result (self.new ≡ with_change self.old change.now) }
     {
-        // Its proof takes seconds: six arms.
         match change {
             Change::Role(name, def) => note(&mut self.roles, name, Loan::new(def)),
             Change::Members(name, content) => note(&mut self.members, name, Loan::new(content)),
@@ -213,7 +212,6 @@ fn put_first_row<'c>(
     requires { at change.now.table tables.old.entries ≡ None }
     ensures { OnOk result (tables.new.entries ≡ with_own_row tables.old.entries change.now) }
 {
-    // Its proof takes seconds: nine places hold what failing calls would drop.
     let own = OwnRows::of_one(alloc, change)?;
     tables.insert(change.table.copy()?, own)?;
     Ok(())

@@ -101,7 +101,6 @@ pub fn applying<'c, S: RowSource<'c>>(
     ensures read { OnOk result (source.new ≡ S.after source.old (applying_to_reads (S.state source.old) role.now table.now kind side)) }
     ensures state { S.state source.new ≡ S.state source.old }
 {
-    // Its proof takes seconds: one call that may fail, one cited law.
     match source.table(alloc, table)? {
         Some(def) => applying_on(alloc, source, role, table, def, kind, side),
         None => Ok(Items::new(alloc)),
@@ -141,7 +140,6 @@ fn applying_unless_exempt<'c, S: RowSource<'c>>(
     ensures read { OnOk result (source.new ≡ S.after source.old (spec.applying_reads (S.state source.old) role.now table.now kind side)) }
     ensures state { S.state source.new ≡ S.state source.old }
 {
-    // Its proof takes seconds: one place holds what failing calls would drop.
     let policies = source.policies(alloc, table)?;
     let kept = asked(alloc, policies, kind, side)?;
     if are_to_everyone(kept.as_slice()) {
@@ -173,7 +171,6 @@ fn asked<'c>(
 ) -> Result<Items<Loan<'c, Policy>>, AllocError>
     ensures { IfOk result (λ asked. asked ≡ filter (spec.is_asked kind side) policies.now) }
 {
-    // Its proof takes seconds: a loop over a call that may fail.
     let mut kept = Vec::new(alloc);
     for policy in policies {
         if is_asked(policy, kind, side) {

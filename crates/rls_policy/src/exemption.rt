@@ -34,7 +34,6 @@ pub fn is_exempt<'c, S: RowSource<'c>>(
     ensures read { OnOk result (source.new ≡ S.after source.old (exempt_reads (S.state source.old) role.now table.now)) }
     ensures state { S.state source.new ≡ S.state source.old }
 {
-    // Its proof takes seconds: two calls that may fail, one cited law.
     if !table.enabled {
         return Ok(true);
     }

@@ -19,7 +19,6 @@ use std::alloc::AllocError;
 pub fn put_expr(page: &mut Page, expr: &Expr) -> Result<(), AllocError>
     ensures { OnOk result (put_all (Some (sheet_of page.old)) (form.expr expr.now) ≡ Some (sheet_of page.new)) }
 {
-    // Its proof takes seconds: 17 arms.
     match expr.node() {
         Node::Literal(value) => put_literal(page, value),
         Node::Column(column) => put_column(page, column),

@@ -40,7 +40,6 @@ fn put_policy_on(page: &mut Page, policy: &Name, table: &Name) -> Result<(), All
 fn put_description(page: &mut Page, policy: &Policy) -> Result<(), AllocError>
     ensures { OnOk result (put_all (Some (sheet_of page.old)) (form.description policy.now) ≡ Some (sheet_of page.new)) }
 {
-    // Its proof takes seconds: seven calls that may fail.
     page.word("AS")?;
     put_permissive(page, policy.permissive)?;
     page.word("FOR")?;
@@ -110,7 +109,6 @@ pub fn put_drop_policy(page: &mut Page, statement: &DropPolicy) -> Result<(), Al
 pub fn put_grant(page: &mut Page, statement: &GrantPrivileges) -> Result<(), AllocError>
     ensures { OnOk result (put_all (Some (sheet_of page.old)) (form.statement (st.Grant statement.now)) ≡ Some (sheet_of page.new)) }
 {
-    // Its proof takes seconds: six calls that may fail.
     page.word("GRANT")?;
     put_privileges(page, statement.privileges)?;
     page.word("ON")?;
@@ -123,7 +121,6 @@ pub fn put_grant(page: &mut Page, statement: &GrantPrivileges) -> Result<(), All
 pub fn put_revoke(page: &mut Page, statement: &RevokePrivileges) -> Result<(), AllocError>
     ensures { OnOk result (put_all (Some (sheet_of page.old)) (form.statement (st.Revoke statement.now)) ≡ Some (sheet_of page.new)) }
 {
-    // Its proof takes seconds: seven calls that may fail.
     page.word("REVOKE")?;
     put_option_only(page, statement.option_only)?;
     put_privileges(page, statement.privileges)?;

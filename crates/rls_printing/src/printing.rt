@@ -96,7 +96,6 @@ pub fn print_expr(alloc: Global, expr: &Expr) -> Result<String, AllocError>
 fn put_statement(page: &mut Page, statement: &Statement) -> Result<(), AllocError>
     ensures { OnOk result (put_all (Some (sheet_of page.old)) (form.statement statement.now) ≡ Some (sheet_of page.new)) }
 {
-    // Its proof takes seconds: 16 arms.
     match statement {
         Statement::CreateRole(role) => put_create_role(page, role),
         Statement::AlterRole(role) => put_alter_role(page, role),

@@ -32,7 +32,6 @@ pub fn grant_member<'c, S: RowSource<'c>>(
 ) -> Result<Delta, Refusal>
     ensures { Answers S.state S.after (spec.grant_member current.now grant.now) source.old source.new notes.old notes.new result }
 {
-    // Its proof takes seconds: two calls that may fail.
     require_roles(alloc, source, notes, grant.roles.as_slice())?;
     require_roles(alloc, source, notes, grant.to.as_slice())?;
     grant_roles(alloc, source, notes, current, grant)
@@ -48,7 +47,6 @@ fn grant_roles<'c, S: RowSource<'c>>(
 ) -> Result<Delta, Refusal>
     ensures { Answers S.state S.after (roles_granted current.now grant.now) source.old source.new notes.old notes.new result }
 {
-    // Its proof takes seconds: one call that may fail, one cited law.
     require_managed(alloc, source, notes, current, grant.roles.as_slice())?;
     grant_memberships(alloc, source, notes, grant)
 }
@@ -62,7 +60,6 @@ fn grant_memberships<'c, S: RowSource<'c>>(
 ) -> Result<Delta, Refusal>
     ensures { Answers S.state S.after (memberships_granted grant.now) source.old source.new notes.old notes.new result }
 {
-    // Its proof takes seconds: three calls that may fail, one cited law.
     let held = held_of(alloc, source, notes, grant.to.as_slice())?;
     let (roles, to) = (grant.roles.as_slice(), grant.to.as_slice());
     let held = grant_each(alloc, source, notes, grant.options, roles, to, held)?;
@@ -81,7 +78,6 @@ fn grant_each<'c, S: RowSource<'c>>(
 ) -> Result<Items<Held>, Refusal>
     ensures { Answers S.state S.after (each_granted written roles.now members.now held) source.old source.new notes.old notes.new result }
 {
-    // Its proof takes seconds: a loop over a call that may fail.
     let mut held = held;
     for role in roles {
         held = grant_role(alloc, source, notes, written, role, members, held)?;
@@ -101,7 +97,6 @@ fn grant_role<'c, S: RowSource<'c>>(
 ) -> Result<Items<Held>, Refusal>
     ensures { Answers S.state S.after (role_granted written role.now members.now held) source.old source.new notes.old notes.new result }
 {
-    // Its proof takes seconds: a loop over a call that may fail.
     let mut held = held;
     for member in members {
         held = grant_pair(alloc, source, notes, written, role, member, held)?;
@@ -182,7 +177,6 @@ fn joined(
 ) -> Result<Items<Held>, AllocError>
     ensures { IfOk result (λ all. all ≡ spec.joined written role.now member.now held) }
 {
-    // Its proof takes seconds: five places hold what failing calls would drop, a loop.
     let mut all = Items::new(alloc);
     for one in held.into_vec() {
         all.push(joined_in(alloc, written, role, member, one)?)?;

@@ -49,7 +49,6 @@ fn noted_held<'c, S: RowSource<'c>>(
 ) -> Result<Items<Held>, AllocError>
     ensures { Tells S.state S.after (asked_held members.now) source.old source.new notes.old notes.new result }
 {
-    // Its proof takes seconds: two places hold what failing calls would drop, a loop, one cited law.
     let mut held = Items::new(alloc);
     for member in members {
         held.push(held_by(alloc, source, notes, member)?)?;
@@ -69,7 +68,6 @@ fn held_by<'c, S: RowSource<'c>>(
     ensures noted { OnOk result (notes.new ≡ notes.old ++ Object.Members member.now ∷ []) }
     ensures state { S.state source.new ≡ S.state source.old }
 {
-    // Its proof takes seconds: three places hold what failing calls would drop, one cited law.
     let memberships = noted_members(alloc, source, notes, member)?;
     let memberships = Membership::copy_all(alloc, memberships)?;
     match member.copy() {

@@ -90,7 +90,6 @@ fn managed<'c, S: RowSource<'c>>(
     ensures read { OnOk result (source.new ≡ S.after source.old (walk_reads members.now)) }
     ensures state { S.state source.new ≡ S.state source.old }
 {
-    // Its proof takes seconds: one place holds what a failing call would drop, a loop.
     let mut names = Items::new(alloc);
     for member in members {
         add_managed(alloc, source, &mut names, member)?;
@@ -108,7 +107,6 @@ fn add_managed<'c, S: RowSource<'c>>(
     ensures read { OnOk result (source.new ≡ S.after source.old (visit_reads member.now)) }
     ensures err { OnErr result (S.state source.new ≡ S.state source.old) }
 {
-    // Its proof takes seconds: three calls that may fail.
     let def = source.role(alloc, member)?;
     let memberships = source.members(alloc, member)?;
     if def.is_some() {

@@ -71,7 +71,6 @@ pub fn reach_by<'c, S: RowSource<'c>>(
     ensures read { OnOk result (source.new ≡ S.after source.old (walked_reads step (S.state source.old) role.now)) }
     ensures state { S.state source.new ≡ S.state source.old }
 {
-    // Its proof takes seconds: two calls that may fail.
     let superuser = RoleDef::known(source.role(alloc, role)?).superuser;
     let names = walked(alloc, source, role, superuser, step)?;
     Ok(Reach { superuser, names })

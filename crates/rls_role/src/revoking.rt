@@ -28,7 +28,6 @@ pub fn revoke_member<'c, S: RowSource<'c>>(
 ) -> Result<Delta, Refusal>
     ensures { Answers S.state S.after (spec.revoke_member current.now revoke.now) source.old source.new notes.old notes.new result }
 {
-    // Its proof takes seconds: two calls that may fail.
     require_roles(alloc, source, notes, revoke.roles.as_slice())?;
     require_roles(alloc, source, notes, revoke.from.as_slice())?;
     revoke_roles(alloc, source, notes, current, revoke)
@@ -44,7 +43,6 @@ fn revoke_roles<'c, S: RowSource<'c>>(
 ) -> Result<Delta, Refusal>
     ensures { Answers S.state S.after (roles_revoked current.now revoke.now) source.old source.new notes.old notes.new result }
 {
-    // Its proof takes seconds: one call that may fail, one cited law.
     require_managed(alloc, source, notes, current, revoke.roles.as_slice())?;
     revoke_memberships(alloc, source, notes, revoke)
 }
@@ -78,7 +76,6 @@ fn taken(
 ) -> Result<Items<Held>, AllocError>
     ensures { IfOk result (λ all. all ≡ map (taken_in option roles.now) held) }
 {
-    // Its proof takes seconds: five places hold what failing calls would drop, a loop.
     let mut all = Items::new(alloc);
     for one in held.into_vec() {
         all.push(taken_of(alloc, option, roles, one)?)?;

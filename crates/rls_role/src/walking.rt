@@ -49,7 +49,6 @@ pub fn reached<'c, S: RowSource<'c>>(
     ensures read { OnOk result (source.new ≡ S.after source.old (walk_reads (reached_where (takes step) (with_held held.now (S.state source.old)) role.now))) }
     ensures state { S.state source.new ≡ S.state source.old }
 {
-    // Its proof takes seconds: four places hold what failing calls would drop, a loop.
     let mut names = Vec::new(alloc);
     let mut seen = BTreeSet::new(alloc);
     add_unseen(&mut names, &mut seen, role)?;
@@ -85,7 +84,6 @@ fn visit<'c, S: RowSource<'c>>(
     ensures read { OnOk result (source.new ≡ S.after source.old (visit_reads name.now)) }
     ensures err { OnErr result (S.state source.new ≡ S.state source.old) }
 {
-    // Its proof takes seconds: two calls that may fail, one cited law.
     let def = source.role(alloc, name)?;
     let memberships = source.members(alloc, name)?;
     if def.is_none() {

@@ -42,7 +42,6 @@ fn ask_to_connect(alloc: Global, command: &str, behind: &str) -> Result<Asked, A
     ensures asks { IfOk result (λ asked. asked ≡ asked_to_connect (within_line command.now (role_named behind.now))) }
     ensures long_name { is_long_name behind.now ≡ true → IsOkAnd result IsNothing }
 {
-    // Its proof takes seconds: the length of what it says.
     if command.len() > MAX_COMMAND {
         return Ok(Asked::Nothing(Refusal::Limit(Limit::Line)));
     }

@@ -40,7 +40,6 @@ pub fn role_in(alloc: Global, text: &str) -> Result<Name, Refusal>
     // A name over its limit is refused as such, and never as want of memory.
     ensures long_name { is_long_name text.now ≡ true → result ≡ Err (Refusal.Limit Limit.Name) }
 {
-    // Its proof takes seconds: one call that may fail.
     if role_word(text).len() > MAX_NAME {
         return Err(Refusal::Limit(Limit::Name));
     }
@@ -61,7 +60,6 @@ fn role_word(text: &str) -> &str
 fn limit_passed(alloc: Global, text: &str) -> Result<Option<Limit>, AllocError>
     ensures { IfOk result (λ limit. limit ≡ first_limit (words_of text.now)) }
 {
-    // Its proof takes seconds: two places hold what a failing call would drop, four arms.
     match parse(alloc, text) {
         Ok(statement) => {
             drop(statement);

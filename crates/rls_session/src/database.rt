@@ -65,7 +65,6 @@ impl Database {
         ensures ok { IfOk result (λ outcome. self.new ≡ database_after self.old (Ok outcome.effect)) }
         ensures err { OnErr result (self.new ≡ self.old) }
     {
-        // Its proof takes seconds: two places hold what failing calls would drop.
         let ctx = self.ctx(begin)?;
         let ran = run_statement(alloc, &mut Plain::new(&self.catalog), &ctx, statement);
         drop(ctx);

@@ -49,7 +49,6 @@ fn give(
     ensures session_kept { OnErr result (session.new ≡ session.old) }
     ensures at_once { IsNothing asked → IsOk result }
 {
-    // Its proof takes seconds: the length of what it says.
     match asked {
         Asked::Nothing(refusal) => Ok(Answer::Refused(refusal)),
         Asked::Connect(role) => connect(database, session, role),
@@ -69,7 +68,6 @@ fn connect(
     ensures database_kept { OnErr result (database.new ≡ database.old) }
     ensures session_kept { OnErr result (session.new ≡ session.old) }
 {
-    // Its proof takes seconds: two places hold what a failing call would drop.
     let login = role.copy()?;
     match database.connect(&role) {
         Ok(_) => {
@@ -97,7 +95,6 @@ fn run(
     ensures database_kept { OnErr result (database.new ≡ database.old) }
     ensures session_kept { OnErr result (session.new ≡ session.old) }
 {
-    // Its proof takes seconds: one place holds what a failing call would drop.
     let came = database.run(alloc, begin, &statement);
     let tag = statement.tag();
     drop(statement);

@@ -91,7 +91,6 @@ impl Labels {
         ensures database { OnErr result (database.new ≡ database.old) }
         ensures labels { OnErr result (self.new ≡ self.old) }
     {
-        // Its proof takes seconds: four places hold what failing calls would drop.
         let name = Text::new(alloc, name)?;
         let labels = &mut self.labels;
         labels.reserve(1)?;

@@ -63,7 +63,6 @@ fn push_row(
 ) -> Result<(), AllocError>
     ensures { OnOk result (out.new.items ≡ out.old.items ++ row_line label.now values.now) }
 {
-    // Its proof takes seconds: four calls that may fail.
     push_label(out, label)?;
     if let [first, rest @ ..] = values {
         push_field(alloc, out, first)?;

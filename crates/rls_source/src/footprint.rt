@@ -70,7 +70,6 @@ impl Footprint {
     pub fn to_vec(&self, alloc: Global) -> Result<Vec<Object>, AllocError>
         ensures { IfOk result (λ objects. objects.items ≡ self.now) }
     {
-        // Its proof takes seconds: two places hold what failing calls would drop, a loop.
         let mut objects = Vec::with_capacity(alloc, self.objects.len())?;
         for object in self.objects.iter() {
             objects.push(object.copy(alloc)?)?;
@@ -97,7 +96,6 @@ impl Footprint {
     pub fn copy(&self, alloc: Global) -> Result<Footprint, AllocError>
         ensures { IfOk result (λ footprint. footprint ≡ self.now) }
     {
-        // Its proof takes seconds: one place holds what failing calls would drop, a loop, one cited law.
         let mut footprint = Footprint::new(alloc);
         for object in self.objects.iter() {
             footprint.note(object.copy(alloc)?)?;

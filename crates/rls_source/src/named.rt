@@ -21,7 +21,6 @@ pub fn table_named<'c, S: RowSource<'c>>(
 ) -> Result<&'c TableDef, Refusal>
     ensures { Answers S.state S.after (table_or_undefined name.now) source.old source.new notes.old notes.new (lent_now result) }
 {
-    // Its proof takes seconds: two calls that may fail.
     match noted_table(alloc, source, notes, name)? {
         Some(table) => Ok(table),
         None => Err(Refusal::Undefined(NameKind::Relation, name.copy()?)),
@@ -52,7 +51,6 @@ pub fn require_roles<'c, S: RowSource<'c>>(
 ) -> Result<(), Refusal>
     ensures { Answers S.state S.after (roles_or_undefined names.now) source.old source.new notes.old notes.new result }
 {
-    // Its proof takes seconds: a loop over a call that may fail.
     for name in names {
         role_named(alloc, source, notes, name)?;
     }
@@ -68,7 +66,6 @@ pub fn require_grantees<'c, S: RowSource<'c>>(
 ) -> Result<(), Refusal>
     ensures { Answers S.state S.after (grantees_or_undefined grantees.now) source.old source.new notes.old notes.new result }
 {
-    // Its proof takes seconds: a loop over a call that may fail.
     for grantee in grantees {
         if let Grantee::Role(name) = grantee {
             role_named(alloc, source, notes, name)?;

@@ -132,7 +132,6 @@ pub fn noted_key<'c, S: RowSource<'c>>(
     ensures noted { OnOk result (notes.new ≡ notes.old ++ Object.Key table.now key.now ∷ []) }
     ensures state { S.state source.new ≡ S.state source.old }
 {
-    // Its proof takes seconds: two places hold what failing calls would drop, one cited law.
     notes.note(Object::Key(table.copy()?, key.copy(alloc)?))?;
     source.by_key(alloc, table, key)
 }

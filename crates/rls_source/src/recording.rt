@@ -36,7 +36,6 @@ impl<'c, S: RowSource<'c>> RowSource<'c> for Recording<S> {
     ghost after = { λ s os. record { source = S.after s.source os; footprint = with_reads s.footprint os } };
 
     fn role(&mut self, alloc: Global, name: &Name) -> Result<Option<&'c RoleDef>, AllocError> {
-        // Its proof takes seconds: five places hold what failing calls would drop.
         let object = Object::Role(name.copy()?);
         let found = self.source.role(alloc, name)?;
         self.footprint.note(object)?;
@@ -44,7 +43,6 @@ impl<'c, S: RowSource<'c>> RowSource<'c> for Recording<S> {
     }
 
     fn members(&mut self, alloc: Global, member: &Name) -> Result<&'c [Membership], AllocError> {
-        // Its proof takes seconds: five places hold what failing calls would drop.
         let object = Object::Members(member.copy()?);
         let found = self.source.members(alloc, member)?;
         self.footprint.note(object)?;
@@ -52,7 +50,6 @@ impl<'c, S: RowSource<'c>> RowSource<'c> for Recording<S> {
     }
 
     fn table(&mut self, alloc: Global, name: &Name) -> Result<Option<&'c TableDef>, AllocError> {
-        // Its proof takes seconds: five places hold what failing calls would drop.
         let object = Object::Table(name.copy()?);
         let found = self.source.table(alloc, name)?;
         self.footprint.note(object)?;
@@ -60,7 +57,6 @@ impl<'c, S: RowSource<'c>> RowSource<'c> for Recording<S> {
     }
 
     fn grants(&mut self, alloc: Global, table: &Name) -> Result<&'c [Grant], AllocError> {
-        // Its proof takes seconds: five places hold what failing calls would drop.
         let object = Object::Grants(table.copy()?);
         let found = self.source.grants(alloc, table)?;
         self.footprint.note(object)?;
@@ -68,7 +64,6 @@ impl<'c, S: RowSource<'c>> RowSource<'c> for Recording<S> {
     }
 
     fn policies(&mut self, alloc: Global, table: &Name) -> Result<&'c [Policy], AllocError> {
-        // Its proof takes seconds: five places hold what failing calls would drop.
         let object = Object::Policies(table.copy()?);
         let found = self.source.policies(alloc, table)?;
         self.footprint.note(object)?;
@@ -76,7 +71,6 @@ impl<'c, S: RowSource<'c>> RowSource<'c> for Recording<S> {
     }
 
     fn scan(&mut self, alloc: Global, table: &Name) -> Result<Items<Lent<'c>>, AllocError> {
-        // Its proof takes seconds: five places hold what failing calls would drop.
         let object = Object::Rows(table.copy()?);
         let found = self.source.scan(alloc, table)?;
         self.footprint.note(object)?;
@@ -89,7 +83,6 @@ impl<'c, S: RowSource<'c>> RowSource<'c> for Recording<S> {
         table: &Name,
         key: &Row,
     ) -> Result<Items<Lent<'c>>, AllocError> {
-        // Its proof takes seconds: five places hold what failing calls would drop.
         let object = Object::Key(table.copy()?, key.copy(alloc)?);
         let found = self.source.by_key(alloc, table, key)?;
         self.footprint.note(object)?;

@@ -36,7 +36,6 @@ impl Update {
     pub fn copy(&self, alloc: Global) -> Result<Update, AllocError>
         ensures { IfOk result (λ update. update ≡ self.now) }
     {
-        // Its proof takes seconds: six places hold what failing calls would drop.
         Ok(Update {
             table: self.table.copy()?,
             settings: copy_settings(alloc, self.settings.as_slice())?,
@@ -60,7 +59,6 @@ impl Setting {
 fn copy_settings(alloc: Global, settings: &[Setting]) -> Result<Items<Setting>, AllocError>
     ensures { IfOk result (λ copies. copies ≡ settings.now) }
 {
-    // Its proof takes seconds: two places hold what failing calls would drop, a loop.
     let mut copies = Vec::with_capacity(alloc, settings.len())?;
     for setting in settings {
         copies.push(setting.copy(alloc)?)?;
@@ -72,7 +70,6 @@ impl Delete {
     pub fn copy(&self, alloc: Global) -> Result<Delete, AllocError>
         ensures { IfOk result (λ delete. delete ≡ self.now) }
     {
-        // Its proof takes seconds: five places hold what failing calls would drop.
         Ok(Delete {
             table: self.table.copy()?,
             condition: copy_condition(alloc, &self.condition)?,

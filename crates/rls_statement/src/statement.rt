@@ -238,7 +238,6 @@ impl Statement {
     pub fn copy(&self, alloc: Global) -> Result<Statement, AllocError>
         ensures { IfOk result (λ statement. statement ≡ self.now) }
     {
-        // Its proof takes seconds: 16 calls that may fail, 16 arms.
         match self {
             Statement::CreateRole(role) => Ok(Statement::CreateRole(role.copy()?)),
             Statement::AlterRole(role) => Ok(Statement::AlterRole(role.copy()?)),
@@ -338,7 +337,6 @@ impl SetRole {
 fn copy_names(alloc: Global, names: &[Name]) -> Result<Items<Name>, AllocError>
     ensures { IfOk result (λ copies. copies ≡ names.now) }
 {
-    // Its proof takes seconds: two places hold what failing calls would drop, a loop.
     let mut copies = Vec::with_capacity(alloc, names.len())?;
     for name in names {
         copies.push(name.copy()?)?;
@@ -361,7 +359,6 @@ impl CreateTable {
 fn copy_columns(alloc: Global, columns: &[MarkedColumn]) -> Result<Items<MarkedColumn>, AllocError>
     ensures { IfOk result (λ copies. copies ≡ columns.now) }
 {
-    // Its proof takes seconds: two places hold what failing calls would drop, a loop.
     let mut copies = Vec::with_capacity(alloc, columns.len())?;
     for column in columns {
         copies.push(column.copy()?)?;
@@ -421,7 +418,6 @@ impl AlterPolicy {
     pub fn copy(&self, alloc: Global) -> Result<AlterPolicy, AllocError>
         ensures { IfOk result (λ alter. alter ≡ self.now) }
     {
-        // Its proof takes seconds: six places hold what failing calls would drop.
         Ok(AlterPolicy {
             name: self.name.copy()?,
             table: self.table.copy()?,
@@ -504,7 +500,6 @@ impl Insert {
     pub fn copy(&self, alloc: Global) -> Result<Insert, AllocError>
         ensures { IfOk result (λ insert. insert ≡ self.now) }
     {
-        // Its proof takes seconds: six places hold what failing calls would drop.
         Ok(Insert {
             table: self.table.copy()?,
             columns: copy_written(alloc, &self.columns)?,
@@ -533,7 +528,6 @@ impl Select {
     pub fn copy(&self, alloc: Global) -> Result<Select, AllocError>
         ensures { IfOk result (λ select. select ≡ self.now) }
     {
-        // Its proof takes seconds: three places hold what failing calls would drop.
         Ok(Select {
             table: self.table.copy()?,
             alias: copy_alias(&self.alias)?,
@@ -573,7 +567,6 @@ impl Selected {
 fn copy_tuples(alloc: Global, tuples: &[Items<Expr>]) -> Result<Vec<Items<Expr>>, AllocError>
     ensures { IfOk result (λ copies. copies.items ≡ tuples.now) }
 {
-    // Its proof takes seconds: six places hold what failing calls would drop, a loop.
     let mut copies = Vec::with_capacity(alloc, tuples.len())?;
     for tuple in tuples {
         copies.push(Items::from_vec(copy_exprs(alloc, tuple.as_slice())?))?;
@@ -584,7 +577,6 @@ fn copy_tuples(alloc: Global, tuples: &[Items<Expr>]) -> Result<Vec<Items<Expr>>
 fn copy_exprs(alloc: Global, exprs: &[Expr]) -> Result<Vec<Expr>, AllocError>
     ensures { IfOk result (λ copies. copies.items ≡ exprs.now) }
 {
-    // Its proof takes seconds: two places hold what failing calls would drop, a loop.
     let mut copies = Vec::with_capacity(alloc, exprs.len())?;
     for expr in exprs {
         copies.push(expr.copy(alloc)?)?;

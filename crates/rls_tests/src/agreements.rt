@@ -14,7 +14,6 @@ fn agree(
     alloc: Global,
     footprint: &Footprint,
 ) -> Result<bool, AllocError> {
-    // Its proof takes seconds: the length of what it says.
     let mut left = Plain::new(left);
     let mut right = Plain::new(right);
     agrees_on(alloc, &mut left, &mut right, footprint)
@@ -22,7 +21,6 @@ fn agree(
 
 /// The footprint of a look at one role.
 fn look_at(alloc: Global, role: Name) -> Result<Footprint, AllocError> {
-    // Its proof takes seconds: one place holds what a failing call would drop.
     let mut footprint = Footprint::new(alloc);
     footprint.note(Object::Role(role))?;
     Ok(footprint)
@@ -35,7 +33,6 @@ fn agree_on_role(
     alloc: Global,
     role: &str,
 ) -> Result<bool, Refusal> {
-    // Its proof takes seconds: one place holds what failing calls would drop.
     let footprint = look_at(alloc, Name::new(alloc, role)?)?;
     let agrees = agree(left, right, alloc, &footprint);
     drop(footprint);
@@ -44,7 +41,6 @@ fn agree_on_role(
 
 /// The opening state with the role `a` beside.
 fn with_a(alloc: Global) -> Result<Catalog, Refusal> {
-    // Its proof takes seconds: one place holds what a failing call would drop.
     let mut catalog = Catalog::new(alloc)?;
     match add_role(&mut catalog, alloc, "a", false) {
         Ok(()) => Ok(catalog),
@@ -57,7 +53,6 @@ fn with_a(alloc: Global) -> Result<Catalog, Refusal> {
 
 /// Whether the opening state and the one with the role `a` agree on the role.
 fn still_agree(alloc: Global, role: &str) -> Result<bool, Refusal> {
-    // Its proof takes seconds: one place holds what a failing call would drop.
     let later = with_a(alloc)?;
     match Catalog::new(alloc) {
         Ok(opening) => {
@@ -76,7 +71,6 @@ fn still_agree(alloc: Global, role: &str) -> Result<bool, Refusal> {
 /// What a change writes is told apart, all else is the same.
 #[test]
 fn states_agree_but_on_what_changed(rt: HostRuntime) {
-    // Its proof takes seconds: the length of what it says.
     assert!(rt; says(still_agree(rt.alloc(), "b"), true));
     assert!(rt; says(still_agree(rt.alloc(), "a"), false));
 }

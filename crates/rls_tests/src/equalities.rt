@@ -35,7 +35,6 @@ fn is_same_refusal(
     other: u32,
     another: &str,
 ) -> Result<bool, Refusal> {
-    // Its proof takes seconds: one place holds what a failing call would drop.
     let left = made(number, Name::new(alloc, name)?);
     match Name::new(alloc, another) {
         Ok(another) => {
@@ -55,7 +54,6 @@ fn is_same_refusal(
 /// Refusals are the same where nothing in them differs: neither their kind nor what they name.
 #[test]
 fn refusals_are_told_apart(rt: HostRuntime) {
-    // Its proof takes seconds: a loop.
     for (number, name, other, another, want) in [
         (1, "a", 1, "A", true),
         (1, "a", 1, "b", false),
@@ -86,7 +84,6 @@ fn refusals_are_told_apart(rt: HostRuntime) {
 
 /// Whether the texts spell the same statement.
 fn is_same_statement(alloc: Global, left: &str, right: &str) -> Result<bool, Refusal> {
-    // Its proof takes seconds: one place holds what a failing call would drop.
     let left = parse(alloc, left)?;
     match parse(alloc, right) {
         Ok(right) => {
@@ -105,7 +102,6 @@ fn is_same_statement(alloc: Global, left: &str, right: &str) -> Result<bool, Ref
 /// What is written in another way is the same statement.
 #[test]
 fn statements_are_the_same(rt: HostRuntime) {
-    // Its proof takes seconds: a loop.
     for (left, right) in [
         ("create user R", "CREATE ROLE r LOGIN;"),
         (
@@ -134,7 +130,6 @@ fn statements_are_the_same(rt: HostRuntime) {
 /// Statements that differ in one part are told apart.
 #[test]
 fn statements_are_told_apart(rt: HostRuntime) {
-    // Its proof takes seconds: a loop.
     for (left, right) in [
         ("CREATE ROLE r", "CREATE ROLE r LOGIN"),
         ("CREATE ROLE r LOGIN", "ALTER ROLE r LOGIN"),

@@ -10,7 +10,6 @@ use std::alloc::{AllocError, Global};
 
 /// Whether `a` has the privileges of `postgres`, behind the changes.
 fn has_all(catalog: &Catalog, alloc: Global, changes: &[Change]) -> Result<bool, Refusal> {
-    // Its proof takes seconds: one place holds what failing calls would drop.
     let a = Name::new(alloc, "a")?;
     let has = has_those_of_postgres(catalog, alloc, changes, &a);
     drop(a);
@@ -37,7 +36,6 @@ fn has_behind(
     role: &Name,
     of: &Name,
 ) -> Result<bool, AllocError> {
-    // Its proof takes seconds: two places hold what a failing call would drop.
     let mut source = Overlay::new(alloc, Plain::new(catalog), changes)?;
     let has = has(alloc, &mut source, role, of);
     drop(source);

@@ -21,7 +21,6 @@ fn policy(alloc: Global, name: &str, permissive: bool) -> Result<Policy, Refusal
 
 /// Whether a permissive policy `p` and a restrictive one `r` say it together, by what each says.
 fn both_say(alloc: Global, p: Truth, r: Truth, want: &str) -> Result<bool, Refusal> {
-    // Its proof takes seconds: one place holds what failing calls would drop.
     let permissive = policy(alloc, "p", true)?;
     match policy(alloc, "r", false) {
         Ok(restrictive) => {
@@ -50,7 +49,6 @@ fn say_both<'a>(
 
 /// Whether a restrictive policy alone says it, where it passes.
 fn restrictive_says(alloc: Global, want: &str) -> Result<bool, Refusal> {
-    // Its proof takes seconds: one place holds what failing calls would drop.
     let restrictive = policy(alloc, "r", false)?;
     let said = say(&[(Loan::new(&restrictive), Truth::True)], want);
     drop(restrictive);
@@ -76,7 +74,6 @@ fn named(verdict: &Verdict) -> &str {
 /// Only what is true passes, for both, and no permissive policy comes first.
 #[test]
 fn null_passes_no_policy(rt: HostRuntime) {
-    // Its proof takes seconds: a loop.
     let rows = [
         (Truth::True, Truth::True, "p"),
         (Truth::True, Truth::Unknown, "r"),
@@ -105,7 +102,6 @@ fn one_policy(alloc: Global, name: &str) -> Result<PolicyList, Refusal> {
 
 /// How many policies are left after one is exchanged and one taken away.
 fn left_after(alloc: Global, list: PolicyList, name: &str) -> Result<usize, Refusal> {
-    // Its proof takes seconds: three places hold what failing calls would drop.
     let exchanged = list.replaced(policy(alloc, name, false)?);
     let name = Name::new(alloc, name)?;
     let left = exchanged.without(&name);
@@ -114,7 +110,6 @@ fn left_after(alloc: Global, list: PolicyList, name: &str) -> Result<usize, Refu
 
 /// Whether a list has one policy, and none once that is exchanged and taken away.
 fn is_put_and_taken(alloc: Global, name: &str) -> Result<bool, Refusal> {
-    // Its proof takes seconds: two calls that may fail.
     let list = one_policy(alloc, name)?;
     let has_one = list.as_slice().len() == 1;
     let left = left_after(alloc, list, name)?;
@@ -156,7 +151,6 @@ fn chain(
     bypass_rls: bool,
     inherit: bool,
 ) -> Result<(), Refusal> {
-    // Its proof takes seconds: four calls that may fail.
     add_role(catalog, alloc, "a", false)?;
     add_role(catalog, alloc, "b", bypass_rls)?;
     add_role(catalog, alloc, "c", false)?;
@@ -178,7 +172,6 @@ fn exempts_on(
     role: &str,
     table: &TableDef,
 ) -> Result<bool, Refusal> {
-    // Its proof takes seconds: one place holds what failing calls would drop.
     let role = Name::new(alloc, role)?;
     let exempt = is_exempt(alloc, &mut Plain::new(catalog), &role, table);
     drop(role);
@@ -205,7 +198,6 @@ fn exempts_by_chain(
 /// Whether `b` has BYPASSRLS, whether it inherits from `c`, the role that asks, FORCE, and whether it is exempt.
 #[test]
 fn exemption_follows_ownership_and_nothing_else(rt: HostRuntime) {
-    // Its proof takes seconds: a loop.
     let rows = [
         (false, true, "a", false, true),
         (false, false, "a", false, false),
@@ -246,7 +238,6 @@ fn add_linked(
     next: u32,
     inherit: bool,
 ) -> Result<(), Refusal> {
-    // Its proof takes seconds: two places hold what failing calls would drop.
     add_role(catalog, alloc, role, false)?;
     let next = format!(in alloc; "r{next}")?;
     let added = add_member(catalog, alloc, role, next.as_str(), inherit);
@@ -256,7 +247,6 @@ fn add_linked(
 
 /// A chain of a thousand roles from `r0` up to `c`; the membership of the role numbered `broken` is without INHERIT.
 fn long_chain(catalog: &mut Catalog, alloc: Global, broken: u32) -> Result<(), Refusal> {
-    // Its proof takes seconds: a loop over three calls that may fail.
     for n in 0..1000 {
         add_link(catalog, alloc, n, n + 1, n != broken)?;
     }
@@ -278,7 +268,6 @@ fn exempts_by_long_chain(alloc: Global, broken: u32) -> Result<bool, Refusal> {
 
 #[test]
 fn chain_of_a_thousand_roles_is_walked(rt: HostRuntime) {
-    // Its proof takes seconds: a loop.
     for (broken, want) in [(5000, true), (500, false)] {
         assert!(rt;
             says(exempts_by_long_chain(rt.alloc(), broken), want),

@@ -9,7 +9,6 @@ use std::alloc::Global;
 /// Statements without an expression, and how they are printed.
 #[test]
 fn prints_statements(rt: HostRuntime) {
-    // Its proof takes seconds: a loop.
     for (text, want) in [
         ("create role R", "CREATE ROLE r"),
         (
@@ -68,7 +67,6 @@ fn prints_statements(rt: HostRuntime) {
 /// Statements with expressions, and how they are printed.
 #[test]
 fn prints_expressions(rt: HostRuntime) {
-    // Its proof takes seconds: a loop.
     for (text, want) in [
         (
             "insert into t values (1,- 2),( 'it''s' , null )returning *",

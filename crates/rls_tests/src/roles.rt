@@ -60,7 +60,6 @@ fn are(
     role: &Name,
     want: (bool, bool),
 ) -> Result<bool, AllocError> {
-    // Its proof takes seconds: two calls that may fail.
     let has = has(alloc, &mut Plain::new(catalog), member, role)?;
     let can = can_set(alloc, &mut Plain::new(catalog), member, role)?;
     Ok((has, can) == want)
@@ -113,7 +112,6 @@ fn are_in_crews(
 /// Who, which role, whether it has its privileges, whether it may set it.
 #[test]
 fn inherit_and_set_are_told_apart(rt: HostRuntime) {
-    // Its proof takes seconds: a loop.
     let rows = [
         ("bob", "bob", true, true),
         ("bob", "crew", false, true),

@@ -11,7 +11,6 @@ use std::alloc::Global;
 /// Statements on roles, memberships and privileges.
 #[test]
 fn reads_roles_and_memberships_again(rt: HostRuntime) {
-    // Its proof takes seconds: a loop.
     for text in [
         "CREATE ROLE Role",
         "CREATE ROLE r LOGIN",
@@ -57,7 +56,6 @@ fn reads_roles_and_memberships_again(rt: HostRuntime) {
 /// Statements on tables and policies.
 #[test]
 fn reads_tables_and_policies_again(rt: HostRuntime) {
-    // Its proof takes seconds: a loop.
     for text in [
         "CREATE TABLE t (a int, c bigint, s text, b bool)",
         "create TABLE Policy (Row int, LEVEL text)",
@@ -89,7 +87,6 @@ fn reads_tables_and_policies_again(rt: HostRuntime) {
 /// Statements that write rows.
 #[test]
 fn reads_changes_again(rt: HostRuntime) {
-    // Its proof takes seconds: a loop.
     for text in [
         "insert Into POLICY Values (1, 'Aa')",
         "INSERT INTO t VALUES (1, true), (2, false), (NULL, NULL)",
@@ -122,7 +119,6 @@ fn reads_changes_again(rt: HostRuntime) {
 /// Statements that read rows.
 #[test]
 fn reads_selects_again(rt: HostRuntime) {
-    // Its proof takes seconds: a loop.
     for text in [
         "SELECT * FROM t",
         "SELECT * FROM t -- all of it",
@@ -172,7 +168,6 @@ fn is_printed_again(alloc: Global, statement: &Statement) -> Result<bool, Refusa
 
 /// Whether the text's statement is that one, and is printed as this text.
 fn is_said_by(alloc: Global, text: &str, statement: &Statement) -> Result<bool, Refusal> {
-    // Its proof takes seconds: one place holds what a failing call would drop.
     let again = parse(alloc, text)?;
     let is = is_same_and_gives(alloc, &again, statement, text);
     drop(again);

@@ -9,7 +9,6 @@ use std::alloc::{AllocError, Global};
 
 /// Whether the role has its own privileges, and the object is noted as read then.
 fn notes(catalog: &Catalog, alloc: Global, role: &Name, read: &Object) -> Result<bool, AllocError> {
-    // Its proof takes seconds: two places hold what a failing call would drop.
     let mut source = Recording::new(alloc, Plain::new(catalog));
     let has_own = has(alloc, &mut source, role, role);
     let noted = source.footprint.contains(read);

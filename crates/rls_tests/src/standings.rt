@@ -49,7 +49,6 @@ fn select_for_b(alloc: Global) -> Result<Grant, Refusal> {
 }
 
 fn put_grant(catalog: &mut Catalog, alloc: Global) -> Result<(), Refusal> {
-    // Its proof takes seconds: five places hold what failing calls would drop.
     let mut grants = Items::new(alloc);
     grants.push(select_for_b(alloc)?)?;
     match Name::new(alloc, "t") {
@@ -86,7 +85,6 @@ fn policy_to(name: Name, to: Items<Grantee>) -> Policy {
 }
 
 fn put_policy(catalog: &mut Catalog, alloc: Global) -> Result<(), Refusal> {
-    // Its proof takes seconds: one place holds what failing calls would drop.
     let only = policy(alloc)?;
     let list = PolicyList::new(alloc).with(only)?;
     match Name::new(alloc, "t") {
@@ -106,7 +104,6 @@ fn put_member(catalog: &mut Catalog, alloc: Global) -> Result<(), Refusal> {
 
 /// `a` is a member of `b`; `c` owns `t`, and granted `b` SELECT with its option; `t` has a policy for SELECT.
 fn small(catalog: &mut Catalog, alloc: Global) -> Result<(), Refusal> {
-    // Its proof takes seconds: six calls that may fail.
     add_role(catalog, alloc, "a", false)?;
     add_role(catalog, alloc, "b", false)?;
     add_role(catalog, alloc, "c", false)?;
@@ -187,7 +184,6 @@ fn optioned(
     table: &Name,
     privilege: Privilege,
 ) -> Result<usize, Refusal> {
-    // Its proof takes seconds: one place holds what a failing call would drop.
     let holders = option(alloc, &mut Plain::new(catalog), table, privilege)?;
     Ok(holders.len())
 }
@@ -199,7 +195,6 @@ fn applied(
     table: &Name,
     kind: Kind,
 ) -> Result<usize, Refusal> {
-    // Its proof takes seconds: one call that may fail.
     let policies = applying(
         alloc,
         &mut Plain::new(catalog),
@@ -225,7 +220,6 @@ fn is_number(alloc: Global, ask: Ask, role: &str, table: &str, want: usize) -> b
 /// asked of whoever doesn't own the table, for its own type of command.
 #[test]
 fn small_state_says_who_may(rt: HostRuntime) {
-    // Its proof takes seconds: a loop.
     let rows = [
         (Ask::Holds(Privilege::Select), "a", "t", 1),
         (Ask::Holds(Privilege::Insert), "a", "t", 0),

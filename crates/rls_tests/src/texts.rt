@@ -9,7 +9,6 @@ use std::alloc::{AllocError, Global};
 /// Texts of the grammar, each with the tag of its statement.
 #[test]
 fn reads(rt: HostRuntime) {
-    // Its proof takes seconds: a loop.
     for (text, want) in [
         ("create user r with NOLOGIN Superuser;", "CREATE ROLE"),
         ("CREATE TABLE Policy (Row int, b boolean)", "CREATE TABLE"),
@@ -45,7 +44,6 @@ fn reads_items(rt: HostRuntime) {
 /// Items, qualifiers and aliases outside the grammar.
 #[test]
 fn refuses_items(rt: HostRuntime) {
-    // Its proof takes seconds: a loop.
     for text in [
         "SELECT a.b.c FROM t",
         "SELECT t.* FROM t",
@@ -77,7 +75,6 @@ fn refuses_items(rt: HostRuntime) {
 /// Subqueries, each with the tag of its statement.
 #[test]
 fn reads_subqueries(rt: HostRuntime) {
-    // Its proof takes seconds: a loop.
     for (text, want) in [
         (
             "SELECT * FROM t WHERE EXISTS (SELECT * FROM u AS v WHERE v.a = t.a)",
@@ -125,7 +122,6 @@ fn reads_subqueries(rt: HostRuntime) {
 /// Subqueries outside the grammar.
 #[test]
 fn refuses_subqueries(rt: HostRuntime) {
-    // Its proof takes seconds: a loop.
     for text in [
         "SELECT a FROM t WHERE SELECT b FROM u",
         "SELECT a FROM t WHERE a = SELECT b FROM u",
@@ -170,7 +166,6 @@ fn refuses(rt: HostRuntime) {
 /// The limits, one above, and which of them comes first.
 #[test]
 fn keeps_limits(rt: HostRuntime) {
-    // Its proof takes seconds: a loop.
     for (count, part, end, want) in [
         (63, "NOT ", "a", "SELECT"),
         (64, "NOT ", "a", "nesting"),
@@ -189,7 +184,6 @@ fn keeps_limits(rt: HostRuntime) {
 /// subquery that stands for a value counts one, and up to that of parentheses.
 #[test]
 fn keeps_subqueries(rt: HostRuntime) {
-    // Its proof takes seconds: a loop.
     for (count, part, want) in [
         (8, "EXISTS (SELECT * FROM t WHERE ", "SELECT"),
         (9, "EXISTS (SELECT * FROM t WHERE ", "subqueries"),
@@ -245,7 +239,6 @@ fn answers_repeated(
 }
 
 fn repeated(alloc: Global, count: u32, part: &str, end: &str) -> Result<String, AllocError> {
-    // Its proof takes seconds: a loop over three calls that may fail.
     let mut text = String::from_str(alloc, "SELECT * FROM t WHERE ")?;
     for _turn in 0..count {
         text.push_str(part)?;

@@ -83,7 +83,6 @@ fn refusals_have_their_texts(rt: HostRuntime) {
 
 /// Whether a copy of the refusal has the code and the text.
 fn reads_as(alloc: Global, number: u32, want: &str) -> Result<bool, Refusal> {
-    // Its proof takes seconds: one place holds what failing calls would drop.
     let refusal = refusal(alloc, number)?;
     let copied = refusal.copy(alloc);
     drop(refusal);
@@ -193,7 +192,6 @@ fn is_named(alloc: Global, text: &str, want: &str) -> bool {
 /// AND and OR of Kleene's logic, from the SQL standard.
 #[test]
 fn truth_tables(rt: HostRuntime) {
-    // Its proof takes seconds: a loop.
     let rows = [
         (Truth::True, Truth::Unknown, Truth::Unknown, Truth::True),
         (Truth::False, Truth::Unknown, Truth::False, Truth::Unknown),

@@ -66,7 +66,6 @@ fn attributes_if_any(
 ) -> Result<(Items<RoleAttribute>, &[Token]), Fault>
     ensures { Gives result (or_no_items (g.attributes_if_any.parses.read tokens.now)) }
 {
-    // Its proof takes seconds: two cited laws.
     if let Some(rest) = word(tokens, b"with") {
         attributes(alloc, rest)
     } else if starts_attribute(tokens) {
@@ -80,7 +79,6 @@ fn attributes_if_any(
 fn attributes(alloc: Global, tokens: &[Token]) -> Result<(Items<RoleAttribute>, &[Token]), Fault>
     ensures { Gives result (g.attributes.parses.read tokens.now) }
 {
-    // Its proof takes seconds: two places hold what a failing call would drop, one cited law.
     match first_and_more(alloc, tokens) {
         Ok((all, rest)) => {
             if each_once(all.as_slice()) {
@@ -117,7 +115,6 @@ fn more_attributes(
 ) -> Result<(Items<RoleAttribute>, &[Token]), Fault>
     ensures { Gives result (with_front first (read_many (attribute_heads) g.attribute.parses.read (length tokens.now) tokens.now)) }
 {
-    // Its proof takes seconds: a loop, five cited laws.
     let mut all = first;
     let mut rest = tokens;
     for _turn in 0..tokens.len() {
@@ -141,7 +138,6 @@ fn more_attributes(
 fn attribute(tokens: &[Token]) -> Result<(RoleAttribute, &[Token]), Fault>
     ensures { Gives result (g.attribute.parses.read tokens.now) }
 {
-    // Its proof takes seconds: one cited law.
     if let Some(rest) = word(tokens, b"superuser") {
         Ok((RoleAttribute::Superuser(true), rest))
     } else if let Some(rest) = word(tokens, b"nosuperuser") {
@@ -171,7 +167,6 @@ const ATTRIBUTES: [&[u8]; 6] = [
 fn starts_attribute(tokens: &[Token]) -> bool
     ensures { result ≡ sees attribute_heads tokens.now }
 {
-    // Its proof takes seconds: the length of what it says.
     sees_one_of(tokens, &ATTRIBUTES)
 }
 
@@ -224,7 +219,6 @@ fn opening(is_user: bool) -> Attributes
 fn gathered(opening: Attributes, mut written: &[RoleAttribute]) -> Attributes
     ensures { result ≡ put_in values.with_attribute opening written.entry.now }
 {
-    // Its proof takes seconds: a loop.
     let mut attributes = opening;
     while let [first, rest @ ..] = written {
         attributes = with_attribute(attributes, *first);

@@ -25,7 +25,6 @@ type Ending = (Option<Tree>, Option<Selected>);
 pub fn update(alloc: Global, depth: usize, tokens: &[Token]) -> Result<(Draft, &[Token]), Fault>
     ensures { Gives result ((g.update (g.expr depth)).read tokens.now) }
 {
-    // Its proof takes seconds: one place holds what a failing call would drop, four arms, one cited law.
     let Some(rest) = word(tokens, b"update") else {
         return Err(Fault::Syntax);
     };
@@ -49,7 +48,6 @@ fn set_behind(
 ) -> Result<((SetColumns, Ending), &[Token]), Fault>
     ensures { Gives result (and_then (read_token (Token.Word (codes "set")) tokens.now) (λ _ rest. read_both (g.set_columns (g.expr depth)).read (g.ending (g.expr depth)).read rest)) }
 {
-    // Its proof takes seconds: five places hold what a failing call would drop, four arms.
     let Some(rest) = word(tokens, b"set") else {
         return Err(Fault::Syntax);
     };
@@ -84,7 +82,6 @@ fn updated(table: Name, columns: SetColumns, ending: Ending) -> Draft
 pub fn delete(alloc: Global, depth: usize, tokens: &[Token]) -> Result<(Draft, &[Token]), Fault>
     ensures { Gives result ((g.delete (g.expr depth)).read tokens.now) }
 {
-    // Its proof takes seconds: one place holds what a failing call would drop, four arms, one cited law.
     let Some(rest) = word(tokens, b"delete") else {
         return Err(Fault::Syntax);
     };
@@ -188,7 +185,6 @@ fn set_columns(
 fn are_distinct_settings(alloc: Global, mut settings: &[Setting]) -> Result<bool, AllocError>
     ensures { IfOk result (λ distinct. distinct ≡ values.are_distinct (values.set_names settings.entry.now)) }
 {
-    // Its proof takes seconds: a loop over a call that may fail.
     let mut seen = BTreeSet::new(alloc);
     while let [first, rest @ ..] = settings {
         if !seen.insert(first.column.as_str())? {
@@ -207,7 +203,6 @@ fn all_set_columns(
 ) -> Result<(SetColumns, &[Token]), Fault>
     ensures { Gives result ((g.all_set_columns (g.expr depth)).read tokens.now) }
 {
-    // Its proof takes seconds: one place holds what a failing call would drop, four arms, two cited laws.
     match set_column(alloc, depth, tokens) {
         Ok(((first, height), rest)) => match only(alloc, first) {
             Ok(all) => more_set_columns(alloc, depth, (all, height), rest),
@@ -286,7 +281,6 @@ fn set_column(alloc: Global, depth: usize, tokens: &[Token]) -> Result<(SetColum
 fn set_value(alloc: Global, depth: usize, tokens: &[Token]) -> Result<(Tree, &[Token]), Fault>
     ensures { Gives result (and_then (read_token (Token.Symbol Symbol.Equal) tokens.now) (λ _ rest. (g.expr depth).read rest)) }
 {
-    // Its proof takes seconds: the length of what it says.
     match symbol(tokens, Symbol::Equal) {
         Some(rest) => expr(alloc, depth, rest),
         None => Err(Fault::Syntax),

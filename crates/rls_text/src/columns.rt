@@ -25,7 +25,6 @@ pub enum ColumnMark {
 pub fn column(alloc: Global, tokens: &[Token]) -> Result<(MarkedColumn, &[Token]), Fault>
     ensures { Gives result (g.column_definition.parses.read tokens.now) }
 {
-    // Its proof takes seconds: three places hold what a failing call would drop, six arms, one cited law.
     match name(alloc, tokens) {
         Ok((name, rest)) => match column_type(rest) {
             Ok((kind, rest)) => match column_marks(alloc, rest) {
@@ -66,7 +65,6 @@ fn marked(name: Name, kind: ColType, marks: &[ColumnMark]) -> MarkedColumn
 fn column_type(tokens: &[Token]) -> Result<(ColType, &[Token]), Fault>
     ensures { Gives result (g.column_type.parses.read tokens.now) }
 {
-    // Its proof takes seconds: one cited law.
     if let Some(rest) = word(tokens, b"integer") {
         Ok((ColType::Integer, rest))
     } else if let Some(rest) = word(tokens, b"int") {
@@ -88,7 +86,6 @@ fn column_type(tokens: &[Token]) -> Result<(ColType, &[Token]), Fault>
 fn column_marks(alloc: Global, tokens: &[Token]) -> Result<(Items<ColumnMark>, &[Token]), Fault>
     ensures { Gives result (g.column_marks.parses.read tokens.now) }
 {
-    // Its proof takes seconds: two places hold what a failing call would drop, one cited law.
     match all_marks(alloc, tokens) {
         Ok((marks, rest)) => {
             if marked_once(marks.as_slice()) {
@@ -106,7 +103,6 @@ fn column_marks(alloc: Global, tokens: &[Token]) -> Result<(Items<ColumnMark>, &
 fn all_marks(alloc: Global, tokens: &[Token]) -> Result<(Items<ColumnMark>, &[Token]), Fault>
     ensures { Gives result (g.all_marks.parses.read tokens.now) }
 {
-    // Its proof takes seconds: a loop, six cited laws.
     let mut all = Items::new(alloc);
     let mut rest = tokens;
     for _turn in 0..tokens.len() {
@@ -137,7 +133,6 @@ fn starts_mark(tokens: &[Token]) -> bool
 fn column_mark(tokens: &[Token]) -> Result<(ColumnMark, &[Token]), Fault>
     ensures { Gives result (g.column_mark.parses.read tokens.now) }
 {
-    // Its proof takes seconds: four arms, one cited law.
     if let Some(rest) = word(tokens, b"not") {
         match word(rest, b"null") {
             Some(rest) => Ok((ColumnMark::NotNull, rest)),

@@ -18,7 +18,6 @@ use std::alloc::Global;
 pub fn create(alloc: Global, depth: usize, tokens: &[Token]) -> Result<(Draft, &[Token]), Fault>
     ensures { Gives result ((g.create (g.expr depth)).read tokens.now) }
 {
-    // Its proof takes seconds: one cited law.
     let Some(rest) = word(tokens, b"create") else {
         return Err(Fault::Syntax);
     };
@@ -39,7 +38,6 @@ pub fn create(alloc: Global, depth: usize, tokens: &[Token]) -> Result<(Draft, &
 fn role(alloc: Global, is_user: bool, tokens: &[Token]) -> Result<(Draft, &[Token]), Fault>
     ensures { Gives result (read_mapped flat (g.role is_user).parses.read tokens.now) }
 {
-    // Its proof takes seconds: one place holds what a failing call would drop, four arms, one cited law.
     match name(alloc, tokens) {
         Ok((name, rest)) => match attributes_of_role(alloc, is_user, rest) {
             Ok((attributes, rest)) => {
@@ -60,7 +58,6 @@ fn role(alloc: Global, is_user: bool, tokens: &[Token]) -> Result<(Draft, &[Toke
 pub fn alter(alloc: Global, depth: usize, tokens: &[Token]) -> Result<(Draft, &[Token]), Fault>
     ensures { Gives result ((g.alter (g.expr depth)).read tokens.now) }
 {
-    // Its proof takes seconds: one cited law.
     let Some(rest) = word(tokens, b"alter") else {
         return Err(Fault::Syntax);
     };
@@ -79,7 +76,6 @@ pub fn alter(alloc: Global, depth: usize, tokens: &[Token]) -> Result<(Draft, &[
 fn altered_role(alloc: Global, tokens: &[Token]) -> Result<(Draft, &[Token]), Fault>
     ensures { Gives result (read_mapped flat g.altered_role.parses.read tokens.now) }
 {
-    // Its proof takes seconds: one place holds what a failing call would drop, four arms, one cited law.
     match name(alloc, tokens) {
         Ok((name, rest)) => match written_attributes(alloc, rest) {
             Ok((attributes, rest)) => {

@@ -126,7 +126,6 @@ fn and_more(
 ) -> Result<(Operands, &[Token]), Fault>
     ensures { Gives result (folded spec.with_operand first (read_many (Keyword (codes "and") ∷ []) (g.and_next (g.expr depth)).read (length tokens.now) tokens.now)) }
 {
-    // Its proof takes seconds: one place holds what a failing call would drop, four arms, a loop, five cited laws.
     let mut operands = first;
     let mut rest = tokens;
     for _turn in 0..tokens.len() {
@@ -663,7 +662,6 @@ fn negated(alloc: Global, count: usize, operand: Tree) -> Result<Tree, AllocErro
 fn null_tests(alloc: Global, tested: Tree, tokens: &[Token]) -> Result<(Tree, &[Token]), Fault>
     ensures { Gives result (folded spec.null_test_of tested (read_many (Keyword (codes "is") ∷ []) g.null_test.parses.read (length tokens.now) tokens.now)) }
 {
-    // Its proof takes seconds: three places hold what a failing call would drop, four arms, a loop, five cited laws.
     let mut tested = tested;
     let mut rest = tokens;
     for _turn in 0..tokens.len() {
@@ -770,7 +768,6 @@ fn starts_comparison(tokens: &[Token]) -> bool
 fn comparison(tokens: &[Token]) -> Result<(Comparison, &[Token]), Fault>
     ensures { Gives result (g.comparison.parses.read tokens.now) }
 {
-    // Its proof takes seconds: seven arms, one cited law.
     match tokens {
         [Token::Symbol(Symbol::Equal), rest @ ..] => Ok((Comparison::Equal, rest)),
         [Token::Symbol(Symbol::NotEqual), rest @ ..] => Ok((Comparison::NotEqual, rest)),

@@ -19,7 +19,6 @@ use std::alloc::Global;
 pub fn grant(alloc: Global, tokens: &[Token]) -> Result<(Statement, &[Token]), Fault>
     ensures { Gives result (g.grant.parses.read tokens.now) }
 {
-    // Its proof takes seconds: one cited law.
     let Some(rest) = word(tokens, b"grant") else {
         return Err(Fault::Syntax);
     };
@@ -58,7 +57,6 @@ fn follows_roles(tokens: &[Token]) -> bool
 fn granted_privileges(alloc: Global, tokens: &[Token]) -> Result<(Statement, &[Token]), Fault>
     ensures { Gives result (g.granted_privileges.parses.read tokens.now) }
 {
-    // Its proof takes seconds: one place holds what a failing call would drop, four arms, one cited law.
     match privileges_on(alloc, tokens) {
         Ok(((privileges, table), rest)) => match granted_to(alloc, rest) {
             Ok(((to, with_option), rest)) => {
@@ -87,7 +85,6 @@ pub fn privileges_on(
 ) -> Result<((Privileges, Name), &[Token]), Fault>
     ensures { Gives result (g.privileges_on.parses.read tokens.now) }
 {
-    // Its proof takes seconds: one call that may fail, one cited law.
     let (privileges, rest) = privileges(tokens)?;
     let Some(rest) = word(rest, b"on") else {
         return Err(Fault::Syntax);
@@ -279,7 +276,6 @@ fn more_grantees(
 ) -> Result<(Items<Grantee>, &[Token]), Fault>
     ensures { Gives result (with_front first (read_many (Sign Symbol.Comma ∷ []) (with_comma g.grantee).parses.read (length tokens.now) tokens.now)) }
 {
-    // Its proof takes seconds: two places hold what a failing call would drop, a loop, five cited laws.
     let mut all = first;
     let mut rest = tokens;
     for _turn in 0..tokens.len() {

@@ -35,7 +35,6 @@ fn more_items(
 ) -> Result<(Items<Expr>, &[Token]), Fault>
     ensures { Gives result (with_front first (read_many (Sign Symbol.Comma ∷ []) (with_comma g.item).parses.read (length tokens.now) tokens.now)) }
 {
-    // Its proof takes seconds: two places hold what a failing call would drop, a loop, five cited laws.
     let mut all = first;
     let mut rest = tokens;
     for _turn in 0..tokens.len() {

@@ -27,7 +27,6 @@ pub fn first_limit(tokens: &[Token]) -> Option<Limit>
 fn limit_at(unclosed: usize, token: &Token) -> Option<Limit>
     ensures { result ≡ spec.limit_at unclosed token.now }
 {
-    // Its proof takes seconds: the length of what it says.
     match token {
         Token::Word(letters) if letters.as_str().len() > MAX_NAME => Some(Limit::Name),
         Token::Symbol(Symbol::LParen) if unclosed >= MAX_PARENTHESES => Some(Limit::Parentheses),

@@ -19,7 +19,6 @@ use std::alloc::Global;
 pub fn granted_roles(alloc: Global, tokens: &[Token]) -> Result<(Statement, &[Token]), Fault>
     ensures { Gives result (g.granted_roles.parses.read tokens.now) }
 {
-    // Its proof takes seconds: three places hold what a failing call would drop, four arms, one cited law.
     match names(alloc, tokens) {
         Ok((roles, rest)) => match to_members(alloc, rest) {
             Ok(((to, options), rest)) => {
@@ -82,7 +81,6 @@ fn option_second(tokens: &[Token]) -> bool
 fn revoked_option(alloc: Global, tokens: &[Token]) -> Result<(Statement, &[Token]), Fault>
     ensures { Gives result (g.revoked_option.parses.read tokens.now) }
 {
-    // Its proof takes seconds: one call that may fail, one cited law.
     let (option, rest) = option_for(tokens)?;
     match roles_from(alloc, rest) {
         Ok(((roles, from), rest)) => {
@@ -350,7 +348,6 @@ fn more_settings(
 ) -> Result<(Items<(MembershipOption, bool)>, &[Token]), Fault>
     ensures { Gives result (with_front first (read_many (Sign Symbol.Comma ∷ []) (with_comma g.setting).parses.read (length tokens.now) tokens.now)) }
 {
-    // Its proof takes seconds: a loop, five cited laws.
     let mut all = first;
     let mut rest = tokens;
     for _turn in 0..tokens.len() {

@@ -37,7 +37,6 @@ pub fn parse(alloc: Global, text: &str) -> Result<Statement, Refusal>
     // It is what the grammar and the limits say, unless memory runs out.
     ensures answer { ¬ (result ≡ Err Refusal.NoMemory) → Answers (words_of text.now) result }
 {
-    // Its proof takes seconds: one place holds what a failing call would drop.
     let tokens = words(alloc, text)?;
     answer(alloc, tokens.as_slice())
 }
@@ -59,7 +58,6 @@ fn answer(alloc: Global, tokens: &[Token]) -> Result<Statement, Refusal>
 fn limited(draft: Draft) -> Result<Statement, Refusal>
     ensures { result ≡ within_limits draft }
 {
-    // Its proof takes seconds: one place holds what a failing call would drop.
     let (statement, depth) = draft;
     if column_count(&statement) > MAX_COLUMNS {
         drop(statement);
@@ -91,7 +89,6 @@ fn whole(alloc: Global, tokens: &[Token]) -> Result<Draft, Fault>
     requires { spec.first_limit tokens.now ≡ None }
     ensures { GivesWhole result (whole_of tokens.now) }
 {
-    // Its proof takes seconds: three places hold what a failing call would drop, four arms, one cited law.
     match statement(alloc, tokens.len() + 1, tokens) {
         Ok((statement, rest)) => match rest {
             [] => Ok(statement),
@@ -122,7 +119,6 @@ fn statement(alloc: Global, depth: usize, tokens: &[Token]) -> Result<(Draft, &[
 fn body(alloc: Global, depth: usize, tokens: &[Token]) -> Result<(Draft, &[Token]), Fault>
     ensures { Gives result ((g.body (g.expr depth)).read tokens.now) }
 {
-    // Its proof takes seconds: one cited law.
     if sees_word(tokens, b"select") {
         select(alloc, depth, tokens)
     } else if sees_word(tokens, b"insert") {
@@ -148,7 +144,6 @@ fn body(alloc: Global, depth: usize, tokens: &[Token]) -> Result<(Draft, &[Token
 fn flat_body(alloc: Global, tokens: &[Token]) -> Result<(Statement, &[Token]), Fault>
     ensures { Gives result (g.flat_body.parses.read tokens.now) }
 {
-    // Its proof takes seconds: one cited law.
     if sees_word(tokens, b"drop") {
         dropped_policy(alloc, tokens)
     } else if sees_word(tokens, b"grant") {

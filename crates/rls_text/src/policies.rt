@@ -27,7 +27,6 @@ type PolicyChange = (Option<Items<Grantee>>, Conditions);
 pub fn policy(alloc: Global, depth: usize, tokens: &[Token]) -> Result<(Draft, &[Token]), Fault>
     ensures { Gives result ((g.policy (g.expr depth)).read tokens.now) }
 {
-    // Its proof takes seconds: four places hold what a failing call would drop, four arms, one cited law.
     match policy_on(alloc, tokens) {
         Ok((names, rest)) => match proper_description(alloc, depth, rest) {
             Ok((description, rest)) => Ok((created(names, description), rest)),
@@ -70,7 +69,6 @@ pub fn altered_policy(
 ) -> Result<(Draft, &[Token]), Fault>
     ensures { Gives result ((g.altered_policy (g.expr depth)).read tokens.now) }
 {
-    // Its proof takes seconds: four places hold what a failing call would drop, four arms, one cited law.
     match policy_on(alloc, tokens) {
         Ok((names, rest)) => match proper_change(alloc, depth, rest) {
             Ok((change, rest)) => Ok((altered(names, change), rest)),
@@ -105,7 +103,6 @@ fn altered(names: (Name, Name), change: PolicyChange) -> Draft
 pub fn dropped_policy(alloc: Global, tokens: &[Token]) -> Result<(Statement, &[Token]), Fault>
     ensures { Gives result (g.dropped_policy.parses.read tokens.now) }
 {
-    // Its proof takes seconds: one cited law.
     let Some(rest) = word(tokens, b"drop") else {
         return Err(Fault::Syntax);
     };
@@ -194,7 +191,6 @@ fn description(
 ) -> Result<(Description, &[Token]), Fault>
     ensures { Gives result ((g.description (g.expr depth)).read tokens.now) }
 {
-    // Its proof takes seconds: three places hold what a failing call would drop, four arms, one cited law.
     let (options, rest) = policy_options(tokens)?;
     match for_grantees(alloc, rest) {
         Ok((to, rest)) => match conditions(alloc, depth, rest) {

@@ -64,7 +64,6 @@ fn for_commands(tokens: &[Token]) -> Result<(PolicyKind, &[Token]), Fault>
 fn policy_kind(tokens: &[Token]) -> Result<(PolicyKind, &[Token]), Fault>
     ensures { Gives result (g.policy_kind.parses.read tokens.now) }
 {
-    // Its proof takes seconds: two cited laws.
     if let Some(rest) = word(tokens, b"all") {
         Ok((PolicyKind::All, rest))
     } else if let Some(rest) = word(tokens, b"select") {

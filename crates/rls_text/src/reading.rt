@@ -117,7 +117,6 @@ pub fn only<T: Drop>(alloc: Global, item: T) -> Result<Items<T>, AllocError>
 pub fn name(alloc: Global, tokens: &[Token]) -> Result<(Name, &[Token]), Fault>
     ensures { Gives result (g.name.parses.read tokens.now) }
 {
-    // Its proof takes seconds: four arms, one cited law.
     match tokens {
         [Token::Word(letters), rest @ ..] if !is_reserved(letters.as_str().as_bytes()) => {
             match named(alloc, letters.as_str()) {

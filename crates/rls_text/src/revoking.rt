@@ -18,7 +18,6 @@ use std::alloc::Global;
 pub fn revoke(alloc: Global, tokens: &[Token]) -> Result<(Statement, &[Token]), Fault>
     ensures { Gives result (g.revoke.parses.read tokens.now) }
 {
-    // Its proof takes seconds: one cited law.
     let Some(rest) = word(tokens, b"revoke") else {
         return Err(Fault::Syntax);
     };
@@ -33,7 +32,6 @@ pub fn revoke(alloc: Global, tokens: &[Token]) -> Result<(Statement, &[Token]), 
 fn revoked_privileges(alloc: Global, tokens: &[Token]) -> Result<(Statement, &[Token]), Fault>
     ensures { Gives result (g.revoked_privileges.parses.read tokens.now) }
 {
-    // Its proof takes seconds: one place holds what a failing call would drop, four arms, one cited law.
     let (option_only, rest) = option_only(tokens)?;
     match privileges_on(alloc, rest) {
         Ok(((privileges, table), rest)) => match revoked_from(alloc, rest) {

@@ -50,7 +50,6 @@ fn selected(select: SelectParts) -> Draft
 pub fn insert(alloc: Global, depth: usize, tokens: &[Token]) -> Result<(Draft, &[Token]), Fault>
     ensures { Gives result ((g.insert (g.expr depth)).read tokens.now) }
 {
-    // Its proof takes seconds: one place holds what a failing call would drop, four arms, one cited law.
     let Some(rest) = word(tokens, b"insert") else {
         return Err(Fault::Syntax);
     };

@@ -74,7 +74,6 @@ fn settings_fit(settings: &[Setting], room: usize) -> bool
 fn fits(expr: &Expr, room: usize) -> bool
     ensures { result ≡ has_room room expr.now }
 {
-    // Its proof takes seconds: seven arms.
     match expr.node() {
         Node::Literal(_) | Node::Column(_) | Node::Place(_) | Node::CurrentUser => true,
         Node::Compare(_, left, right) => fits(left, room) && fits(right, room),

@@ -156,7 +156,6 @@ fn has_no_key(mut columns: &[MarkedColumn]) -> bool
 fn are_distinct(alloc: Global, mut columns: &[MarkedColumn]) -> Result<bool, AllocError>
     ensures { IfOk result (λ distinct. distinct ≡ values.are_distinct (values.column_names columns.entry.now)) }
 {
-    // Its proof takes seconds: a loop over a call that may fail.
     let mut seen = BTreeSet::new(alloc);
     while let [first, rest @ ..] = columns {
         if !seen.insert(first.column.name.as_str())? {
@@ -338,7 +337,6 @@ pub fn distinct_names(alloc: Global, tokens: &[Token]) -> Result<(Items<Name>, &
 fn are_distinct_names(alloc: Global, mut names: &[Name]) -> Result<bool, AllocError>
     ensures { IfOk result (λ distinct. distinct ≡ values.are_distinct names.entry.now) }
 {
-    // Its proof takes seconds: a loop over a call that may fail.
     let mut seen = BTreeSet::new(alloc);
     while let [first, rest @ ..] = names {
         if !seen.insert(first.as_str())? {
@@ -354,7 +352,6 @@ fn are_distinct_names(alloc: Global, mut names: &[Name]) -> Result<bool, AllocEr
 pub fn altered_table(alloc: Global, tokens: &[Token]) -> Result<(Draft, &[Token]), Fault>
     ensures { Gives result (read_mapped flat g.altered_table.parses.read tokens.now) }
 {
-    // Its proof takes seconds: one place holds what a failing call would drop, four arms, one cited law.
     match name(alloc, tokens) {
         Ok((table, rest)) => match security_change(rest) {
             Ok((change, rest)) => {

@@ -444,7 +444,6 @@ fn queried_of(
 ) -> Result<Tree, AllocError>
     ensures { IfOk result (λ tree. tree ≡ spec.among_of left negated (Queried select)) }
 {
-    // Its proof takes seconds: 15 places hold what a failing call would drop, four arms, one cited law.
     let (left, depth) = left;
     let (select, other) = parted_select(select);
     let depth = depth.max(one_deeper(other));

@@ -37,7 +37,6 @@ fn chars_of(alloc: Global, text: &str) -> Result<Vec<char>, AllocError>
 fn words_in(alloc: Global, chars: &[char]) -> Result<Vec<Token>, AllocError>
     ensures { IfOk result (λ tokens. tokens.items ≡ spec.words_in (length chars.now) chars.now) }
 {
-    // Its proof takes seconds: two places hold what failing calls would drop, a loop, five cited laws.
     let mut tokens = Vec::with_capacity(alloc, min(USUAL_WORDS, chars.len()))?;
     let mut rest = chars;
     for _turn in 0..chars.len() {
@@ -134,7 +133,6 @@ fn word(alloc: Global, first: char, behind: &[char]) -> Result<(Token, &[char]),
     requires { names.is_letter first ≡ true }
     ensures { IfOk result (λ read. spec.word_of first behind.now ≡ (read.0, read.1.now)) }
 {
-    // Its proof takes seconds: a loop over two calls that may fail.
     let mut word = String::new(alloc);
     word.push(first.to_ascii_lowercase())?;
     let mut rest = behind;

@@ -6,6 +6,7 @@ ghost use Rattle.rls_value.specs.Names as spec;
 ghost use Rattle.rls_value.specs.Names.{folded, spells_name, is_name_text, one_of, reserved, IsName};
 
 use crate::refusal::{Limit, Refusal};
+use shared_map::Shared;
 use std::alloc::{AllocError, Global};
 use std::cmp::Ordering;
 use std::fmt;
@@ -46,7 +47,6 @@ impl Name {
         ensures syntax { IsErrOf result Refusal.Syntax → spells_name text.now ≡ false }
         ensures refused { IfErr result RefusesName }
     {
-        // Its proof takes seconds: two calls that may fail.
         if text.len() > MAX_NAME {
             return Err(Refusal::Limit(Limit::Name));
         }
@@ -93,6 +93,20 @@ impl Name {
     {
         self.letters.as_str() == other.letters.as_str()
     }
+}
+
+impl Clone for Name {
+    ghost use Rattle.std.specs.Prelude.{◌≡◌};
+
+    ghost is_clone = { λ x y. y ≡ x };
+
+    fn clone(&self) -> Result<Name, AllocError> {
+        self.copy()
+    }
+}
+
+impl Shared for Name {
+    ghost same = { λ x y h. h };
 }
 
 impl fmt::Display for Name {
@@ -202,7 +216,6 @@ fn is_letter_or_digit(byte: u8) -> bool
 pub fn is_reserved(word: &[u8]) -> bool
     ensures { result ≡ reserved word.now }
 {
-    // Its proof takes seconds: 16 arms, one cited law.
     match word {
         [b'a', ..] => is_one_of(&[b"all", b"and", b"as"], word),
         [b'c', ..] => is_one_of(&[b"check", b"create", b"current_user"], word),

@@ -198,7 +198,6 @@ impl Refusal {
     pub fn copy(&self, alloc: Global) -> Result<Refusal, AllocError>
         ensures { IfOk result (λ refusal. refusal ≡ self.now) }
     {
-        // Its proof takes seconds: 11 calls that may fail, 20 arms.
         match self {
             Refusal::NoMemory => Ok(Refusal::NoMemory),
             Refusal::Syntax => Ok(Refusal::Syntax),
@@ -267,7 +266,6 @@ impl Why {
     pub fn copy(&self) -> Result<Why, AllocError>
         ensures { IfOk result (λ why. why ≡ self.now) }
     {
-        // Its proof takes seconds: two places hold what failing calls would drop, seven arms.
         match self {
             Why::Privilege(privilege, table) => Ok(Why::Privilege(*privilege, table.copy()?)),
             Why::Owner(table) => Ok(Why::Owner(table.copy()?)),
@@ -343,7 +341,6 @@ impl fmt::Display for Refusal {
     ghost output = { λ refusal. Some (refusal_text refusal) };
 
     fn fmt<W: fmt::Write>(&self, f: &mut fmt::Formatter<W>) -> fmt::Result {
-        // Its proof takes seconds: 20 arms.
         match self {
             Refusal::NoMemory => f.write_str("out of memory"),
             Refusal::Syntax => f.write_str("syntax error"),
@@ -620,7 +617,6 @@ fn write_structure<W: fmt::Write>(
 ) -> fmt::Result
     ensures { WritesOnOk W.write_str_gives f.old result ((decimal first ++ (codes " read " ++ (object_text read_by_first.now ++ (codes ", " ++ (decimal pivot ++ codes " wrote it; "))))) ++ (decimal pivot ++ (codes " read " ++ (object_text read_by_pivot.now ++ (codes ", " ++ (decimal last ++ codes " wrote it")))))) f.new }
 {
-    // Its proof takes seconds: one call that may fail.
     write!(f, "{first} read {read_by_first}, {pivot} wrote it; ")?;
     write!(f, "{pivot} read {read_by_pivot}, {last} wrote it")
 }

@@ -6,6 +6,7 @@ ghost use Rattle.std.specs.Cmp.Lexicographic.{slice_cmp};
 ghost use Rattle.rls_value.specs.Values.{listed, value_at};
 
 use crate::value::{Value, cmp_values};
+use shared_map::Shared;
 use std::alloc::{AllocError, Global};
 use std::cmp::Ordering;
 use std::fmt;
@@ -75,6 +76,22 @@ impl Row {
             values: self.values.clone()?,
         })
     }
+}
+
+impl Clone for Row {
+    ghost use Rattle.std.specs.Prelude.{◌≡◌};
+
+    ghost is_clone = { λ x y. y ≡ x };
+
+    fn clone(&self) -> Result<Row, AllocError> {
+        Ok(Row {
+            values: self.values.clone()?,
+        })
+    }
+}
+
+impl Shared for Row {
+    ghost same = { λ x y h. h };
 }
 
 fn copy_values(alloc: Global, values: &[Value]) -> Result<Vec<Value>, AllocError>
@@ -191,6 +208,12 @@ fn cmp_lists(mut left: &[Value], mut right: &[Value]) -> Ordering
 pub struct RowId {
     pub txn: u64,
     pub n: u32,
+}
+
+impl Shared for RowId {
+    ghost use Rattle.std.proofs.Common.{rules};
+
+    ghost same = { Prim.search rules };
 }
 
 /// As `17.0`.

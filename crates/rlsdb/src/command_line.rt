@@ -30,7 +30,6 @@ Exit statuses: 0 done, refused statements included; 1 a read or write fault, or 
 
 /// Runs what the words of the command line ask for, and gives the exit status.
 pub fn run(rt: &HostRuntime) -> u8 {
-    // Its proof takes seconds: 11 places hold what a failing call would drop, four arms.
     let Ok(words) = env::args(rt) else {
         return report(rt, RunFault::NoMemory);
     };
@@ -50,7 +49,6 @@ pub fn file_named<'a, T: AsStr>(
     alloc: Global,
     words: &'a [T],
 ) -> Result<Option<&'a str>, clap::Error> {
-    // Its proof takes seconds: eight places hold what failing calls would drop.
     let matches = command(alloc)?.try_get_matches_from(words)?;
     Ok(
         matches
@@ -60,7 +58,6 @@ pub fn file_named<'a, T: AsStr>(
 }
 
 fn command<'a>(alloc: Global) -> Result<Command<'a>, AllocError> {
-    // Its proof takes seconds: one call that may fail.
     let run = run_command(alloc)?;
     Command::new(alloc, "rlsdb")
         .about("A database with row-level security")
@@ -70,7 +67,6 @@ fn command<'a>(alloc: Global) -> Result<Command<'a>, AllocError> {
 }
 
 fn run_command<'a>(alloc: Global) -> Result<Command<'a>, AllocError> {
-    // Its proof takes seconds: the length of what it says.
     let file = Arg::new(alloc, "FILE")
         .required(true)
         .help("The script to run, or `-` for standard input");
@@ -116,7 +112,6 @@ fn run_reader<R: Read + Drop>(rt: &HostRuntime, reader: R) -> u8 {
 }
 
 fn run_from<R: Read + Drop>(rt: &HostRuntime, reader: R) -> Result<(), RunFault> {
-    // Its proof takes seconds: 21 places hold what failing calls would drop.
     let mut input = DeviceIn::new(rt.alloc(), reader).map_err(|_| RunFault::NoMemory)?;
     let mut output = DeviceOut::new(rt.alloc(), io::writer(rt)).map_err(|_| RunFault::NoMemory)?;
     let ran = run_script(rt.alloc(), &mut input, &mut output);

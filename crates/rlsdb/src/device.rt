@@ -45,7 +45,6 @@ impl<R: Read + Drop> DeviceIn<R> {
         ensures none_given { OnErr result (self.new.given.bytes ≡ self.old.given.bytes) }
         ensures known { IfOk result (λ byte. IfSome byte (λ first. Consumes (reader_remaining R.remaining self.old.reader) (reader_remaining R.remaining self.new.reader) (first ∷ []))) }
     {
-        // Its proof takes seconds: the length of what it says.
         let mut byte = [0u8; 1];
         match self.reader.read_exact(&mut byte) {
             Ok(()) => {

@@ -32,7 +32,6 @@ pub fn run_script<R: ScriptIn, W: ScriptOut>(
     ensures write_failed { W.failures output.old < W.failures output.new → IsErrOf result RunFault.Write }
     ensures reads { length (R.given input.new) ≤ length (R.given input.old) + MAX_SCRIPT + 1 }
 {
-    // Its proof takes seconds: one call that may fail.
     let script = read_script(alloc, input)?;
     run_lines(alloc, script.as_slice(), output)
 }
@@ -49,7 +48,6 @@ fn read_script<R: ScriptIn>(alloc: Global, input: &mut R) -> Result<Vec<u8>, Run
     ensures ok { IfOk result (λ script. R.given input.new ≡ R.given input.old ++ script.items) }
     ensures ended { OnOk result (R.ended input.new ≡ true) }
 {
-    // Its proof takes seconds: two calls that may fail.
     let mut buffer = Vec::with_capacity(alloc, MAX_SCRIPT)?;
     match fill(input, &mut buffer) {
         Ok(()) => {
@@ -75,7 +73,6 @@ fn fill<R: ScriptIn>(input: &mut R, script: &mut Vec<u8>) -> Result<(), RunFault
     ensures ok { OnOk result (R.given input.new ≡ R.given input.old ++ script.new.items) }
     ensures ended { OnOk result (R.ended input.new ≡ true) }
 {
-    // Its proof takes seconds: a loop over a call that may fail, five arms.
     for _ in 0..MAX_SCRIPT {
         match input.next_byte() {
             Ok(Some(byte)) => script.push(byte)?,
@@ -99,7 +96,6 @@ fn run_lines<W: ScriptOut>(
     ensures write { IsErrOf result RunFault.Write → W.failures output.old < W.failures output.new }
     ensures write_failed { W.failures output.old < W.failures output.new → IsErrOf result RunFault.Write }
 {
-    // Its proof takes seconds: 16 places hold what failing calls would drop, a loop.
     let mut sessions = Sessions::new(alloc)?;
     let mut rest = script;
     while !rest.is_empty() {
@@ -122,7 +118,6 @@ fn run_line<W: ScriptOut>(
     ensures write { IsErrOf result RunFault.Write → W.failures output.old < W.failures output.new }
     ensures write_failed { W.failures output.old < W.failures output.new → IsErrOf result RunFault.Write }
 {
-    // Its proof takes seconds: one call that may fail.
     match line {
         Line::Skipped | Line::Phase => Ok(()),
         Line::Command { label, command } => {
@@ -145,7 +140,6 @@ fn write_answer<W: ScriptOut>(
     ensures write { IsErrOf result RunFault.Write → W.failures output.old < W.failures output.new }
     ensures write_failed { W.failures output.old < W.failures output.new → IsErrOf result RunFault.Write }
 {
-    // Its proof takes seconds: one place holds what a failing call would drop.
     let rendered = render(alloc, label, &answer);
     drop(answer);
     let bytes = rendered?;

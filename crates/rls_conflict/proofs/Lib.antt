@@ -1,0 +1,9 @@
+mod RowLemmas
+mod PlaceLemmas
+mod AgreementLemmas
+mod WritingLemmas
+mod JoiningLemmas
+mod CoverageLemmas
+mod HistoryLemmas
+mod CauseLemmas
+mod WriterLemmas

@@ -1,0 +1,10 @@
+pub mod Transactions
+pub mod Known
+pub mod Written
+pub mod Causes
+pub mod States
+pub mod Examples
+pub mod Laws
+pub use Rattle.rls_history.specs.History
+pub use Rattle.rls_history.specs.Structures
+pub use Rattle.rls_history.specs.Orders

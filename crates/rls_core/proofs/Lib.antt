@@ -1,0 +1,6 @@
+mod StatementLemmas
+mod WorldLemmas
+mod RuleLemmas
+mod HeadlineLemmas
+mod AdmittedLemmas
+mod PostLemmas

@@ -1,0 +1,11 @@
+mod HistoryLemmas
+mod StructureLemmas
+mod OrderLemmas
+mod StateLemmas
+mod SnapshotLemmas
+mod AloneLemmas
+mod EntryLemmas
+mod TakenLemmas
+mod WorldLemmas
+mod NumberLemmas
+mod NumbersLemmas

@@ -1,0 +1,14 @@
+pub mod History
+pub mod Structures
+pub mod Orders
+pub mod States
+pub mod Transactions
+pub mod Statements
+pub mod Explained
+pub mod Worlds
+pub mod Events
+pub mod Lawful
+pub mod Runs
+pub mod Kept
+pub mod Examples
+pub mod Numbers

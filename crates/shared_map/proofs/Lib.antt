@@ -1,0 +1,9 @@
+pub mod Around
+pub mod Flat
+pub mod Hits
+pub mod Left
+pub mod Lengths
+pub mod Order
+pub mod Parts
+pub mod Places
+pub mod Runs

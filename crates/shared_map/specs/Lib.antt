@@ -1,0 +1,4 @@
+pub mod Entries
+pub mod Left
+pub mod Parts
+pub mod Tree
