@@ -1,0 +1,296 @@
+-- What calls leave of read locks.
+use Rattle.std.specs.Prelude.{◌≡◌, refl, ℕ, List, [], ◌∷◌, ◌++◌, Bool, true, false, not, ◌||◌, ◌&&◌, nat_eq, cond, if◌then◌else◌, Option, Some, None}
+use Rattle.std.specs.List.{list_any}
+use Rattle.std.specs.BTreeMap.{is_at}
+use Rattle.std.specs.Ordering.{is_eq, nat_cmp}
+use Rattle.std.specs.declared.cmp.Ordering.{Ordering}
+use Rattle.std.specs.declared.cmp.Ordering.TheVariants.{Less, Equal, Greater}
+use Rattle.std.specs.Cmp.{unsigned_Decides}
+use Rattle.std.specs.FinMap.{nat_cmp-IsAntisymmetric}
+use Rattle.std.specs.Set.{remove_key}
+use Rattle.std.specs.List.{IsDistinct, AllByRecursion}
+use Rattle.std.proofs.Common.{ap, sym, subst, ◌∙◌}
+use Rattle.std.proofs.lemmas.Bool.{true≢false}
+use Rattle.std.proofs.lemmas.Cmp.{nat_cmp_total, nat_eq_equiv, tied_itself}
+use Rattle.std.proofs.lemmas.List.Folds.{list_any-append}
+use Rattle.std.proofs.lemmas.Map.Views.{any-filter_same}
+use Rattle.rls_value.specs.declared.object.Object.{Object}
+use Rattle.rls_catalog.specs.declared.change.Change.{Change}
+use Rattle.rls_source.specs.Footprints.{footprint_of, is_among}
+use Rattle.rls_siread.specs.Covering.{covered_by}
+use Rattle.rls_siread.specs.Locks.{Notes, Locks, is_number_in, is_reader, arrived, all_arrived, with_holders, holders_of, without, held_with, held_by, objects_in, commit_in, held_in, notes_at, noted_by, marked, HasNoted}
+use Rattle.rls_siread.specs.Index.{Held, shown, held_at, IsIndexed, locks_of}
+use Rattle.rls_siread.proofs.CoveringLaws.{any_same, reads_covered}
+
+-- ---- numbers
+
+-- equal by the test are equal
+pub same_number : (a b : ℕ) → nat_eq a b ≡ true → a ≡ b
+same_number a b is = (unsigned_Decides a b).0 is
+
+-- a number is itself
+pub number_itself : (a : ℕ) → nat_eq a a ≡ true
+number_itself a = nat_eq_equiv.refl a
+
+both_ways : (one other : Bool) → (one ≡ true → other ≡ true) → (other ≡ true → one ≡ true) → one ≡ other
+both_ways true true there back = refl
+both_ways true false there back = absurd (true≢false (sym (there refl)))
+both_ways false true there back = absurd (true≢false (sym (back refl)))
+both_ways false false there back = refl
+
+turned : (a b : ℕ) → nat_eq a b ≡ true → nat_eq b a ≡ true
+turned a b is = subst (λ n. nat_eq n a ≡ true) (same_number a b is) (number_itself a)
+
+-- the test looks the same from both sides
+pub number_turned : (a b : ℕ) → nat_eq a b ≡ nat_eq b a
+number_turned a b = both_ways (nat_eq a b) (nat_eq b a) (turned a b) (turned b a)
+
+is_tie : (order : Ordering) → is_eq order ≡ true → order ≡ Equal
+is_tie Less is = absurd (true≢false (sym is))
+is_tie Equal is = refl
+is_tie Greater is = absurd (true≢false (sym is))
+
+-- the order of numbers finds the same number
+pub number_at : (a b : ℕ) → is_eq (nat_cmp a b) ≡ nat_eq a b
+number_at a b =
+    both_ways (is_eq (nat_cmp a b)) (nat_eq a b)
+    (λ is. subst (λ n. nat_eq a n ≡ true) (nat_cmp-IsAntisymmetric a b (is_tie (nat_cmp a b) is)) (number_itself a))
+    (λ is. subst (λ n. is_eq (nat_cmp a n) ≡ true) (same_number a b is) (ap is_eq (tied_itself nat_cmp_total a)))
+
+-- ---- one more, one less
+
+arrived_case : (there : Bool) (txns : List ℕ) (txn t : ℕ) → is_number_in txns txn ≡ there
+    → is_number_in (if there then txns else txns ++ txn ∷ []) t ≡ (nat_eq t txn || is_number_in txns t)
+arrived_case true txns txn t is = there_case (nat_eq t txn) refl
+  where
+    there_case : (same : Bool) → nat_eq t txn ≡ same → is_number_in txns t ≡ (same || is_number_in txns t)
+    there_case true e = ap (is_number_in txns) (same_number t txn e) ∙ is
+    there_case false e = refl
+arrived_case false txns txn t is = list_any-append (nat_eq t) txns (txn ∷ []) ∙ last_case (is_number_in txns t) (nat_eq t txn)
+  where
+    last_case : (a b : Bool) → (a || (b || false)) ≡ (b || a)
+    last_case true true = refl
+    last_case true false = refl
+    last_case false true = refl
+    last_case false false = refl
+
+-- who is there once one arrived
+pub number_arrived : (txns : List ℕ) (txn t : ℕ) → is_number_in (arrived txns txn) t ≡ (nat_eq t txn || is_number_in txns t)
+number_arrived txns txn t = arrived_case (is_number_in txns txn) txns txn t refl
+
+-- who arrives twice arrives once
+pub arrived_twice : (txn : ℕ) (txns : List ℕ) → arrived (arrived txns txn) txn ≡ arrived txns txn
+arrived_twice txn txns =
+    ap (λ b. if b then arrived txns txn else arrived txns txn ++ txn ∷ [])
+    (number_arrived txns txn txn ∙ ap (λ b. b || is_number_in txns txn) (number_itself txn))
+
+-- who is there without one
+pub number_without : (txns : List ℕ) (txn t : ℕ) → is_number_in (without txns txn) t ≡ (not (nat_eq t txn) && is_number_in txns t)
+number_without txns txn t =
+    any-filter_same (nat_eq t) (λ other. not (nat_eq txn other)) (not (nat_eq t txn))
+    (λ k is. ap not (ap (nat_eq txn) (sym (same_number t k is)) ∙ number_turned txn t)) txns
+
+absent_case : (same : Bool) (txn x : ℕ) (txns rest : List ℕ) → nat_eq txn x ≡ same → (same || is_number_in txns txn) ≡ false → (is_number_in txns txn ≡ false → rest ≡ txns)
+    → (if not same then x ∷ rest else rest) ≡ x ∷ txns
+absent_case true txn x txns rest is none further = absurd (true≢false none)
+absent_case false txn x txns rest is none further = ap (λ more. x ∷ more) (further none)
+
+-- nobody is missed who wasn't there
+pub without_absent : (txns : List ℕ) (txn : ℕ) → is_number_in txns txn ≡ false → without txns txn ≡ txns
+without_absent [] txn none = refl
+without_absent (x ∷ txns) txn none = absent_case (nat_eq txn x) txn x txns (without txns txn) refl none (without_absent txns txn)
+
+-- who is gone twice is gone once
+pub without_twice : (txn : ℕ) (txns : List ℕ) → without (without txns txn) txn ≡ without txns txn
+without_twice txn txns = without_absent (without txns txn) txn (number_without txns txn txn ∙ ap (λ b. not b && is_number_in txns txn) (number_itself txn))
+
+-- a number that differs from each isn't there
+pub apart_none : (txn : ℕ) (txns : List ℕ) → AllByRecursion (λ y. nat_eq txn y ≡ false) txns → is_number_in txns txn ≡ false
+apart_none txn [] apart = refl
+apart_none txn (x ∷ txns) apart = ap (λ b. b || is_number_in txns txn) apart.0 ∙ apart_none txn txns apart.1
+
+removed_case : (same : Bool) (txn x : ℕ) (txns : List ℕ) → nat_eq txn x ≡ same → is_number_in txns x ≡ false → remove_key (nat_eq txn) txns ≡ without txns txn
+    → cond same txns (x ∷ remove_key (nat_eq txn) txns) ≡ (if not same then x ∷ without txns txn else without txns txn)
+removed_case true txn x txns is none further = sym (without_absent txns txn (ap (is_number_in txns) (same_number txn x is) ∙ none))
+removed_case false txn x txns is none further = ap (λ more. x ∷ more) further
+
+-- of numbers that differ, removing one leaves the others
+pub removed_is_without : (txns : List ℕ) (txn : ℕ) → IsDistinct nat_eq txns → remove_key (nat_eq txn) txns ≡ without txns txn
+unfolding IsDistinct
+removed_is_without [] txn distinct = refl
+removed_is_without (x ∷ txns) txn distinct = removed_case (nat_eq txn x) txn x txns refl (apart_none x txns distinct.0) (removed_is_without txns txn distinct.1)
+
+-- ---- who holds
+
+held_with_case : (holds same : Bool) (txns : List ℕ) (txn t : ℕ) → nat_eq t txn ≡ same → is_number_in (held_with holds txns txn) t ≡ (if same then holds else is_number_in txns t)
+held_with_case true true txns txn t is = number_arrived txns txn t ∙ ap (λ b. b || is_number_in txns t) is
+held_with_case true false txns txn t is = number_arrived txns txn t ∙ ap (λ b. b || is_number_in txns t) is
+held_with_case false true txns txn t is = number_without txns txn t ∙ ap (λ b. not b && is_number_in txns t) is
+held_with_case false false txns txn t is = number_without txns txn t ∙ ap (λ b. not b && is_number_in txns t) is
+
+indexed_case : (same : Bool) (objects noted : List Object) (object : Object) (there : Bool) → there ≡ is_among noted object
+    → (if same then is_among objects object else there) ≡ is_among (if same then objects else noted) object
+indexed_case true objects noted object there is = refl
+indexed_case false objects noted object there is = is
+
+-- who holds is told by the notes, once those of one transaction are others
+pub still_indexed : (old new : List (Object × Held)) (notes left : List (ℕ × Notes)) (txn : ℕ) (objects : List Object) → IsIndexed old notes
+    → ((object : Object) → held_at new object ≡ held_with (is_among objects object) (held_at old object) txn)
+    → ((t : ℕ) → objects_in (notes_at left t) ≡ (if nat_eq txn t then objects else objects_in (notes_at notes t))) → IsIndexed new left
+still_indexed old new notes left txn objects indexed held noted object t =
+    ap (λ txns. is_number_in txns t) (held object)
+    ∙ held_with_case (is_among objects object) (nat_eq t txn) (held_at old object) txn t refl
+    ∙ ap (λ b. if b then is_among objects object else is_number_in (held_at old object) t) (number_turned t txn)
+    ∙ indexed_case (nat_eq txn t) objects (objects_in (notes_at notes t)) object (is_number_in (held_at old object) t) (indexed object t)
+    ∙ ap (λ list. is_among list object) (sym (noted t))
+
+renoted_case : (now was : Bool) (txn : ℕ) (held : List ℕ) → is_number_in held txn ≡ was
+    → (if was && not now then without (if now then arrived held txn else held) txn else (if now then arrived held txn else held)) ≡ held_with now held txn
+renoted_case true true txn held is = refl
+renoted_case true false txn held is = refl
+renoted_case false true txn held is = refl
+renoted_case false false txn held is = sym (without_absent held txn is)
+
+-- what is held once those noted are held, and those dropped are not
+pub renoted_held : (old noted new : List (Object × Held)) (notes : List (ℕ × Notes)) (txn : ℕ) (objects dropped : List Object) → IsIndexed old notes
+    → ((object : Object) → is_among dropped object ≡ (is_among (objects_in (notes_at notes txn)) object && not (is_among objects object)))
+    → ((object : Object) → held_at noted object ≡ (if is_among objects object then arrived (held_at old object) txn else held_at old object))
+    → ((object : Object) → held_at new object ≡ (if is_among dropped object then without (held_at noted object) txn else held_at noted object))
+    → (object : Object) → held_at new object ≡ held_with (is_among objects object) (held_at old object) txn
+renoted_held old noted new notes txn objects dropped indexed drops holds releases object =
+    releases object
+    ∙ (λ i. if drops object i then without (holds object i) txn else holds object i)
+    ∙ renoted_case (is_among objects object) (is_among (objects_in (notes_at notes txn)) object) txn (held_at old object) (indexed object txn)
+
+forgotten_case : (was : Bool) (txn : ℕ) (held : List ℕ) → is_number_in held txn ≡ was → (if was then without held txn else held) ≡ without held txn
+forgotten_case true txn held is = refl
+forgotten_case false txn held is = sym (without_absent held txn is)
+
+-- what is held once nothing is noted
+pub forgotten_held : (old new : List (Object × Held)) (notes : List (ℕ × Notes)) (txn : ℕ) → IsIndexed old notes
+    → ((object : Object) → held_at new object ≡ (if is_among (objects_in (notes_at notes txn)) object then without (held_at old object) txn else held_at old object))
+    → (object : Object) → held_at new object ≡ without (held_at old object) txn
+forgotten_held old new notes txn indexed releases object =
+    releases object ∙ forgotten_case (is_among (objects_in (notes_at notes txn)) object) txn (held_at old object) (indexed object txn)
+
+-- ---- what is noted
+
+-- what the notes of a transaction are once they are put anew
+pub notes_put : (old new : List (ℕ × Notes)) (txn : ℕ) (notes : Notes) (objects : List Object) → notes.objects ≡ objects → notes.commit ≡ commit_in (notes_at old txn)
+    → ((t : ℕ) → notes_at new t ≡ cond (is_at (nat_cmp txn) t) (Some notes) (notes_at old t))
+    → (t : ℕ) → notes_at new t ≡ (if nat_eq txn t then Some (record { commit = commit_in (notes_at old txn); objects = objects }) else notes_at old t)
+notes_put old new txn notes objects same commit puts t =
+    puts t
+    ∙ (λ i. cond (number_at txn t i) (Some (record { commit = commit i; objects = same i })) (notes_at old t))
+
+objects_case : (same : Bool) (notes : Notes) (other : Option Notes) → objects_in (if same then Some notes else other) ≡ (if same then notes.objects else objects_in other)
+objects_case true notes other = refl
+objects_case false notes other = refl
+
+-- and the objects
+pub objects_put : (old new : List (ℕ × Notes)) (txn : ℕ) (notes : Notes) → ((t : ℕ) → notes_at new t ≡ (if nat_eq txn t then Some notes else notes_at old t))
+    → (t : ℕ) → objects_in (notes_at new t) ≡ (if nat_eq txn t then notes.objects else objects_in (notes_at old t))
+objects_put old new txn notes puts t = ap objects_in (puts t) ∙ objects_case (nat_eq txn t) notes (notes_at old t)
+
+marked_case : (same : Bool) (commit : ℕ) (found : Option Notes) → objects_in (if same then marked commit found else found) ≡ objects_in found
+marked_case true commit None = refl
+marked_case true commit (Some notes) = refl
+marked_case false commit found = refl
+
+-- a commit leaves the objects
+pub objects_marked : (old new : List (ℕ × Notes)) (txn commit : ℕ) → ((t : ℕ) → notes_at new t ≡ (if nat_eq txn t then marked commit (notes_at old t) else notes_at old t))
+    → (t : ℕ) → objects_in (notes_at new t) ≡ objects_in (notes_at old t)
+objects_marked old new txn commit marks t = ap objects_in (marks t) ∙ marked_case (nat_eq txn t) commit (notes_at old t)
+
+gone_case : (same : Bool) (other : Option Notes) → objects_in (if same then None else other) ≡ (if same then [] else objects_in other)
+gone_case true other = refl
+gone_case false other = refl
+
+-- what the notes are once those of a transaction are gone
+pub notes_gone : (old new : List (ℕ × Notes)) (txn : ℕ) → ((t : ℕ) → notes_at new t ≡ cond (is_at (nat_cmp txn) t) None (notes_at old t))
+    → (t : ℕ) → notes_at new t ≡ (if nat_eq txn t then None else notes_at old t)
+notes_gone old new txn puts t = puts t ∙ ap (λ b. cond b None (notes_at old t)) (number_at txn t)
+
+-- and the objects
+pub objects_gone : (old new : List (ℕ × Notes)) (txn : ℕ) → ((t : ℕ) → notes_at new t ≡ (if nat_eq txn t then None else notes_at old t))
+    → (t : ℕ) → objects_in (notes_at new t) ≡ (if nat_eq txn t then [] else objects_in (notes_at old t))
+objects_gone old new txn puts t = ap objects_in (puts t) ∙ gone_case (nat_eq txn t) (notes_at old t)
+
+-- the same holders, in places with more room, are told by the notes as they were
+pub indexed_same : (old new : List (Object × Held)) (notes left : List (ℕ × Notes)) → shown new ≡ shown old → ((t : ℕ) → objects_in (notes_at left t) ≡ objects_in (notes_at notes t))
+    → IsIndexed old notes → IsIndexed new left
+indexed_same old new notes left same noted indexed object t =
+    ap (λ holders. is_number_in (held_in holders object) t) same ∙ indexed object t ∙ ap (λ list. is_among list object) (sym (noted t))
+
+-- ---- notes put anew
+
+-- who holds is told by the notes, and the transaction has noted the objects
+pub record IsRenewed (old new : List (Object × Held)) (notes left : List (ℕ × Notes)) (txn : ℕ) (objects : List Object) : Type 0 where
+  pub indexed : IsIndexed new left
+  pub noted : HasNoted txn objects (locks_of old notes) (locks_of new left)
+
+-- room is made, the notes are put, what is noted is held, and what was dropped isn't
+pub renewed : (old room noted new : List (Object × Held)) (notes left : List (ℕ × Notes)) (txn : ℕ) (put : Notes) (objects dropped : List Object) → IsIndexed old notes
+    → put.objects ≡ objects → put.commit ≡ commit_in (notes_at notes txn)
+    → ((object : Object) → is_among dropped object ≡ (is_among (objects_in (notes_at notes txn)) object && not (is_among put.objects object)))
+    → shown room ≡ shown old → ((t : ℕ) → notes_at left t ≡ cond (is_at (nat_cmp txn) t) (Some put) (notes_at notes t))
+    → ((object : Object) → held_at noted object ≡ (if is_among (objects_in (notes_at left txn)) object then arrived (held_at room object) txn else held_at room object))
+    → ((object : Object) → held_at new object ≡ (if is_among dropped object then without (held_at noted object) txn else held_at noted object))
+    → IsRenewed old new notes left txn objects
+renewed old room noted new notes left txn put objects dropped indexed same commit drops same_shown puts holds releases =
+    let notes_are : (t : ℕ) → notes_at left t ≡ (if nat_eq txn t then Some (record { commit = commit_in (notes_at notes txn); objects = objects }) else notes_at notes t) =
+    notes_put notes left txn put objects same commit puts in
+    let objects_are : (t : ℕ) → objects_in (notes_at left t) ≡ (if nat_eq txn t then objects else objects_in (notes_at notes t)) =
+    objects_put notes left txn (record { commit = commit_in (notes_at notes txn); objects = objects }) notes_are in
+    let own : objects_in (notes_at left txn) ≡ objects = objects_are txn ∙ ap (λ b. if b then objects else objects_in (notes_at notes txn)) (number_itself txn) in
+    let held : (object : Object) → held_at new object ≡ held_with (is_among objects object) (held_at old object) txn =
+    renoted_held old noted new notes txn objects dropped indexed
+    (λ object. drops object ∙ ap (λ list. is_among (objects_in (notes_at notes txn)) object && not (is_among list object)) same)
+    (λ object. holds object ∙ (λ i. if is_among (own i) object then arrived (held_in (same_shown i) object) txn else held_in (same_shown i) object))
+    releases in
+    record { indexed = still_indexed old new notes left txn objects indexed held objects_are; noted = record { notes = notes_are; holders = held } }
+
+-- ---- who is found
+
+all_arrived_case : (a b c : Bool) → (a || (b || c)) ≡ ((b || a) || c)
+all_arrived_case true true c = refl
+all_arrived_case true false c = refl
+all_arrived_case false true c = refl
+all_arrived_case false false c = refl
+
+-- who is there once all arrived
+pub number_all_arrived : (txns more : List ℕ) (t : ℕ) → is_number_in (all_arrived txns more) t ≡ (is_number_in txns t || is_number_in more t)
+number_all_arrived txns [] t = sym (or_none (is_number_in txns t))
+  where
+    or_none : (b : Bool) → (b || false) ≡ b
+    or_none true = refl
+    or_none false = refl
+number_all_arrived txns (x ∷ more) t =
+    number_all_arrived (arrived txns x) more t
+    ∙ ap (λ b. b || is_number_in more t) (number_arrived txns x t)
+    ∙ sym (all_arrived_case (is_number_in txns t) (nat_eq t x) (is_number_in more t))
+
+-- who is there with the holders of objects
+pub number_with_holders : (holders : List (Object × List ℕ)) (txns : List ℕ) (objects : List Object) (t : ℕ)
+    → is_number_in (with_holders holders txns objects) t ≡ (is_number_in txns t || list_any (λ object. is_number_in (held_in holders object) t) objects)
+number_with_holders holders txns [] t = sym (or_none (is_number_in txns t))
+  where
+    or_none : (b : Bool) → (b || false) ≡ b
+    or_none true = refl
+    or_none false = refl
+number_with_holders holders txns (object ∷ objects) t =
+    number_with_holders holders (all_arrived txns (held_in holders object)) objects t
+    ∙ ap (λ b. b || list_any (λ x. is_number_in (held_in holders x) t) objects) (number_all_arrived txns (held_in holders object) t)
+    ∙ assoc (is_number_in txns t) (is_number_in (held_in holders object) t) (list_any (λ x. is_number_in (held_in holders x) t) objects)
+  where
+    assoc : (a b c : Bool) → ((a || b) || c) ≡ (a || (b || c))
+    assoc true b c = refl
+    assoc false b c = refl
+
+-- the holders of what a change covers are the transactions that noted it
+pub holders_read : (locks : Locks) (change : Change) → ((object : Object) (txn : ℕ) → is_number_in (held_by locks object) txn ≡ is_among (noted_by locks txn) object)
+    → (txn : ℕ) → is_number_in (holders_of locks change) txn ≡ is_reader locks change txn
+holders_read locks change indexed txn =
+    number_with_holders locks.holders [] (footprint_of (covered_by change)) txn
+    ∙ any_same (λ object. is_number_in (held_by locks object) txn) (is_among (noted_by locks txn)) (λ object. indexed object txn) (footprint_of (covered_by change))
+    ∙ reads_covered (noted_by locks txn) change

@@ -1,0 +1,185 @@
+//! The index of holders by object.
+
+ghost use Rattle.std.specs.Prelude.{◌≡◌, true, [], None, if◌then◌else◌, IfOk, OnOk};
+ghost use Rattle.std.specs.BTreeMap.{is_at};
+ghost use Rattle.std.specs.Map.{lookup};
+ghost use Rattle.rls_value.specs.declared.object.Object.{Object as Read};
+ghost use Rattle.rls_value.specs.Objects.{object_order};
+ghost use Rattle.rls_source.specs.Footprints.{is_object, is_among};
+ghost use Rattle.rls_siread.specs.Locks.{arrived, all_arrived, with_holders, without};
+ghost use Rattle.rls_siread.specs.Index.{shown, held_at, is_ready, KeepsReady};
+
+use crate::holders::Holders;
+use rls_source::Footprint;
+use rls_value::Object;
+use std::alloc::{AllocError, Global};
+use std::collections::BTreeMap;
+
+/// The holders of each object. Who has room made first holds without memory.
+#[derive(Drop)]
+pub(crate) struct Index {
+    pub(crate) holders: BTreeMap<Object, Holders>,
+}
+
+impl Index {
+    pub(crate) fn new(alloc: Global) -> Index
+        ensures { result.holders.entries ≡ [] }
+    {
+        Index {
+            holders: BTreeMap::new(alloc),
+        }
+    }
+
+    /// A copy, in which the same hold the same.
+    pub(crate) fn copy(&self, alloc: Global) -> Result<Index, AllocError>
+        ensures { IfOk result (λ copied. (object : Read) → held_at copied.holders.entries object ≡ held_at self.now.holders.entries object) }
+    {
+        let mut copied = Index::new(alloc);
+        for object in self.holders.keys() {
+            let held = self.copy_of(alloc, object)?;
+            copied.put(alloc, object, held)?;
+        }
+        Ok(copied)
+    }
+
+    /// A copy of the holders of the object.
+    fn copy_of(&self, alloc: Global, object: &Object) -> Result<Holders, AllocError>
+        ensures { IfOk result (λ held. held.txns ≡ held_at self.now.holders.entries object.now) }
+    {
+        let _in_order = self.holders.len();
+        match self.holders.get(object) {
+            Some(held) => held.copy(alloc),
+            None => Ok(Holders::new(alloc)),
+        }
+    }
+
+    /// Puts the holders under a copy of the object.
+    fn put(&mut self, alloc: Global, object: &Object, held: Holders) -> Result<(), AllocError>
+        ensures { OnOk result ((other : Read) → held_at self.new.holders.entries other ≡ (if is_object other object.now then held.txns else held_at self.old.holders.entries other)) }
+    {
+        self.holders.insert(object.copy(alloc)?, held)?;
+        Ok(())
+    }
+
+    /// The holders of the objects, each once: by object in their order, and within one object in the order of their first
+    /// notes of it.
+    pub(crate) fn find_all(&self, alloc: Global, objects: &Footprint) -> Result<Holders, AllocError>
+        ensures { IfOk result (λ found. found.txns ≡ with_holders (shown self.now.holders.entries) [] objects.now) }
+    {
+        let mut found = Holders::new(alloc);
+        for object in objects.iter() {
+            self.find(object, &mut found)?;
+        }
+        Ok(found)
+    }
+
+    /// Puts the holders of the object behind those found.
+    fn find(&self, object: &Object, found: &mut Holders) -> Result<(), AllocError>
+        ensures { OnOk result (found.new.txns ≡ all_arrived found.old.txns (held_at self.now.holders.entries object.now)) }
+    {
+        let _in_order = self.holders.len();
+        match self.holders.get(object) {
+            Some(held) => found.add_all(held),
+            None => Ok(()),
+        }
+    }
+
+    /// Makes room for the transaction under each of the objects. Nobody holds more or less.
+    pub(crate) fn make_room(
+        &mut self,
+        alloc: Global,
+        txn: u64,
+        objects: &Footprint,
+    ) -> Result<(), AllocError>
+        ensures shown { shown self.new.holders.entries ≡ shown self.old.holders.entries }
+        ensures ready { OnOk result ((object : Read) → is_among objects.now object ≡ true → is_ready self.new.holders.entries txn object ≡ true) }
+    {
+        for object in objects.iter() {
+            self.make_room_at(alloc, txn, object)?;
+        }
+        Ok(())
+    }
+
+    fn make_room_at(&mut self, alloc: Global, txn: u64, object: &Object) -> Result<(), AllocError>
+        ensures shown { shown self.new.holders.entries ≡ shown self.old.holders.entries }
+        ensures ready { OnOk result (is_ready self.new.holders.entries txn object.now ≡ true) }
+        ensures kept { (other : Read) → KeepsReady self.old.holders.entries self.new.holders.entries txn other }
+    {
+        match self.holders.get_mut(object) {
+            Some(held) => match held.make_room() {
+                Ok(()) => Ok(()),
+                Err(refused) => Err(refused),
+            },
+            None => self.make_place(alloc, txn, object),
+        }
+    }
+
+    fn make_place(&mut self, alloc: Global, txn: u64, object: &Object) -> Result<(), AllocError>
+        requires { lookup (is_at (object_order object.now)) self.old.holders.entries ≡ None }
+        ensures shown { shown self.new.holders.entries ≡ shown self.old.holders.entries }
+        ensures ready { OnOk result (is_ready self.new.holders.entries txn object.now ≡ true) }
+        ensures kept { (other : Read) → KeepsReady self.old.holders.entries self.new.holders.entries txn other }
+    {
+        let nobody = Holders::with_room(alloc)?;
+        self.holders.insert(object.copy(alloc)?, nobody)?;
+        Ok(())
+    }
+
+    /// The transaction holds each of the objects.
+    pub(crate) fn hold_all(&mut self, txn: u64, objects: &Footprint)
+        requires { (object : Read) → is_among objects.now object ≡ true → is_ready self.old.holders.entries txn object ≡ true }
+        ensures { (object : Read) → held_at self.new.holders.entries object ≡ (if is_among objects.now object then arrived (held_at self.old.holders.entries object) txn else held_at self.old.holders.entries object) }
+    {
+        for object in objects.iter() {
+            self.hold(txn, object);
+        }
+    }
+
+    fn hold(&mut self, txn: u64, object: &Object)
+        requires { is_ready self.old.holders.entries txn object.now ≡ true }
+        ensures held { (other : Read) → held_at self.new.holders.entries other ≡ (if is_object other object.now then arrived (held_at self.old.holders.entries other) txn else held_at self.old.holders.entries other) }
+        ensures kept { (other : Read) → KeepsReady self.old.holders.entries self.new.holders.entries txn other }
+    {
+        if let Some(held) = self.holders.get_mut(object) {
+            held.hold(txn);
+        }
+    }
+
+    /// The transaction holds none of the objects.
+    pub(crate) fn release_all(&mut self, txn: u64, objects: &Footprint)
+        ensures { (object : Read) → held_at self.new.holders.entries object ≡ (if is_among objects.now object then without (held_at self.old.holders.entries object) txn else held_at self.old.holders.entries object) }
+    {
+        for object in objects.iter() {
+            self.release(txn, object);
+        }
+    }
+
+    fn release(&mut self, txn: u64, object: &Object)
+        ensures { (other : Read) → held_at self.new.holders.entries other ≡ (if is_object other object.now then without (held_at self.old.holders.entries other) txn else held_at self.old.holders.entries other) }
+    {
+        let nobody_left = self.take_out(txn, object);
+        if nobody_left {
+            self.drop_place(object);
+        }
+    }
+
+    /// Drops the place of an object that nobody holds.
+    fn drop_place(&mut self, object: &Object)
+        requires { held_at self.old.holders.entries object.now ≡ [] }
+        ensures { (other : Read) → held_at self.new.holders.entries other ≡ held_at self.old.holders.entries other }
+    {
+        let _in_order = self.holders.len();
+        self.holders.remove(object);
+    }
+
+    /// Takes the transaction out; whether the object has a place where nobody is left.
+    fn take_out(&mut self, txn: u64, object: &Object) -> bool
+        ensures held { (other : Read) → held_at self.new.holders.entries other ≡ (if is_object other object.now then without (held_at self.old.holders.entries other) txn else held_at self.old.holders.entries other) }
+        ensures nobody { result ≡ true → held_at self.new.holders.entries object.now ≡ [] }
+    {
+        match self.holders.get_mut(object) {
+            Some(held) => held.release(txn),
+            None => false,
+        }
+    }
+}

@@ -1,0 +1,155 @@
+//! Promotion of keys to the rows of their tables.
+
+ghost use Rattle.std.specs.Prelude.{◌≡◌, ◌&&◌, not, if◌then◌else◌, IfOk, IfSome, OnOk, length, filter};
+ghost use Rattle.rls_value.specs.declared.object.Object.{Object as Read};
+ghost use Rattle.rls_source.specs.Footprints.{with_object, with_reads, is_among};
+ghost use Rattle.rls_siread.specs.Promotion.{is_key_of, is_crowded, stands_for, promoted, noted_with};
+
+use rls_source::Footprint;
+use rls_value::{Name, Object, Row};
+use std::alloc::{AllocError, Global};
+
+/// What is noted once more was read.
+pub(crate) fn noted_more(
+    alloc: Global,
+    noted: &Footprint,
+    reads: &Footprint,
+    limit: usize,
+) -> Result<Footprint, AllocError>
+    ensures { IfOk result (λ objects. objects ≡ noted_with limit noted.now reads.now) }
+{
+    let mut objects = noted.copy(alloc)?;
+    add_all(alloc, &mut objects, reads)?;
+    promote(alloc, &objects, limit)
+}
+
+/// The objects that aren't among the others.
+pub(crate) fn missing(
+    alloc: Global,
+    objects: &Footprint,
+    others: &Footprint,
+) -> Result<Footprint, AllocError>
+    ensures { IfOk result (λ missing. (object : Read) → is_among missing object ≡ (is_among objects.now object && not (is_among others.now object))) }
+{
+    let mut missing = Footprint::new(alloc);
+    for object in objects.iter() {
+        if !others.contains(object) {
+            missing.note(object.copy(alloc)?)?;
+        }
+    }
+    Ok(missing)
+}
+
+fn add_all(alloc: Global, objects: &mut Footprint, reads: &Footprint) -> Result<(), AllocError>
+    ensures { OnOk result (objects.new ≡ with_reads objects.old reads.now) }
+{
+    for object in reads.iter() {
+        objects.note(object.copy(alloc)?)?;
+    }
+    Ok(())
+}
+
+/// A table, and whether its rows stand for its keys.
+#[derive(Drop)]
+struct Judged {
+    table: Name,
+    crowded: bool,
+}
+
+/// The objects, with the rows of each crowded table in place of its keys.
+fn promote(alloc: Global, objects: &Footprint, limit: usize) -> Result<Footprint, AllocError>
+    ensures { IfOk result (λ kept. kept ≡ promoted limit objects.now) }
+{
+    let mut kept = Footprint::new(alloc);
+    let mut last = None;
+    for object in objects.iter() {
+        last = put_standing(alloc, &mut kept, objects, object, limit, last)?;
+    }
+    Ok(kept)
+}
+
+/// Puts what stands for the object in its place. The keys of a table follow each other, so that each table is judged once.
+fn put_standing(
+    alloc: Global,
+    kept: &mut Footprint,
+    objects: &Footprint,
+    object: &Object,
+    limit: usize,
+    last: Option<Judged>,
+) -> Result<Option<Judged>, AllocError>
+    requires { IfSome last (λ judged. judged.crowded ≡ is_crowded limit objects.now judged.table) }
+    ensures kept { OnOk result (kept.new ≡ with_object kept.old (stands_for limit objects.now object.now)) }
+    ensures judged { IfOk result (λ last. IfSome last (λ judged. judged.crowded ≡ is_crowded limit objects.now judged.table)) }
+{
+    match object {
+        Object::Key(table, key) => {
+            let judged = judge(objects, table, limit, last)?;
+            kept.note(key_or_rows(alloc, table, key, judged.crowded)?)?;
+            Ok(Some(judged))
+        }
+        _ => {
+            kept.note(object.copy(alloc)?)?;
+            Ok(last)
+        }
+    }
+}
+
+/// Whether the rows of the table stand for its keys. It is the table last judged, or counted anew.
+fn judge(
+    objects: &Footprint,
+    table: &Name,
+    limit: usize,
+    last: Option<Judged>,
+) -> Result<Judged, AllocError>
+    requires { IfSome last (λ judged. judged.crowded ≡ is_crowded limit objects.now judged.table) }
+    ensures table { IfOk result (λ judged. judged.table ≡ table.now) }
+    ensures crowded { IfOk result (λ judged. judged.crowded ≡ is_crowded limit objects.now table.now) }
+{
+    if let Some(judged) = last {
+        if judged.table.is(table) {
+            return Ok(judged);
+        }
+    }
+    Ok(Judged {
+        table: table.copy()?,
+        crowded: is_table_crowded(objects, table, limit)?,
+    })
+}
+
+fn key_or_rows(alloc: Global, table: &Name, key: &Row, crowded: bool) -> Result<Object, AllocError>
+    ensures { IfOk result (λ object. object ≡ (if crowded then Object.Rows table.now else Object.Key table.now key.now)) }
+{
+    let table = table.copy()?;
+    if crowded {
+        Ok(Object::Rows(table))
+    } else {
+        Ok(Object::Key(table, key.copy(alloc)?))
+    }
+}
+
+/// Whether all rows of the table are noted, or more than the limit of its keys.
+fn is_table_crowded(objects: &Footprint, table: &Name, limit: usize) -> Result<bool, AllocError>
+    ensures { IfOk result (λ is. is ≡ is_crowded limit objects.now table.now) }
+{
+    let rows = Object::Rows(table.copy()?);
+    Ok(objects.contains(&rows) || limit < keys_noted(objects, table))
+}
+
+/// How many keys of the table are among the objects.
+fn keys_noted(objects: &Footprint, table: &Name) -> usize
+    ensures { result ≡ length (filter (is_key_of table.now) objects.now) }
+{
+    objects
+        .iter()
+        .filter(|object| is_key(object, table))
+        .count()
+}
+
+fn is_key(object: &Object, table: &Name) -> bool
+    ensures { result ≡ is_key_of table.now object.now }
+{
+    match object {
+        Object::Key(other, _) => table.is(other),
+        _ => false,
+    }
+}

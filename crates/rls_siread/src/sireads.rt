@@ -1,0 +1,285 @@
+//! Read locks.
+
+ghost use Rattle.std.specs.Prelude.{◌≡◌, ◌<◌, ℕ, [], true, false, ◌&&◌, not, if◌then◌else◌, length, is_some, Some, IfOk, OnOk, OnErr, MatchOption, nat_eq};
+ghost use Rattle.rls_value.specs.declared.object.Object.{Object as Read};
+ghost use Rattle.rls_source.specs.Footprints.{is_among};
+ghost use Rattle.rls_siread.specs.Index.{held_at, is_ready, IsIndexed, locks_of};
+ghost use Rattle.rls_siread.specs.Promotion.{noted_with};
+ghost use Rattle.rls_siread.specs.Locks.{no_locks, noted_by, notes_at, objects_in, commit_in, commit_of, marked, arrived, is_number_in, is_reader, is_committed_by, holders_of, HasNoted, HasCommitted, HasForgotten, HasPromoted};
+
+use crate::covering::covered_by_one;
+use crate::index::Index;
+use crate::notes::Noted;
+use crate::promotion::{missing, noted_more};
+use rls_catalog::Change;
+use rls_source::Footprint;
+use std::alloc::{AllocError, Global};
+use std::collections::BTreeMap;
+use std::marker::Model;
+
+/// Read locks: what each transaction noted as read, and who holds each object. They block nobody.
+#[derive(Drop)]
+pub struct Sireads {
+    index: Index,
+    notes: BTreeMap<u64, Noted>,
+}
+
+impl Model for Sireads {
+    ghost use Rattle.rls_siread.specs.Locks.{Locks};
+    ghost use Rattle.rls_siread.specs.Index.{locks_of, IsIndexed};
+    ghost use Rattle.rls_siread.specs.LocksCode.{locks_code};
+
+    ghost Value = { Locks };
+
+    ghost coded = { locks_code };
+
+    ghost view = { λ it. locks_of it.index.holders.entries it.notes.entries };
+
+    // Who holds what is told by the notes.
+    ghost invariant = { λ it. IsIndexed it.index.holders.entries it.notes.entries };
+}
+
+impl Sireads {
+    pub fn new(alloc: Global) -> Sireads
+        ensures { result ≡ no_locks }
+    {
+        Sireads {
+            index: Index::new(alloc),
+            notes: BTreeMap::new(alloc),
+        }
+    }
+
+    /// The objects that the transaction noted, in order; none where it has noted nothing.
+    pub fn noted(&self, txn: u64) -> Option<&Footprint>
+        ensures { MatchOption result (noted_by self.now txn ≡ []) (λ objects. objects.now ≡ noted_by self.now txn) }
+    {
+        match self.notes.get(&txn) {
+            Some(noted) => Some(noted.objects()),
+            None => None,
+        }
+    }
+
+    /// The transactions that hold an object which the change covers, each once: by object in the order of objects, and
+    /// within one object in the order of their first notes of it.
+    pub fn holders(&self, alloc: Global, change: &Change) -> Result<Vec<u64>, AllocError>
+        ensures holders { IfOk result (λ found. found.items ≡ holders_of self.now change.now) }
+        ensures readers { IfOk result (λ found. (txn : ℕ) → is_number_in found.items txn ≡ is_reader self.now change.now txn) }
+    {
+        let objects = covered_by_one(alloc, change)?;
+        let found = self.index.find_all(alloc, &objects)?;
+        Vec::from_slice(alloc, found.as_slice())
+    }
+
+    /// Notes that the transaction read the objects. Where more than `limit` keys of one table are noted, or all of its
+    /// rows, these stand for its keys, also for those noted later. An `Err` leaves all as it was.
+    pub fn note(
+        &mut self,
+        alloc: Global,
+        txn: u64,
+        footprint: &Footprint,
+        limit: usize,
+    ) -> Result<(), AllocError>
+        ensures ok { OnOk result (HasNoted txn (noted_with limit (noted_by self.old txn) footprint.now) self.old self.new) }
+        ensures err { OnErr result (self.new ≡ self.old) }
+    {
+        renew(
+            alloc,
+            &mut self.index,
+            &mut self.notes,
+            txn,
+            footprint,
+            limit,
+        )
+    }
+
+    /// Puts the rows of a table in place of its keys wherever a transaction noted more than `limit` of them, in the order of
+    /// the transactions' numbers. An `Err` leaves all as it was.
+    pub fn promote(&mut self, alloc: Global, limit: usize) -> Result<(), AllocError>
+        ensures ok { OnOk result (HasPromoted limit self.old self.new) }
+        ensures err { OnErr result (self.new ≡ self.old) }
+    {
+        let mut index = self.index.copy(alloc)?;
+        let mut notes = copy_notes(alloc, &self.notes)?;
+        promote_all(alloc, &mut index, &mut notes, &self.notes, limit)?;
+        self.index = index;
+        self.notes = notes;
+        Ok(())
+    }
+
+    /// The transaction's commit has that number. It holds what it held.
+    pub fn committed(&mut self, txn: u64, commit: u64)
+        ensures { HasCommitted txn commit self.old self.new }
+    {
+        mark(&mut self.notes, txn, commit);
+    }
+
+    /// Drops the transaction and its notes.
+    pub fn forget(&mut self, txn: u64)
+        ensures { HasForgotten (nat_eq txn) self.old self.new }
+    {
+        drop_notes(&mut self.index, &mut self.notes, txn);
+    }
+
+    /// Drops the transactions that committed at that number or before, and their notes.
+    pub fn forget_before(&mut self, last: u64)
+        ensures { HasForgotten (λ txn. is_committed_by last (commit_of self.old txn)) self.old self.new }
+    {
+        drop_committed(&mut self.index, &mut self.notes, last);
+    }
+}
+
+/// Puts the notes of the transaction anew, once more was read. All memory is had before anything changes.
+fn renew(
+    alloc: Global,
+    index: &mut Index,
+    notes: &mut BTreeMap<u64, Noted>,
+    txn: u64,
+    footprint: &Footprint,
+    limit: usize,
+) -> Result<(), AllocError>
+    requires { IsIndexed index.old.holders.entries notes.old.entries }
+    ensures indexed { IsIndexed index.new.holders.entries notes.new.entries }
+    ensures ok { OnOk result (HasNoted txn (noted_with limit (objects_in (notes_at notes.old.entries txn)) footprint.now) (locks_of index.old.holders.entries notes.old.entries) (locks_of index.new.holders.entries notes.new.entries)) }
+    ensures err { OnErr result (locks_of index.new.holders.entries notes.new.entries ≡ locks_of index.old.holders.entries notes.old.entries) }
+{
+    let (noted, dropped) = renoted(alloc, notes, txn, footprint, limit)?;
+    index.make_room(alloc, txn, noted.objects())?;
+    notes.insert(txn, noted)?;
+    hold_noted(index, notes, txn);
+    index.release_all(txn, &dropped);
+    Ok(())
+}
+
+/// What the transaction has noted once more was read, and which of its objects it holds no longer.
+fn renoted(
+    alloc: Global,
+    notes: &BTreeMap<u64, Noted>,
+    txn: u64,
+    footprint: &Footprint,
+    limit: usize,
+) -> Result<(Noted, Footprint), AllocError>
+    ensures objects { IfOk result (λ renoted. renoted.0.objects ≡ noted_with limit (objects_in (notes_at notes.now.entries txn)) footprint.now) }
+    ensures commit { IfOk result (λ renoted. renoted.0.commit ≡ commit_in (notes_at notes.now.entries txn)) }
+    ensures dropped { IfOk result (λ renoted. (object : Read) → is_among renoted.1 object ≡ (is_among (objects_in (notes_at notes.now.entries txn)) object && not (is_among renoted.0.objects object))) }
+{
+    match notes.get(&txn) {
+        Some(noted) => {
+            let objects = noted_more(alloc, noted.objects(), footprint, limit)?;
+            let dropped = missing(alloc, noted.objects(), &objects)?;
+            Ok((Noted::new(noted.commit(), objects), dropped))
+        }
+        None => {
+            let objects = noted_more(alloc, &Footprint::new(alloc), footprint, limit)?;
+            Ok((Noted::new(None, objects), Footprint::new(alloc)))
+        }
+    }
+}
+
+/// The transaction holds what it has noted.
+fn hold_noted(index: &mut Index, notes: &BTreeMap<u64, Noted>, txn: u64)
+    requires { (object : Read) → is_among (objects_in (notes_at notes.now.entries txn)) object ≡ true → is_ready index.old.holders.entries txn object ≡ true }
+    ensures { (object : Read) → held_at index.new.holders.entries object ≡ (if is_among (objects_in (notes_at notes.now.entries txn)) object then arrived (held_at index.old.holders.entries object) txn else held_at index.old.holders.entries object) }
+{
+    if let Some(noted) = notes.get(&txn) {
+        index.hold_all(txn, noted.objects());
+    }
+}
+
+/// Copies of the notes of all.
+fn copy_notes(
+    alloc: Global,
+    notes: &BTreeMap<u64, Noted>,
+) -> Result<BTreeMap<u64, Noted>, AllocError>
+    ensures { IfOk result (λ copied. (txn : ℕ) → notes_at copied.entries txn ≡ notes_at notes.now.entries txn) }
+{
+    let mut copied = BTreeMap::new(alloc);
+    for txn in notes.keys() {
+        if let Some(noted) = notes.get(txn) {
+            copied.insert(*txn, noted.copy(alloc)?)?;
+        }
+    }
+    Ok(copied)
+}
+
+/// Promotes what each has noted, in a copy of the index and of the notes.
+fn promote_all(
+    alloc: Global,
+    index: &mut Index,
+    promoted: &mut BTreeMap<u64, Noted>,
+    notes: &BTreeMap<u64, Noted>,
+    limit: usize,
+) -> Result<(), AllocError>
+    requires indexed { IsIndexed index.old.holders.entries promoted.old.entries }
+    requires same { (txn : ℕ) → notes_at promoted.old.entries txn ≡ notes_at notes.now.entries txn }
+    ensures indexed { IsIndexed index.new.holders.entries promoted.new.entries }
+    ensures ok { OnOk result (HasPromoted limit (locks_of index.old.holders.entries notes.now.entries) (locks_of index.new.holders.entries promoted.new.entries)) }
+{
+    let nothing = Footprint::new(alloc);
+    for txn in notes.keys() {
+        renew(alloc, index, promoted, *txn, &nothing, limit)?;
+    }
+    Ok(())
+}
+
+/// The commit of the transaction has that number.
+fn mark(notes: &mut BTreeMap<u64, Noted>, txn: u64, commit: u64)
+    ensures { (other : ℕ) → notes_at notes.new.entries other ≡ (if nat_eq txn other then marked commit (notes_at notes.old.entries other) else notes_at notes.old.entries other) }
+{
+    if let Some(noted) = notes.get_mut(&txn) {
+        noted.mark(commit);
+    }
+}
+
+/// Drops the notes of the transaction. It holds nothing then.
+fn drop_notes(index: &mut Index, notes: &mut BTreeMap<u64, Noted>, txn: u64)
+    requires { IsIndexed index.old.holders.entries notes.old.entries }
+    ensures indexed { IsIndexed index.new.holders.entries notes.new.entries }
+    ensures gone { HasForgotten (nat_eq txn) (locks_of index.old.holders.entries notes.old.entries) (locks_of index.new.holders.entries notes.new.entries) }
+    ensures fewer { is_some (notes_at notes.old.entries txn) ≡ true → length notes.new.entries < length notes.old.entries }
+{
+    if let Some(noted) = notes.remove(&txn) {
+        index.release_all(txn, noted.objects());
+    }
+}
+
+/// Drops the notes of those that committed at that number or before.
+fn drop_committed(index: &mut Index, notes: &mut BTreeMap<u64, Noted>, last: u64)
+    requires { IsIndexed index.old.holders.entries notes.old.entries }
+    ensures indexed { IsIndexed index.new.holders.entries notes.new.entries }
+    ensures gone { HasForgotten (λ txn. is_committed_by last (commit_in (notes_at notes.old.entries txn))) (locks_of index.old.holders.entries notes.old.entries) (locks_of index.new.holders.entries notes.new.entries) }
+{
+    while let Some(txn) = first_committed(notes, last) {
+        drop_notes(index, notes, txn);
+    }
+}
+
+/// The first transaction that committed at that number or before.
+fn first_committed(notes: &BTreeMap<u64, Noted>, last: u64) -> Option<u64>
+    ensures { MatchOption result ((txn : ℕ) → is_committed_by last (commit_in (notes_at notes.now.entries txn)) ≡ false) (λ txn. is_committed_by last (commit_in (notes_at notes.now.entries txn)) ≡ true) }
+{
+    for txn in notes.keys() {
+        if is_committed(notes, *txn, last) {
+            return Some(*txn);
+        }
+    }
+    None
+}
+
+/// Whether the transaction committed at that number or before.
+fn is_committed(notes: &BTreeMap<u64, Noted>, txn: u64, last: u64) -> bool
+    ensures { result ≡ is_committed_by last (commit_in (notes_at notes.now.entries txn)) }
+{
+    match notes.get(&txn) {
+        Some(noted) => is_by(noted.commit(), last),
+        None => false,
+    }
+}
+
+fn is_by(commit: Option<u64>, last: u64) -> bool
+    ensures { result ≡ is_committed_by last commit }
+{
+    match commit {
+        Some(commit) => commit <= last,
+        None => false,
+    }
+}
