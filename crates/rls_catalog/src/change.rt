@@ -115,6 +115,15 @@ impl Delta {
         })
     }
 
+    /// Copies of the changes.
+    pub fn from_slice(alloc: Global, changes: &[Change]) -> Result<Delta, AllocError>
+        ensures { IfOk result (λ delta. delta ≡ changes.now) }
+    {
+        Ok(Delta {
+            changes: copy_changes(alloc, changes)?,
+        })
+    }
+
     pub fn push(&mut self, change: Change) -> Result<(), AllocError>
         ensures ok { OnOk result (self.new ≡ self.old ++ change ∷ []) }
         ensures err { OnErr result (self.new ≡ self.old) }
@@ -132,9 +141,7 @@ impl Delta {
     pub fn copy(&self, alloc: Global) -> Result<Delta, AllocError>
         ensures { IfOk result (λ delta. delta ≡ self.now) }
     {
-        Ok(Delta {
-            changes: copy_changes(alloc, &self.changes)?,
-        })
+        Delta::from_slice(alloc, self.as_slice())
     }
 }
 

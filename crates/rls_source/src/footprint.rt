@@ -1,6 +1,6 @@
 //! The objects that were read, each once.
 
-ghost use Rattle.std.specs.Prelude.{◌≡◌, [], IfOk, OnOk, OnErr};
+ghost use Rattle.std.specs.Prelude.{◌≡◌, [], length, IfOk, OnOk, OnErr};
 ghost use Rattle.rls_value.specs.declared.object.Object.{Object as Read};
 ghost use Rattle.rls_source.specs.Footprints.{with_object, with_reads, footprint_of, is_among, IsInOrder};
 
@@ -75,6 +75,13 @@ impl Footprint {
             objects.push(object.copy(alloc)?)?;
         }
         Ok(objects)
+    }
+
+    /// How many objects there are.
+    pub fn len(&self) -> usize
+        ensures { result ≡ length self.now }
+    {
+        self.objects.len()
     }
 
     /// Whether the object was read.

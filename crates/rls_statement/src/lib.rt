@@ -2,9 +2,11 @@
 #![tactic(auto)]
 
 mod changing;
+mod command;
 mod statement;
 
 pub use changing::{Delete, Setting, Update};
+pub use command::{AccessMode, Command};
 pub use statement::{
     AlterPolicy, AlterRole, AlterTable, Attributes, CreatePolicy, CreateRole, CreateTable,
     DropPolicy, GrantPrivileges, GrantRoles, Insert, MarkedColumn, MembershipOption,
