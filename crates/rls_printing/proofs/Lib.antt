@@ -9,3 +9,4 @@ pub mod SpelledParts
 pub mod SpelledStatements
 pub mod FlatItems
 pub mod Shallow
+pub mod PrintedCommands

@@ -28,7 +28,7 @@ tokens_are ps a b text e h t =
     let x = fit_tokens ps fit in
     x.1 ∙ ap Some (sym (words_told (string_bytes text) ps x.0 (text_is ps a b text e h t) fit x.1))
 
-limited_read : (x : Statement) → IsReadAs x (limited x)
+pub limited_read : (x : Statement) → IsReadAs x (limited x)
 limited_read x = go (nat_lt 64 (columns_of x)) (nat_lt 64 (height_of x)) (nat_lt 8 (subqueries_of x))
   where
     go : (a b c : Bool) → IsReadAs x (if◌then◌else◌ {A = Result Statement Refusal} a (Err (refusal.Limit l.Columns)) (if◌then◌else◌ {A = Result Statement Refusal} b (Err (refusal.Limit l.Nesting)) (if◌then◌else◌ {A = Result Statement Refusal} c (Err (refusal.Limit l.Subqueries)) (Ok x))))

@@ -3,3 +3,4 @@ pub mod Sheets
 pub mod ExprForms
 pub mod StatementForms
 pub mod ReadBack
+pub mod CommandForms

@@ -1,6 +1,7 @@
 //! Statements of SQL as texts.
 #![tactic(auto)]
 
+mod commands;
 mod expression;
 mod laws;
 mod lists;
@@ -10,6 +11,7 @@ mod printing;
 mod statements;
 mod words;
 
+pub use commands::print_command;
 pub use laws::{
     printed_within, printed_words, read_again, spelled_exprs, spelled_statements, written_exprs,
     written_statements,

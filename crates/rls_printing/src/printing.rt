@@ -93,7 +93,7 @@ pub fn print_expr(alloc: Global, expr: &Expr) -> Result<String, AllocError>
     Ok(page.into_text())
 }
 
-fn put_statement(page: &mut Page, statement: &Statement) -> Result<(), AllocError>
+pub fn put_statement(page: &mut Page, statement: &Statement) -> Result<(), AllocError>
     ensures { OnOk result (put_all (Some (sheet_of page.old)) (form.statement statement.now) ≡ Some (sheet_of page.new)) }
 {
     match statement {

@@ -240,7 +240,7 @@ statement_within depth k = before_within k _ _ _ (body_within k (g.expr depth) (
 abbrev pub reading : List Token → Option (Statement × List Token)
 reading ts = (g.statement (length ts + 1)).rule.parses.read ts
 
-append_end : (ts : List Token) → ts ++ [] ≡ ts
+pub append_end : (ts : List Token) → ts ++ [] ≡ ts
 append_end [] = refl
 append_end (t ∷ ts) = ap (λ x. t ∷ x) (append_end ts)
 
@@ -334,7 +334,7 @@ is_answer ts = record {
     never (Some draft) e none = let f = whole_found ts draft e in absurd (none f.source f.spelled)
 
 -- what is limited is the statement itself
-kept : (x y : Statement) → limited x ≡ Ok y → x ≡ y
+pub kept : (x y : Statement) → limited x ≡ Ok y → x ≡ y
 kept x y h = go (nat_lt 64 (columns_of x)) (nat_lt 64 (height_of x)) (nat_lt 8 (subqueries_of x)) h
   where
     go : (a b c : Bool) → (if◌then◌else◌ {A = Result Statement Refusal} a (Err (refusal.Limit l.Columns)) (if◌then◌else◌ {A = Result Statement Refusal} b (Err (refusal.Limit l.Nesting)) (if◌then◌else◌ {A = Result Statement Refusal} c (Err (refusal.Limit l.Subqueries)) (Ok x)))) ≡ Ok y → x ≡ y

@@ -3,5 +3,6 @@ pub mod Loops
 pub mod Rooms
 pub mod Wording
 pub mod Laws
+pub mod CommandLaws
 pub mod Distinct
 pub mod Printed

@@ -57,7 +57,7 @@ unfoldable pub or_no_items : {A : Type 0} → Outcome (Option (List A)) → Outc
 or_no_items read = and_then read (λ xs rest. Some (or_empty xs, rest))
 
 -- all of the tokens, with parentheses as deep as there are tokens
-abbrev pub finished : Outcome Draft → Option Draft
+abbrev pub finished : {A : Type 0} → Outcome A → Option A
 finished None = None
 finished (Some (x, [])) = Some x
 finished (Some (x, _ ∷ _)) = None
@@ -67,7 +67,7 @@ unfoldable pub whole_of : List Token → Option Draft
 whole_of ts = finished ((g.statement (length ts + 1)).read ts)
 
 -- what is given is what takes up all of them
-abbrev pub GivesWhole : Result Draft Fault → Option Draft → Type 0
+abbrev pub GivesWhole : {A : Type 0} → Result A Fault → Option A → Type 0
 GivesWhole (Ok x) read = read ≡ Some x
 GivesWhole (Err NoMemory) read = Unit {0}
 GivesWhole (Err Syntax) read = read ≡ None
@@ -88,7 +88,7 @@ answered None = Err refusal.Syntax
 answered (Some draft) = within_limits draft
 
 -- a limit on words comes first
-abbrev pub unless_over : Option Limit → Result Statement Refusal → Result Statement Refusal
+abbrev pub unless_over : {A : Type 0} → Option Limit → Result A Refusal → Result A Refusal
 unless_over (Some limit) answer = Err (refusal.Limit limit)
 unless_over None answer = answer
 

@@ -4,7 +4,9 @@ pub mod Heights
 pub mod Nested
 pub mod Values
 pub mod Grammar
+pub mod Transactions
 pub mod Answers
+pub mod Commands
 pub mod Printing
 pub mod Rule
 pub mod Trees

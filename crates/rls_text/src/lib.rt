@@ -23,8 +23,9 @@ mod subqueries;
 mod subtree;
 mod tables;
 mod token;
+mod transactions;
 mod tree;
 mod words;
 
-pub use parsing::parse;
-pub use read_back::written_spells;
+pub use parsing::{parse, parse_command};
+pub use read_back::{statement_answers, written_command_spells, written_spells};

@@ -1,7 +1,8 @@
-//! A statement from a text.
+//! A statement or a command from a text.
 
 ghost use Rattle.std.specs.Prelude.{◌≡◌, ◌≤◌, None, IfOk};
-ghost use Rattle.rls_text.specs.{Gives.Gives, Gives.GivesWhole, Gives.whole_of, Gives.answer_of, Gives.within_limits, Words.words_of, Heights.height_of, Nested.subqueries_of, Answers.Answers, Answers.IsSpelled};
+ghost use Rattle.rls_text.specs.{Gives.Gives, Gives.GivesWhole, Gives.whole_of, Gives.answer_of, Gives.answered, Gives.within_limits, Words.words_of, Heights.height_of, Nested.subqueries_of, Answers.Answers, Answers.IsSpelled};
+ghost use Rattle.rls_text.specs.Commands.{AnswersCommand, IfRun, IsCommandSpelled, command_of};
 ghost use Rattle.rls_text.specs.Grammar as g;
 ghost use Rattle.rls_text.specs.Answers as spec;
 
@@ -17,9 +18,10 @@ use crate::revoking::revoke;
 use crate::selecting::{insert, select};
 use crate::subqueries::{MAX_SUBQUERIES, has_too_many};
 use crate::token::{Symbol, Token};
+use crate::transactions::{starts_transaction, whole_transaction};
 use crate::tree::{Draft, MAX_DEPTH};
 use crate::words::words;
-use rls_statement::Statement;
+use rls_statement::{Command, Statement};
 use rls_value::{Limit, Refusal};
 use std::alloc::Global;
 
@@ -41,12 +43,54 @@ pub fn parse(alloc: Global, text: &str) -> Result<Statement, Refusal>
     answer(alloc, tokens.as_slice())
 }
 
+/// The command that the text spells: a statement, as `parse` gives it, or what begins or ends a block. Where several
+/// refusals fit they come in the same order.
+pub fn parse_command(alloc: Global, text: &str) -> Result<Command, Refusal>
+    ensures ok { IfOk result (λ command. IsCommandSpelled (words_of text.now) command) }
+    ensures within { IfOk result (λ command. IfRun command (λ statement. height_of statement ≤ MAX_DEPTH)) }
+    ensures few { IfOk result (λ command. IfRun command (λ statement. subqueries_of statement ≤ MAX_SUBQUERIES)) }
+
+    // It is what the grammar and the limits say, unless memory runs out.
+    ensures answer { ¬ (result ≡ Err Refusal.NoMemory) → AnswersCommand (words_of text.now) result }
+{
+    let tokens = words(alloc, text)?;
+    command_answer(alloc, tokens.as_slice())
+}
+
+fn command_answer(alloc: Global, tokens: &[Token]) -> Result<Command, Refusal>
+    ensures { ¬ (result ≡ Err Refusal.NoMemory) → result ≡ command_of tokens.now }
+{
+    if let Some(limit) = first_limit(tokens) {
+        return Err(Refusal::Limit(limit));
+    }
+    if starts_transaction(tokens) {
+        match whole_transaction(alloc, tokens) {
+            Ok(command) => Ok(command),
+            Err(Fault::Syntax) => Err(Refusal::Syntax),
+            Err(Fault::NoMemory) => Err(Refusal::NoMemory),
+        }
+    } else {
+        match spelled(alloc, tokens) {
+            Ok(statement) => Ok(Command::Run(statement)),
+            Err(refusal) => Err(refusal),
+        }
+    }
+}
+
 fn answer(alloc: Global, tokens: &[Token]) -> Result<Statement, Refusal>
     ensures { ¬ (result ≡ Err Refusal.NoMemory) → result ≡ answer_of tokens.now }
 {
     if let Some(limit) = first_limit(tokens) {
         return Err(Refusal::Limit(limit));
     }
+    spelled(alloc, tokens)
+}
+
+/// The statement that the tokens spell, unless it is over a limit.
+fn spelled(alloc: Global, tokens: &[Token]) -> Result<Statement, Refusal>
+    requires { spec.first_limit tokens.now ≡ None }
+    ensures { ¬ (result ≡ Err Refusal.NoMemory) → result ≡ answered (whole_of tokens.now) }
+{
     match whole(alloc, tokens) {
         Ok(draft) => limited(draft),
         Err(Fault::Syntax) => Err(Refusal::Syntax),
