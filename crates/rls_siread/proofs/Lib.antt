@@ -5,3 +5,4 @@ pub mod PromotionLaws
 pub mod ForgetLaws
 pub mod CopyLaws
 pub mod PromotedLaws
+pub mod WideningLaws

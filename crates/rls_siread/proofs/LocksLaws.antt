@@ -1,5 +1,6 @@
 -- What calls leave of read locks.
-use Rattle.std.specs.Prelude.{◌≡◌, refl, ℕ, List, [], ◌∷◌, ◌++◌, Bool, true, false, not, ◌||◌, ◌&&◌, nat_eq, cond, if◌then◌else◌, Option, Some, None}
+use Rattle.std.specs.Prelude.{◌≡◌, ◌<◌, ◌≤◌, ◌+◌, refl, ℕ, List, [], ◌∷◌, ◌++◌, Bool, true, false, not, ◌||◌, ◌&&◌, nat_eq, min, cond, if◌then◌else◌, Option, Some, None, unwrap_or}
+use Rattle.std.specs.Option.{is_some}
 use Rattle.std.specs.List.{list_any}
 use Rattle.std.specs.BTreeMap.{is_at}
 use Rattle.std.specs.Ordering.{is_eq, nat_cmp}
@@ -9,8 +10,8 @@ use Rattle.std.specs.Cmp.{unsigned_Decides}
 use Rattle.std.specs.FinMap.{nat_cmp-IsAntisymmetric}
 use Rattle.std.specs.Set.{remove_key}
 use Rattle.std.specs.List.{IsDistinct, AllByRecursion}
-use Rattle.std.proofs.Common.{ap, sym, subst, ◌∙◌}
-use Rattle.std.proofs.lemmas.Bool.{true≢false}
+use Rattle.std.proofs.Common.{ap, sym, subst, ◌∙◌, arith}
+use Rattle.std.proofs.lemmas.Bool.{true≢false, leb-false, lt-leb}
 use Rattle.std.proofs.lemmas.Cmp.{nat_cmp_total, nat_eq_equiv, tied_itself}
 use Rattle.std.proofs.lemmas.List.Folds.{list_any-append}
 use Rattle.std.proofs.lemmas.Map.Views.{any-filter_same}
@@ -18,8 +19,8 @@ use Rattle.rls_value.specs.declared.object.Object.{Object}
 use Rattle.rls_catalog.specs.declared.change.Change.{Change}
 use Rattle.rls_source.specs.Footprints.{footprint_of, is_among}
 use Rattle.rls_siread.specs.Covering.{covered_by}
-use Rattle.rls_siread.specs.Locks.{Notes, Locks, is_number_in, is_reader, arrived, all_arrived, with_holders, holders_of, without, held_with, held_by, objects_in, commit_in, held_in, notes_at, noted_by, marked, HasNoted}
-use Rattle.rls_siread.specs.Index.{Held, shown, held_at, IsIndexed, locks_of}
+use Rattle.rls_siread.specs.Locks.{Notes, Locks, is_number_in, is_reader, arrived, all_arrived, with_holders, holders_of, without, held_with, held_by, objects_in, commit_in, held_in, notes_at, noted_by, marked, commit_of, is_committed_by, promoted_notes, HasNoted, HasForgotten, HasPromoted}
+use Rattle.rls_siread.specs.Index.{Held, shown, held_at, IsIndexed, CommitsFrom, locks_of}
 use Rattle.rls_siread.proofs.CoveringLaws.{any_same, reads_covered}
 
 -- ---- numbers
@@ -145,21 +146,24 @@ still_indexed old new notes left txn objects indexed held noted object t =
     ∙ ap (λ list. is_among list object) (sym (noted t))
 
 renoted_case : (now was : Bool) (txn : ℕ) (held : List ℕ) → is_number_in held txn ≡ was
-    → (if was && not now then without (if now then arrived held txn else held) txn else (if now then arrived held txn else held)) ≡ held_with now held txn
-renoted_case true true txn held is = refl
+    → (if was && not now then without (if now && not was then arrived held txn else held) txn else (if now && not was then arrived held txn else held)) ≡ held_with now held txn
+renoted_case true true txn held is = sym (ap (λ b. if b then held else held ++ txn ∷ []) is)
 renoted_case true false txn held is = refl
 renoted_case false true txn held is = refl
 renoted_case false false txn held is = sym (without_absent held txn is)
 
--- what is held once those noted are held, and those dropped are not
-pub renoted_held : (old noted new : List (Object × Held)) (notes : List (ℕ × Notes)) (txn : ℕ) (objects dropped : List Object) → IsIndexed old notes
+-- what is held once the new ones are held, and those dropped are not
+pub renoted_held : (old noted new : List (Object × Held)) (notes : List (ℕ × Notes)) (txn : ℕ) (objects fresh dropped : List Object) → IsIndexed old notes
+    → ((object : Object) → is_among fresh object ≡ (is_among objects object && not (is_among (objects_in (notes_at notes txn)) object)))
     → ((object : Object) → is_among dropped object ≡ (is_among (objects_in (notes_at notes txn)) object && not (is_among objects object)))
-    → ((object : Object) → held_at noted object ≡ (if is_among objects object then arrived (held_at old object) txn else held_at old object))
+    → ((object : Object) → held_at noted object ≡ (if is_among fresh object then arrived (held_at old object) txn else held_at old object))
     → ((object : Object) → held_at new object ≡ (if is_among dropped object then without (held_at noted object) txn else held_at noted object))
     → (object : Object) → held_at new object ≡ held_with (is_among objects object) (held_at old object) txn
-renoted_held old noted new notes txn objects dropped indexed drops holds releases object =
+renoted_held old noted new notes txn objects fresh dropped indexed news drops holds releases object =
+    let held : held_at noted object ≡ (if is_among objects object && not (is_among (objects_in (notes_at notes txn)) object) then arrived (held_at old object) txn else held_at old object) =
+    holds object ∙ (λ i. if news object i then arrived (held_at old object) txn else held_at old object) in
     releases object
-    ∙ (λ i. if drops object i then without (holds object i) txn else holds object i)
+    ∙ (λ i. if drops object i then without (held i) txn else held i)
     ∙ renoted_case (is_among objects object) (is_among (objects_in (notes_at notes txn)) object) txn (held_at old object) (indexed object txn)
 
 forgotten_case : (was : Bool) (txn : ℕ) (held : List ℕ) → is_number_in held txn ≡ was → (if was then without held txn else held) ≡ without held txn
@@ -229,24 +233,25 @@ pub record IsRenewed (old new : List (Object × Held)) (notes left : List (ℕ �
   pub indexed : IsIndexed new left
   pub noted : HasNoted txn objects (locks_of old notes) (locks_of new left)
 
--- room is made, the notes are put, what is noted is held, and what was dropped isn't
-pub renewed : (old room noted new : List (Object × Held)) (notes left : List (ℕ × Notes)) (txn : ℕ) (put : Notes) (objects dropped : List Object) → IsIndexed old notes
+-- room is made, the notes are put, what is new is held, and what was dropped isn't
+pub renewed : (old room noted new : List (Object × Held)) (notes left : List (ℕ × Notes)) (txn : ℕ) (put : Notes) (objects fresh dropped : List Object) → IsIndexed old notes
     → put.objects ≡ objects → put.commit ≡ commit_in (notes_at notes txn)
+    → ((object : Object) → is_among fresh object ≡ (is_among put.objects object && not (is_among (objects_in (notes_at notes txn)) object)))
     → ((object : Object) → is_among dropped object ≡ (is_among (objects_in (notes_at notes txn)) object && not (is_among put.objects object)))
     → shown room ≡ shown old → ((t : ℕ) → notes_at left t ≡ cond (is_at (nat_cmp txn) t) (Some put) (notes_at notes t))
-    → ((object : Object) → held_at noted object ≡ (if is_among (objects_in (notes_at left txn)) object then arrived (held_at room object) txn else held_at room object))
+    → ((object : Object) → held_at noted object ≡ (if is_among fresh object then arrived (held_at room object) txn else held_at room object))
     → ((object : Object) → held_at new object ≡ (if is_among dropped object then without (held_at noted object) txn else held_at noted object))
     → IsRenewed old new notes left txn objects
-renewed old room noted new notes left txn put objects dropped indexed same commit drops same_shown puts holds releases =
+renewed old room noted new notes left txn put objects fresh dropped indexed same commit news drops same_shown puts holds releases =
     let notes_are : (t : ℕ) → notes_at left t ≡ (if nat_eq txn t then Some (record { commit = commit_in (notes_at notes txn); objects = objects }) else notes_at notes t) =
     notes_put notes left txn put objects same commit puts in
     let objects_are : (t : ℕ) → objects_in (notes_at left t) ≡ (if nat_eq txn t then objects else objects_in (notes_at notes t)) =
     objects_put notes left txn (record { commit = commit_in (notes_at notes txn); objects = objects }) notes_are in
-    let own : objects_in (notes_at left txn) ≡ objects = objects_are txn ∙ ap (λ b. if b then objects else objects_in (notes_at notes txn)) (number_itself txn) in
     let held : (object : Object) → held_at new object ≡ held_with (is_among objects object) (held_at old object) txn =
-    renoted_held old noted new notes txn objects dropped indexed
+    renoted_held old noted new notes txn objects fresh dropped indexed
+    (λ object. news object ∙ ap (λ list. is_among list object && not (is_among (objects_in (notes_at notes txn)) object)) same)
     (λ object. drops object ∙ ap (λ list. is_among (objects_in (notes_at notes txn)) object && not (is_among list object)) same)
-    (λ object. holds object ∙ (λ i. if is_among (own i) object then arrived (held_in (same_shown i) object) txn else held_in (same_shown i) object))
+    (λ object. holds object ∙ (λ i. if is_among fresh object then arrived (held_in (same_shown i) object) txn else held_in (same_shown i) object))
     releases in
     record { indexed = still_indexed old new notes left txn objects indexed held objects_are; noted = record { notes = notes_are; holders = held } }
 
@@ -294,3 +299,66 @@ holders_read locks change indexed txn =
     number_with_holders locks.holders [] (footprint_of (covered_by change)) txn
     ∙ any_same (λ object. is_number_in (held_by locks object) txn) (is_among (noted_by locks txn)) (λ object. indexed object txn) (footprint_of (covered_by change))
     ∙ reads_covered (noted_by locks txn) change
+
+-- ---- commits that aren't forgotten
+
+noted_commit : (same : Bool) (txn other : ℕ) (objects : List Object) (old : List (ℕ × Notes)) → nat_eq txn other ≡ same
+    → commit_in (if same then Some (record { commit = commit_in (notes_at old txn); objects = objects }) else notes_at old other) ≡ commit_in (notes_at old other)
+noted_commit true txn other objects old is = ap (λ t. commit_in (notes_at old t)) (same_number txn other is)
+noted_commit false txn other objects old is = refl
+
+-- notes put anew leave the commits
+pub commits_noted : (txn : ℕ) (objects : List Object) (old new : Locks) → HasNoted txn objects old new → (other : ℕ) → commit_in (notes_at new.notes other) ≡ commit_in (notes_at old.notes other)
+commits_noted txn objects old new noted other = ap commit_in (noted.notes other) ∙ noted_commit (nat_eq txn other) txn other objects old.notes refl
+
+promoted_commit : (limit : ℕ) (found : Option Notes) → commit_in (promoted_notes limit found) ≡ commit_in found
+promoted_commit limit None = refl
+promoted_commit limit (Some notes) = refl
+
+-- commits by the same numbers have the same least
+pub commits_same : (least : ℕ) (old new : List (ℕ × Notes)) → ((other : ℕ) → commit_in (notes_at new other) ≡ commit_in (notes_at old other)) → CommitsFrom least old → CommitsFrom least new
+commits_same least old new same commits txn commit is = commits txn commit (sym (same txn) ∙ is)
+
+pub commits_promoted : (limit least : ℕ) (old new : Locks) → HasPromoted limit old new → CommitsFrom least old.notes → CommitsFrom least new.notes
+commits_promoted limit least old new promotes = commits_same least old.notes new.notes (λ other. ap commit_in (promotes.notes other) ∙ promoted_commit limit (notes_at old.notes other))
+
+marked_at : (commit c : ℕ) (found : Option Notes) → commit_in (marked commit found) ≡ Some c → commit ≡ c
+marked_at commit c None is = absurd (true≢false (sym (ap is_some is)))
+marked_at commit c (Some notes) is = ap (λ found. unwrap_or found 0) is
+
+marked_from : (same : Bool) (least commit c : ℕ) (found : Option Notes) → (commit_in found ≡ Some c → least ≤ c) → commit_in (if same then marked commit found else found) ≡ Some c → min least commit ≤ c
+marked_from true least commit c found from is = let at = marked_at commit c found is in omega (arith, at)
+marked_from false least commit c found from is = let at = from is in omega (arith, at)
+
+-- once a commit is marked the least is no greater than its number
+pub commits_marked : (least txn commit : ℕ) (old new : List (ℕ × Notes)) → ((t : ℕ) → notes_at new t ≡ (if nat_eq txn t then marked commit (notes_at old t) else notes_at old t))
+    → CommitsFrom least old → CommitsFrom (min least commit) new
+commits_marked least txn commit old new marks commits t c is =
+    marked_from (nat_eq txn t) least commit c (notes_at old t) (commits t c) (sym (ap commit_in (marks t)) ∙ is)
+
+gone_from : (gone : Bool) (c : ℕ) (found : Option Notes) → commit_in (if gone then None else found) ≡ Some c → (gone ≡ false) × (commit_in found ≡ Some c)
+gone_from true c found is = absurd (true≢false (sym (ap is_some is)))
+gone_from false c found is = (refl, is)
+
+-- who is forgotten leaves the others' commits
+pub commits_forgotten : (gone : ℕ → Bool) (least : ℕ) (old new : Locks) → HasForgotten gone old new → CommitsFrom least old.notes → CommitsFrom least new.notes
+commits_forgotten gone least old new forgets commits t c is = commits t c (gone_from (gone t) c (notes_at old.notes t) (sym (ap commit_in (forgets.notes t)) ∙ is)).1
+
+later_from : (last c : ℕ) (found : Option ℕ) → found ≡ Some c → is_committed_by last found ≡ false → last < c
+later_from last c None is none = absurd (true≢false (sym (ap is_some is)))
+later_from last c (Some commit) is none = let more = leb-false commit last none in let at = ap (λ found. unwrap_or found 0) is in omega (arith, more, at)
+
+-- once all that committed by a number are forgotten the others' numbers are greater
+pub commits_dropped : (last least : ℕ) (old new : Locks) → HasForgotten (λ txn. is_committed_by last (commit_of old txn)) old new → least ≤ last + 1 → CommitsFrom least new.notes
+commits_dropped last least old new forgets less t c is =
+    let both = gone_from (is_committed_by last (commit_of old t)) c (notes_at old.notes t) (sym (ap commit_in (forgets.notes t)) ∙ is) in
+    let later : last < c = later_from last c (commit_of old t) both.1 both.0 in
+    omega (arith, less, later)
+
+never_by : (last least : ℕ) (found : Option ℕ) → last < least → ((c : ℕ) → found ≡ Some c → least ≤ c) → is_committed_by last found ≡ false
+never_by last least None less from = refl
+never_by last least (Some c) less from = let at = from c refl in lt-leb c last (omega (arith, at, less))
+
+-- nobody committed by a number below the least
+pub none_committed : (last least : ℕ) (locks : Locks) → last < least → CommitsFrom least locks.notes → (txn : ℕ) → is_committed_by last (commit_of locks txn) ≡ false
+none_committed last least locks less commits txn = never_by last least (commit_of locks txn) less (commits txn)

@@ -1,11 +1,11 @@
 -- The index of holders by object. An object that nobody holds may have a place in it, which isn't seen.
-use Rattle.std.specs.Prelude.{◌≡◌, ℕ, List, [], ◌∷◌, Bool, true, false, ◌||◌, nat_lt, Option, Some, None}
+use Rattle.std.specs.Prelude.{◌≡◌, ◌≤◌, ℕ, List, [], ◌∷◌, Bool, true, false, ◌||◌, nat_lt, Option, Some, None}
 use Rattle.std.specs.BTreeMap.{is_at}
 use Rattle.std.specs.Map.{lookup}
 use Rattle.rls_value.specs.declared.object.Object.{Object}
 use Rattle.rls_value.specs.Objects.{object_order}
 use Rattle.rls_source.specs.Footprints.{is_among}
-use Rattle.rls_siread.specs.Locks.{Notes, Locks, is_number_in, held_in, objects_in, notes_at}
+use Rattle.rls_siread.specs.Locks.{Notes, Locks, is_number_in, held_in, objects_in, commit_in, notes_at}
 
 -- the holders of an object, in the order of their first notes of it; and how many more fit without memory
 pub record Held : Type 0 where
@@ -42,6 +42,15 @@ KeepsReady old new txn object = is_ready old txn object ≡ true → is_ready ne
 -- who holds an object is told by the notes
 abbrev pub IsIndexed : List (Object × Held) → List (ℕ × Notes) → Type 0
 IsIndexed entries notes = (object : Object) (txn : ℕ) → is_number_in (held_at entries object) txn ≡ is_among (objects_in (notes_at notes txn)) object
+
+-- no commit that isn't forgotten has a lower number
+abbrev pub CommitsFrom : ℕ → List (ℕ × Notes) → Type 0
+CommitsFrom least notes = (txn commit : ℕ) → commit_in (notes_at notes txn) ≡ Some commit → least ≤ commit
+
+-- the index is told by the notes, and commits by the least number
+pub record IsKept (entries : List (Object × Held)) (notes : List (ℕ × Notes)) (least : ℕ) : Type 0 where
+  pub indexed : IsIndexed entries notes
+  pub commits : CommitsFrom least notes
 
 -- what is seen of the index and the notes
 abbrev pub locks_of : List (Object × Held) → List (ℕ × Notes) → Locks

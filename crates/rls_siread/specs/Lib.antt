@@ -1,5 +1,6 @@
 pub mod Covering
 pub mod Promotion
+pub mod Widening
 pub mod Locks
 pub mod Index
 pub mod LocksCode

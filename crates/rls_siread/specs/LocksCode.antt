@@ -19,3 +19,7 @@ locks_code =
 -- the code of the holders of an object
 abbrev pub held_code : Coded Held
 held_code = code_by (List ℕ × ℕ) (coded× (coded_list coded_ℕ) coded_ℕ) (λ h. (h.txns, h.room)) (λ p. record { txns = p.0; room = p.1 }) (λ _. refl)
+
+-- the code of who holds each object
+abbrev pub table_code : Coded (List (Object × Held))
+table_code = coded_list (coded× object.the_row.coded held_code)

@@ -42,6 +42,17 @@ impl Index {
         Ok(copied)
     }
 
+    /// The holders of the object, in the order of their first notes of it.
+    pub(crate) fn held(&self, object: &Object) -> &[u64]
+        ensures { result.now ≡ held_at self.now.holders.entries object.now }
+    {
+        let _in_order = self.holders.len();
+        match self.holders.get(object) {
+            Some(held) => held.as_slice(),
+            None => &[],
+        }
+    }
+
     /// A copy of the holders of the object.
     fn copy_of(&self, alloc: Global, object: &Object) -> Result<Holders, AllocError>
         ensures { IfOk result (λ held. held.txns ≡ held_at self.now.holders.entries object.now) }

@@ -4,9 +4,14 @@
 mod covering;
 mod holders;
 mod index;
+mod laws;
+mod lock_table;
 mod notes;
 mod promotion;
 mod sireads;
 
 pub use covering::{covered, written};
+pub use laws::notes_only_widen;
+pub use lock_table::LockTable;
+pub use promotion::promote;
 pub use sireads::Sireads;

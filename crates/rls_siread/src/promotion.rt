@@ -56,8 +56,9 @@ struct Judged {
     crowded: bool,
 }
 
-/// The objects, with the rows of each crowded table in place of its keys.
-fn promote(alloc: Global, objects: &Footprint, limit: usize) -> Result<Footprint, AllocError>
+/// The objects, with the rows of each table in place of its keys where all of them are among the objects, or more than `limit`
+/// of its keys.
+pub fn promote(alloc: Global, objects: &Footprint, limit: usize) -> Result<Footprint, AllocError>
     ensures { IfOk result (λ kept. kept ≡ promoted limit objects.now) }
 {
     let mut kept = Footprint::new(alloc);

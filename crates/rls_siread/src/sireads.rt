@@ -1,11 +1,11 @@
 //! Read locks.
 
-ghost use Rattle.std.specs.Prelude.{◌≡◌, ◌<◌, ℕ, [], true, false, ◌&&◌, not, if◌then◌else◌, length, is_some, Some, IfOk, OnOk, OnErr, MatchOption, nat_eq};
+ghost use Rattle.std.specs.Prelude.{◌≡◌, ◌<◌, ℕ, [], true, false, ◌&&◌, not, if◌then◌else◌, length, is_some, Some, IfOk, OnOk, OnErr, MatchOption, nat_eq, min};
 ghost use Rattle.rls_value.specs.declared.object.Object.{Object as Read};
 ghost use Rattle.rls_source.specs.Footprints.{is_among};
-ghost use Rattle.rls_siread.specs.Index.{held_at, is_ready, IsIndexed, locks_of};
+ghost use Rattle.rls_siread.specs.Index.{IsIndexed, locks_of};
 ghost use Rattle.rls_siread.specs.Promotion.{noted_with};
-ghost use Rattle.rls_siread.specs.Locks.{no_locks, noted_by, notes_at, objects_in, commit_in, commit_of, marked, arrived, is_number_in, is_reader, is_committed_by, holders_of, HasNoted, HasCommitted, HasForgotten, HasPromoted};
+ghost use Rattle.rls_siread.specs.Locks.{no_locks, held_by, noted_by, notes_at, objects_in, commit_in, commit_of, marked, is_number_in, is_reader, is_committed_by, holders_of, HasNoted, HasCommitted, HasForgotten, HasPromoted};
 
 use crate::covering::covered_by_one;
 use crate::index::Index;
@@ -13,6 +13,7 @@ use crate::notes::Noted;
 use crate::promotion::{missing, noted_more};
 use rls_catalog::Change;
 use rls_source::Footprint;
+use rls_value::Object;
 use std::alloc::{AllocError, Global};
 use std::collections::BTreeMap;
 use std::marker::Model;
@@ -22,11 +23,13 @@ use std::marker::Model;
 pub struct Sireads {
     index: Index,
     notes: BTreeMap<u64, Noted>,
+    // No commit that isn't forgotten has a lower number.
+    least: u64,
 }
 
 impl Model for Sireads {
     ghost use Rattle.rls_siread.specs.Locks.{Locks};
-    ghost use Rattle.rls_siread.specs.Index.{locks_of, IsIndexed};
+    ghost use Rattle.rls_siread.specs.Index.{locks_of, IsKept};
     ghost use Rattle.rls_siread.specs.LocksCode.{locks_code};
 
     ghost Value = { Locks };
@@ -36,7 +39,7 @@ impl Model for Sireads {
     ghost view = { λ it. locks_of it.index.holders.entries it.notes.entries };
 
     // Who holds what is told by the notes.
-    ghost invariant = { λ it. IsIndexed it.index.holders.entries it.notes.entries };
+    ghost invariant = { λ it. IsKept it.index.holders.entries it.notes.entries it.least };
 }
 
 impl Sireads {
@@ -46,6 +49,7 @@ impl Sireads {
         Sireads {
             index: Index::new(alloc),
             notes: BTreeMap::new(alloc),
+            least: 0,
         }
     }
 
@@ -55,6 +59,30 @@ impl Sireads {
     {
         match self.notes.get(&txn) {
             Some(noted) => Some(noted.objects()),
+            None => None,
+        }
+    }
+
+    /// Who holds an object are those that noted it.
+    pub fn stands(&self)
+        ensures { (object : Read) (txn : ℕ) → is_number_in (held_by self.now object) txn ≡ is_among (noted_by self.now txn) object }
+    {
+        let _index = &self.index;
+    }
+
+    /// The transactions that hold the object, in the order of their first notes of it.
+    pub fn held(&self, object: &Object) -> &[u64]
+        ensures { result.now ≡ held_by self.now object.now }
+    {
+        self.index.held(object)
+    }
+
+    /// The number of the transaction's commit, if it committed and isn't forgotten.
+    pub fn commit(&self, txn: u64) -> Option<u64>
+        ensures { result ≡ commit_of self.now txn }
+    {
+        match self.notes.get(&txn) {
+            Some(noted) => noted.commit(),
             None => None,
         }
     }
@@ -111,6 +139,7 @@ impl Sireads {
         ensures { HasCommitted txn commit self.old self.new }
     {
         mark(&mut self.notes, txn, commit);
+        self.least = lesser(self.least, commit);
     }
 
     /// Drops the transaction and its notes.
@@ -124,7 +153,11 @@ impl Sireads {
     pub fn forget_before(&mut self, last: u64)
         ensures { HasForgotten (λ txn. is_committed_by last (commit_of self.old txn)) self.old self.new }
     {
-        drop_committed(&mut self.index, &mut self.notes, last);
+        // Most calls find nothing to drop, and go through no notes.
+        if self.least <= last {
+            drop_committed(&mut self.index, &mut self.notes, last);
+            self.least = last.saturating_add(1);
+        }
     }
 }
 
@@ -141,47 +174,61 @@ fn renew(
     ensures indexed { IsIndexed index.new.holders.entries notes.new.entries }
     ensures ok { OnOk result (HasNoted txn (noted_with limit (objects_in (notes_at notes.old.entries txn)) footprint.now) (locks_of index.old.holders.entries notes.old.entries) (locks_of index.new.holders.entries notes.new.entries)) }
     ensures err { OnErr result (locks_of index.new.holders.entries notes.new.entries ≡ locks_of index.old.holders.entries notes.old.entries) }
+    ensures commits { (other : ℕ) → commit_in (notes_at notes.new.entries other) ≡ commit_in (notes_at notes.old.entries other) }
 {
-    let (noted, dropped) = renoted(alloc, notes, txn, footprint, limit)?;
-    index.make_room(alloc, txn, noted.objects())?;
+    let Renewal {
+        noted,
+        fresh,
+        dropped,
+    } = renoted(alloc, notes, txn, footprint, limit)?;
+    index.make_room(alloc, txn, &fresh)?;
     notes.insert(txn, noted)?;
-    hold_noted(index, notes, txn);
+    index.hold_all(txn, &fresh);
     index.release_all(txn, &dropped);
     Ok(())
 }
 
-/// What the transaction has noted once more was read, and which of its objects it holds no longer.
+/// What a transaction has noted once more was read; which of it is new; and which of its objects it holds no longer.
+#[derive(Drop)]
+struct Renewal {
+    noted: Noted,
+    fresh: Footprint,
+    dropped: Footprint,
+}
+
 fn renoted(
     alloc: Global,
     notes: &BTreeMap<u64, Noted>,
     txn: u64,
     footprint: &Footprint,
     limit: usize,
-) -> Result<(Noted, Footprint), AllocError>
-    ensures objects { IfOk result (λ renoted. renoted.0.objects ≡ noted_with limit (objects_in (notes_at notes.now.entries txn)) footprint.now) }
-    ensures commit { IfOk result (λ renoted. renoted.0.commit ≡ commit_in (notes_at notes.now.entries txn)) }
-    ensures dropped { IfOk result (λ renoted. (object : Read) → is_among renoted.1 object ≡ (is_among (objects_in (notes_at notes.now.entries txn)) object && not (is_among renoted.0.objects object))) }
+) -> Result<Renewal, AllocError>
+    ensures objects { IfOk result (λ renoted. renoted.noted.objects ≡ noted_with limit (objects_in (notes_at notes.now.entries txn)) footprint.now) }
+    ensures commit { IfOk result (λ renoted. renoted.noted.commit ≡ commit_in (notes_at notes.now.entries txn)) }
+    ensures fresh { IfOk result (λ renoted. (object : Read) → is_among renoted.fresh object ≡ (is_among renoted.noted.objects object && not (is_among (objects_in (notes_at notes.now.entries txn)) object))) }
+    ensures dropped { IfOk result (λ renoted. (object : Read) → is_among renoted.dropped object ≡ (is_among (objects_in (notes_at notes.now.entries txn)) object && not (is_among renoted.noted.objects object))) }
 {
     match notes.get(&txn) {
         Some(noted) => {
             let objects = noted_more(alloc, noted.objects(), footprint, limit)?;
+            let fresh = missing(alloc, &objects, noted.objects())?;
             let dropped = missing(alloc, noted.objects(), &objects)?;
-            Ok((Noted::new(noted.commit(), objects), dropped))
+            Ok(Renewal {
+                noted: Noted::new(noted.commit(), objects),
+                fresh,
+                dropped,
+            })
         }
         None => {
-            let objects = noted_more(alloc, &Footprint::new(alloc), footprint, limit)?;
-            Ok((Noted::new(None, objects), Footprint::new(alloc)))
+            let nothing = Footprint::new(alloc);
+            let objects = noted_more(alloc, &nothing, footprint, limit)?;
+            let fresh = missing(alloc, &objects, &nothing)?;
+            Ok(Renewal {
+                noted: Noted::new(None, objects),
+                fresh,
+                dropped: nothing,
+            })
         }
-    }
-}
-
-/// The transaction holds what it has noted.
-fn hold_noted(index: &mut Index, notes: &BTreeMap<u64, Noted>, txn: u64)
-    requires { (object : Read) → is_among (objects_in (notes_at notes.now.entries txn)) object ≡ true → is_ready index.old.holders.entries txn object ≡ true }
-    ensures { (object : Read) → held_at index.new.holders.entries object ≡ (if is_among (objects_in (notes_at notes.now.entries txn)) object then arrived (held_at index.old.holders.entries object) txn else held_at index.old.holders.entries object) }
-{
-    if let Some(noted) = notes.get(&txn) {
-        index.hold_all(txn, noted.objects());
     }
 }
 
@@ -228,6 +275,12 @@ fn mark(notes: &mut BTreeMap<u64, Noted>, txn: u64, commit: u64)
     if let Some(noted) = notes.get_mut(&txn) {
         noted.mark(commit);
     }
+}
+
+fn lesser(one: u64, other: u64) -> u64
+    ensures { result ≡ min one other }
+{
+    if one < other { one } else { other }
 }
 
 /// Drops the notes of the transaction. It holds nothing then.

@@ -1,14 +1,17 @@
 use Rattle.std.specs.Prelude.{refl}
-use Rattle.std.proofs.Common.{subst}
+use Rattle.std.proofs.Common.{sym, subst}
 use Rattle.rls_siread.specs.Locks.{Locks, HasCommitted}
-use Rattle.rls_siread.specs.Index.{locks_of}
-use Rattle.rls_siread.proofs.LocksLaws.{indexed_same, objects_marked}
+use Rattle.rls_siread.specs.Index.{CommitsFrom, locks_of}
+use Rattle.rls_siread.proofs.LocksLaws.{indexed_same, objects_marked, commits_marked}
 use Rattle.rls_siread.proofs.sireads.Sireads.committed.Goals as goal
 
 pub invariant_of-self : goal.invariant_of-self
-invariant_of-self c =
-    indexed_same c.self.inside.index.holders.entries c.self.inside.index.holders.entries c.self.inside.notes.entries c.mark.new.notes.entries refl
-    (objects_marked c.self.inside.notes.entries c.mark.new.notes.entries c.args.txn c.args.commit c.mark.ensures) c.self.invariant
+invariant_of-self c = record {
+  indexed = indexed_same c.self.inside.index.holders.entries c.self.inside.index.holders.entries c.self.inside.notes.entries c.mark.new.notes.entries refl
+      (objects_marked c.self.inside.notes.entries c.mark.new.notes.entries c.args.txn c.args.commit c.mark.ensures) c.self.invariant.indexed;
+  commits = subst (λ least. CommitsFrom least c.mark.new.notes.entries) (sym c.lesser-self-inside.ensures)
+      (commits_marked c.self.inside.least c.args.txn c.args.commit c.self.inside.notes.entries c.mark.new.notes.entries c.mark.ensures c.self.invariant.commits);
+}
 
 pub returns : goal.returns
 returns c =

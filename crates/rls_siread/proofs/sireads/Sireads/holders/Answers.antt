@@ -25,6 +25,6 @@ returns-clause-readers c =
     ∙ c.in_ok-found.ensures
     ∙ ap (with_holders (shown c.self.inside.index.holders.entries) []) c.in_ok-objects.ensures
     ∙ ap (λ (locks : Locks). with_holders locks.holders [] (footprint_of (covered_by c.args.change.now))) c.self.view_is in
-    let indexed = subst (λ (locks : Locks). (object : Object) (txn : ℕ) → is_number_in (held_by locks object) txn ≡ is_among (noted_by locks txn) object) c.self.view_is c.self.invariant in
+    let indexed = subst (λ (locks : Locks). (object : Object) (txn : ℕ) → is_number_in (held_by locks object) txn ≡ is_among (noted_by locks txn) object) c.self.view_is c.self.invariant.indexed in
     IfOk-weaker c.from_slice.result (λ found. found.items ≡ c.as_slice.result.now) (λ found. (txn : ℕ) → is_number_in found.items txn ≡ is_reader c.args.self.now c.args.change.now txn)
     (λ found is. λ txn. ap (λ numbers. is_number_in numbers txn) (is ∙ found_are) ∙ holders_read c.args.self.now c.args.change.now indexed txn) c.from_slice.ensures.items
