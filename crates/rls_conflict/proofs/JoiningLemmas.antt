@@ -1,6 +1,6 @@
 -- Keys stay unique: where the rows of a transaction's state and those of the committed one are sound, and nothing that the
 -- transaction changed was written by one that committed since its snapshot, the rows of both together are sound.
-use Rattle.std.specs.Prelude.{◌≡◌, refl, ℕ, List, [], Option, Some, None, true, map, ◌⊎◌}
+use Rattle.std.specs.Prelude.{◌≡◌, refl, ℕ, List, [], Option, Some, None, true, not, map, ◌⊎◌}
 use Rattle.std.proofs.Common.{ap, sym, subst, ◌∙◌, inl, inr}
 use Rattle.std.proofs.lemmas.Option.{none-some}
 use Rattle.rls_value.specs.{declared.row.RowId.RowId, Values.value_at}
@@ -13,12 +13,13 @@ use Rattle.rls_catalog.specs.SoundRows.{StandsAt, CarriesKey, KeysAreUnique, Are
 use Rattle.rls_catalog.proofs.InOrderLaws.{none_ascend}
 use Rattle.rls_history.specs.States.{IsAmong}
 use Rattle.rls_catalog.specs.Writes.{writes}
-use Rattle.rls_catalog.specs.Contents.{Content, look, now_of, write_one}
+use Rattle.rls_catalog.specs.Contents.{Content, look, now_of}
+use Rattle.rls_conflict.specs.Written.{is_no_key, write_one_object}
 use Rattle.rls_conflict.proofs.RowLemmas.{found}
 use Rattle.rls_conflict.specs.States.{InOrder, key_in, Outlasts, Lasts}
 use Rattle.rls_conflict.specs.Laws.{SoundRowsJoin}
 use Rattle.rls_conflict.proofs.AgreementLemmas.{same_entries}
-use Rattle.rls_conflict.proofs.WritingLemmas.{write_shared, key_written}
+use Rattle.rls_conflict.proofs.WritingLemmas.{write_shared, key_written, key_kept}
 
 outlasts_self : (key : Option (List ℕ)) → Outlasts key key
 outlasts_self (Some key) = refl
@@ -59,7 +60,7 @@ table_is : (a b : Option TableDef) → Content.Table a ≡ Content.Table b → a
 table_is a b same = cc
 
 module _ (snapshot mine theirs u : State) (Mine Theirs : Change → Type 0) (mine_sound : RowsAreSound mine) (theirs_sound : RowsAreSound theirs) (ordered : InOrder u)
-    (apart : (change other : Change) → Mine change → Theirs other → write_one change other ≡ true → ⊥)
+    (apart : (change other : Change) → Mine change → Theirs other → write_one_object change other ≡ true → ⊥)
     (joins : (place : Base) → ((look u place ≡ look mine place) × (look theirs place ≡ look snapshot place) × ((change : Change) × Mine change × (base_of change ≡ place) × (now_of change ≡ look mine place)))
     ⊎ ((look u place ≡ look theirs place) × (look mine place ≡ look snapshot place) × ((look theirs place ≡ look snapshot place) ⊎ ((change : Change) × Theirs change × (base_of change ≡ place) × (now_of change ≡ look theirs place)))))
     (mine_lasts : (place : Base) → Lasts place (look snapshot place) (look mine place))
@@ -111,6 +112,12 @@ module _ (snapshot mine theirs u : State) (Mine Theirs : Change → Type 0) (min
         let d = other_table id keyed a in
         (d.2).unique (λ none. has (d.1 ∙ none)) id other keyed same a b keys
 
+    -- a row of ours has a key, where the table has one
+    has_key : ¬ (def.key ≡ []) → (id : RowId) (keyed : Keyed) → StandsAt (entries_of mine table) id keyed → not (is_no_key (o.Key table keyed.key)) ≡ true
+    has_key has id keyed stands =
+        let d = own_table id keyed stands in
+        ap (λ key. not (is_no_key (o.Key table key))) (((d.2).carried id keyed stands).own) ∙ key_kept table (d.0).key (value_at keyed.row) (λ none. has (d.1 ∙ none))
+
     -- a row of ours and one of theirs that have the same key
     meet : ¬ (def.key ≡ []) → (id other : RowId) (keyed same : Keyed) → StandsAt (entries_of mine table) id keyed → StandsAt (entries_of theirs table) other same → keyed.key ≡ same.key
         → ((change : Change) × Mine change × (base_of change ≡ Base.Row table id) × (now_of change ≡ look mine (Base.Row table id)))
@@ -121,7 +128,7 @@ module _ (snapshot mine theirs u : State) (Mine Theirs : Change → Type 0) (min
       | inl still ↦ own_unique has id other keyed same a (row_is (row_at mine table other) (row_at theirs table other) (old ∙ sym still) ∙ b) keys
       | inr since ↦
           absurd (apart (by.0) (since.0) (by.1) (since.1)
-          (write_shared (by.0) (since.0) (o.Key table keyed.key)
+          (write_shared (by.0) (since.0) (o.Key table keyed.key) (has_key has id keyed a)
           (key_written (by.0) table id keyed (by.2) (by.3 ∙ ap Content.Row a))
           (subst (λ key. IsAmong (o.Key table key) (writes since.0)) (sym keys) (key_written (since.0) table other same (since.2) (since.3 ∙ ap Content.Row b)))))
     ]

@@ -1,13 +1,16 @@
 -- Why a transaction can't be serialized at its commit: a dangerous structure in which it takes part, told with the objects by
 -- which it holds (Ports and Grittner, VLDB 2012, 3.2, 3.3 and 4.1).
-use Rattle.std.specs.Prelude.{◌≡◌, ℕ, ◌≤◌, List, true, ◌⊎◌}
+use Rattle.std.specs.Prelude.{◌≡◌, ℕ, ◌≤◌, List, length, true, ◌⊎◌}
 use Rattle.rls_value.specs.declared.object.Object.{Object}
+use Rattle.rls_value.specs.declared.refusal.Refusal.{Refusal}
+use Rattle.rls_value.specs.declared.refusal.Refusal.TheVariants.{NoMemory, Serial}
 use Rattle.rls_value.specs.declared.refusal.Cause.{Cause}
 use Rattle.rls_value.specs.declared.refusal.Cause.TheVariants as c
 use Rattle.rls_source.specs.Footprints.{is_among}
 use Rattle.rls_catalog.specs.Bases.{covers_any}
 use Rattle.rls_history.specs.Structures.{IsStructure, IsInStructure}
 use Rattle.rls_conflict.specs.Transactions.{Transaction, at, history_of}
+use Rattle.rls_conflict.specs.Known.{Known, with_commit_of}
 
 -- the reader noted the object, and a change of the writer covers it
 pub record IsReadBy (object : Object) (reader writer : Transaction) : Type 0 where
@@ -33,3 +36,9 @@ pub record IsCauseOf (transactions : List Transaction) (place : ℕ) (cause : Ca
 -- it takes part in none, as none of the three
 abbrev pub IsInNoStructure : List Transaction → ℕ → Type 0
 IsInNoStructure transactions place = IsInStructure (history_of transactions) place → ⊥
+
+-- why a commit is refused: want of memory, or a structure in which the transaction takes part if it commits now
+abbrev pub IsBarredBy : Known → ℕ → Refusal → Type 0
+IsBarredBy known txn NoMemory = Unit {0}
+IsBarredBy known txn (Serial cause) = IsCauseOf (with_commit_of known txn) (length known.committed) cause
+IsBarredBy known txn _ = ⊥

@@ -69,3 +69,7 @@ pivot = record { number = 3; snap = 0; noted = sought (codes "t") (codes "y") �
 -- it writes what the pivot reads
 abbrev pub third : Transaction
 third = record { number = 4; snap = 0; noted = []; changes = updated (codes "t") 1 (codes "y") (codes "0") (codes "1") ∷ [] }
+
+-- INSERT into a table without a primary key: the rows have none in common, though each is stored with the empty key
+abbrev pub kept_receipt : ℕ → List Change
+kept_receipt txn = c.Row (record { table = codes "receipts"; id = record { txn = txn; n = 0 }; before = None; after = Some (record { key = []; row = Text (codes "1") ∷ [] }) }) ∷ []

@@ -4,14 +4,14 @@ use Rattle.rls_value.specs.declared.object.Object.{Object}
 use Rattle.rls_catalog.specs.declared.change.Change.{Change}
 use Rattle.rls_catalog.specs.State.{State, AgreesAt}
 use Rattle.rls_catalog.specs.Bases.{Base, base_of}
-use Rattle.rls_catalog.specs.Contents.{look, write_one}
+use Rattle.rls_catalog.specs.Contents.{look}
 use Rattle.rls_catalog.specs.SoundRows.{RowsAreSound}
 use Rattle.rls_history.specs.History as theory
 use Rattle.rls_history.specs.States.{Agree, Apart, meet}
 use Rattle.rls_history.specs.Transactions as histories
 use Rattle.rls_history.specs.Lawful.{Joins}
 use Rattle.rls_conflict.specs.Transactions.{Transaction, at, reads_from, history_of}
-use Rattle.rls_conflict.specs.Written.{WriteCommonObject, write_common}
+use Rattle.rls_conflict.specs.Written.{WriteCommonObject, write_common, write_one_object}
 use Rattle.rls_conflict.specs.States.{states, known_of, InOrder, Lasts}
 
 -- a rw-antidependency: they are concurrent, and the one noted an object that a change of the other covers
@@ -37,8 +37,8 @@ CommonObjectsAreWritten = (changes others : List Change) → (write_common chang
 
 -- changes of one place write one object, and changes that do, do so either way round
 pub record WritesAreMutual : Type 0 where
-  pub turned : (change other : Change) → write_one change other ≡ true → write_one other change ≡ true
-  pub same_place : (change other : Change) → base_of change ≡ base_of other → write_one change other ≡ true
+  pub turned : (change other : Change) → write_one_object change other ≡ true → write_one_object other change ≡ true
+  pub same_place : (change other : Change) → base_of change ≡ base_of other → write_one_object change other ≡ true
 
 -- Where two transactions write no common object, each leaves sound rows, and tables stay with their keys, both together leave
 -- sound rows: no key is there twice, since each writes the keys of its rows.

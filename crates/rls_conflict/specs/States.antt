@@ -6,10 +6,11 @@ use Rattle.rls_catalog.specs.State.{State}
 use Rattle.rls_catalog.specs.Changed.{changed}
 use Rattle.rls_catalog.specs.InOrder.{RowsInOrder}
 use Rattle.rls_catalog.specs.Bases.{Base, base_of}
-use Rattle.rls_catalog.specs.Contents.{Content, look, shows_content, was_of, now_of, is_place, write_one}
+use Rattle.rls_catalog.specs.Contents.{Content, look, shows_content, was_of, now_of, is_place}
 use Rattle.rls_history.specs.States.{States}
 use Rattle.rls_history.specs.Transactions as theory
 use Rattle.rls_conflict.specs.Transactions.{Transaction}
+use Rattle.rls_conflict.specs.Written.{write_one_object}
 
 -- states with what stands at each place, and changes
 abbrev pub states : States
@@ -26,7 +27,7 @@ states = record {
   after_of = now_of;
   is_same = is_place;
   shows = shows_content;
-  share = write_one;
+  share = write_one_object;
 }
 
 -- what rls_history knows of a transaction

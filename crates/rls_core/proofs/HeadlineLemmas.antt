@@ -9,7 +9,7 @@ use Rattle.rls_value.specs.declared.object.Object.{Object}
 use Rattle.rls_catalog.specs.declared.change.Change.{Change}
 use Rattle.rls_catalog.specs.State.{State}
 use Rattle.rls_catalog.specs.Changed.{opening, changed, changed_all}
-use Rattle.rls_catalog.specs.Contents.{look, shows_content, write_one}
+use Rattle.rls_catalog.specs.Contents.{look, shows_content}
 use Rattle.rls_catalog.specs.SoundRows.{RowsAreSound}
 use Rattle.rls_statement.specs.declared.statement.Statement.{Statement}
 use Rattle.rls_guard.specs.{declared.context.Ctx.Ctx, declared.effect.Effect.Effect, Effects.changes_of}
@@ -28,6 +28,7 @@ use Rattle.rls_history.specs.Kept as kept
 use Rattle.rls_history.specs.Kept.{Holds, AreNumbered}
 use Rattle.rls_history.specs.Runs.{HasOrder, EachExplains, EachFindsSnapshots}
 use Rattle.rls_conflict.specs.Laws.{HistoriesAreTold, CommonObjectsAreWritten}
+use Rattle.rls_conflict.specs.Written.{write_one_object}
 use Rattle.rls_conflict.specs.States.{states, InOrder}
 use Rattle.rls_core.specs.Records.{Record, record_at, history_by, state_after}
 use Rattle.rls_core.specs.Alone.{effects_alone, state_alone, changes_made, Explains, FindSnapshots}
@@ -194,8 +195,8 @@ module _ (told : HistoriesAreTold) (rules : Rules) (list : List Event) where
         subst (λ (e : Entry statements). Apart states (record_at (after rules list).committed i).changes e.changes) (entry_at_is (after rules list).committed j) half in
         let changes : List Change = (record_at (after rules list).committed i).changes in
         let others : List Change = (record_at (after rules list).committed j).changes in
-        let change = any_some (λ (x : Change). list_any (write_one x) others) changes ((common changes others).1 both) in
-        let second = any_some (write_one change.0) others change.2 in
+        let change = any_some (λ (x : Change). list_any (write_one_object x) others) changes ((common changes others).1 both) in
+        let second = any_some (write_one_object change.0) others change.2 in
         here change.0 second.0 change.1 second.1 second.2
 
     pub recorded : AreRecorded (after rules list)

@@ -1,0 +1,39 @@
+use Rattle.std.specs.Prelude.{◌≡◌, ℕ, Some, true}
+use Rattle.std.specs.Option.{option_copied}
+use Rattle.std.proofs.Common.{ap, sym, ◌∙◌, subst}
+use Rattle.rls_value.specs.declared.object.Object.{Object}
+use Rattle.rls_siread.specs.Covering.{written_of}
+use Rattle.rls_conflict.specs.Begun.{at_number}
+use Rattle.rls_conflict.specs.Known.{Known, is_running}
+use Rattle.rls_conflict.specs.Written.{IsFree, IsWritten}
+use Rattle.rls_conflict.specs.Concurrent.{NoneWrote, HasWritten}
+use Rattle.rls_conflict.proofs.UpdaterLemmas.{is_free, is_by_other, not_missing}
+use Rattle.rls_conflict.proofs.conflicts.Conflicts.writes.Goals as goal
+
+pub returns-clause-ok : goal.returns-clause-ok
+returns-clause-ok c =
+    let look : at_number c.args.txn c.self.inside.running.entries ≡ Some c.in-Some.it.now = sym c.get.ensures.value ∙ ap option_copied c.in-Some.is in
+    let within = (c.self.invariant.snaps c.args.txn c.in-Some.it.now look).0 in
+    let none = subst (λ (snap : ℕ). NoneWrote c.in_ok-objects.objects c.self.inside.writers c.self.inside.sireads c.args.txn snap) c.snap.ensures c.in-None.ensures in
+    subst (λ (known : Known). IsFree known c.args.txn c.args.delta.now) c.self.view_is
+    (is_free c.self.inside.committed.items c.self.inside.running.entries c.self.inside.sireads c.self.inside.writers c.self.inside.floor
+    c.self.invariant.entries c.self.invariant.indexed c.self.invariant.differ c.args.txn c.in-Some.it.now look within
+    c.in_ok-objects.objects c.args.delta.now c.len-in_order.ensures.ordered (c.in_ok-objects.ensures ∙ ap written_of c.as_slice.ensures) none)
+
+pub returns-in-Some-first_written-clause-err : goal.returns-in-Some-first_written-clause-err
+returns-in-Some-first_written-clause-err c =
+    let look : at_number c.args.txn c.self.inside.running.entries ≡ Some c.in-Some.it.now = sym c.get.ensures.value ∙ ap option_copied c.in-Some.is in
+    let within = (c.self.invariant.snaps c.args.txn c.in-Some.it.now look).0 in
+    let found = subst (λ (snap : ℕ). HasWritten c.in_ok-objects.objects c.self.inside.writers c.self.inside.sireads c.args.txn snap c.in-Some-first_written.object.now c.in-Some-first_written.number) c.snap.ensures c.in-Some-first_written.ensures in
+    subst (λ (object : Object). IsWritten c.args.self.now c.args.txn c.args.delta.now object c.in-Some-first_written.number) (sym c.in_ok-object-in-Some-first_written.ensures)
+    (subst (λ (known : Known). IsWritten known c.args.txn c.args.delta.now c.in-Some-first_written.object.now c.in-Some-first_written.number) c.self.view_is
+    (is_by_other c.self.inside.committed.items c.self.inside.running.entries c.self.inside.sireads c.self.inside.writers c.self.inside.floor
+    c.self.invariant.entries c.self.invariant.indexed c.self.invariant.differ c.args.txn c.in-Some.it.now look within
+    c.in_ok-objects.objects c.args.delta.now c.in-Some-first_written.object.now c.in-Some-first_written.number (c.in_ok-objects.ensures ∙ ap written_of c.as_slice.ensures) found))
+
+pub returns-in_default-clause-ok : goal.returns-in_default-clause-ok
+returns-in_default-clause-ok c = absurd (
+    not_missing c.self.inside.committed.items c.self.inside.running.entries c.self.inside.sireads c.args.txn
+    (subst (λ (known : Known). is_running known c.args.txn ≡ true) (sym c.self.view_is) c.requires)
+    (sym c.get.ensures.value ∙ ap option_copied c.in_default.is)
+    )
