@@ -102,7 +102,7 @@ unfolding policies_at
 exempt_policies true s name = refl
 exempt_policies false s name = refl
 
-policies_told : (s : State) (standing : Standing) (name : List ℕ) (table : TableDef) → ((policies_for standing name table).in_state s).gives ≡ Ok (policies_in s standing name table)
+pub policies_told : (s : State) (standing : Standing) (name : List ℕ) (table : TableDef) → ((policies_for standing name table).in_state s).gives ≡ Ok (policies_in s standing name table)
 unfolding policies_for
 policies_told s standing name table = exempt_policies (exempts standing.attributes table (has_owner standing table)) s name
 

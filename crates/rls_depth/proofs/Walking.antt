@@ -34,7 +34,7 @@ unfolding room_there policies_for
 found_told None standing s name = refl
 found_told (Some def) standing s name = exempt_told (exempts standing.attributes def (has_owner standing def)) standing s name def
 
-room_told : (standing : Standing) (s : State) (name : List ℕ) → ((room_of standing name).in_state s).gives ≡ Ok (room_at s standing name)
+pub room_told : (standing : Standing) (s : State) (name : List ℕ) → ((room_of standing name).in_state s).gives ≡ Ok (room_at s standing name)
 unfolding room_of table_at
 room_told standing s name = found_told (table_of s name) standing s name
 

@@ -1,0 +1,36 @@
+-- New rows are refused for what their meaning says.
+use Rattle.std.specs.Prelude.{◌≡◌, refl, ℕ, List, [], ◌∷◌, Bool, true, false, ◌||◌, not, Ok, Err, Result, if◌then◌else◌}
+use Rattle.std.proofs.Common.{ap, ◌∙◌}
+use Rattle.rls_value.specs.{declared.refusal.Refusal.Refusal, declared.refusal.Refusal.TheVariants.Unique, declared.value.Value.Value, Giving.and_then}
+use Rattle.rls_expr.specs.declared.table.Column.{Column}
+use Rattle.rls_catalog.specs.{declared.stored.Stored.Stored, State.State, State.rows_with_key}
+use Rattle.rls_source.specs.{Asked.keyed_at, Sequences.each_or_refused}
+use Rattle.rls_guard.specs.declared.reply.Decision.{Decision}
+use Rattle.rls_dml.specs.Writing.{constraints_or_refused, first_denial, has_doubles, has_values, keys_of, keys_taken, rows_or_refused, stays_any, unique_or_refused, unless_denied}
+use Rattle.rls_meaning.specs.{Constraints.allowed_in, Constraints.taken_in, Constraints.unique_in, Naming.provided}
+
+taken_told : (s : State) (name : List ℕ) (replaced : List Stored) (keys : List (List Value)) → ((keys_taken name replaced keys).in_state s).gives ≡ Ok (taken_in s name replaced keys)
+unfolding keyed_at
+taken_told s name replaced [] = refl
+taken_told s name replaced (key ∷ keys) = ap (λ found. and_then found (λ rest. Ok (stays_any replaced (rows_with_key s name key) || rest))) (taken_told s name replaced keys)
+
+-- refused where it holds
+abbrev refused : Bool → Refusal → Result (Unit {0}) Refusal
+refused b refusal = if b then Err refusal else Ok tt
+
+refused_if : (b : Bool) (refusal : Refusal) → refused b refusal ≡ provided (not b) refusal
+refused_if true refusal = refl
+refused_if false refusal = refl
+
+unique_told : (s : State) (name : List ℕ) (replaced : List Stored) (keys : List (List Value)) → ((unique_or_refused name replaced keys).in_state s).gives ≡ unique_in s name replaced keys
+unique_told s name replaced keys =
+    ap (λ found. and_then found (λ taken. refused (taken || has_doubles keys) (Unique name))) (taken_told s name replaced keys)
+    ∙ refused_if (taken_in s name replaced keys || has_doubles keys) (Unique name)
+
+pub allowed_told : (s : State) (name : List ℕ) (columns : List Column) (order : List ℕ) (decided : List Decision) (replaced rows : List Stored)
+    → ((rows_or_refused name columns order decided replaced rows).in_state s).gives ≡ allowed_in s name columns order decided replaced rows
+unfolding rows_or_refused constraints_or_refused
+allowed_told s name columns order decided replaced rows =
+    λ i. and_then (unless_denied name (first_denial decided)) (λ _.
+    and_then (each_or_refused (has_values columns order) rows) (λ _.
+    unique_told s name replaced (keys_of rows) i))

@@ -1,0 +1,17 @@
+pub mod Naming
+pub mod Listing
+pub mod States
+pub mod Rooms
+pub mod Protecting
+pub mod Hitting
+pub mod Constraining
+pub mod Selecting
+pub mod Inserting
+pub mod Updating
+pub mod Deleting
+pub mod Defining
+pub mod Granting
+pub mod Joining
+pub mod Meaning
+pub mod Relations
+pub mod MeaningExamples

@@ -1,0 +1,31 @@
+-- SELECT comes to what it means.
+use Rattle.std.specs.Prelude.{◌≡◌, refl, ℕ, List, [], ◌∷◌, false}
+use Rattle.std.proofs.Common.{ap}
+use Rattle.rls_value.specs.{declared.tag.Tag.Tag, Giving.and_then}
+use Rattle.rls_value.specs.declared.verb.Kind.TheVariants as k
+use Rattle.rls_expr.specs.declared.table.TableDef.{TableDef}
+use Rattle.rls_catalog.specs.State.{State}
+use Rattle.rls_statement.specs.declared.statement.Select.{Select}
+use Rattle.rls_guard.specs.{Effects.shown}
+use Rattle.rls_expansion.specs.Used.{tables_if}
+use Rattle.rls_dml.specs.{declared.selecting.Query.Query, Selecting.listed_by, Selecting.listed_for, Selecting.listed_from, Selecting.qualifier_of, Selecting.query_for, Selecting.query_in, Selecting.query_names, Selecting.select_as, Selecting.select_from}
+use Rattle.rls_access.specs.Statements.{mode_or_refused}
+use Rattle.rls_meaning.specs.{Commands.Command, Protecting.IsExpanded, Selecting.SelectMeans, Selecting.select_parts, Selecting.select_rows}
+use Rattle.rls_meaning.proofs.{Hitting.done_told, Naming.named_told, Naming.table_told}
+
+parts_told : (s : State) (asked : Select) (table : TableDef) → ((query_for asked (qualifier_of asked, table)).in_state s).gives ≡ select_parts s asked table
+parts_told s asked table = ap (λ given. and_then given (query_in asked (qualifier_of asked, table))) (named_told s (query_names asked) ((qualifier_of asked, table) ∷ []) [])
+
+from_told : ((s : State) (c : Command) → IsExpanded s c) → (s : State) (role name : List ℕ) (table : TableDef) (parts : Query)
+    → ((select_from role name table parts).in_state s).gives ≡ select_rows s parts (record { role = role; name = name; table = table; kind = k.Select; reads = false; queries = tables_if parts.condition })
+unfolding select_from select_as listed_for listed_from
+from_told expanded s role name table parts =
+    let c : Command = record { role = role; name = name; table = table; kind = k.Select; reads = false; queries = tables_if parts.condition } in
+    done_told s c parts.condition (listed_by parts role) refl (λ other is. is) (expanded s c)
+
+pub select_told : ((s : State) (c : Command) → IsExpanded s c) → SelectMeans
+select_told expanded s ctx asked =
+    ap (λ rest. shown (and_then (mode_or_refused ctx.mode Tag.Select) (λ _. rest)))
+    (λ i. and_then (table_told s asked.table i) (λ table.
+    and_then (parts_told s asked table i) (λ parts.
+    from_told expanded s ctx.role asked.table table parts i)))

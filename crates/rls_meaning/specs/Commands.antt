@@ -1,0 +1,67 @@
+-- A command on the rows of a table, and what it is refused for before a row is looked at (PostgreSQL manual, 5.8,
+-- "Privileges", and 5.9, "Row Security Policies"): chains of policies that close, then privileges.
+use Rattle.std.specs.Prelude.{ℕ, List, [], ◌∷◌, ◌++◌, Bool, Option, Some, None, Result, Ok, Err, map, if◌then◌else◌}
+use Rattle.rls_value.specs.{declared.refusal.Refusal.Refusal, declared.refusal.Refusal.TheVariants.Denied, declared.refusal.Refusal.TheVariants.Recursion, declared.verb.Kind.Kind, declared.verb.Privilege.Privilege, Giving.and_then}
+use Rattle.rls_value.specs.declared.refusal.Why.TheVariants as why
+use Rattle.rls_value.specs.declared.verb.Kind.TheVariants as k
+use Rattle.rls_expr.specs.declared.table.TableDef.{TableDef}
+use Rattle.rls_catalog.specs.{Membership.fresh, Privileges.holds, State.State}
+use Rattle.rls_meaning.specs.{Chains.depth, Chains.first_closing, Chains.next_in, Chains.own_in, Naming.provided, Needing.needs}
+
+-- who asks, the table with its name, and the type of the command; whether it reads the table; the tables of its own subqueries
+pub record Command : Type 0 where
+  pub role : List ℕ
+  pub name : List ℕ
+  pub table : TableDef
+  pub kind : Kind
+  pub reads : Bool
+  pub queries : List (List ℕ)
+
+-- ---- chains of policies
+
+-- the tables that the policies lead to which guard the rows that it judges
+abbrev pub own_of : State → Command → List (List ℕ)
+own_of s c = own_in s c.role c.name c.table c.kind c.reads
+
+-- so many policies deep its chains go at most
+abbrev pub depth_of : State → Command → ℕ
+depth_of s c = depth s (own_of s c ++ c.queries)
+
+-- the table that its chains close on first
+abbrev pub closing_in : State → Command → Option (List ℕ)
+closing_in s c = first_closing (depth_of s c) s c.role c.name (own_of s c) c.queries
+
+-- a chain that closes is refused
+abbrev pub unless_closed : Option (List ℕ) → Result (Unit {0}) Refusal
+unless_closed None = Ok tt
+unless_closed (Some table) = Err (Recursion table)
+
+-- ---- privileges
+
+-- the tables that its subqueries look at: its own, then those of policies, each once
+abbrev pub needed_in : State → Command → List (List ℕ)
+needed_in s c = c.queries ++ fresh [] (needs (depth_of s c) (next_in s c.role) (own_of s c ++ c.queries))
+
+-- the privilege that a command of that type needs on its table
+abbrev pub privilege_of : Kind → Privilege
+privilege_of k.Select = Privilege.Select
+privilege_of k.Insert = Privilege.Insert
+privilege_of k.Update = Privilege.Update
+privilege_of k.Delete = Privilege.Delete
+
+-- that privilege, SELECT where it reads the table, then SELECT on each of the others
+abbrev pub required : Privilege → Bool → List ℕ → List (List ℕ) → List (Privilege × List ℕ)
+required privilege reads name others = (privilege, name) ∷ (if reads then (Privilege.Select, name) ∷ [] else []) ++ map (λ other. (Privilege.Select, other)) others
+
+-- the first that the role doesn't hold is refused
+abbrev pub permitted : State → List ℕ → List (Privilege × List ℕ) → Result (Unit {0}) Refusal
+permitted s role [] = Ok tt
+permitted s role (p ∷ ps) = and_then (provided (holds s role p.0 p.1) (Denied (why.Privilege p.0 p.1))) (λ _. permitted s role ps)
+
+-- ---- both
+
+-- chains that close come first
+abbrev pub permitted_in : State → Command → Result (Unit {0}) Refusal
+permitted_in s c =
+    and_then (unless_closed (closing_in s c)) (λ _.
+    permitted s c.role (required (privilege_of c.kind) c.reads c.name (needed_in s c)))

@@ -1,0 +1,26 @@
+-- What new rows are refused for (PostgreSQL manual, 5.9, and 5.5, "Constraints"): row security, then NOT NULL, then the primary
+-- key.
+use Rattle.std.specs.Prelude.{ℕ, List, Bool, ◌||◌, not, Result}
+use Rattle.std.specs.List.{list_any}
+use Rattle.rls_value.specs.{declared.refusal.Refusal.Refusal, declared.refusal.Refusal.TheVariants.Unique, declared.value.Value.Value, Giving.and_then}
+use Rattle.rls_expr.specs.declared.table.Column.{Column}
+use Rattle.rls_catalog.specs.{declared.stored.Stored.Stored, State.State, State.rows_with_key}
+use Rattle.rls_source.specs.Sequences.{each_or_refused}
+use Rattle.rls_guard.specs.declared.reply.Decision.{Decision}
+use Rattle.rls_dml.specs.Writing.{first_denial, has_doubles, has_values, keys_of, stays_any, unless_denied}
+use Rattle.rls_meaning.specs.Naming.{provided}
+
+-- a row of the table that stays has one of the keys; hidden rows count
+abbrev pub taken_in : State → List ℕ → List Stored → List (List Value) → Bool
+taken_in s name replaced keys = list_any (λ key. stays_any replaced (rows_with_key s name key)) keys
+
+-- each new key is neither that of a row that stays nor that of another new row
+abbrev pub unique_in : State → List ℕ → List Stored → List (List Value) → Result (Unit {0}) Refusal
+unique_in s name replaced keys = provided (not (taken_in s name replaced keys || has_doubles keys)) (Unique name)
+
+-- the new rows may stand in the table, in place of those that are replaced
+abbrev pub allowed_in : State → List ℕ → List Column → List ℕ → List Decision → List Stored → List Stored → Result (Unit {0}) Refusal
+allowed_in s name columns order decided replaced rows =
+    and_then (unless_denied name (first_denial decided)) (λ _.
+    and_then (each_or_refused (has_values columns order) rows) (λ _.
+    unique_in s name replaced (keys_of rows)))

@@ -1,0 +1,17 @@
+pub mod Naming
+pub mod Needing
+pub mod Chains
+pub mod Commands
+pub mod Rows
+pub mod Constraints
+pub mod Selecting
+pub mod Inserting
+pub mod Updating
+pub mod Deleting
+pub mod Roles
+pub mod Tables
+pub mod Policies
+pub mod Privileges
+pub mod Memberships
+pub mod Meaning
+pub mod Protecting

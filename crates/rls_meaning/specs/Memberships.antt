@@ -1,0 +1,43 @@
+-- GRANT and REVOKE of roles (PostgreSQL manual, GRANT and REVOKE): the roles, then the members have to be there; then each role
+-- has to be one that the current role may grant; then one membership after another changes.
+use Rattle.std.specs.Prelude.{ℕ, List, [], ◌∷◌, not, Result, Ok, map}
+use Rattle.rls_value.specs.{declared.refusal.GrantFault.TheVariants.Cycle, declared.refusal.Refusal.Refusal, declared.refusal.Refusal.TheVariants.Denied, declared.refusal.Refusal.TheVariants.GrantOp, Giving.and_then}
+use Rattle.rls_value.specs.declared.refusal.Why.TheVariants as why
+use Rattle.rls_catalog.specs.{declared.change.Change.Change, Changed.changed, Membership.fresh, Paths.closes_circle, Paths.may_grant, State.State, State.members_of}
+use Rattle.rls_catalog.specs.declared.change.Change.TheVariants as change
+use Rattle.rls_source.specs.Sequences.{each_or_refused}
+use Rattle.rls_statement.specs.{declared.statement.GrantRoles.GrantRoles, declared.statement.MembershipOptions.MembershipOptions, declared.statement.RevokeRoles.RevokeRoles}
+use Rattle.rls_role.specs.{Granting.granted_to, Revoking.taken_from}
+use Rattle.rls_meaning.specs.Naming.{provided, roles_in}
+
+-- each has to be a role that the current one may grant: it is a superuser, or has the privileges of one with ADMIN on it
+abbrev pub managed_in : State → List ℕ → List (List ℕ) → Result (Unit {0}) Refusal
+managed_in s role roles = each_or_refused (λ granted. provided (may_grant s role granted) (Denied (why.Admin granted))) roles
+
+-- one after another, each in the state that the earlier ones left
+abbrev pub in_turn : {A : Type 0} → (A → State → Result State Refusal) → List A → State → Result State Refusal
+in_turn step [] s = Ok s
+in_turn step (x ∷ xs) s = and_then (step x s) (λ after. in_turn step xs after)
+
+-- the member becomes one of the role, or its options change; a role may not become a member of itself, nor of its member
+abbrev pub joined_in : MembershipOptions → List ℕ → List ℕ → State → Result State Refusal
+joined_in written role member s =
+    and_then (provided (not (closes_circle s role member)) (GrantOp (Cycle role member))) (λ _.
+    Ok (changed s (change.Members member (granted_to written role (members_of s member)))))
+
+-- GRANT: each role to each member; what changes is the memberships of each member, named once
+abbrev pub grant_roles_in : State → List ℕ → GrantRoles → Result (List Change) Refusal
+grant_roles_in s role asked =
+    and_then (roles_in s asked.roles) (λ _.
+    and_then (roles_in s asked.to) (λ _.
+    and_then (managed_in s role asked.roles) (λ _.
+    and_then (in_turn (λ granted. in_turn (joined_in asked.options granted) asked.to) asked.roles s) (λ after.
+    Ok (map (λ member. change.Members member (members_of after member)) (fresh [] asked.to))))))
+
+-- REVOKE: the memberships of each member in the roles go, or lose the option
+abbrev pub revoke_roles_in : State → List ℕ → RevokeRoles → Result (List Change) Refusal
+revoke_roles_in s role asked =
+    and_then (roles_in s asked.roles) (λ _.
+    and_then (roles_in s asked.from) (λ _.
+    and_then (managed_in s role asked.roles) (λ _.
+    Ok (map (λ member. change.Members member (taken_from asked.option asked.roles (members_of s member))) (fresh [] asked.from)))))

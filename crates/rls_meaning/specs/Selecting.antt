@@ -1,0 +1,39 @@
+-- SELECT (PostgreSQL manual, SELECT): names, then types, then support; then the rows that it hits, which are answered.
+use Rattle.std.specs.Prelude.{◌≡◌, [], ◌∷◌, false, Result, Ok}
+use Rattle.rls_value.specs.{declared.refusal.Refusal.Refusal, declared.tag.Tag.Tag, Giving.and_then}
+use Rattle.rls_value.specs.declared.verb.Kind.TheVariants as k
+use Rattle.rls_expr.specs.declared.table.TableDef.{TableDef}
+use Rattle.rls_catalog.specs.State.{State}
+use Rattle.rls_statement.specs.declared.statement.Select.{Select}
+use Rattle.rls_statement.specs.declared.statement.Statement.TheVariants as statement
+use Rattle.rls_guard.specs.{declared.context.Ctx.Ctx, declared.effect.Effect.Effect, Effects.shown}
+use Rattle.rls_expansion.specs.Used.{tables_if}
+use Rattle.rls_dml.specs.{declared.selecting.Query.Query, Selecting.listed_by, Selecting.qualifier_of, Selecting.query_in, Selecting.query_names}
+use Rattle.rls_access.specs.Statements.{effect_in, mode_or_refused}
+use Rattle.rls_meaning.specs.{Commands.Command, Commands.permitted_in, Naming.named_in, Naming.table_in, Rows.hits_in}
+
+-- the parts of the statement: names, then types, then support
+abbrev pub select_parts : State → Select → TableDef → Result Query Refusal
+select_parts s asked table = and_then (named_in s (query_names asked) ((qualifier_of asked, table) ∷ []) []) (query_in asked (qualifier_of asked, table))
+
+-- the rows that are hit are answered
+abbrev pub select_rows : State → Query → Command → Result Effect Refusal
+select_rows s parts c =
+    and_then (permitted_in s c) (λ _.
+    and_then (hits_in s c parts.condition) (λ judged.
+    Ok (listed_by parts c.role judged)))
+
+-- the table, the parts, and then the rows
+abbrev pub select_in : State → Ctx → Select → Result Effect Refusal
+select_in s ctx asked =
+    and_then (table_in s asked.table) (λ table.
+    and_then (select_parts s asked table) (λ parts.
+    select_rows s parts (record { role = ctx.role; name = asked.table; table = table; kind = k.Select; reads = false; queries = tables_if parts.condition })))
+
+-- what SELECT means, once its transaction may run it
+abbrev pub effect_of_select : State → Ctx → Select → Effect
+effect_of_select s ctx asked = shown (and_then (mode_or_refused ctx.mode Tag.Select) (λ _. select_in s ctx asked))
+
+-- the law
+abbrev pub SelectMeans : Type 0
+SelectMeans = (s : State) (ctx : Ctx) (asked : Select) → effect_in s ctx (statement.Select asked) ≡ effect_of_select s ctx asked
