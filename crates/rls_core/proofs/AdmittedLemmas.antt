@@ -13,21 +13,21 @@ use Rattle.rls_core.specs.Headline.{AreAdmitted}
 
 -- ---- records pushed
 
-long_push : (records : List Record) (it : Record) → length (records ++ it ∷ []) ≡ suc (length records)
+pub long_push : (records : List Record) (it : Record) → length (records ++ it ∷ []) ≡ suc (length records)
 long_push [] it = refl
 long_push (first ∷ records) it = ap suc (long_push records it)
 
-at_old : (records : List Record) (it : Record) (i : ℕ) → i < length records → record_at (records ++ it ∷ []) i ≡ record_at records i
+pub at_old : (records : List Record) (it : Record) (i : ℕ) → i < length records → record_at (records ++ it ∷ []) i ≡ record_at records i
 at_old [] it i within = (let none : ⊥ = omega arith in absurd none)
 at_old (first ∷ records) it zero within = refl
 at_old (first ∷ records) it (suc i) within = at_old records it i (omega arith)
 
-at_new : (records : List Record) (it : Record) → record_at (records ++ it ∷ []) (length records) ≡ it
+pub at_new : (records : List Record) (it : Record) → record_at (records ++ it ∷ []) (length records) ≡ it
 at_new [] it = refl
 at_new (first ∷ records) it = at_new records it
 
 -- committed states stand for good
-stands : (records : List Record) (it : Record) (n : ℕ) → n ≤ length records → state_after (records ++ it ∷ []) n ≡ state_after records n
+pub stands : (records : List Record) (it : Record) (n : ℕ) → n ≤ length records → state_after (records ++ it ∷ []) n ≡ state_after records n
 stands records it zero within = refl
 stands records it (suc n) within = λ k. changed_all (stands records it n (omega arith) k) (at_old records it n (omega arith) k).changes
 

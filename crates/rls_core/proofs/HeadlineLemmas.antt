@@ -15,6 +15,7 @@ use Rattle.rls_statement.specs.declared.statement.Statement.{Statement}
 use Rattle.rls_guard.specs.{declared.context.Ctx.Ctx, declared.effect.Effect.Effect, Effects.changes_of}
 use Rattle.rls_dml.specs.NextRows.{AllFree}
 use Rattle.rls_access.specs.{Statements.effect_in, Transactions.first_ctx, Transactions.ctx_after}
+use Rattle.rls_meaning.specs.Meaning.{StatementMeans}
 use Rattle.rls_history.specs.History.{concurrent}
 use Rattle.rls_history.specs.Structures.{NoStructureBelow}
 use Rattle.rls_history.specs.Orders.{IsHistory, IsOrder}
@@ -47,20 +48,22 @@ put_all_append [] more s = refl
 put_all_append (change ∷ changes) more s = put_all_append changes more (changed s change)
 
 -- what statements come to
-effects_are : (ctx : Ctx) (asked : List Statement) (s : State) → replies_alone statements ctx asked s ≡ effects_alone ctx asked s
-effects_are ctx [] s = refl
-effects_are ctx (one ∷ more) s =
+effects_are : StatementMeans → (ctx : Ctx) (asked : List Statement) (s : State) → replies_alone statements ctx asked s ≡ effects_alone ctx asked s
+effects_are means ctx [] s = refl
+effects_are means ctx (one ∷ more) s =
     let effect : Effect = effect_in s ctx one in
     ap (λ rest. effect ∷ rest)
-    (ap (λ u. replies_alone statements (ctx_after ctx effect) more u) (put_all_is s (changes_of effect)) ∙ effects_are (ctx_after ctx effect) more (changed_all s (changes_of effect)))
+    (ap (λ u. replies_alone statements (ctx_after ctx effect) more u) (put_all_is s (changes_of effect)) ∙ effects_are means (ctx_after ctx effect) more (changed_all s (changes_of effect)))
+    ∙ ap (λ (e : Effect). e ∷ effects_alone (ctx_after ctx e) more (changed_all s (changes_of e))) (means s ctx one)
 
 -- the state that they leave is that under their changes
-state_alone_is : (ctx : Ctx) (asked : List Statement) (s : State) → state_alone ctx asked s ≡ put_all states (changes_alone statements ctx asked s) s
-state_alone_is ctx [] s = refl
-state_alone_is ctx (one ∷ more) s =
+state_alone_is : StatementMeans → (ctx : Ctx) (asked : List Statement) (s : State) → state_alone ctx asked s ≡ put_all states (changes_alone statements ctx asked s) s
+state_alone_is means ctx [] s = refl
+state_alone_is means ctx (one ∷ more) s =
     let effect : Effect = effect_in s ctx one in
     let next : Ctx = ctx_after ctx effect in
-    state_alone_is next more (changed_all s (changes_of effect))
+    ap (λ (e : Effect). state_alone (ctx_after ctx e) more (changed_all s (changes_of e))) (sym (means s ctx one))
+    ∙ state_alone_is means next more (changed_all s (changes_of effect))
     ∙ ap (λ u. put_all states (changes_alone statements next more u) u) (sym (put_all_is s (changes_of effect)))
     ∙ sym (put_all_append (changes_of effect) (changes_alone statements next more (put_all states (changes_of effect) s)) s)
 
@@ -86,7 +89,7 @@ module _ (laws : StatementLaws) (opens : RowsAreSound opening) where
   left_is records t s is =
       let it : Entry statements = theory.entry_at statements (map entry_of records) t in
       ap (λ list. put_all states list s) (sym is)
-      ∙ sym (state_alone_is it.start it.statements s)
+      ∙ sym (state_alone_is laws.means it.start it.statements s)
       ∙ ap (λ (entry : Entry statements). state_alone entry.start entry.statements s) (entry_at_is records t)
 
   put_in_order : (changes : List Change) (s : State) → InOrder s → InOrder (put_all states changes s)
@@ -101,7 +104,7 @@ module _ (laws : StatementLaws) (opens : RowsAreSound opening) where
       let ctx = first_ctx it.txn it.begin in
       let replies : replies_alone statements ctx it.statements s ≡ it.effects = subst (λ (entry : Entry statements). replies_alone statements entry.start entry.statements s ≡ entry.replies) (entry_at_is records t) explains.0 in
       let left = left_is records t s explains.1 in (
-        sym (effects_are ctx it.statements s) ∙ replies,
+        sym (effects_are laws.means ctx it.statements s) ∙ replies,
         explains_to records ts (state_alone ctx it.statements s)
             (subst InOrder left (put_in_order (theory.entry_at statements (map entry_of records) t).changes s ordered))
             (subst (theory.Explains statements opening (map entry_of records) ts) left explains.2),

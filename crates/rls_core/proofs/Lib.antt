@@ -4,3 +4,15 @@ mod RuleLemmas
 mod HeadlineLemmas
 mod AdmittedLemmas
 mod PostLemmas
+pub mod JoinedLemmas
+pub mod KeptLemmas
+pub mod EventLemmas
+pub mod TakenLemmas
+pub mod ComingLemmas
+pub mod GoingLemmas
+pub mod WorkLemmas
+pub mod CallLemmas
+pub mod RefusalLemmas
+mod NewLemmas
+mod DecidedLemmas
+mod PostedLemmas

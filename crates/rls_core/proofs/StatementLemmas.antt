@@ -15,6 +15,7 @@ use Rattle.rls_statement.specs.declared.statement.Statement.{Statement}
 use Rattle.rls_guard.specs.{declared.context.Ctx.Ctx, Effects.changes_of, Effects.shown, Keeping.TablesStay}
 use Rattle.rls_dml.specs.NextRows.{AllFree, next_row}
 use Rattle.rls_access.specs.{Framing.framed_by, Leaving.GoOn, Statements.step, Statements.effect_in}
+use Rattle.rls_meaning.specs.Meaning.{StatementMeans}
 use Rattle.rls_history.specs.States.{IsAmong, put_all, Fits, Agree}
 use Rattle.rls_history.specs.Lawful.{PutsAre, IsLawful}
 use Rattle.rls_conflict.specs.Laws.{AgreementIsShown, WritesAreMutual, SoundRowsJoin}
@@ -32,6 +33,7 @@ pub record StatementLaws : Type 0 where
   pub written : WritesAreMutual
   pub agreement : AgreementIsShown
   pub joined : SoundRowsJoin
+  pub means : StatementMeans
 
 -- changes put on
 pub put_all_is : (s : State) (changes : List Change) → put_all states changes s ≡ changed_all s changes

@@ -1,4 +1,4 @@
--- Transactions run alone, and when an order explains what is recorded of them.
+-- Transactions run alone, each statement by what it means, and when an order explains what is recorded of them.
 use Rattle.std.specs.Prelude.{◌≡◌, ℕ, List, [], ◌∷◌, ◌++◌, length}
 use Rattle.rls_value.specs.declared.object.Object.{Object}
 use Rattle.rls_catalog.specs.declared.change.Change.{Change}
@@ -6,18 +6,19 @@ use Rattle.rls_catalog.specs.State.{State, AgreesAt, AgreesOn}
 use Rattle.rls_catalog.specs.Changed.{changed_all}
 use Rattle.rls_statement.specs.declared.statement.Statement.{Statement}
 use Rattle.rls_guard.specs.{declared.context.Ctx.Ctx, declared.effect.Effect.Effect, Effects.changes_of}
-use Rattle.rls_access.specs.{Statements.effect_in, Transactions.first_ctx, Transactions.ctx_after}
+use Rattle.rls_access.specs.Transactions.{first_ctx, ctx_after}
+use Rattle.rls_meaning.specs.Meaning.{effect_of}
 use Rattle.rls_core.specs.Records.{Record, record_at, state_after}
 
 -- what statements come to one after another, with nothing beside them
 abbrev pub effects_alone : Ctx → List Statement → State → List Effect
 effects_alone ctx [] s = []
-effects_alone ctx (asked ∷ more) s = effect_in s ctx asked ∷ effects_alone (ctx_after ctx (effect_in s ctx asked)) more (changed_all s (changes_of (effect_in s ctx asked)))
+effects_alone ctx (asked ∷ more) s = effect_of s ctx asked ∷ effects_alone (ctx_after ctx (effect_of s ctx asked)) more (changed_all s (changes_of (effect_of s ctx asked)))
 
 -- the state that they leave
 abbrev pub state_alone : Ctx → List Statement → State → State
 state_alone ctx [] s = s
-state_alone ctx (asked ∷ more) s = state_alone (ctx_after ctx (effect_in s ctx asked)) more (changed_all s (changes_of (effect_in s ctx asked)))
+state_alone ctx (asked ∷ more) s = state_alone (ctx_after ctx (effect_of s ctx asked)) more (changed_all s (changes_of (effect_of s ctx asked)))
 
 -- what effects change, one after another
 abbrev pub changes_made : List Effect → List Change

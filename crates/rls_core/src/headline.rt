@@ -6,6 +6,7 @@ ghost use Rattle.rls_core.specs.Headline.{AfterEvents, AreExplained, AreSafe, Ea
 use crate::database::Rls;
 use rls_access::{changes_go_on, numbers_go_on, rows_stay_sound};
 use rls_conflict::{changes_are_put, sound_rows_join, words_are_told};
+use rls_meaning::statement_means;
 
 /// After every list of begins, posts, commits and rollbacks the committed transactions have an order that keeps `before` and
 /// `rw`. Each such order explains them: run alone in it, one after another from the opening state, the statements of each come
@@ -24,6 +25,7 @@ pub fn committed_are_serial()
     numbers_go_on();
     changes_are_put();
     sound_rows_join();
+    statement_means();
     words_are_told();
     rls_history::structures_are_found();
     rls_history::committed_are_serial::<Rls>();

@@ -5,6 +5,7 @@ ghost use Rattle.rls_core.specs.Headline.{AfterEvents, AreAdmitted, AreRecorded,
 use crate::database::Rls;
 use rls_access::{changes_go_on, numbers_go_on, rows_stay_sound};
 use rls_conflict::{changes_are_put, sound_rows_join, words_are_told};
+use rls_meaning::statement_means;
 
 /// After every list of events no dangerous structure stands among the committed transactions, so an order can be made of them;
 /// concurrent ones write no common object. Primary keys are unique in each committed state, numbers of rows of two transactions
@@ -24,6 +25,7 @@ pub fn events_keep()
     numbers_go_on();
     changes_are_put();
     sound_rows_join();
+    statement_means();
     words_are_told();
     rls_history::events_keep::<Rls>();
 }

@@ -17,6 +17,7 @@ committed_are_serial-requires c =
       written = c.changes_are_put.ensures.written;
       agreement = c.words_are_told.ensures.agreement;
       joined = c.sound_rows_join.ensures;
+      means = c.statement_means.ensures;
     } in
     lawful laws
 
@@ -32,6 +33,7 @@ returns-clause-order c rules safe events =
       written = c.changes_are_put.ensures.written;
       agreement = c.words_are_told.ensures.agreement;
       joined = c.sound_rows_join.ensures;
+      means = c.statement_means.ensures;
     } in
     have_order laws c.rows_stay_sound.ensures.opening c.words_are_told.ensures.histories rules events
     (c.committed_are_serial.ensures.order (setup_of rules) 1 (map event_of events) (set_up c.rows_stay_sound.ensures.opening rules safe))
@@ -48,6 +50,7 @@ returns-clause-explains c rules safe events =
       written = c.changes_are_put.ensures.written;
       agreement = c.words_are_told.ensures.agreement;
       joined = c.sound_rows_join.ensures;
+      means = c.statement_means.ensures;
     } in
     are_explained laws c.rows_stay_sound.ensures.opening c.words_are_told.ensures.histories rules events
     (c.committed_are_serial.ensures.explains (setup_of rules) 1 (map event_of events) (set_up c.rows_stay_sound.ensures.opening rules safe))
@@ -67,6 +70,7 @@ returns-clause-snapshots c rules safe events =
       written = c.changes_are_put.ensures.written;
       agreement = c.words_are_told.ensures.agreement;
       joined = c.sound_rows_join.ensures;
+      means = c.statement_means.ensures;
     } in
     let set = set_up c.rows_stay_sound.ensures.opening rules safe in
     find_snapshots laws c.rows_stay_sound.ensures.opening c.words_are_told.ensures.histories rules events

@@ -18,6 +18,7 @@ events_keep-requires c =
       written = c.changes_are_put.ensures.written;
       agreement = c.words_are_told.ensures.agreement;
       joined = c.sound_rows_join.ensures;
+      means = c.statement_means.ensures;
     } in
     lawful laws
 

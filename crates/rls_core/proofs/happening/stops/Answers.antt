@@ -1,0 +1,10 @@
+use Rattle.std.proofs.Common.{◌∙◌, ap, sym, Bool, Result, Ok, Err}
+use Rattle.std.specs.Prelude.{cond}
+use Rattle.rls_value.specs.declared.refusal.Refusal.{Refusal}
+use Rattle.rls_core.proofs.happening.stops.Goals as goal
+
+pub returns-then-is_stop : goal.returns-then-is_stop
+returns-then-is_stop c = sym (ap (λ (b : Bool). cond {A = Result (Unit {0}) Refusal} b (Err c.args.refusal) (Ok tt)) (sym c.is_stop.ensures ∙ c.if-is_stop.true))
+
+pub returns : goal.returns
+returns c = sym (ap (λ (b : Bool). cond {A = Result (Unit {0}) Refusal} b (Err c.args.refusal) (Ok tt)) (sym c.is_stop.ensures ∙ c.if-is_stop.false))

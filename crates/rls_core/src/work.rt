@@ -1,0 +1,12 @@
+//! A statement that was run, and isn't posted yet.
+
+use rls_access::Outcome;
+use rls_statement::Statement;
+
+/// A statement of a transaction, and what it comes to on the transaction's own view.
+#[derive(Drop)]
+pub struct Work {
+    pub txn: u64,
+    pub statement: Statement,
+    pub outcome: Outcome,
+}

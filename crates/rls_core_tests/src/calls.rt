@@ -1,0 +1,97 @@
+//! Calls that histories don't make.
+
+use crate::opening::begin_as;
+use rls_access::Mode;
+use rls_core::{Core, Event, run};
+use rls_text::parse;
+use rls_value::Refusal;
+use std::alloc::Global;
+
+/// A statement is worked out, then admitted.
+fn is_posted_in_parts(core: &mut Core, alloc: Global, txn: u64) -> Result<bool, Refusal> {
+    let statement = parse(alloc, "CREATE ROLE r")?;
+    let work = core.work(alloc, txn, statement)?;
+    let nothing = core.posts(txn).is_empty();
+    core.admit(alloc, work)?;
+    Ok(nothing && core.posts(txn).len() == 1 && core.is_running(txn))
+}
+
+/// A commit is made ready, then sealed.
+fn is_committed_in_parts(core: &mut Core, alloc: Global, txn: u64) -> Result<bool, Refusal> {
+    let ready = core.ready(alloc, txn)?;
+    let nothing = core.commits() == 0 && core.is_running(txn);
+    core.seal(txn, ready);
+    Ok(nothing && core.commits() == 1 && !core.is_running(txn))
+}
+
+fn is_done_in_parts(core: &mut Core, alloc: Global) -> Result<bool, Refusal> {
+    let txn = core.begin(alloc, begin_as(alloc, "postgres", Mode::Write)?)?;
+    Ok(is_posted_in_parts(core, alloc, txn)? && is_committed_in_parts(core, alloc, txn)?)
+}
+
+/// Whether just that transaction has committed, with one statement.
+fn has_only(core: &Core, txn: u64) -> bool {
+    match core.history() {
+        [record] => record.txn() == txn && record.posts().len() == 1,
+        _ => false,
+    }
+}
+
+fn begins(alloc: Global) -> Result<Event, Refusal> {
+    Ok(Event::Begins(begin_as(alloc, "postgres", Mode::Write)?))
+}
+
+fn posts(alloc: Global, txn: u64) -> Result<Event, Refusal> {
+    Ok(Event::Posts(txn, parse(alloc, "CREATE ROLE r")?))
+}
+
+/// One that commits, and one that begins behind it.
+fn two_transactions(alloc: Global) -> Result<[Event; 4], Refusal> {
+    Ok([
+        begins(alloc)?,
+        posts(alloc, 1)?,
+        Event::Commits(1),
+        begins(alloc)?,
+    ])
+}
+
+/// One commits, one is rolled back, and one of no number is asked to commit.
+fn happens(alloc: Global) -> Result<bool, Refusal> {
+    let events = two_transactions(alloc)?;
+    let core = run(alloc, &events);
+    drop(events);
+    ends(alloc, core?)
+}
+
+fn ends(alloc: Global, core: Core) -> Result<bool, Refusal> {
+    let mut core = core;
+    let runs = core.is_running(2);
+    core.happen(alloc, &Event::RollsBack(2))?;
+    core.happen(alloc, &Event::Commits(9))?;
+    Ok(runs && !core.is_running(2) && has_only(&core, 1))
+}
+
+fn says(answer: Result<bool, Refusal>) -> bool {
+    match answer {
+        Ok(answer) => answer,
+        Err(refusal) => {
+            drop(refusal);
+            false
+        }
+    }
+}
+
+/// The parts of a post and of a commit.
+#[test]
+fn posts_and_commits_come_in_parts(rt: HostRuntime) {
+    let alloc = rt.alloc();
+    let mut core = Core::new(alloc).expect(&rt, "opens");
+    assert!(rt; says(is_done_in_parts(&mut core, alloc)));
+    assert!(rt; has_only(&core, 1));
+}
+
+/// Events one after another.
+#[test]
+fn events_happen(rt: HostRuntime) {
+    assert!(rt; says(happens(rt.alloc())));
+}
