@@ -1,0 +1,24 @@
+//! What audits mean.
+
+ghost use Rattle.std.specs.Prelude.{[], ◌∷◌};
+ghost use Rattle.rls_core.specs.Headline.{AfterEvents};
+ghost use Rattle.rls_audit.specs.Audits.{IsAudit, AuditHolds, AuditsHold};
+ghost use Rattle.rls_audit.specs.Lines.{Head, End};
+
+use rls_core::{committed_are_serial, events_keep};
+
+/// The audit of an empty script is one, and holds.
+#[tactic(auto, using(crate::proofs::ExampleLemmas::empty_is_audit, crate::proofs::ExampleLemmas::empty_holds))]
+pub fn empty_audit_holds()
+    ensures audit { IsAudit (Head ∷ End 0 [] ∷ []) }
+    ensures holds { AuditHolds (Head ∷ End 0 [] ∷ []) }
+{}
+
+/// After every list of begins, posts, commits and rollbacks the audit of the committed transactions holds, in whichever order
+/// that keeps `before` and `rw`.
+pub fn audits_hold()
+    ensures { AfterEvents AuditsHold }
+{
+    committed_are_serial();
+    events_keep();
+}

@@ -1,0 +1,9 @@
+pub mod Reading
+pub mod Looking
+pub mod Codec
+pub mod CodecLaws
+pub mod Codecs
+pub mod ArrayLaws
+pub mod Arrays
+pub mod ObjectLaws
+pub mod Objects

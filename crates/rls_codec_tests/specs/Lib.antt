@@ -1,0 +1,5 @@
+pub mod Values
+pub mod Refusals
+pub mod Statements
+pub mod Changes
+pub mod Lines
