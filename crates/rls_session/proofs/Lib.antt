@@ -1,6 +1,7 @@
-pub mod AskingLemmas
-pub mod ExecuteLemmas
+pub mod BlockLemmas
+pub mod CarryingLemmas
 pub mod Examples
+pub mod ExecutingLemmas
 pub mod LabelLemmas
 pub mod LimitLemmas
 pub mod LineLemmas

@@ -1,6 +1,7 @@
 pub mod Lines
 pub mod Connects
 pub mod Sessions
-pub mod Databases
+pub mod Blocks
+pub mod Carrying
 pub mod Labels
 pub mod Rendering

@@ -1,130 +1,183 @@
 //! One command under a label.
 
-ghost use Rattle.std.specs.Prelude.{◌≡◌, IfOk, IsOk, OnOk, OnErr};
-ghost use Rattle.rls_session.specs.{Connects.ConnectsToLongName, Sessions.IsNothing, Sessions.answer_to, Sessions.connected, Sessions.ran, Sessions.with_role};
-ghost use Rattle.rls_session.specs.Databases.{Executes, done_for, begun_by, came_of, database_after, database_begun};
-ghost use Rattle.rls_statement.specs.Tags.{tag_of};
+ghost use Rattle.std.specs.Prelude.{◌≡◌, IfOk, IsOk, OnErr};
+ghost use Rattle.std.specs.Option.{option_map};
+ghost use Rattle.rls_session.specs.Connects.{ConnectsToLongName};
+ghost use Rattle.rls_session.specs.Blocks.{IsAtOnce};
+ghost use Rattle.rls_session.specs.Carrying.{Does, ExecutesOn, IsLeft};
+ghost use Rattle.rls_session.specs.declared.requesting.Request.TheVariants as q;
 
 use crate::answer::Answer;
-use crate::asking::{Asked, ask};
-use crate::database::Database;
-use crate::session::{Begin, Session};
-use rls_access::{Effect, Outcome, Reply};
+use crate::block::Session;
+use crate::carrying::{begin, commit, connect, post, roll_back, run};
+use crate::requesting::{Request, request_for};
+use crate::settling;
+use rls_access::Mode;
+use rls_core::{Begin, Core};
 use rls_statement::Statement;
-use rls_value::{Name, Refusal, Tag};
+use rls_value::Name;
 use std::alloc::{AllocError, Global};
 
-/// Runs one command, a `\connect` or a statement, in the session, if there is one. After an `Err` the database and
-/// the session are as they were.
+/// Runs one command, a `\connect` or a statement, in the session, if there is one. After an `Err` the session is as it was, and
+/// so is the core, but for a number that a transaction may have used which is gone.
 pub fn execute(
     alloc: Global,
-    database: &mut Database,
+    core: &mut Core,
     session: &mut Option<Session>,
     command: &str,
 ) -> Result<Answer, AllocError>
-    ensures ok { IfOk result (λ answer. Executes database.old session.old command.now answer database.new session.new) }
-    ensures database { OnErr result (database.new ≡ database.old) }
+    ensures ok { IfOk result (λ answer. ExecutesOn core.old session.old command.now answer core.new session.new) }
+    ensures core { OnErr result (IsLeft core.old core.new) }
     ensures session { OnErr result (session.new ≡ session.old) }
 
     // A name over its limit behind `\connect` is refused as such, and never as want of memory.
     ensures long_name { ConnectsToLongName command.now → IsOk result }
 {
-    match ask(alloc, session, command) {
-        Ok(asked) => give(alloc, database, session, asked),
+    match request_for(alloc, session, command) {
+        Ok(request) => give(alloc, core, session, request),
         Err(refused) => Err(refused),
     }
 }
 
-// What is asked for.
+// What is requested.
 fn give(
     alloc: Global,
-    database: &mut Database,
+    core: &mut Core,
     session: &mut Option<Session>,
-    asked: Asked,
+    request: Request,
 ) -> Result<Answer, AllocError>
-    ensures answer { IfOk result (λ answer. answer ≡ (done_for database.old session.old asked).given.answer) }
-    ensures session { OnOk result (session.new ≡ (done_for database.old session.old asked).given.session) }
-    ensures database { OnOk result (database.new ≡ (done_for database.old session.old asked).database) }
-    ensures database_kept { OnErr result (database.new ≡ database.old) }
-    ensures session_kept { OnErr result (session.new ≡ session.old) }
-    ensures at_once { IsNothing asked → IsOk result }
+    ensures ok { IfOk result (λ answer. Does core.old session.old request answer core.new session.new) }
+    ensures core { OnErr result (IsLeft core.old core.new) }
+    ensures session { OnErr result (session.new ≡ session.old) }
+    ensures at_once { IsAtOnce request → IsOk result }
 {
-    match asked {
-        Asked::Nothing(refusal) => Ok(Answer::Refused(refusal)),
-        Asked::Connect(role) => connect(database, session, role),
-        Asked::Run(begin, statement) => run(alloc, database, session, begin, statement),
+    match request {
+        Request::Nothing(refusal) => Ok(Answer::Refused(refusal)),
+        Request::Connect(running, role) => give_connect(alloc, core, session, running, role),
+        Request::Begin(begin) => give_begin(alloc, core, session, begin),
+        Request::Post(txn, statement) => give_post(alloc, core, session, txn, statement),
+        Request::Run(begin, statement) => give_run(alloc, core, session, begin, statement),
+        Request::Commit(txn) => give_commit(alloc, core, session, txn),
+        Request::Rollback(txn) => {
+            roll_back(core, txn);
+            Ok(settling::leave(session))
+        }
+        Request::Leave => Ok(settling::leave(session)),
     }
 }
 
 // The old session ends in any case, but for want of memory.
-fn connect(
-    database: &mut Database,
+fn give_connect(
+    alloc: Global,
+    core: &mut Core,
     session: &mut Option<Session>,
+    running: Option<u64>,
     role: Name,
 ) -> Result<Answer, AllocError>
-    ensures answer { IfOk result (λ answer. answer ≡ (connected role (begun_by database.old role)).answer) }
-    ensures session { OnOk result (session.new ≡ (connected role (begun_by database.old role)).session) }
-    ensures database { OnOk result (database.new ≡ database_begun database.old (begun_by database.old role)) }
-    ensures database_kept { OnErr result (database.new ≡ database.old) }
-    ensures session_kept { OnErr result (session.new ≡ session.old) }
+    ensures ok { IfOk result (λ answer. Does core.old session.old (q.Connect running role) answer core.new session.new) }
+    ensures core { OnErr result (core.new ≡ core.old) }
+    ensures session { OnErr result (session.new ≡ session.old) }
 {
     let login = role.copy()?;
-    match database.connect(&role) {
-        Ok(_) => {
-            *session = Some(Session { login, role });
-            Ok(Answer::Replied(Tag::Connect, Reply::Done))
-        }
-        Err(Refusal::NoMemory) => Err(AllocError),
-        Err(refusal) => {
-            *session = None;
-            Ok(Answer::Refused(refusal))
+    match connect(alloc, core, running, &role) {
+        Ok(came) => Ok(settling::connect(session, login, role, came)),
+        Err(refused) => {
+            drop(login);
+            drop(role);
+            Err(refused)
         }
     }
 }
 
-fn run(
+fn give_begin(
     alloc: Global,
-    database: &mut Database,
+    core: &mut Core,
     session: &mut Option<Session>,
-    begin: Begin,
+    as_who: Begin,
+) -> Result<Answer, AllocError>
+    ensures ok { IfOk result (λ answer. Does core.old session.old (q.Begin as_who) answer core.new session.new) }
+    ensures core { OnErr result (core.new ≡ core.old) }
+    ensures session { OnErr result (session.new ≡ session.old) }
+{
+    let mode = as_who.mode;
+    match settling::role_in(session) {
+        Ok(role) => begin_block(alloc, core, session, as_who, mode, role),
+        Err(refused) => {
+            drop(as_who);
+            Err(refused)
+        }
+    }
+}
+
+fn begin_block(
+    alloc: Global,
+    core: &mut Core,
+    session: &mut Option<Session>,
+    as_who: Begin,
+    mode: Mode,
+    role: Option<Name>,
+) -> Result<Answer, AllocError>
+    requires mode { mode ≡ as_who.mode }
+    requires role { role ≡ option_map (λ it. it.role) session.old }
+    ensures ok { IfOk result (λ answer. Does core.old session.old (q.Begin as_who) answer core.new session.new) }
+    ensures core { OnErr result (core.new ≡ core.old) }
+    ensures session { OnErr result (session.new ≡ session.old) }
+{
+    match begin(alloc, core, as_who) {
+        Ok(came) => Ok(settling::begin(session, mode, role, came)),
+        Err(refused) => {
+            drop(role);
+            Err(refused)
+        }
+    }
+}
+
+fn give_post(
+    alloc: Global,
+    core: &mut Core,
+    session: &mut Option<Session>,
+    txn: u64,
     statement: Statement,
 ) -> Result<Answer, AllocError>
-    ensures answer { IfOk result (λ answer. answer ≡ (ran session.old begin (tag_of statement) (came_of database.old begin statement)).answer) }
-    ensures session { OnOk result (session.new ≡ (ran session.old begin (tag_of statement) (came_of database.old begin statement)).session) }
-    ensures database { OnOk result (database.new ≡ database_after database.old (came_of database.old begin statement)) }
-    ensures database_kept { OnErr result (database.new ≡ database.old) }
-    ensures session_kept { OnErr result (session.new ≡ session.old) }
+    ensures ok { IfOk result (λ answer. Does core.old session.old (q.Post txn statement) answer core.new session.new) }
+    ensures core { OnErr result (core.new ≡ core.old) }
+    ensures session { OnErr result (session.new ≡ session.old) }
 {
-    let came = database.run(alloc, begin, &statement);
-    let tag = statement.tag();
-    drop(statement);
-    match came {
-        Ok(outcome) => Ok(answered(session, tag, outcome)),
-        Err(refusal) => Answer::refused(refusal),
+    match post(alloc, core, txn, statement) {
+        Ok(shown) => Ok(settling::post(session, shown)),
+        Err(refused) => Err(refused),
     }
 }
 
-// The answer, and the role that the statement leaves as the session's current one.
-fn answered(session: &mut Option<Session>, tag: Tag, outcome: Outcome) -> Answer
-    ensures answer { result ≡ answer_to tag outcome.effect }
-    ensures session { session.new ≡ with_role session.old outcome.role }
+fn give_run(
+    alloc: Global,
+    core: &mut Core,
+    session: &mut Option<Session>,
+    as_who: Begin,
+    statement: Statement,
+) -> Result<Answer, AllocError>
+    ensures ok { IfOk result (λ answer. Does core.old session.old (q.Run as_who statement) answer core.new session.new) }
+    ensures core { OnErr result (IsLeft core.old core.new) }
+    ensures session { OnErr result (session.new ≡ session.old) }
 {
-    let Outcome {
-        effect,
-        footprint: _,
-        role,
-    } = outcome;
-    if let Some(session) = session {
-        session.role = role;
+    match run(alloc, core, as_who, statement) {
+        Ok(shown) => Ok(settling::run(session, shown)),
+        Err(refused) => Err(refused),
     }
-    answer_of(tag, effect)
 }
 
-fn answer_of(tag: Tag, effect: Effect) -> Answer
-    ensures { result ≡ answer_to tag effect }
+fn give_commit(
+    alloc: Global,
+    core: &mut Core,
+    session: &mut Option<Session>,
+    txn: u64,
+) -> Result<Answer, AllocError>
+    ensures ok { IfOk result (λ answer. Does core.old session.old (q.Commit txn) answer core.new session.new) }
+    ensures core { OnErr result (core.new ≡ core.old) }
+    ensures session { OnErr result (session.new ≡ session.old) }
 {
-    match effect {
-        Effect::Done(reply, _, _, _) => Answer::Replied(tag, reply),
-        Effect::Refused(refusal, _) => Answer::Refused(refusal),
+    match commit(alloc, core, txn) {
+        Ok(came) => Ok(settling::commit(session, came)),
+        Err(refused) => Err(refused),
     }
 }

@@ -3,12 +3,14 @@
 ghost use Rattle.std.specs.Prelude.{◌≡◌, ◌<◌, ◌≤◌, ℕ, List, [], length, IfOk, OnErr};
 ghost use Rattle.std.specs.Str.{bytes_eq};
 ghost use Rattle.rls_session.specs.Labels as spec;
-ghost use Rattle.rls_session.specs.Labels.{ExecutesUnder};
+ghost use Rattle.rls_session.specs.Labels.{ClosesAll, ExecutesUnder};
+ghost use Rattle.rls_session.specs.Carrying.{IsLeft};
 
 use crate::answer::Answer;
-use crate::database::Database;
+use crate::block::{Session, open_txn};
+use crate::carrying::end;
 use crate::executing::execute;
-use crate::session::Session;
+use rls_core::Core;
 use rls_value::Text;
 use std::alloc::{AllocError, Global};
 use std::marker::Model;
@@ -61,41 +63,50 @@ impl Labels {
         place_among(self.labels.as_slice(), name)
     }
 
-    /// Runs the command in the session of a label that has come. After an `Err` all is as it was.
+    /// Rolls open blocks back.
+    pub fn close(&self, core: &mut Core)
+        ensures { ClosesAll self.now core.old core.new }
+    {
+        close_all(self.labels.as_slice(), core);
+    }
+
+    /// Runs the command in the session of a label that has come. After an `Err` the
+    /// labels are as they were, and the core but for a number.
     pub fn execute_at(
         &mut self,
         alloc: Global,
-        database: &mut Database,
+        core: &mut Core,
         place: usize,
         command: &str,
     ) -> Result<Answer, AllocError>
         requires { place < length self.old }
-        ensures ok { IfOk result (λ answer. (name : List ℕ) → place ≡ spec.place_of self.old name → ExecutesUnder database.old self.old name command.now answer database.new self.new) }
-        ensures database { OnErr result (database.new ≡ database.old) }
+        ensures ok { IfOk result (λ answer. (name : List ℕ) → place ≡ spec.place_of self.old name → ExecutesUnder core.old self.old name command.now answer core.new self.new) }
+        ensures core { OnErr result (IsLeft core.old core.new) }
         ensures labels { OnErr result (self.new ≡ self.old) }
     {
         let label = &mut self.labels[place];
-        execute(alloc, database, &mut label.session, command)
+        execute(alloc, core, &mut label.session, command)
     }
 
-    /// Runs the first command under a label. After an `Err` all is as it was.
+    /// Runs the first command under a label. After an `Err` the
+    /// labels are as they were, and the core but for a number.
     pub fn execute_first(
         &mut self,
         alloc: Global,
-        database: &mut Database,
+        core: &mut Core,
         name: &str,
         command: &str,
     ) -> Result<Answer, AllocError>
         requires { length self.old ≤ spec.place_of self.old name.now }
-        ensures ok { IfOk result (λ answer. ExecutesUnder database.old self.old name.now command.now answer database.new self.new) }
-        ensures database { OnErr result (database.new ≡ database.old) }
+        ensures ok { IfOk result (λ answer. ExecutesUnder core.old self.old name.now command.now answer core.new self.new) }
+        ensures core { OnErr result (IsLeft core.old core.new) }
         ensures labels { OnErr result (self.new ≡ self.old) }
     {
         let name = Text::new(alloc, name)?;
         let labels = &mut self.labels;
         labels.reserve(1)?;
         let mut session = None;
-        let answer = match execute(alloc, database, &mut session, command) {
+        let answer = match execute(alloc, core, &mut session, command) {
             Ok(answer) => answer,
             Err(refused) => {
                 drop(name);
@@ -105,6 +116,16 @@ impl Labels {
         };
         labels.push_reserved(Label { name, session });
         Ok(answer)
+    }
+}
+
+fn close_all(labels: &[Label], core: &mut Core)
+    ensures { ClosesAll labels.now core.old core.new }
+{
+    let mut rest = labels;
+    while let [first, tail @ ..] = rest {
+        end(core, open_txn(&first.session));
+        rest = tail;
     }
 }
 

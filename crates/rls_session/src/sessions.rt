@@ -1,49 +1,48 @@
-//! Labels over one database.
+//! Labels over one core.
 
 ghost use Rattle.std.specs.Prelude.{◌≡◌, IfOk, OnErr};
-ghost use Rattle.rls_session.specs.Labels.{opening_sessions, state_left, AnswersUnder};
+ghost use Rattle.rls_session.specs.Labels.{opening_sessions, AnswersUnder, AreLeft, ClosesAll};
 
 use crate::answer::Answer;
-use crate::database::Database;
 use crate::labels::Labels;
-use rls_catalog::Catalog;
+use rls_core::Core;
 use rls_value::{Limit, Refusal};
 use std::alloc::{AllocError, Global};
 
-/// The most labels that have sessions over one database.
+/// The most labels that have sessions over one core.
 pub const MAX_LABELS: usize = 64;
 
-/// One database, and beside it a session for each label where somebody is connected.
+/// One core, and beside it a session for each label where somebody is connected.
 #[derive(Drop)]
 pub struct Sessions {
-    database: Database,
+    core: Core,
     labels: Labels,
 }
 
 impl Sessions {
-    /// Over the opening state; no label has come.
+    /// Over the opening state, with no transactions; no label has come.
     pub fn new(alloc: Global) -> Result<Sessions, AllocError>
         ensures { IfOk result (λ sessions. sessions ≡ opening_sessions) }
     {
         Ok(Sessions {
-            database: Database::new(alloc)?,
+            core: Core::new(alloc)?,
             labels: Labels::new(alloc),
         })
     }
 
-    /// The state that the commands have left.
-    pub fn into_catalog(self) -> Catalog
-        ensures { result ≡ state_left self }
+    /// The core that the commands have left, with open blocks rolled back.
+    pub fn close(self) -> Core
+        ensures { ClosesAll self.labels self.core result }
     {
-        let Sessions {
-            database,
-            labels: _,
-        } = self;
-        database.into_catalog()
+        let Sessions { mut core, labels } = self;
+        labels.close(&mut core);
+        drop(labels);
+        core
     }
 
     /// Runs one command under a label. A label counts from its first command, whatever that is answered; each command
-    /// under a 65th is refused. After an `Err` the database and all sessions are as they were.
+    /// under a 65th is refused. After an `Err` all sessions are as they were, and so is the core, but for a number that
+    /// a transaction may have used which is gone.
     pub fn answer(
         &mut self,
         alloc: Global,
@@ -51,7 +50,7 @@ impl Sessions {
         command: &str,
     ) -> Result<Answer, AllocError>
         ensures ok { IfOk result (λ answer. AnswersUnder self.old label.now command.now answer self.new) }
-        ensures err { OnErr result (self.new ≡ self.old) }
+        ensures err { OnErr result (AreLeft self.old self.new) }
     {
         let place = self.labels.place_of(label);
         if place >= MAX_LABELS {
@@ -59,10 +58,10 @@ impl Sessions {
         }
         if place < self.labels.len() {
             self.labels
-                .execute_at(alloc, &mut self.database, place, command)
+                .execute_at(alloc, &mut self.core, place, command)
         } else {
             self.labels
-                .execute_first(alloc, &mut self.database, label, command)
+                .execute_first(alloc, &mut self.core, label, command)
         }
     }
 }

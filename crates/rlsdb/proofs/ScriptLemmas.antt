@@ -6,8 +6,8 @@ use Rattle.std.proofs.lemmas.List.Splits.{slice_split_first, slice_split_none, l
 use Rattle.std.proofs.lemmas.List.Sums.{fails_before_first}
 use Rattle.std.proofs.lemmas.Grind.{common_steps}
 use Rattle.std.proofs.lemmas.Bool.Decides.{nat_tests}
-use Rattle.rls_catalog.specs.State.{State}
-use Rattle.rls_session.specs.{Lines.IsRead, Lines.ends_line, Lines.first_line_of, Lines.without_return, Rendering.answer_text, declared.sessions.Sessions.Sessions, declared.answer.Answer.Answer, declared.line.Line.Line, Labels.opening_sessions, Labels.state_left, Labels.AnswersUnder}
+use Rattle.rls_core.specs.Seen.{Seen}
+use Rattle.rls_session.specs.{Lines.IsRead, Lines.ends_line, Lines.first_line_of, Lines.without_return, Rendering.answer_text, declared.sessions.Sessions.Sessions, declared.answer.Answer.Answer, declared.line.Line.Line, Labels.opening_sessions, Labels.AnswersUnder, Labels.ClosesAll}
 use Rattle.rlsdb.specs.Scripts.{RunsLine, RunsLines, RunsRead, RunsScript, IsScriptText, GrewBy, none, next}
 use Rattle.rls_session.specs.declared.line.Line.TheVariants as l
 
@@ -65,8 +65,8 @@ pub grew_none : (now : List ℕ) (run : Sessions) → GrewBy now now (λ written
 grew_none now run = record { more = []; grew = grind (arith, common_steps); fact = none }
 
 -- the lines make the script's text
-pub grew_script : {before now : List ℕ} {script : List ℕ} {after : Sessions} {state : State} → state ≡ state_left after → GrewBy before now (λ written. RunsLines (lines script) opening_sessions written after) → GrewBy before now (λ written. IsScriptText script written state)
-grew_script left grew = record { more = grew.more; grew = grew.grew; fact = record { after = _; runs = grew.fact; left = left } }
+pub grew_script : {before now : List ℕ} {script : List ℕ} {after : Sessions} {core : Seen} → ClosesAll after.labels after.core core → GrewBy before now (λ written. RunsLines (lines script) opening_sessions written after) → GrewBy before now (λ written. IsScriptText script written core)
+grew_script closes grew = record { more = grew.more; grew = grew.grew; fact = record { after = _; runs = grew.fact; closes = closes } }
 
 -- what holds while lines are run: what the lines of the rest will write, and leave, makes the whole script's
 abbrev pub MakesWhole : List ℕ → List ℕ → List ℕ → List ℕ → Sessions → Type 0
@@ -81,11 +81,11 @@ passed_line start before middle script rest line behind read run further some is
     makes now after (subst (λ ls. GrewBy before now (λ written. RunsLines ls run written after)) (sym split) both)
 
 -- behind the last line the script's text is whole
-pub finished : (start now script rest : List ℕ) (run : Sessions) (state : State) → length rest ≡ 0 → MakesWhole start now script rest run → state ≡ state_left run → GrewBy start now (λ written. IsScriptText script written state)
-finished start now script [] run state none_left makes left = grew_script left (makes now run (grew_none now run))
-finished start now script (byte ∷ bytes) run state none_left makes left = absurd (omega arith)
+pub finished : (start now script rest : List ℕ) (run : Sessions) (core : Seen) → length rest ≡ 0 → MakesWhole start now script rest run → ClosesAll run.labels run.core core → GrewBy start now (λ written. IsScriptText script written core)
+finished start now script [] run core none_left makes closes = grew_script closes (makes now run (grew_none now run))
+finished start now script (byte ∷ bytes) run core none_left makes closes = absurd (omega arith)
 
 -- the text of what was given
-pub ran_script : {E : Type 0} (given_before given_now taken_before taken_now script : List ℕ) (r : Result State E) → given_now ≡ given_before ++ script → IfOk r (λ state. GrewBy taken_before taken_now (λ written. IsScriptText script written state)) → IfOk r (RunsScript given_before given_now taken_before taken_now)
-ran_script given_before given_now taken_before taken_now script (Ok state) given text = record { script = script; given = given; text = text }
+pub ran_script : {E : Type 0} (given_before given_now taken_before taken_now script : List ℕ) (r : Result Seen E) → given_now ≡ given_before ++ script → IfOk r (λ core. GrewBy taken_before taken_now (λ written. IsScriptText script written core)) → IfOk r (RunsScript given_before given_now taken_before taken_now)
+ran_script given_before given_now taken_before taken_now script (Ok core) given text = record { script = script; given = given; text = text }
 ran_script given_before given_now taken_before taken_now script (Err e) given text = tt

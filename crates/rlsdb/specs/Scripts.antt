@@ -1,9 +1,9 @@
--- What a script means: the bytes that are written for it, and the state that it leaves.
+-- What a script means: the bytes that are written for it, and the core that it leaves.
 use Rattle.std.specs.Prelude.{◌≡◌, ℕ, List, [], ◌∷◌, ◌++◌, codes}
 use Rattle.std.specs.Str.Lines.{lines}
 use Rattle.rls_value.specs.declared.refusal.Refusal.TheVariants as r
-use Rattle.rls_catalog.specs.State.{State}
-use Rattle.rls_session.specs.Labels.{opening_sessions, state_left, AnswersUnder}
+use Rattle.rls_core.specs.Seen.{Seen}
+use Rattle.rls_session.specs.Labels.{opening_sessions, AnswersUnder, ClosesAll}
 use Rattle.rls_session.specs.Lines.{IsRead}
 use Rattle.rls_session.specs.Rendering.{answer_text}
 use Rattle.rls_session.specs.declared.answer.Answer.{Answer}
@@ -36,11 +36,11 @@ pub data RunsLines : List (List ℕ) → Sessions → List ℕ → Sessions → 
   none : {sessions : Sessions} → RunsLines [] sessions [] sessions
   next : {line : List ℕ} {lines : List (List ℕ)} {sessions middle after : Sessions} {written more : List ℕ} → RunsLine line sessions written middle → RunsLines lines middle more after → RunsLines (line ∷ lines) sessions (written ++ more) after
 
--- the bytes that are written for a script, and the state behind its last line
-pub record IsScriptText (script written : List ℕ) (state : State) : Type 0 where
+-- the bytes that are written for a script, and the core behind its last line, once open blocks are rolled back
+pub record IsScriptText (script written : List ℕ) (core : Seen) : Type 0 where
   pub after : Sessions
   pub runs : RunsLines (lines script) opening_sessions written after
-  pub left : state ≡ state_left after
+  pub closes : ClosesAll after.labels after.core core
 
 -- a list grew by one of which the fact holds
 pub record GrewBy (before now : List ℕ) (Fact : List ℕ → Type 0) : Type 0 where
@@ -49,7 +49,7 @@ pub record GrewBy (before now : List ℕ) (Fact : List ℕ → Type 0) : Type 0 
   pub fact : Fact more
 
 -- what was taken grew by the text of what was given
-pub record RunsScript (given_before given_now taken_before taken_now : List ℕ) (state : State) : Type 0 where
+pub record RunsScript (given_before given_now taken_before taken_now : List ℕ) (core : Seen) : Type 0 where
   pub script : List ℕ
   pub given : given_now ≡ given_before ++ script
-  pub text : GrewBy taken_before taken_now (λ written. IsScriptText script written state)
+  pub text : GrewBy taken_before taken_now (λ written. IsScriptText script written core)

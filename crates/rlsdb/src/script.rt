@@ -6,7 +6,7 @@ ghost use Rattle.rlsdb.specs.Scripts.{GrewBy, IsScriptText, RunsRead, RunsScript
 
 use crate::fault::RunFault;
 use crate::stream::{Failed, ScriptIn, ScriptOut};
-use rls_catalog::Catalog;
+use rls_core::Core;
 use rls_session::{Answer, Line, Sessions, first_line, read_line, render};
 use rls_value::Refusal;
 use std::alloc::Global;
@@ -15,13 +15,13 @@ use std::alloc::Global;
 pub const MAX_SCRIPT: usize = 16_777_216;
 
 /// Reads the script whole, then runs its lines and writes each answer. `Read` comes exactly where the reader failed
-/// or the script is over `MAX_SCRIPT` bytes, `Write` exactly where the writer failed. `Ok` is the state that the lines
-/// left.
+/// or the script is over `MAX_SCRIPT` bytes, `Write` exactly where the writer failed. `Ok` is the core that the lines
+/// left, with open blocks rolled back: what it tells of the transactions that committed (`Core::history`) holds of the script.
 pub fn run_script<R: ScriptIn, W: ScriptOut>(
     alloc: Global,
     input: &mut R,
     output: &mut W,
-) -> Result<Catalog, RunFault>
+) -> Result<Core, RunFault>
     ensures text { IfOk result (RunsScript (R.given input.old) (R.given input.new) (W.taken output.old) (W.taken output.new)) }
     ensures ended { OnOk result (R.ended input.new ≡ true) }
     ensures read { IsErrOf result RunFault.Read → (R.failures input.old < R.failures input.new) ⊎ (length (R.given input.old) + MAX_SCRIPT < length (R.given input.new)) }
@@ -86,12 +86,8 @@ fn fill<R: ScriptIn>(input: &mut R, script: &mut Vec<u8>) -> Result<(), RunFault
     }
 }
 
-fn run_lines<W: ScriptOut>(
-    alloc: Global,
-    script: &[u8],
-    output: &mut W,
-) -> Result<Catalog, RunFault>
-    ensures text { IfOk result (λ catalog. GrewBy (W.taken output.old) (W.taken output.new) (λ written. IsScriptText script.now written catalog)) }
+fn run_lines<W: ScriptOut>(alloc: Global, script: &[u8], output: &mut W) -> Result<Core, RunFault>
+    ensures text { IfOk result (λ core. GrewBy (W.taken output.old) (W.taken output.new) (λ written. IsScriptText script.now written core)) }
     ensures read { ¬ IsErrOf result RunFault.Read }
     ensures write { IsErrOf result RunFault.Write → W.failures output.old < W.failures output.new }
     ensures write_failed { W.failures output.old < W.failures output.new → IsErrOf result RunFault.Write }
@@ -103,7 +99,7 @@ fn run_lines<W: ScriptOut>(
         run_line(alloc, &mut sessions, read_line(line), output)?;
         rest = behind;
     }
-    Ok(sessions.into_catalog())
+    Ok(sessions.close())
 }
 
 fn run_line<W: ScriptOut>(

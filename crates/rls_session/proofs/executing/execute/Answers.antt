@@ -1,6 +1,13 @@
-use Rattle.rls_session.proofs.ExecuteLemmas.{executed}
+use Rattle.std.proofs.Common.{refl}
+use Rattle.rls_session.specs.Carrying.IsLeft.{same}
+use Rattle.rls_session.proofs.CarryingLemmas.{executes}
 use Rattle.rls_session.proofs.executing.execute.Goals as goal
 
--- what was asked for was given
 pub returns-in-Ok-clause-ok : goal.returns-in-Ok-clause-ok
-returns-in-Ok-clause-ok c = executed c.args.database.now c.args.session.now c.args.command.now c.in-Ok.asked c.give.new.database c.give.new.session c.give.result c.in-Ok.ensures.asks c.give.ensures.answer c.give.ensures.session c.give.ensures.database
+returns-in-Ok-clause-ok c = executes c.args.core.now c.give.new.core c.args.session.now c.give.new.session c.args.command.now c.in-Ok.request c.give.result c.in-Ok.ensures.requests c.give.ensures.ok
+
+pub returns-in-Ok-clause-long_name : goal.returns-in-Ok-clause-long_name
+returns-in-Ok-clause-long_name c long = c.give.ensures.at_once (c.in-Ok.ensures.long_name long)
+
+pub returns-in-Err-clause-core : goal.returns-in-Err-clause-core
+returns-in-Err-clause-core c = same refl

@@ -9,4 +9,4 @@ loop-rest-preserved g c = (c.in_ok-run_line.ensures.ok ∙ c.loop-rest.invariant
 
 -- src/script.rt:68:1
 pub returns-clause-text : goal.returns-clause-text
-returns-clause-text g c = finished _ _ c.args.script.now c.loop-rest.rest.now _ _ (grind (arith, nat_tests)) c.loop-rest.invariant.1 c.into_catalog.ensures
+returns-clause-text g c = finished _ _ c.args.script.now c.loop-rest.rest.now _ _ (grind (arith, nat_tests)) c.loop-rest.invariant.1 c.close.ensures
