@@ -1,0 +1,151 @@
+-- What the policies of a protection say of a row is what the state's say that apply.
+use Rattle.std.specs.Prelude.{◌≡◌, refl, ℕ, suc, ◌+◌, List, [], ◌∷◌, ◌++◌, false, ◌&&◌, Option, Some, None, filter, map, is_some, length, if◌then◌else◌}
+use Rattle.std.specs.List.{flat_map, list_any}
+use Rattle.std.proofs.{Common.ap, Common.sym, Common.◌∙◌, Common.subst, lemmas.Bool.or_right}
+use Rattle.rls_value.specs.{Names.one_of, declared.value.Value.Value, declared.verb.Kind.Kind}
+use Rattle.rls_value.specs.declared.verb.Kind.TheVariants as k
+use Rattle.rls_expr.specs.{declared.policy.Policy.Policy, declared.table.TableDef.TableDef, Scopes.InScope, Terms.Term}
+use Rattle.rls_catalog.specs.{declared.verdict.Side.Side, Membership.Within, Membership.fresh, State.State, State.policies_of, Verdict.applying_of, Verdict.chosen, Verdict.expression_of, Verdict.is_exempt, Verdict.is_for_kind, Verdict.is_to}
+use Rattle.rls_catalog.specs.declared.verdict.Side.TheVariants as side
+use Rattle.rls_catalog.proofs.Inheriting.{fresh_all}
+use Rattle.rls_evaluation.specs.{declared.fence.Guard.Guard, declared.fence.Guard.TheVariants.Exempt, declared.fence.Guard.TheVariants.Policies, Environments.Environment, Environments.over, Eval.Shows, Eval.value_of, Showing.shows}
+use Rattle.rls_guard.specs.{declared.standing.Standing.Standing, Guards.conditions_of, Guards.guard_from, Guards.with_condition, Standings.standing_in}
+use Rattle.rls_expansion.specs.{declared.protection.Protection.Protection, Leading.named, Used.tables_of, Protecting.asks_of, Protecting.own_tables}
+use Rattle.rls_depth.{specs.Deep.policies_in, specs.Deep.ruled, specs.Leading.condition_tables, specs.Leading.guard_tables, proofs.Deepening.conditions_tables, proofs.ProtectionLaws.Taken, proofs.Tables.within_append, proofs.Tables.within_first, proofs.Tables.within_last, proofs.Tables.within_nothing, proofs.Using.IsAsk, proofs.Using.chosen_used, proofs.Using.in_front, proofs.Using.own_ask}
+use Rattle.rls_meaning.specs.{Chains.own_in, Chains.next_in, Commands.Command, Commands.closing_in, Needing.needed_by, Needing.needs, Protecting.IsExpanded, Protecting.IsProtected, Protecting.Made, Protecting.Refused, Protecting.protection_in, Rows.sees}
+use Rattle.rls_meaning.proofs.States.{own_told}
+use Rattle.rls_explain.specs.Saying.{command_on, conditions_in, first_conditions, said_as, said_by, said_found, said_in, truth_told, unless_closing, unless_refused, watches_for}
+
+-- what guards rows of a role is what the rules over a state say
+abbrev pub WatchMeans : Type 0
+WatchMeans = (s : State) (role : List ℕ) (kind : Kind) (which : Side) (from : InScope) → guard_from (standing_in s role) kind which from s.tables (policies_in s (standing_in s role) from.0 from.1) ≡ ruled s role kind which from
+
+-- the laws that this rests on
+pub record Laws : Type 0 where
+  pub expanded : (s : State) (c : Command) → IsExpanded s c
+  pub watch : WatchMeans
+  pub taken : Taken
+
+-- ---- of two sides that are asked alike
+
+-- the policies are asked for the same expressions
+abbrev pub AskAlike : Kind → Side → Side → Type 0
+AskAlike kind one other = (policy : Policy) → expression_of policy kind one ≡ expression_of policy kind other
+
+conditions_alike : (kind : Kind) (one other : Side) (from : InScope) (found : List InScope) → AskAlike kind one other → (policies : List Policy) → conditions_of kind one from found policies ≡ conditions_of kind other from found policies
+conditions_alike kind one other from found same [] = refl
+conditions_alike kind one other from found same (policy ∷ policies) = λ i. with_condition from found policy (same policy i) (conditions_alike kind one other from found same policies i)
+
+applying_alike : (s : State) (role name : List ℕ) (kind : Kind) (one other : Side) → AskAlike kind one other → applying_of s role name kind one ≡ applying_of s role name kind other
+applying_alike s role name kind one other same = λ i. filter (is_to s role) (filter (λ policy. is_for_kind policy.kind kind && is_some (same policy i)) (policies_of s name))
+
+guards_alike : (s : State) (role : List ℕ) (kind : Kind) (one other : Side) (from : InScope) → AskAlike kind one other → ruled s role kind one from ≡ ruled s role kind other from
+guards_alike s role kind one other from same =
+    ap (λ conditions. if is_exempt s role from.1 then Exempt else Policies conditions)
+    (conditions_alike kind one other from s.tables same (applying_of s role from.0 kind one)
+    ∙ ap (conditions_of kind other from s.tables) (applying_alike s role from.0 kind one other same))
+
+-- the side that a command of that type judges
+abbrev pub side_for : Kind → Side → Side
+side_for k.Select which = side.Old
+side_for k.Insert which = side.New
+side_for k.Update which = which
+side_for k.Delete which = side.Old
+
+side_alike : (kind : Kind) (which : Side) → AskAlike kind (side_for kind which) which
+side_alike k.Select which policy = refl
+side_alike k.Insert which policy = refl
+side_alike k.Update which policy = refl
+side_alike k.Delete which policy = refl
+
+-- ---- the conditions that are asked
+
+first_told : (s : State) (role name : List ℕ) (table : TableDef) (kind : Kind) (which : Side) (p : Protection) → IsProtected s (command_on role name table kind) p
+    → first_conditions (watches_for p kind which) ≡ conditions_in (ruled s role kind (side_for kind which) (name, table))
+first_told s role name table k.Select which p protected = ap first_conditions protected.old
+first_told s role name table k.Insert which p protected = ap first_conditions protected.new
+first_told s role name table k.Update side.Old p protected = ap first_conditions protected.old
+first_told s role name table k.Update side.New p protected = ap first_conditions protected.new
+first_told s role name table k.Delete which p protected = ap first_conditions protected.old
+
+-- ---- the tables that they read
+
+asked_for : (kind : Kind) (which : Side) → IsAsk (kind, side_for kind which) (asks_of kind false)
+asked_for k.Select which = own_ask (k.Select, side.Old) []
+asked_for k.Insert which = own_ask (k.Insert, side.New) []
+asked_for k.Update side.Old = own_ask (k.Update, side.Old) ((k.Update, side.New) ∷ [])
+asked_for k.Update side.New = λ test is. or_right (test (k.Update, side.Old)) (list_any test ((k.Update, side.New) ∷ [])) (own_ask (k.Update, side.New) [] test is)
+asked_for k.Delete which = own_ask (k.Delete, side.Old) []
+
+guard_own : (kind : Kind) (which : Side) (standing : Standing) (from : InScope) (found : List InScope) (policies : Option (List Policy)) → Taken → IsAsk (kind, which) (asks_of kind false)
+    → Within (guard_tables (guard_from standing kind which from found policies)) (own_tables standing kind false policies)
+guard_own kind which standing from found None taken ask = within_nothing []
+guard_own kind which standing from found (Some policies) taken ask =
+    λ t is. chosen_used standing.reach.superuser standing.reach.names kind which (asks_of kind false) (λ policy. taken policy kind which) ask policies t
+    (conditions_tables kind which from found (chosen standing.reach.superuser standing.reach.names kind which policies) t is)
+
+ruled_own : Laws → (s : State) (role name : List ℕ) (table : TableDef) (kind : Kind) (which : Side) → IsAsk (kind, which) (asks_of kind false)
+    → Within (guard_tables (ruled s role kind which (name, table))) (own_in s role name table kind false)
+ruled_own laws s role name table kind which ask =
+    subst (λ guard. Within (guard_tables guard) (own_in s role name table kind false)) (laws.watch s role kind which (name, table))
+    (subst (Within (guard_tables (guard_from (standing_in s role) kind which (name, table) s.tables (policies_in s (standing_in s role) name table)))) (own_told s role name table kind false)
+    (guard_own kind which (standing_in s role) (name, table) s.tables (policies_in s (standing_in s role) name table) laws.taken ask))
+
+names_needed : (n : ℕ) (next : List ℕ → List (List ℕ)) (names : List (List ℕ)) → Within names (needs (suc n) next names)
+names_needed n next [] = within_nothing []
+names_needed n next (t ∷ ts) =
+    within_append (t ∷ []) ts (needed_by (suc n) next t) (needs (suc n) next ts)
+    (in_front (t ∷ []) (flat_map (needed_by n next) (next t)) (t ∷ []) (λ name is. is))
+    (names_needed n next ts)
+
+own_needed : (n : ℕ) (next : List ℕ → List (List ℕ)) (own : List (List ℕ)) → Within own (fresh [] (needs (suc n) next (own ++ [])))
+own_needed n next own name is =
+    fresh_all [] (needs (suc n) next (own ++ [])) name (names_needed n next (own ++ []) name (in_front own [] own (λ name is. is) name is))
+
+tables_in : (guard : Guard) → flat_map condition_tables (conditions_in guard) ≡ guard_tables guard
+tables_in Exempt = refl
+tables_in (Policies conditions) = refl
+
+-- they are among those that SELECT is asked of
+conditions_asked : Laws → (s : State) (role name : List ℕ) (table : TableDef) (kind : Kind) (which : Side) (p : Protection) → IsProtected s (command_on role name table kind) p → IsAsk (kind, which) (asks_of kind false)
+    → Within (flat_map condition_tables (conditions_in (ruled s role kind which (name, table)))) p.asked
+conditions_asked laws s role name table kind which p protected ask t is =
+    ap (λ names. one_of names t) protected.asked
+    ∙ own_needed (length (own_in s role name table kind false ++ []) + length (named s)) (next_in s role) (own_in s role name table kind false) t
+    (ruled_own laws s role name table kind which ask t (sym (ap (λ names. one_of names t) (tables_in (ruled s role kind which (name, table)))) ∙ is))
+
+-- ---- what they say
+
+said_alike : (s : State) (one other : Shows) (role : List ℕ) (row : List Value) (asked : List (List ℕ))
+    → ((t : Term) (env : Environment) → Within (tables_of t) asked → (value_of t one env).in_state s ≡ (value_of t other env).in_state s)
+    → (conditions : List (Policy × Term)) → Within (flat_map condition_tables conditions) asked → map (said_by s one role row) conditions ≡ map (said_by s other role row) conditions
+said_alike s one other role row asked same [] within = refl
+said_alike s one other role row asked same (condition ∷ conditions) within =
+    λ i. said_as condition.0 (truth_told (same condition.1 (over role row) (within_first (condition_tables condition) (flat_map condition_tables conditions) asked within) i).gives)
+    ∷ said_alike s one other role row asked same conditions (within_last (condition_tables condition) (flat_map condition_tables conditions) asked within) i
+
+protected_says : Laws → (s : State) (role name : List ℕ) (table : TableDef) (kind : Kind) (which : Side) (row : List Value) (p : Protection) → IsProtected s (command_on role name table kind) p → closing_in s (command_on role name table kind) ≡ None
+    → map (said_by s (shows p.fences role) role row) (first_conditions (watches_for p kind which)) ≡ said_in s (command_on role name table kind) which row
+protected_says laws s role name table kind which row p protected never =
+    let c : Command = command_on role name table kind in
+    ap (map (said_by s (shows p.fences role) role row)) (first_told s role name table kind which p protected)
+    ∙ said_alike s (shows p.fences role) (sees s c) role row p.asked protected.value (conditions_in (ruled s role kind (side_for kind which) (name, table)))
+    (conditions_asked laws s role name table kind (side_for kind which) p protected (asked_for kind which))
+    ∙ ap (λ guard. map (said_by s (sees s c) role row) (conditions_in guard)) (guards_alike s role kind (side_for kind which) which (name, table) (side_alike kind which))
+    ∙ sym (ap (λ closing. unless_closing closing (map (said_by s (sees s c) role row) (conditions_in (ruled s role kind which (name, table))))) never)
+
+-- ---- by whether chains close
+
+says_by : Laws → (s : State) (role name : List ℕ) (table : TableDef) (kind : Kind) (which : Side) (row : List Value) → IsExpanded s (command_on role name table kind)
+    → said_found s role kind which row (unless_refused (protection_in s (command_on role name table kind))) ≡ said_in s (command_on role name table kind) which row
+says_by laws s role name table kind which row (Refused t gives closed) =
+    ap (λ given. said_found s role kind which row (unless_refused given)) gives
+    ∙ sym (ap (λ closing. unless_closing closing (map (said_by s (sees s (command_on role name table kind)) role row) (conditions_in (ruled s role kind which (name, table))))) closed)
+says_by laws s role name table kind which row (Made p gives never protected) =
+    ap (λ given. said_found s role kind which row (unless_refused given)) gives
+    ∙ protected_says laws s role name table kind which row p protected never
+
+pub found_says : Laws → (s : State) (role name : List ℕ) (table : TableDef) (kind : Kind) (which : Side) (row : List Value) (found : Option Protection)
+    → found ≡ unless_refused (protection_in s (command_on role name table kind)) → said_found s role kind which row found ≡ said_in s (command_on role name table kind) which row
+found_says laws s role name table kind which row found is =
+    ap (said_found s role kind which row) is ∙ says_by laws s role name table kind which row (laws.expanded s (command_on role name table kind))

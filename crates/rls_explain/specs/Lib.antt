@@ -1,0 +1,6 @@
+pub mod Rows
+pub mod Proposing
+pub mod Finding
+pub mod Saying
+pub mod Explaining
+pub mod Texts

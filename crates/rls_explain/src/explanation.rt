@@ -1,0 +1,34 @@
+//! What a statement came to, and why.
+
+use rls_access::{Decision, Effect};
+use rls_value::{Items, Name, PolicyKind, Truth};
+
+/// What a policy that applies says of a row: its USING or WITH CHECK.
+#[derive(Drop)]
+pub struct Said {
+    pub policy: Name,
+    pub permissive: bool,
+    /// The commands that the policy is for.
+    pub kind: PolicyKind,
+    pub truth: Truth,
+}
+
+/// A decision on a row, and what policies say of the row.
+#[derive(Drop)]
+pub struct Explained {
+    pub decision: Decision,
+    /// What each policy says that applies to the role for that type of command, by name; empty where the role is exempt. None
+    /// where the row isn't known: a new row of a statement that was refused, where a subquery gives a value.
+    pub policies: Option<Items<Said>>,
+}
+
+/// What a statement came to, and why.
+#[derive(Drop)]
+pub struct Explanation {
+    /// The role that ran it.
+    pub role: Name,
+    /// The reply or the refusal, with all decisions, and the changes.
+    pub effect: Effect,
+    /// The decisions on the row that was asked for, in order; empty where none was.
+    pub row: Items<Explained>,
+}
