@@ -1,14 +1,15 @@
 -- Reading by the key that WHERE pins leaves out no row that it holds of.
-use Rattle.std.specs.Prelude.{◌≡◌, refl, ℕ, List, [], ◌∷◌, Option, Some, None, Bool, true, false, ◌&&◌, ◌||◌, cond, Result, Ok, Err, map, filter}
-use Rattle.std.specs.{List.All, List.AllByRecursion, List.list_any, Option.option_map}
+use Rattle.std.specs.Prelude.{◌≡◌, refl, ℕ, zero, suc, List, [], ◌∷◌, Option, Some, None, Bool, true, false, ◌&&◌, ◌||◌, cond, Result, Ok, Err, filter, if◌then◌else◌}
+use Rattle.std.specs.{List.All, List.AllByRecursion, List.list_any}
 use Rattle.std.proofs.{Common.ap, Common.sym, Common.subst, Common.◌∙◌, lemmas.Bool.true≢false, lemmas.Bool.and_parts, lemmas.Bool.eqb-true, lemmas.Bool.or_left, lemmas.Bool.or_right, lemmas.Bool.Decides.Decides-int_eq, lemmas.List.Elements.All-head, lemmas.List.Elements.All-tail, lemmas.Option.none-some, lemmas.Option.same_Some}
 use Rattle.rls_value.specs.{declared.refusal.Refusal.Refusal, declared.row.RowId.RowId, Giving.and_then, declared.truth.Truth.Truth, declared.value.Value.Value, declared.truth.Truth.TheVariants.True, declared.truth.Truth.TheVariants.False, declared.truth.Truth.TheVariants.Unknown, Truths.is_true, Truths.truth_of, Truths.conjunction_of, Values.equal_values, Values.is_null, Values.same_flag, Values.truth_in, Values.value_at, Values.value_of_truth}
-use Rattle.rls_expr.specs.{declared.expr.Comparison.Comparison, declared.table.TableDef.TableDef, Pinning.is_column, Pinning.is_known, Pinning.or_else, Pinning.pin_among, Pinning.pin_if, Pinning.pin_in, Pinning.pin_of, Pinning.pins_of, Pinning.with_pin, Terms.Term, Terms.Terms, Terms.Literal, Terms.Place, Terms.CurrentUser, Terms.Compare, Terms.And, Terms.End, Terms.More, Terms.maybe_term}
+use Rattle.rls_expr.specs.{declared.expr.Comparison.Comparison, declared.table.TableDef.TableDef, Terms.Term, Terms.Terms, Terms.Literal, Terms.Place, Terms.CurrentUser, Terms.Compare, Terms.And, Terms.End, Terms.More, Terms.maybe_term}
 use Rattle.rls_catalog.specs.{declared.stored.Stored.Stored, State.State, State.is_same_id, State.is_same_row, State.is_same_value, State.rows_of}
 use Rattle.rls_catalog.proofs.Walks.{bytes_own, bytes_same}
 use Rattle.rls_source.specs.{Asked.rows_at, Asked.keyed_at, Asked.asked_key, Askings.asked_if, Askings.known, Askings.followed_by}
-use Rattle.rls_evaluation.specs.{Environments.over, Environments.row_at, Eval.Shows, Eval.and_value, Eval.meets, Eval.together, Eval.value_of}
-use Rattle.rls_judging.specs.Candidates.{candidates, candidates_with, pinned_key, pinned_value}
+use Rattle.rls_evaluation.specs.Keys.{is_column, known_value, or_else, outer_value, pin_among, pin_by, pin_in, pin_of, pinned, with_pin}
+use Rattle.rls_evaluation.specs.{Environments.alone, Environments.over, Environments.row_at, Eval.Shows, Eval.and_value, Eval.meets, Eval.together, Eval.value_of}
+use Rattle.rls_judging.specs.Candidates.{candidates, candidates_with, pinned_key}
 use Rattle.rls_dml.specs.{Keys.CarryKeys, Numbers.has_number, Writing.key_at}
 use Rattle.rls_dml.proofs.FittingLemmas.{own_number}
 
@@ -104,11 +105,17 @@ parts_of (Err refusal) next b is = absurd (true≢false (sym (ap is_given is)))
 abbrev IsWorth : State → Shows → List ℕ → List Value → Term → Value → Type 0
 IsWorth s sees user row t v = ((value_of t sees (over user row)).in_state s).gives ≡ Ok v
 
+-- a column further out is none
+outer_alone : (user : List ℕ) (row : List Value) (out column : ℕ) (x y : Value) → outer_value out column (alone user) ≡ Some y → value_at (row_at (row ∷ []) out) column ≡ x → x ≡ y
+outer_alone user row zero column x y is worth = never y is
+outer_alone user row (suc out) column x y is worth = sym worth ∙ same_Some (value_at (row_at [] out) column) y is
+
 -- what is known without a row is the same over each
-known_value : (s : State) (sees : Shows) (user : List ℕ) (row : List Value) (t : Term) (x : Value) → is_known t ≡ true → IsWorth s sees user row t x → x ≡ pinned_value user t
-known_value s sees user row (Literal value) x is worth = sym (same_given value x worth)
-known_value s sees user row CurrentUser x is worth = sym (same_given (Value.Text user) x worth)
-known_value s sees user row t x is worth = no is
+known_alone : (s : State) (sees : Shows) (user : List ℕ) (row : List Value) (t : Term) (x y : Value) → known_value t (alone user) ≡ Some y → IsWorth s sees user row t x → x ≡ y
+known_alone s sees user row (Literal value) x y is worth = sym (same_given value x worth) ∙ same_Some value y is
+known_alone s sees user row (Place at) x y is worth = outer_alone user row at.out at.column x y is (same_given (value_at (row_at (row ∷ []) at.out) at.column) x worth)
+known_alone s sees user row CurrentUser x y is worth = sym (same_given (Value.Text user) x worth) ∙ same_Some (Value.Text user) y is
+known_alone s sees user row t x y is worth = never y is
 
 -- the column's value is the row's at its place
 column_value : (s : State) (sees : Shows) (user : List ℕ) (row : List Value) (place : ℕ) (t : Term) (x : Value) → is_column place t ≡ true → IsWorth s sees user row t x → x ≡ value_at row place
@@ -117,19 +124,23 @@ column_value s sees user row place (Place at) x is worth =
     sym (same_given (value_at (row_at (row ∷ []) at.out) at.column) x worth) ∙ (λ i. value_at (row_at (row ∷ []) (eqb-true at.out 0 parts.0 i)) (eqb-true at.column place parts.1 i))
 column_value s sees user row place t x is worth = no is
 
--- the column on the one side, what is known on the other
-sides_means : (s : State) (sees : Shows) (user : List ℕ) (row : List Value) (place : ℕ) (column pin : Term) (x y : Value) → (is_column place column && is_known pin) ≡ true
-    → IsWorth s sees user row column x → IsWorth s sees user row pin y → AreSame x y → AreSame (value_at row place) (pinned_value user pin)
-sides_means s sees user row place column pin x y is here there same =
-    let parts = and_parts _ _ is in
-    let known = known_value s sees user row pin y parts.1 there in
-    (sym (column_value s sees user row place column x parts.0 here) ∙ same.0 ∙ known, ap is_null (sym known) ∙ same.1)
+-- what is there under a test
+by_test : {P : Type 0} (b : Bool) (o : Option Value) (v : Value) → (b ≡ true → o ≡ Some v → P) → (if b then o else None) ≡ Some v → P
+by_test true o v both is = both refl is
+by_test false o v both is = never v is
 
--- a pin is on the one side or on the other
-side_of : (P : Term → Type 0) (first second : Bool) (a b pin : Term) → (first ≡ true → P b) → (second ≡ true → P a) → pin_if first b (pin_if second a None) ≡ Some pin → P pin
-side_of P true second a b pin one two is = subst P (same_Some b pin is) (one refl)
-side_of P false true a b pin one two is = subst P (same_Some a pin is) (two refl)
-side_of P false false a b pin one two is = never pin is
+-- the column on the one side, what is known on the other
+sides_means : (s : State) (sees : Shows) (user : List ℕ) (row : List Value) (place : ℕ) (column pin : Term) (x y v : Value) → pin_by place column pin (alone user) ≡ Some v
+    → IsWorth s sees user row column x → IsWorth s sees user row pin y → AreSame x y → AreSame (value_at row place) v
+sides_means s sees user row place column pin x y v is here there same =
+    by_test (is_column place column) (known_value pin (alone user)) v
+    (λ at told. let worth = known_alone s sees user row pin y v told there in (sym (column_value s sees user row place column x at here) ∙ same.0 ∙ worth, ap is_null (sym worth) ∙ same.1))
+    is
+
+-- the first pin, or the other
+either_pin : {P : Type 0} (first other : Option Value) (v : Value) → (first ≡ Some v → P) → (other ≡ Some v → P) → or_else first other ≡ Some v → P
+either_pin (Some x) other v one two is = one is
+either_pin None other v one two is = two is
 
 -- the term is true of the row
 record IsTrueOf (s : State) (sees : Shows) (user : List ℕ) (row : List Value) (t : Term) : Type 0 where
@@ -138,41 +149,36 @@ record IsTrueOf (s : State) (sees : Shows) (user : List ℕ) (row : List Value) 
   holds : is_true (truth_in value) ≡ true
 
 -- an equality that pins the column and is true of the row
-pinned_in : (s : State) (sees : Shows) (user : List ℕ) (row : List Value) (place : ℕ) (t pin : Term) → pin_in place t ≡ Some pin → IsTrueOf s sees user row t → AreSame (value_at row place) (pinned_value user pin)
-pinned_in s sees user row place (Compare Comparison.Equal a b) pin is true_of =
+pinned_in : (s : State) (sees : Shows) (user : List ℕ) (row : List Value) (place : ℕ) (t : Term) (v : Value) → pin_in place t (alone user) ≡ Some v → IsTrueOf s sees user row t → AreSame (value_at row place) v
+pinned_in s sees user row place (Compare Comparison.Equal a b) v is true_of =
     let left = parts_of ((value_of a sees (over user row)).in_state s).gives (λ x. ((followed_by (value_of b sees (over user row)) (λ y. known (Ok (value_of_truth (equal_values x y))))).in_state s).gives) true_of.value true_of.worth in
     let right = parts_of ((value_of b sees (over user row)).in_state s).gives (λ y. Ok (value_of_truth (equal_values left.0 y))) true_of.value left.1.1 in
     let same = equal_means left.0 right.0 (true_again (equal_values left.0 right.0) (ap (λ v. is_true (truth_in v)) (same_given (value_of_truth (equal_values left.0 right.0)) true_of.value right.1.1) ∙ true_of.holds)) in
-    side_of (λ t. AreSame (value_at row place) (pinned_value user t)) (is_column place a && is_known b) (is_column place b && is_known a) a b pin
-    (λ first. sides_means s sees user row place a b left.0 right.0 first left.1.0 right.1.0 same)
-    (λ second. sides_means s sees user row place b a right.0 left.0 second right.1.0 left.1.0 (turned left.0 right.0 same))
+    either_pin (pin_by place a b (alone user)) (pin_by place b a (alone user)) v
+    (λ first. sides_means s sees user row place a b left.0 right.0 v first left.1.0 right.1.0 same)
+    (λ second. sides_means s sees user row place b a right.0 left.0 v second right.1.0 left.1.0 (turned left.0 right.0 same))
     is
-pinned_in s sees user row place t pin is true_of = never pin is
-
--- the first pin, or one of the others
-either_pin : {P : Type 0} (first other : Option Term) (pin : Term) → (first ≡ Some pin → P) → (other ≡ Some pin → P) → or_else first other ≡ Some pin → P
-either_pin (Some t) other pin one two is = one is
-either_pin None other pin one two is = two is
+pinned_in s sees user row place t v is true_of = never v is
 
 -- an AND of which a part pins the column, and that is true of the row
-pinned_among : (s : State) (sees : Shows) (user : List ℕ) (row : List Value) (place : ℕ) (ts : Terms) (pin : Term) (truth : Truth) → pin_among place ts ≡ Some pin
-    → ((together and_value True ts sees (over user row)).in_state s).gives ≡ Ok truth → is_true truth ≡ true → AreSame (value_at row place) (pinned_value user pin)
-pinned_among s sees user row place End pin truth is given holds = never pin is
-pinned_among s sees user row place (More t ts) pin truth is given holds =
+pinned_among : (s : State) (sees : Shows) (user : List ℕ) (row : List Value) (place : ℕ) (ts : Terms) (v : Value) (truth : Truth) → pin_among place ts (alone user) ≡ Some v
+    → ((together and_value True ts sees (over user row)).in_state s).gives ≡ Ok truth → is_true truth ≡ true → AreSame (value_at row place) v
+pinned_among s sees user row place End v truth is given holds = never v is
+pinned_among s sees user row place (More t ts) v truth is given holds =
     let first = parts_of ((value_of t sees (over user row)).in_state s).gives (λ v. ((followed_by (together and_value True ts sees (over user row)) (λ rest. known (Ok (and_value v rest)))).in_state s).gives) truth given in
     let rest = parts_of ((together and_value True ts sees (over user row)).in_state s).gives (λ rest. Ok (and_value first.0 rest)) truth first.1.1 in
     let parts = both_true (truth_in first.0) rest.0 (ap is_true (same_given (and_value first.0 rest.0) truth rest.1.1) ∙ holds) in
-    either_pin (pin_in place t) (pin_among place ts) pin
-    (λ here. pinned_in s sees user row place t pin here (record { value = first.0; worth = first.1.0; holds = parts.0 }))
-    (λ there. pinned_among s sees user row place ts pin rest.0 there rest.1.0 parts.1)
+    either_pin (pin_in place t (alone user)) (pin_among place ts (alone user)) v
+    (λ here. pinned_in s sees user row place t v here (record { value = first.0; worth = first.1.0; holds = parts.0 }))
+    (λ there. pinned_among s sees user row place ts v rest.0 there rest.1.0 parts.1)
     is
 
 -- a condition that pins the column and is true of the row
-pinned_of : (s : State) (sees : Shows) (user : List ℕ) (row : List Value) (place : ℕ) (t pin : Term) → pin_of place t ≡ Some pin → IsTrueOf s sees user row t → AreSame (value_at row place) (pinned_value user pin)
-pinned_of s sees user row place (And ts) pin is true_of =
+pinned_of : (s : State) (sees : Shows) (user : List ℕ) (row : List Value) (place : ℕ) (t : Term) (v : Value) → pin_of place t (alone user) ≡ Some v → IsTrueOf s sees user row t → AreSame (value_at row place) v
+pinned_of s sees user row place (And ts) v is true_of =
     let truth = parts_of ((together and_value True ts sees (over user row)).in_state s).gives (λ truth. Ok (value_of_truth truth)) true_of.value true_of.worth in
-    pinned_among s sees user row place ts pin truth.0 is truth.1.0 (true_again truth.0 (ap (λ v. is_true (truth_in v)) (same_given (value_of_truth truth.0) true_of.value truth.1.1) ∙ true_of.holds))
-pinned_of s sees user row place t pin is true_of = pinned_in s sees user row place t pin is true_of
+    pinned_among s sees user row place ts v truth.0 is truth.1.0 (true_again truth.0 (ap (λ v. is_true (truth_in v)) (same_given (value_of_truth truth.0) true_of.value truth.1.1) ∙ true_of.holds))
+pinned_of s sees user row place t v is true_of = pinned_in s sees user row place t v is true_of
 
 -- ---- the key
 
@@ -186,30 +192,22 @@ longer_key places row key place value same has =
     ((λ i. (ap (λ x. is_same_value x value) same.0 ∙ own_value value) i && has.0 i), (λ i. same.1 i || has.1 i))
 
 -- where the first place has a pin and the others have theirs
-both_pins : (user : List ℕ) (row : List Value) (place : ℕ) (places : List ℕ) (pin : Option Term) (more : Option (List Term)) (pins : List Term)
-    → ((t : Term) → pin ≡ Some t → AreSame (value_at row place) (pinned_value user t))
-    → ((ts : List Term) → more ≡ Some ts → HasKey places row (map (pinned_value user) ts))
-    → with_pin pin more ≡ Some pins → HasKey (place ∷ places) row (map (pinned_value user) pins)
-both_pins user row place places (Some t) (Some ts) pins one others is =
-    subst (λ all. HasKey (place ∷ places) row (map (pinned_value user) all)) (same_Some (t ∷ ts) pins is)
-    (longer_key places row (map (pinned_value user) ts) place (pinned_value user t) (one t refl) (others ts refl))
-both_pins user row place places (Some t) None pins one others is = never pins is
-both_pins user row place places None more pins one others is = never pins is
+both_pins : (row : List Value) (place : ℕ) (places : List ℕ) (pin : Option Value) (more : Option (List Value)) (key : List Value)
+    → ((v : Value) → pin ≡ Some v → AreSame (value_at row place) v) → ((vs : List Value) → more ≡ Some vs → HasKey places row vs)
+    → with_pin pin more ≡ Some key → HasKey (place ∷ places) row key
+both_pins row place places (Some v) (Some vs) key one others is =
+    subst (HasKey (place ∷ places) row) (same_Some (v ∷ vs) key is) (longer_key places row vs place v (one v refl) (others vs refl))
+both_pins row place places (Some v) None key one others is = never key is
+both_pins row place places None more key one others is = never key is
 
 -- a row of which the condition holds has the values of its pins
-pins_means : (s : State) (sees : Shows) (user : List ℕ) (row : List Value) (places : List ℕ) (condition : Term) (pins : List Term) → pins_of places condition ≡ Some pins → IsTrueOf s sees user row condition
-    → HasKey places row (map (pinned_value user) pins)
-pins_means s sees user row [] condition pins is true_of = subst (λ all. HasKey [] row (map (pinned_value user) all)) (same_Some [] pins is) (refl, refl)
-pins_means s sees user row (place ∷ places) condition pins is true_of =
-    both_pins user row place places (pin_of place condition) (pins_of places condition) pins
-    (λ t here. pinned_of s sees user row place condition t here true_of)
-    (λ ts there. pins_means s sees user row places condition ts there true_of)
+pins_means : (s : State) (sees : Shows) (user : List ℕ) (row : List Value) (places : List ℕ) (condition : Term) (key : List Value) → pinned places condition (alone user) ≡ Some key → IsTrueOf s sees user row condition → HasKey places row key
+pins_means s sees user row [] condition key is true_of = subst (HasKey [] row) (same_Some [] key is) (refl, refl)
+pins_means s sees user row (place ∷ places) condition key is true_of =
+    both_pins row place places (pin_of place condition (alone user)) (pinned places condition (alone user)) key
+    (λ v here. pinned_of s sees user row place condition v here true_of)
+    (λ vs there. pins_means s sees user row places condition vs there true_of)
     is
-
--- what holds of the values of pins holds of the key that they make
-of_pins : (P : List Value → Type 0) (f : Term → Value) (pins : Option (List Term)) (key : List Value) → ((ts : List Term) → pins ≡ Some ts → P (map f ts)) → option_map (map f) pins ≡ Some key → P key
-of_pins P f (Some ts) key all is = subst P (same_Some (map f ts) key is) (all ts refl)
-of_pins P f None key all is = never key is
 
 -- WHERE is true of the row
 true_where : (s : State) (sees : Shows) (user : List ℕ) (row : List Value) (condition : Term) → ((meets (maybe_term (Some condition)) sees (over user row)).in_state s).gives ≡ Ok true → IsTrueOf s sees user row condition
@@ -220,12 +218,9 @@ true_where s sees user row condition met =
 -- a row that meets the condition has the key that it pins
 key_means : (s : State) (sees : Shows) (user : List ℕ) (row : List Value) (places : List ℕ) (condition : Option Term) (key : List Value) → pinned_key user places condition ≡ Some key
     → ((meets (maybe_term condition) sees (over user row)).in_state s).gives ≡ Ok true → HasKey places row key
-key_means s sees user row [] condition key is met = never key is
-key_means s sees user row (place ∷ places) None key is met = never key is
-key_means s sees user row (place ∷ places) (Some condition) key is met =
-    of_pins (HasKey (place ∷ places) row) (pinned_value user) (pins_of (place ∷ places) condition) key
-    (λ pins there. pins_means s sees user row (place ∷ places) condition pins there (true_where s sees user row condition met))
-    is
+key_means s sees user row places None key is met = never key is
+key_means s sees user row [] (Some condition) key is met = never key is
+key_means s sees user row (place ∷ places) (Some condition) key is met = pins_means s sees user row (place ∷ places) condition key is (true_where s sees user row condition met)
 
 -- ---- rows
 

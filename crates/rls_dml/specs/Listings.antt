@@ -10,11 +10,11 @@ use Rattle.rls_guard.specs.declared.reply.Reply.{Reply}
 use Rattle.rls_guard.specs.declared.reply.Reply.TheVariants as reply
 use Rattle.rls_statement.specs.declared.statement.Selected.{Selected}
 use Rattle.rls_statement.specs.declared.statement.Selected.TheVariants.{All, Items, Count}
-use Rattle.rls_guard.specs.Eval.{value_of, over}
+use Rattle.rls_evaluation.specs.{Environments.over, Tableless.value_in}
 
 -- the items' values for the row
 abbrev pub values_of : List Term → List ℕ → List Value → List Value
-values_of items user row = map (λ item. value_of item (over user row)) items
+values_of items user row = map (λ item. value_in item (over user row)) items
 
 -- the row in its place among others that are in listing order
 abbrev pub put_listed : List Value → List (List Value) → List (List Value)

@@ -5,8 +5,9 @@ ghost use Rattle.rls_dml.specs.Listings as spec;
 
 use crate::listing::listing_of;
 use rls_catalog::{Lent, Stored};
+use rls_evaluation::value_over;
 use rls_expr::Expr;
-use rls_guard::{Reply, value_over};
+use rls_guard::Reply;
 use rls_statement::Selected;
 use rls_value::{Items, Name, Row, Value};
 use std::alloc::{AllocError, Global};

@@ -9,6 +9,7 @@ pub mod Deciding
 pub mod Sizes
 pub mod Scoping
 pub mod Plain
+pub mod Tableless
 pub mod Wides
 pub mod ValueSets
 pub mod Answering

@@ -7,7 +7,8 @@ use Rattle.rls_expr.specs.{declared.table.Column.Column, declared.table.TableDef
 use Rattle.rls_catalog.specs.{State.State, State.rows_of, State.table_of}
 use Rattle.rls_statement.specs.{declared.changing.Setting.Setting, declared.changing.Update.Update, declared.statement.Insert.Insert, declared.statement.Statement.Statement}
 use Rattle.rls_statement.specs.declared.statement.Statement.TheVariants as statement
-use Rattle.rls_guard.specs.{declared.context.Ctx.Ctx, Eval.alone, Eval.over, Eval.value_of, Naming.names_over}
+use Rattle.rls_evaluation.specs.{Environments.over, Tableless.value_in}
+use Rattle.rls_guard.specs.{declared.context.Ctx.Ctx, Naming.names_over}
 use Rattle.rls_explain.specs.Rows.{row_in}
 
 -- ---- INSERT
@@ -28,9 +29,9 @@ abbrev pub term_for : Option (List (List ℕ)) → List Column → List Term →
 term_for (Some names) columns tuple name = last_for None names tuple name
 term_for None columns tuple name = term_at tuple (column_named columns name)
 
--- its value; a column without one is null
+-- its value, which no column of a row stands in; a column without one is null
 abbrev pub inserted_value : List ℕ → Option Term → Value
-inserted_value role (Some term) = value_of term (alone role)
+inserted_value role (Some term) = value_in term (over role [])
 inserted_value role None = Null
 
 -- the row of the tuple, where no subquery stands in it
@@ -64,7 +65,7 @@ standing_value table row name = value_if row (column_named table.columns name)
 
 -- the value of the term over the row, its columns being the table's
 abbrev pub value_set : List ℕ → List ℕ → TableDef → List Value → Term → Value
-value_set role from table row term = value_of (placed term (names_over (from, table) [])) (over role row)
+value_set role from table row term = value_in (placed term (names_over (from, table) [])) (over role row)
 
 -- what the column is set to over the row, else what stands there
 abbrev pub updated_value : List ℕ → List ℕ → TableDef → List Value → List ℕ → Option Term → Value

@@ -4,14 +4,15 @@ ghost use Rattle.std.specs.Prelude.{◌≡◌, [], None, Some, IfOk};
 ghost use Rattle.std.specs.List.{list_any};
 ghost use Rattle.std.specs.Option.{option_copied};
 ghost use Rattle.rls_catalog.specs.State.{rows_of};
+ghost use Rattle.rls_evaluation.specs.{Environments.over, Tableless.value_in};
 ghost use Rattle.rls_expr.specs.{Parts.has_query, Placing.placed, Scopes.in_scope};
 ghost use Rattle.rls_guard.specs.Naming.{names_over};
 ghost use Rattle.rls_explain.specs.Proposing as spec;
 
 use crate::finding::row_before;
 use rls_access::Ctx;
+use rls_evaluation::value_over;
 use rls_expr::{Column, Expr, FromTable, NamedTable, Scope, TableDef, has_query, place_columns};
-use rls_guard::{value_alone, value_over};
 use rls_source::RowSource;
 use rls_statement::{Insert, Setting, Statement, Update};
 use rls_value::{Items, Name, Row, RowId, Value};
@@ -131,6 +132,16 @@ fn inserted_value(
         Some(expr) => value_alone(alloc, expr, role),
         None => Ok(Value::Null),
     }
+}
+
+/// The value of an expression that no column stands in.
+fn value_alone(alloc: Global, expr: &Expr, role: &Name) -> Result<Value, AllocError>
+    ensures { IfOk result (λ value. value ≡ value_in expr.now (over role.now [])) }
+{
+    let row = Row::new(Vec::new(alloc))?;
+    let value = value_over(alloc, expr, role, &row);
+    drop(row);
+    value
 }
 
 /// The tuple's expression for the column.

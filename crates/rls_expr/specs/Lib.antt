@@ -8,4 +8,3 @@ pub mod Naming
 pub mod Typing
 pub mod Placing
 pub mod Parts
-pub mod Pinning

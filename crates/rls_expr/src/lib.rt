@@ -5,7 +5,6 @@ mod column_name;
 mod expr;
 mod names;
 mod parts;
-mod pinning;
 mod placing;
 mod policy;
 mod scope;
@@ -18,7 +17,6 @@ pub use expr::{
 };
 pub use names::{NameStep, put_all_names, put_names, put_names_if, put_step};
 pub use parts::{has_query, has_sum, reads_target};
-pub use pinning::pin_of;
 pub use placing::{Scope, place_columns};
 pub use policy::{Grantee, Policy};
 pub use scope::{FromTable, NamedTable, inside, known_table, place_of, unqualified};

@@ -1,5 +1,6 @@
-pub mod EvaluationLemmas
+pub mod ItemLaws
 pub mod PinnedLaws
+pub mod PinnedLemmas
 pub mod OneRowLaws
 pub mod PlacedLaws
 pub mod StandingLaws

@@ -1,89 +1,68 @@
--- What isn't supported and what is evaluated speak of the same pinned keys.
-use Rattle.std.specs.Prelude.{◌≡◌, refl, ℕ, zero, suc, nat_eq, List, [], ◌∷◌, Bool, true, false, not, ◌&&◌, ◌||◌, Option, Some, None, if◌then◌else◌}
-use Rattle.std.specs.Option.{is_some}
-use Rattle.std.proofs.Common.{ap, sym, ◌∙◌}
-use Rattle.std.proofs.Math.Dec.{eqb-suc-zero}
+-- Which columns a condition pins hangs on no row in scope.
+use Rattle.std.specs.Prelude.{◌≡◌, refl, ℕ, zero, suc, List, [], ◌∷◌, Bool, true, false, not, ◌&&◌, ◌||◌, is_some}
+use Rattle.std.proofs.Common.{sym, ◌∙◌}
 use Rattle.std.proofs.lemmas.Bool.{true≢false}
-use Rattle.rls_value.specs.declared.value.Value.{Value}
 use Rattle.rls_expr.specs.declared.expr.Comparison.TheVariants as c
 use Rattle.rls_expr.specs.{declared.expr.FromItem.FromItem, declared.expr.Selects.Selects}
 use Rattle.rls_expr.specs.Terms.{Term, Terms, Literal, Place, CurrentUser, Compare, And, Scalar, End, More, Select}
-use Rattle.rls_evaluation.specs.{Environments.Environment, Keys.key_of}
-use Rattle.rls_evaluation.specs.Keys as keys
-use Rattle.rls_guard.specs.Support.{is_known, is_column, is_unsupported, pins_among, pins_by, pins_column, pins_columns, pins_in, pins_key, query_unsupported}
+use Rattle.rls_evaluation.specs.Environments.{Environment}
+use Rattle.rls_evaluation.specs.Keys.{is_column, key_of, known_value, outer_value, pin_among, pin_by, pin_in, pin_of, pinned}
+use Rattle.rls_guard.specs.Support.{is_unsupported, nowhere, pins_key, query_unsupported}
+use Rattle.rls_guard.proofs.PinnedLemmas.{if_there, or_there, with_there}
 
--- a column further out has a value, one of the subquery's own has none
-outer_there : (out column : ℕ) (env : Environment) → is_some (keys.outer_value out column env) ≡ not (nat_eq out 0)
-outer_there zero column env = refl
-outer_there (suc out) column env = sym (ap not (eqb-suc-zero out))
+-- a column further out has a value in each environment
+outer_alike : (out column : ℕ) (a b : Environment) → is_some (outer_value out column a) ≡ is_some (outer_value out column b)
+outer_alike zero column a b = refl
+outer_alike (suc out) column a b = refl
 
--- what is known has a value
-known_there : (t : Term) (env : Environment) → is_some (keys.known_value t env) ≡ is_known t
-known_there (Literal v) env = refl
-known_there (Place at) env = outer_there at.out at.column env
-known_there CurrentUser env = refl
-known_there t env = refl
-
--- the two mean the same column
-same_column : (column : ℕ) (t : Term) → keys.is_column column t ≡ is_column column t
-same_column column (Place at) = refl
-same_column column t = refl
-
-if_there : (b : Bool) (o : Option Value) → is_some (if b then o else None) ≡ (b && is_some o)
-if_there true o = refl
-if_there false o = refl
-
-or_there : (a b : Option Value) → is_some (keys.or_else a b) ≡ (is_some a || is_some b)
-or_there (Some v) b = refl
-or_there None b = refl
-
-with_there : (a : Option Value) (b : Option (List Value)) → is_some (keys.with_pin a b) ≡ (is_some a && is_some b)
-with_there (Some v) (Some vs) = refl
-with_there (Some v) None = refl
-with_there None (Some vs) = refl
-with_there None None = refl
+-- what is known is so in each
+known_alike : (t : Term) (a b : Environment) → is_some (known_value t a) ≡ is_some (known_value t b)
+known_alike (Literal v) a b = refl
+known_alike (Place at) a b = outer_alike at.out at.column a b
+known_alike CurrentUser a b = refl
+known_alike t a b = refl
 
 -- the one side is the column, the other is known
-by_there : (column : ℕ) (here there : Term) (env : Environment) → is_some (keys.pin_by column here there env) ≡ pins_by column here there
-by_there column here there env =
-    if_there (keys.is_column column here) (keys.known_value there env)
-    ∙ (λ i. same_column column here i && known_there there env i)
-
--- an equality of two sides
-sides_there : (column : ℕ) (a b : Term) (env : Environment) → is_some (keys.pin_of_sides column a b env) ≡ (pins_by column a b || pins_by column b a)
-sides_there column a b env =
-    or_there (keys.pin_by column a b env) (keys.pin_by column b a env)
-    ∙ (λ i. by_there column a b env i || by_there column b a env i)
+by_alike : (column : ℕ) (here there : Term) (a b : Environment) → is_some (pin_by column here there a) ≡ is_some (pin_by column here there b)
+by_alike column here there a b =
+    if_there (is_column column here) (known_value there a)
+    ∙ (λ i. is_column column here && known_alike there a b i)
+    ∙ sym (if_there (is_column column here) (known_value there b))
 
 -- a part
-in_there : (column : ℕ) (t : Term) (env : Environment) → is_some (keys.pin_in column t env) ≡ pins_in column t
-in_there column (Compare c.Equal a b) env = sides_there column a b env
-in_there column t env = refl
+in_alike : (column : ℕ) (t : Term) (a b : Environment) → is_some (pin_in column t a) ≡ is_some (pin_in column t b)
+in_alike column (Compare c.Equal x y) a b =
+    or_there (pin_by column x y a) (pin_by column y x a)
+    ∙ (λ i. by_alike column x y a b i || by_alike column y x a b i)
+    ∙ sym (or_there (pin_by column x y b) (pin_by column y x b))
+in_alike column t a b = refl
 
 -- one of several parts
-among_there : (column : ℕ) (ts : Terms) (env : Environment) → is_some (keys.pin_among column ts env) ≡ pins_among column ts
-among_there column End env = refl
-among_there column (More t ts) env =
-    or_there (keys.pin_in column t env) (keys.pin_among column ts env)
-    ∙ (λ i. in_there column t env i || among_there column ts env i)
+among_alike : (column : ℕ) (ts : Terms) (a b : Environment) → is_some (pin_among column ts a) ≡ is_some (pin_among column ts b)
+among_alike column End a b = refl
+among_alike column (More t ts) a b =
+    or_there (pin_in column t a) (pin_among column ts a)
+    ∙ (λ i. in_alike column t a b i || among_alike column ts a b i)
+    ∙ sym (or_there (pin_in column t b) (pin_among column ts b))
 
 -- a condition, for one column
-column_there : (column : ℕ) (t : Term) (env : Environment) → is_some (keys.pin_of column t env) ≡ pins_column column t
-column_there column (And ts) env = among_there column ts env
-column_there column t env = in_there column t env
+column_alike : (column : ℕ) (t : Term) (a b : Environment) → is_some (pin_of column t a) ≡ is_some (pin_of column t b)
+column_alike column (And ts) a b = among_alike column ts a b
+column_alike column t a b = in_alike column t a b
 
 -- for each column
-columns_there : (columns : List ℕ) (t : Term) (env : Environment) → is_some (keys.pinned columns t env) ≡ pins_columns columns t
-columns_there [] t env = refl
-columns_there (column ∷ columns) t env =
-    with_there (keys.pin_of column t env) (keys.pinned columns t env)
-    ∙ (λ i. column_there column t env i && columns_there columns t env i)
+columns_alike : (columns : List ℕ) (t : Term) (a b : Environment) → is_some (pinned columns t a) ≡ is_some (pinned columns t b)
+columns_alike [] t a b = refl
+columns_alike (column ∷ columns) t a b =
+    with_there (pin_of column t a) (pinned columns t a)
+    ∙ (λ i. column_alike column t a b i && columns_alike columns t a b i)
+    ∙ sym (with_there (pin_of column t b) (pinned columns t b))
 
 -- evaluation has a key exactly where WHERE pins it
 pub pinned_means : (columns : List ℕ) (condition : Terms) (env : Environment) → is_some (key_of columns condition env) ≡ pins_key columns condition
 pinned_means columns End env = refl
 pinned_means [] (More t ts) env = refl
-pinned_means (column ∷ columns) (More t ts) env = columns_there (column ∷ columns) t env
+pinned_means (column ∷ columns) (More t ts) env = columns_alike (column ∷ columns) t env nowhere
 
 -- neither the one is missing nor the other there
 pub first_holds : (a b : Bool) → (not a || b) ≡ false → a ≡ true

@@ -1,5 +1,3 @@
-pub mod Eval
-pub mod Envs
 pub mod Support
 pub mod Checks
 pub mod Naming

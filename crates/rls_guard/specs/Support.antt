@@ -1,53 +1,19 @@
 -- What isn't supported in a placed expression: sums outside the right side of SET, `count(*)` in a subquery, and a scalar
 -- subquery that may give more than one row, since its condition doesn't set each column of a primary key equal to what is
 -- known before a row is looked at.
-use Rattle.std.specs.Prelude.{ℕ, nat_eq, List, [], ◌∷◌, Bool, true, false, not, ◌&&◌, ◌||◌}
-use Rattle.rls_expr.specs.declared.expr.Comparison.TheVariants.{Equal}
+use Rattle.std.specs.Prelude.{ℕ, List, [], Bool, true, false, not, ◌||◌, is_some}
 use Rattle.rls_expr.specs.declared.expr.Selects.{Selects}
 use Rattle.rls_expr.specs.declared.expr.Selects.TheVariants as s
 use Rattle.rls_expr.specs.Terms.{Term, Terms, Query, Literal, Column, Place, CurrentUser, Compare, And, Or, Not, IsNull, IsNotNull, Among, NotAmong, Exists, Within, NotWithin, Scalar, Sum, End, More, Select}
+use Rattle.rls_evaluation.specs.{Environments.Environment, Environments.alone, Keys.key_of}
 
--- it is known before a row of the subquery is looked at: a literal, the current role, or a column further out
-abbrev pub is_known : Term → Bool
-is_known (Literal v) = true
-is_known (Place at) = not (nat_eq at.out 0)
-is_known CurrentUser = true
-is_known _ = false
+-- no row is in scope, and no role: which columns are pinned hangs on neither
+abbrev pub nowhere : Environment
+nowhere = alone []
 
--- it is the column at that place of the subquery's own table
-abbrev pub is_column : ℕ → Term → Bool
-is_column column (Place at) = nat_eq at.out 0 && nat_eq at.column column
-is_column column _ = false
-
--- the one side is the column, the other is known
-abbrev pub pins_by : ℕ → Term → Term → Bool
-pins_by column here there = is_column column here && is_known there
-
--- the part sets the column equal to what is known, on either side
-abbrev pub pins_in : ℕ → Term → Bool
-pins_in column (Compare Equal a b) = pins_by column a b || pins_by column b a
-pins_in column _ = false
-
--- one of the parts does
-abbrev pub pins_among : ℕ → Terms → Bool
-pins_among column End = false
-pins_among column (More t ts) = pins_in column t || pins_among column ts
-
--- the condition, or a part of its outermost AND, sets the column equal to what is known
-abbrev pub pins_column : ℕ → Term → Bool
-pins_column column (And ts) = pins_among column ts
-pins_column column t = pins_in column t
-
--- it does so for each of the columns
-abbrev pub pins_columns : List ℕ → Term → Bool
-pins_columns [] condition = true
-pins_columns (column ∷ columns) condition = pins_column column condition && pins_columns columns condition
-
--- there is a key, by the places of its columns, and WHERE sets each of them equal to what is known
+-- WHERE pins each column of the key, by the places of the table's primary key
 abbrev pub pins_key : List ℕ → Terms → Bool
-pins_key columns End = false
-pins_key [] (More t ts) = false
-pins_key (column ∷ columns) (More t ts) = pins_columns (column ∷ columns) t
+pins_key columns condition = is_some (key_of columns condition nowhere)
 
 -- its condition pins the key of its table, so that it gives one row at most
 abbrev pub is_pinned : Query → Bool

@@ -5,12 +5,12 @@ ghost use Rattle.std.specs.Option.{is_some};
 ghost use Rattle.rls_value.specs.{declared.verb.Kind.Kind, declared.verb.Privilege.Privilege};
 ghost use Rattle.rls_expr.specs.{declared.expr.FromItem.FromItem, declared.expr.Selects.Selects, Naming.Step, Scopes.InScope, declared.table.TableDef.TableDef};
 ghost use Rattle.rls_expr.specs.Placing.{Names, definition_of, placed, query_placed};
-ghost use Rattle.rls_expr.specs.Terms.{Query, Terms, Scalar, Select};
+ghost use Rattle.rls_expr.specs.Terms.{Query, Term, Terms, Scalar, Select};
 ghost use Rattle.rls_catalog.specs.{declared.verdict.Side.Side, Privileges.holds, SoundRows.RowsAreSound, Membership.attributes_of, Membership.has_privileges_of};
 ghost use Rattle.rls_catalog.specs.State.{State, grants_of, policies_of, table_of};
 ghost use Rattle.rls_catalog.specs.Verdict.{exempts, is_exempt, chosen, applying_of};
-ghost use Rattle.rls_evaluation.specs.{declared.fence.Fence.Fence, Environments.Environment, Eval.ranged_over, Keys.key_of, Showing.shows};
-ghost use Rattle.rls_guard.specs.{Naming.AreTablesOf, Naming.named, Support.is_unsupported, Support.pins_key};
+ghost use Rattle.rls_evaluation.specs.{declared.fence.Fence.Fence, Environments.Environment, Eval.ranged_over, Keys.key_of, Plain.IsPlainly, Showing.shows, Tableless.value_in};
+ghost use Rattle.rls_guard.specs.{Checks.is_unsupported_item, Naming.AreTablesOf, Naming.named, Support.is_unsupported, Support.pins_key};
 ghost use Rattle.rls_guard.specs.Standings.{standing_in, has_owner, is_granted};
 
 /// What the standing of a role tells is what the rules over a state say: whose privileges it has, which privileges it
@@ -21,6 +21,13 @@ pub fn standing_means()
     ensures granted { (s : State) (role : List ℕ) (privilege : Privilege) (table : List ℕ) → ((attributes_of s role).superuser || is_granted (standing_in s role) privilege (grants_of s table)) ≡ holds s role privilege table }
     ensures exempt { (s : State) (role : List ℕ) (table : TableDef) → exempts (standing_in s role).attributes table (has_owner (standing_in s role) table) ≡ is_exempt s role table }
     ensures applying { (s : State) (role table : List ℕ) (kind : Kind) (which : Side) → chosen (standing_in s role).reach.superuser (standing_in s role).reach.names kind which (policies_of s table) ≡ applying_of s role table kind which }
+{}
+
+/// An item that is listed, where it is supported, has the value that it is answered with whatever tables show, in every state,
+/// and nothing is read for it.
+#[tactic(auto, using(crate::proofs::ItemLaws::item_means))]
+pub fn item_means()
+    ensures { (item : Term) (env : Environment) → is_unsupported_item item ≡ false → IsPlainly item env (value_in item env) }
 {}
 
 /// A subquery is evaluated on the rows with one key exactly where its condition pins the key of its table by the rule of what

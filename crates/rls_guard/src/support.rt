@@ -1,8 +1,9 @@
 //! What isn't supported in an expression.
 
-ghost use Rattle.std.specs.Prelude.{◌≡◌};
+ghost use Rattle.std.specs.Prelude.{◌≡◌, is_some};
 ghost use Rattle.rls_expr.specs.ExprTerms.{query_of};
 ghost use Rattle.rls_expr.specs.Terms.{maybe_term, terms_of};
+ghost use Rattle.rls_evaluation.specs.Keys as keys;
 ghost use Rattle.rls_guard.specs.Support as spec;
 
 use rls_expr::{Comparison, Expr, Node, Selects, Subquery};
@@ -90,8 +91,9 @@ fn pins_key(columns: &[usize], condition: &Option<Expr>) -> bool
     }
 }
 
+#[tactic(auto, using(crate::proofs::PinnedLemmas::with_there))]
 fn pins_columns(columns: &[usize], condition: &Expr) -> bool
-    ensures { result ≡ spec.pins_columns columns.now condition.now }
+    ensures { result ≡ is_some (keys.pinned columns.now condition.now spec.nowhere) }
 {
     for column in columns {
         if !pins_column(condition, *column) {
@@ -103,7 +105,7 @@ fn pins_columns(columns: &[usize], condition: &Expr) -> bool
 
 /// Whether the condition, or a part of its outermost AND, sets the column equal to what is known.
 fn pins_column(condition: &Expr, column: usize) -> bool
-    ensures { result ≡ spec.pins_column column condition.now }
+    ensures { result ≡ is_some (keys.pin_of column condition.now spec.nowhere) }
 {
     match condition.node() {
         Node::And(parts) => pins_among(parts, column),
@@ -111,8 +113,9 @@ fn pins_column(condition: &Expr, column: usize) -> bool
     }
 }
 
+#[tactic(auto, using(crate::proofs::PinnedLemmas::or_there))]
 fn pins_among(parts: &[Expr], column: usize) -> bool
-    ensures { result ≡ spec.pins_among column (terms_of parts.now) }
+    ensures { result ≡ is_some (keys.pin_among column (terms_of parts.now) spec.nowhere) }
 {
     for part in parts {
         if pins_in(part, column) {
@@ -123,8 +126,9 @@ fn pins_among(parts: &[Expr], column: usize) -> bool
 }
 
 /// Whether the one part sets the column equal to what is known, on either side.
+#[tactic(auto, using(crate::proofs::PinnedLemmas::or_there))]
 fn pins_in(part: &Expr, column: usize) -> bool
-    ensures { result ≡ spec.pins_in column part.now }
+    ensures { result ≡ is_some (keys.pin_in column part.now spec.nowhere) }
 {
     match part.node() {
         Node::Compare(Comparison::Equal, left, right) => {
@@ -134,14 +138,15 @@ fn pins_in(part: &Expr, column: usize) -> bool
     }
 }
 
+#[tactic(auto, using(crate::proofs::PinnedLemmas::if_there))]
 fn pins_by(here: &Expr, there: &Expr, column: usize) -> bool
-    ensures { result ≡ spec.pins_by column here.now there.now }
+    ensures { result ≡ is_some (keys.pin_by column here.now there.now spec.nowhere) }
 {
     is_column(here, column) && is_known(there)
 }
 
 fn is_column(expr: &Expr, column: usize) -> bool
-    ensures { result ≡ spec.is_column column expr.now }
+    ensures { result ≡ keys.is_column column expr.now }
 {
     match expr.node() {
         Node::Place(place) => place.out == 0 && place.column == column,
@@ -150,8 +155,9 @@ fn is_column(expr: &Expr, column: usize) -> bool
 }
 
 /// Whether it is known before a row of the subquery is looked at: a literal, the current role, a column further out.
+#[tactic(auto, using(crate::proofs::PinnedLemmas::outer_there))]
 fn is_known(expr: &Expr) -> bool
-    ensures { result ≡ spec.is_known expr.now }
+    ensures { result ≡ is_some (keys.known_value expr.now spec.nowhere) }
 {
     match expr.node() {
         Node::Literal(_) | Node::CurrentUser => true,

@@ -1,14 +1,14 @@
 //! The rows that a statement looks at.
 
-ghost use Rattle.std.specs.Prelude.{◌≡◌, map, IfOk};
+ghost use Rattle.std.specs.Prelude.{◌≡◌, IfOk};
 ghost use Rattle.std.specs.List.{list_any};
 ghost use Rattle.rls_value.specs.Values.{is_null};
 ghost use Rattle.rls_source.specs.Answering.{Tells};
 ghost use Rattle.rls_judging.specs.Candidates as spec;
 
 use rls_catalog::Lent;
-use rls_expr::{Expr, FromTable, pin_of};
-use rls_guard::value_alone;
+use rls_evaluation::{Env, Scoped, key_of};
+use rls_expr::{Expr, FromTable};
 use rls_source::{Reads, RowSource, noted_key, noted_scan};
 use rls_value::{Items, Name, Row, Value};
 use std::alloc::{AllocError, Global};
@@ -67,27 +67,9 @@ fn pinned_key(
 ) -> Result<Option<Row>, AllocError>
     ensures { IfOk result (λ key. key ≡ spec.pinned_key role.now places.now condition.now) }
 {
-    match (places, condition) {
-        ([], _) | (_, None) => Ok(None),
-        (places, Some(condition)) => pinned_values(alloc, places, condition, role),
-    }
-}
-
-/// What the condition pins each of the places to, if it pins all.
-fn pinned_values(
-    alloc: Global,
-    places: &[usize],
-    condition: &Expr,
-    role: &Name,
-) -> Result<Option<Row>, AllocError>
-    ensures { IfOk result (λ key. key ≡ spec.pinned_values role.now places.now condition.now) }
-{
-    let mut values = Vec::with_capacity(alloc, places.len())?;
-    for place in places {
-        match pin_of(condition, *place) {
-            Some(pin) => values.push(value_alone(alloc, pin, role)?)?,
-            None => return Ok(None),
-        }
-    }
-    Ok(Some(Row::new(values)?))
+    let env = Env {
+        user: role,
+        rows: Scoped::Nothing,
+    };
+    key_of(alloc, places, condition, &env)
 }

@@ -1,8 +1,0 @@
-use Rattle.std.proofs.Common.{◌≡◌, drop}
-use Rattle.rls_expr.specs.Terms.{terms_of}
-use Rattle.rls_expr.specs.Pinning.{pin_among}
-use Rattle.rls_expr.proofs.pinning.pin_among.Given as goal
-
--- the parts passed don't pin it: what is left decides
-abbrev pub invariant-loop-part : goal.invariant-loop-part
-invariant-loop-part l = pin_among l.column (terms_of (drop l.part-index l.parts)) ≡ pin_among l.column (terms_of l.parts)
