@@ -88,3 +88,11 @@ some_of (Some x) is = (x, refl)
 pub none_of : {X : Type 0} (o : Option X) → is_some o ≡ false → o ≡ None
 none_of None is = refl
 none_of (Some x) is = absurd cc
+
+-- one that runs is kept under its number
+pub held_there : (known : Known) (txn : ℕ) (opens : List (ℕ × Opened)) → is_some (at_number txn (map (joined_in known) opens)) ≡ true → (h : Opened) × (at_number txn opens ≡ Some h)
+held_there known txn opens is = some_of (at_number txn opens) (sym (mapped (at_number txn opens)) ∙ sym (ap is_some (joined_at known txn opens)) ∙ is)
+  where
+    mapped : (o : Option Opened) → is_some (option_map (joined (running_at known txn)) o) ≡ is_some o
+    mapped None = refl
+    mapped (Some h) = refl

@@ -19,7 +19,8 @@ use Rattle.rls_core.specs.Headline.{IsTaken, PostsAreTested}
 use Rattle.rls_core.specs.Opened.{Opened, joined}
 use Rattle.rls_core.specs.Seen.{Seen, world_of}
 use Rattle.rls_core.specs.Kept.{seen_of}
-use Rattle.rls_core.proofs.JoinedLemmas.{tie, joined_there, found_number, is_found, some_of}
+use Rattle.rls_core.specs.Calls.{IsWriting, WroteBeside}
+use Rattle.rls_core.proofs.JoinedLemmas.{joined_there, found_number, is_found, some_of, held_there}
 
 -- ---- searches
 
@@ -136,26 +137,39 @@ module _ (committed : List Record) (known : Known) (opens : List (ℕ × Opened)
   abbrev wrote_as : Object → ℕ → Transaction → Bool
   wrote_as object number other = nat_eq number other.number && writes_object other.changes object
 
+  -- who wrote it is another that runs, or committed since the snapshot
+  pub wrote_beside : AreFound known → (object : Object) (number : ℕ) → is_writer (concurrent_with known txn) object number ≡ true → WroteBeside (seen_of committed known opens next) txn (running_at known txn).snap object number
+  wrote_beside found object number is =
+      elim (or_cases (list_any (wrote_as object number) (filter others known.running)) (list_any (wrote_as object number) (drop (running_at known txn).snap known.committed))
+      (sym (list_any-append (wrote_as object number) (filter others known.running) (drop (running_at known txn).snap known.committed)) ∙ is)) [
+        | inl running ↦
+            (let it = filtered_some (λ t. running_of known t.number ≡ Some t) (wrote_as object number) others known.running found running in
+            let both = and_parts (nat_eq number it.0.number) (writes_object it.0.changes object) it.3 in
+            let same : number ≡ it.0.number = eqb-true number it.0.number both.0 in
+            let there = some_of (at_number it.0.number opens) (runs it.0.number ∙ ap is_some it.1) in
+            let changed : it.0.changes ≡ (running_at known it.0.number).changes = sym (ap (λ (o : Option Transaction). (unwrap_or o nobody).changes) it.1) in
+            inr (subst (λ (n : ℕ). IsWriting (seen_of committed known opens next) txn object n) (sym same) (record {
+              it = joined (running_at known it.0.number) there.0;
+              another = λ its. true≢false (sym (eq-eqb txn it.0.number (sym its)) ∙ not-true _ it.2);
+              runs = joined_there known it.0.number opens (Some there.0) there.1;
+              wrote = subst (λ (cs : List Change). writes_object cs object ≡ true) changed both.1;
+            })))
+        | inr committed_one ↦
+            (let it = dropped_some (wrote_as object number) transaction_of committed (running_at known txn).snap records.nobody (subst (λ (all : List Transaction). list_any (wrote_as object number) (drop (running_at known txn).snap all) ≡ true) known_is committed_one) in
+            let both = and_parts (nat_eq number (record_at committed it.0).txn) (writes_object (record_at committed it.0).changes object) it.3 in
+            inl (record { place = it.0; since = it.1; within = it.2; number = sym (eqb-true number (record_at committed it.0).txn both.0); wrote = both.1 }))
+      ]
+
   -- what was written by another is taken
   pub written_is_taken : AreFound known → (object : Object) (number : ℕ) → IsWritten known txn changes object number → is_taken world txn (running_at known txn).snap changes ≡ true
   written_is_taken found object number written =
       (tested world txn (running_at known txn).snap changes).1
-      (elim (or_cases (list_any (wrote_as object number) (filter others known.running)) (list_any (wrote_as object number) (drop (running_at known txn).snap known.committed))
-      (sym (list_any-append (wrote_as object number) (filter others known.running) (drop (running_at known txn).snap known.committed)) ∙ written.by_other)) [
-        | inl running ↦
-            (let it = filtered_some (λ t. running_of known t.number ≡ Some t) (wrote_as object number) others known.running found running in
-            let wrote = (and_parts (nat_eq number it.0.number) (writes_object it.0.changes object) it.3).1 in
-            let is : is_running known it.0.number ≡ true = ap is_some it.1 in
-            let there = some_of (at_number it.0.number opens) (runs it.0.number ∙ is) in
-            let changed : changes_by (world.running it.0.number) ≡ it.0.changes = changes_there it.0.number there.0 there.1 ∙ ap (λ (o : Option Transaction). (unwrap_or o nobody).changes) it.1 in
-            inr (
-              it.0.number,
-              below it.0.number (runs it.0.number ∙ is),
-              (λ same. true≢false (sym (eq-eqb txn it.0.number (sym same)) ∙ not-true _ it.2)),
-              (object, written.written, subst (λ (cs : List Change). writes_object cs object ≡ true) (sym changed) wrote),
-            ))
-        | inr committed_one ↦
-            (let it = dropped_some (wrote_as object number) transaction_of committed (running_at known txn).snap records.nobody (subst (λ (all : List Transaction). list_any (wrote_as object number) (drop (running_at known txn).snap all) ≡ true) known_is committed_one) in
-            let wrote = (and_parts (nat_eq number (record_at committed it.0).txn) (writes_object (record_at committed it.0).changes object) it.3).1 in
-            inl (it.0, it.1, it.2, (object, written.written, wrote)))
+      (elim (wrote_beside found object number written.by_other) [
+        | inl it ↦ inl (it.place, it.since, it.within, (object, written.written, it.wrote))
+        | inr it ↦ inr (
+          number,
+          below number (ap is_some (held_there known number opens (ap is_some it.runs)).1),
+          it.another,
+          (object, written.written, subst (λ (o : Option Running). writes_object (changes_by o) object ≡ true) (sym it.runs) it.wrote),
+        )
       ])

@@ -20,7 +20,7 @@ use Rattle.rls_access.specs.{Statements.step, Statements.effect_in, Statements.r
 use Rattle.rls_conflict.specs.Begun.{at_number}
 use Rattle.rls_conflict.specs.Transactions.{Transaction, nobody}
 use Rattle.rls_conflict.specs.Known.{Known, running_of, running_at, is_running, posted, AreFound, Becomes}
-use Rattle.rls_conflict.specs.Written.{IsFree, IsRefusedBy}
+use Rattle.rls_conflict.specs.Written.{IsFree, IsRefusedBy, writes_object}
 use Rattle.rls_core.specs.Posted.{Posted}
 use Rattle.rls_core.specs.declared.work.Work.{Work}
 use Rattle.rls_core.specs.Records.{Record, state_after}
@@ -31,10 +31,10 @@ use Rattle.rls_core.specs.Opened.{Opened, joined, with_post, Looks}
 use Rattle.rls_core.specs.Seen.{Seen, world_of, runs_at, core_rules, Happens}
 use Rattle.rls_core.specs.Kept.{joined_in, seen_of, IsKept}
 use Rattle.rls_core.specs.Calls.{CameTo, IsWork, RunsOn, CanFollow, IsOver, NotPosted, is_serial}
-use Rattle.rls_core.proofs.JoinedLemmas.{tie, joined_at, joined_there, is_found, some_of}
+use Rattle.rls_core.proofs.JoinedLemmas.{tie, joined_there, is_found}
 use Rattle.rls_core.proofs.KeptLemmas.{kept_with}
 use Rattle.rls_core.proofs.EventLemmas.{posts, is_over, ends}
-use Rattle.rls_core.proofs.TakenLemmas.{free_isnt_taken, written_is_taken}
+use Rattle.rls_core.proofs.TakenLemmas.{free_isnt_taken, written_is_taken, wrote_beside}
 
 same_opened : (one other : Opened) → Some one ≡ Some other → one ≡ other
 same_opened one other is = cc
@@ -56,13 +56,6 @@ no_longer_alone n m r less fits = omega arith
 
 no_longer : (a n m r : ℕ) → m ≤ n → a + n ≤ r → a + m ≤ r
 no_longer a n m r less fits = omega arith
-
-pub held_there : (known : Known) (txn : ℕ) (opens : List (ℕ × Opened)) → is_some (at_number txn (map (joined_in known) opens)) ≡ true → (h : Opened) × (at_number txn opens ≡ Some h)
-held_there known txn opens is = some_of (at_number txn opens) (sym (mapped (at_number txn opens)) ∙ sym (ap is_some (joined_at known txn opens)) ∙ is)
-  where
-    mapped : (o : Option Opened) → is_some (option_map (joined (running_at known txn)) o) ≡ is_some o
-    mapped None = refl
-    mapped (Some h) = refl
 
 -- ---- a post
 
@@ -143,7 +136,10 @@ module _ (committed : List Record) (known : Known) (opens : List (ℕ × Opened)
     pub refused : AreFound known → (why : Cause) → IsRefusedBy known work.txn changes (Serial why) → Becomes work.txn None known known' → Looks work.txn None opens opens' → at_number work.txn opens' ≡ None
         → NotPosted work.txn work.statement seen (seen_of committed known' opens' next) (Serial why)
     refused found (cause.Written object number) written becomes looks gone = record {
-      ran = ap is_some runs;
+      it = it;
+      ran = runs;
+      writes = subst (λ (e : Effect). writes_object (changes_of e) object ≡ true) came.effect written.written;
+      by_other = wrote_beside committed known opens next work.txn changes kept.known_is kept.runs kept.below tested found object number written.by_other;
       happens = is_over committed known known' opens opens' next work.txn work.statement work.outcome.effect (running_at known work.txn) h runs came.effect
           (written_is_taken committed known opens next work.txn changes kept.known_is kept.runs kept.below tested found object number written) becomes looks;
       over = joined_there known' work.txn opens' None gone;

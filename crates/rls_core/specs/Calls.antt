@@ -1,6 +1,6 @@
 -- What the calls of a core come to.
-use Rattle.std.specs.Prelude.{◌≡◌, ℕ, ◌≤◌, Bool, true, false, List, [], ◌∷◌, ◌++◌, length, map, Option, Some, None, Result, Ok, Err, if◌then◌else◌}
-use Rattle.std.specs.Option.{is_some}
+use Rattle.std.specs.Prelude.{◌≡◌, ℕ, ◌<◌, ◌≤◌, ◌⊎◌, Bool, true, false, List, [], ◌∷◌, ◌++◌, length, map, Option, Some, None, Result, Ok, Err, if◌then◌else◌}
+use Rattle.rls_value.specs.declared.object.Object.{Object}
 use Rattle.rls_value.specs.declared.refusal.Refusal.{Refusal}
 use Rattle.rls_value.specs.declared.refusal.Refusal.TheVariants.{NoMemory, NoLogin, Limit, TxnState, Serial}
 use Rattle.rls_value.specs.declared.refusal.Limit.TheVariants as limit
@@ -17,11 +17,12 @@ use Rattle.rls_history.specs.Orders.{IsOrder}
 use Rattle.rls_conflict.specs.Transactions.{Transaction}
 use Rattle.rls_conflict.specs.Known.{Known}
 use Rattle.rls_conflict.specs.Causes.{IsCauseOf}
+use Rattle.rls_conflict.specs.Written.{writes_object}
 use Rattle.rls_conflict.specs.Commits as commits
 use Rattle.rls_core.specs.declared.work.Work.{Work}
 use Rattle.rls_core.specs.declared.ready.Ready.{Ready}
 use Rattle.rls_core.specs.Records.{Record, record_at, transaction_of, history_by, state_after}
-use Rattle.rls_core.specs.Events.{Event, Running, seen_by, is_taken}
+use Rattle.rls_core.specs.Events.{Event, Running, seen_by}
 use Rattle.rls_core.specs.Seen.{Seen, runs_at, world_of, newest_state, Happens}
 use Rattle.rls_core.specs.Posts.{record_of}
 use Rattle.rls_core.specs.Opened.{Opened, joined}
@@ -95,9 +96,32 @@ NotWorked seen txn NoMemory = Unit {0}
 NotWorked seen txn (TxnState NoneInProgress) = runs_at seen txn ≡ None
 NotWorked seen txn _ = ⊥
 
--- a conflict of a post that ends the transaction: it ran, and a concurrent one wrote an object that its changes write
-pub record IsOver (txn : ℕ) (asked : Statement) (old new : Seen) : Type 0 where
-  pub ran : is_some (runs_at old txn) ≡ true
+-- the transaction of that number committed after the snapshot, and wrote the object
+pub record HasWritten (seen : Seen) (snap : ℕ) (object : Object) (other : ℕ) : Type 0 where
+  pub place : ℕ
+  pub since : snap ≤ place
+  pub within : place < length seen.committed
+  pub number : (record_at seen.committed place).txn ≡ other
+  pub wrote : writes_object (record_at seen.committed place).changes object ≡ true
+
+-- the transaction of that number, another than this one, runs, and wrote the object
+pub record IsWriting (seen : Seen) (txn : ℕ) (object : Object) (other : ℕ) : Type 0 where
+  pub it : Running
+  pub another : other ≡ txn → ⊥
+  pub runs : runs_at seen other ≡ Some it
+  pub wrote : writes_object it.so_far.changes object ≡ true
+
+-- the one of that number is concurrent with this transaction of this snapshot, and wrote the object
+abbrev pub WroteBeside : Seen → ℕ → ℕ → Object → ℕ → Type 0
+WroteBeside seen txn snap object other = HasWritten seen snap object other ⊎ IsWriting seen txn object other
+
+-- A conflict of a post that ends the transaction, which ran: the statement's changes, on its own view, write the object, and a
+-- concurrent one, the other, wrote it before.
+pub record IsOver (txn : ℕ) (asked : Statement) (object : Object) (other : ℕ) (old new : Seen) : Type 0 where
+  pub it : Running
+  pub ran : runs_at old txn ≡ Some it
+  pub writes : writes_object (changes_of (effect_in (seen_by old.committed it.so_far) it.ctx asked)) object ≡ true
+  pub by_other : WroteBeside old txn it.so_far.snap object other
   pub happens : Happens (Event.Posts txn asked) old new
   pub over : runs_at new txn ≡ None
 
@@ -105,7 +129,7 @@ pub record IsOver (txn : ℕ) (asked : Statement) (old new : Seen) : Type 0 wher
 abbrev pub NotPosted : ℕ → Statement → Seen → Seen → Refusal → Type 0
 NotPosted txn asked old new NoMemory = new ≡ old
 NotPosted txn asked old new (TxnState NoneInProgress) = (new ≡ old) × (runs_at old txn ≡ None)
-NotPosted txn asked old new (Serial (cause.Written object other)) = IsOver txn asked old new
+NotPosted txn asked old new (Serial (cause.Written object other)) = IsOver txn asked object other old new
 NotPosted txn asked old new _ = ⊥
 
 -- why a commit isn't ready

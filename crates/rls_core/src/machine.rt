@@ -552,3 +552,13 @@ fn numbers_at(alloc: Global, records: &[Record], places: &[usize]) -> Result<Vec
     }
     Ok(numbers)
 }
+
+impl Core {
+    /// The number of the next transaction that begins.
+    pub fn next(&self) -> u64
+        ensures number { result ≡ self.now.next }
+        ensures free { runs_at self.now result ≡ None }
+    {
+        self.next
+    }
+}

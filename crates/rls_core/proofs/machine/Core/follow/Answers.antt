@@ -13,7 +13,8 @@ use Rattle.rls_core.specs.Kept.{seen_of, IsKept}
 use Rattle.rls_core.specs.Calls.{IsWork, NotPosted}
 use Rattle.rls_core.proofs.KeptLemmas.{nothing_changes}
 use Rattle.rls_core.proofs.CallLemmas.{kept_room, seen_room}
-use Rattle.rls_core.proofs.WorkLemmas.{held_there, is_there, follows, happens, stays, runs_then, over_stays, refused_for}
+use Rattle.rls_core.proofs.JoinedLemmas.{held_there}
+use Rattle.rls_core.proofs.WorkLemmas.{is_there, follows, happens, stays, runs_then, over_stays, refused_for}
 use Rattle.rls_core.proofs.machine.Core.follow.Goals as goal
 
 pub put-requires-clause-runs : goal.put-requires-clause-runs
