@@ -1,28 +1,30 @@
 -- Laws of transaction blocks.
-use Rattle.std.proofs.Common.{◌≡◌, ◌⊎◌, ℕ, List, [], ◌∷◌, Some, Ok, Err, Result, refl, inl, inr}
+use Rattle.std.proofs.Common.{◌≡◌, ◌⊎◌, ℕ, List, [], ◌∷◌, Some, Ok, Err, Result, refl, inl, inr, ap}
 use Rattle.rls_value.specs.declared.refusal.Refusal.{Refusal}
 use Rattle.rls_value.specs.declared.refusal.TxnState.TheVariants.{Over}
 use Rattle.rls_statement.specs.declared.command.Command.{Command}
 use Rattle.rls_statement.specs.declared.command.Command.TheVariants as c
+use Rattle.rls_statement.specs.declared.statement.Statement.{Statement}
 use Rattle.rls_guard.specs.declared.effect.Effect.{Effect}
-use Rattle.rls_access.specs.Statements.{role_after}
-use Rattle.rls_session.specs.Blocks.{behind, block_after, committed, outside, requested, role_behind, rolled_back, with_block}
-use Rattle.rls_session.specs.declared.block.Block.TheVariants as b
-use Rattle.rls_session.specs.declared.block.Open.{Open}
-use Rattle.rls_session.specs.declared.block.Session.{Session}
-use Rattle.rls_session.specs.declared.requesting.Request.TheVariants as q
+use Rattle.rls_session.specs.Blocks.{behind, committed, inside, outside, role_behind, rolled_back, with_statement}
+use Rattle.rls_session.specs.Parts.{Block}
+use Rattle.rls_session.specs.Requests.{asked}
+use Rattle.rls_session.specs.declared.requesting.Ask.TheVariants as a
+use Rattle.rls_session.specs.declared.requesting.Status.TheVariants as st
 
-pub over_ends : (session : Session) (read : Result Command Refusal) → (requested session b.Over read ≡ q.Nothing (Refusal.TxnState Over)) ⊎ ((requested session b.Over read ≡ q.Leave) × ((read ≡ Ok c.Commit) ⊎ (read ≡ Ok c.Rollback)))
-over_ends session (Ok c.Commit) = inr (refl, inl refl)
-over_ends session (Ok c.Rollback) = inr (refl, inr refl)
-over_ends session (Ok (c.Begin mode)) = inl refl
-over_ends session (Ok (c.Run statement)) = inl refl
-over_ends session (Err refusal) = inl refl
+pub over_ends : (read : Result Command Refusal) → (asked st.Over read ≡ Err (Refusal.TxnState Over)) ⊎ ((asked st.Over read ≡ Ok a.Rollback) × ((read ≡ Ok c.Commit) ⊎ (read ≡ Ok c.Rollback)))
+over_ends (Ok c.Commit) = inr (refl, inl refl)
+over_ends (Ok c.Rollback) = inr (refl, inr refl)
+over_ends (Ok (c.Begin mode)) = inl refl
+over_ends (Ok (c.Run statement)) = inl refl
+over_ends (Err refusal) = inl refl
 
-pub role_gone : (session : Session) (effects : List Effect) → (rolled_back (behind session effects)).session ≡ Some (outside session.login session.role)
-role_gone session [] = refl
-role_gone session (effect ∷ more) = role_gone (with_block session (block_after session.block effect)) more
+pub role_gone : (login role : List ℕ) (block : Block) (posts : List (Statement × Effect)) → (rolled_back (inside login role (behind block posts))).session ≡ Some (outside login role)
+role_gone login role block posts = refl
 
-pub role_taken : (session : Session) (it : Open) (effects : List Effect) (number : ℕ) → session.block ≡ b.Open it → (committed (behind session effects) (Ok number)).session ≡ Some (outside session.login (role_behind it.role effects))
-role_taken session it [] number h = rw h refl
-role_taken session it (effect ∷ more) number h = role_taken (with_block session (block_after session.block effect)) (record { txn = it.txn; mode = it.mode; role = role_after it.role effect }) more number (rw h refl)
+role_left : (block : Block) (posts : List (Statement × Effect)) → (behind block posts).role ≡ role_behind block.role posts
+role_left block [] = refl
+role_left block (post ∷ more) = role_left (with_statement block post.0 post.1) more
+
+pub role_taken : (login role : List ℕ) (block : Block) (posts : List (Statement × Effect)) (number : ℕ) → (committed (inside login role (behind block posts)) (behind block posts) (Ok number)).session ≡ Some (outside login (role_behind block.role posts))
+role_taken login role block posts number = ap (λ (left : List ℕ). Some (outside login left)) (role_left block posts)

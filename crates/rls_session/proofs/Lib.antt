@@ -1,8 +1,10 @@
+pub mod AloneLemmas
 pub mod BlockLemmas
-pub mod CarryingLemmas
+pub mod CommitLemmas
 pub mod Examples
-pub mod ExecutingLemmas
 pub mod LabelLemmas
 pub mod LimitLemmas
 pub mod LineLemmas
 pub mod RenderingLemmas
+pub mod RuleLemmas
+pub mod ScriptLemmas

@@ -1,55 +1,59 @@
--- Labels over one core: each has a session of its own, and at most 64 have one.
-use Rattle.std.specs.Prelude.{◌≡◌, ℕ, ◌+◌, nat_lt, List, [], ◌∷◌, ◌++◌, Bool, true, false, take, drop, slice_get, Option, Some, None}
+-- The labels of a script: each has a session of its own, and at most 64 have one.
+use Rattle.std.specs.Prelude.{◌≡◌, ℕ, ◌+◌, nat_lt, List, [], ◌∷◌, ◌++◌, Bool, true, false, take, drop, slice_get, Option, Some, None, refl}
+use Rattle.std.specs.Coded.{Coded, code_by, coded×, coded_list, coded_option, coded_ℕ}
 use Rattle.std.specs.List.{position_or_len}
 use Rattle.std.specs.Str.{bytes_eq}
 use Rattle.rls_value.specs.declared.refusal.Refusal.TheVariants as r
 use Rattle.rls_value.specs.declared.refusal.Limit.TheVariants as l
-use Rattle.rls_core.specs.Seen.{Seen, nothing_yet}
-use Rattle.rls_session.specs.{Blocks.open_txn, Carrying.Ends, Carrying.ExecutesOn, Carrying.IsLeft, declared.answer.Answer.Answer, declared.block.Session.Session, declared.labels.Label.Label, declared.sessions.Sessions.Sessions}
+use Rattle.rls_session.specs.{Blocks.Executes, Parts.Notes, Parts.Session, Parts.session_code, declared.answer.Answer.Answer}
 use Rattle.rls_session.specs.declared.answer.Answer.TheVariants as a
 
+-- a label that has come, with its session where somebody is connected under it
+pub record Entry : Type 0 where
+  pub name : List ℕ
+  pub session : Option Session
+
+-- the code of these
+abbrev pub entry_code : Coded Entry
+entry_code = code_by (List ℕ × Option Session) (coded× (coded_list coded_ℕ) (coded_option session_code)) (λ e. (e.name, e.session)) (λ p. record { name = p.0; session = p.1 }) (λ _. refl)
+
+-- the labels in the order in which they came, and what was shown to them all
+pub record Script : Type 0 where
+  pub labels : List Entry
+  pub notes : Notes
+
+-- before the first line no label has come
+abbrev pub opening_script : Script
+opening_script = record { labels = []; notes = record { tag = 1; newest = 0; told = 0; shown = [] } }
+
 -- the place of the label in the order in which they came; one that hasn't come is behind them all
-abbrev pub place_of : List Label → List ℕ → ℕ
+abbrev pub place_of : List Entry → List ℕ → ℕ
 place_of labels name = position_or_len (λ label. bytes_eq label.name name) labels
 
 -- the session at a place, none where no label stands there
-abbrev pub session_at : Option Label → Option Session
+abbrev pub session_at : Option Entry → Option Session
 session_at None = None
 session_at (Some label) = label.session
 
 -- the label's session, none where nobody is connected or the label hasn't come
-abbrev pub session_of : List Label → List ℕ → Option Session
+abbrev pub session_of : List Entry → List ℕ → Option Session
 session_of labels name = session_at (slice_get labels (place_of labels name))
 
 -- the labels with that session under the name; all others keep theirs
-abbrev pub with_session : List Label → List ℕ → Option Session → List Label
+abbrev pub with_session : List Entry → List ℕ → Option Session → List Entry
 with_session labels name session = take (place_of labels name) labels ++ record { name = name; session = session } ∷ drop (place_of labels name + 1) labels
 
--- before the first line no label has come
-abbrev pub opening_sessions : Sessions
-opening_sessions = record { core = nothing_yet; labels = [] }
-
--- open blocks are rolled back, one label after another
-pub data ClosesAll : List Label → Seen → Seen → Type 0 where
-  none : {core : Seen} → ClosesAll [] core core
-  next : {label : Label} {labels : List Label} {core middle closed : Seen} → Ends (open_txn label.session) core middle → ClosesAll labels middle closed → ClosesAll (label ∷ labels) core closed
-
--- after want of memory the labels are as they were, and the core but for a number
-pub record AreLeft (old new : Sessions) : Type 0 where
-  pub core : IsLeft old.core new.core
-  pub labels : new.labels ≡ old.labels
-
--- a command is run in its label's session
-pub record ExecutesUnder (core : Seen) (labels : List Label) (name command : List ℕ) (answer : Answer) (core_then : Seen) (labels_then : List Label) : Type 0 where
+-- a command is executed in its label's session
+pub record ExecutesUnder (old : Notes) (labels : List Entry) (name command : List ℕ) (answer : Answer) (new : Notes) (labels_then : List Entry) : Type 0 where
   pub session : Option Session
-  pub executes : ExecutesOn core (session_of labels name) command answer core_then session
+  pub executes : Executes old (session_of labels name) command answer new session
   pub labelled : labels_then ≡ with_session labels name session
 
 -- the label is among the first 64, or every command under it is refused
-abbrev pub AnswersIf : Bool → Sessions → List ℕ → List ℕ → Answer → Sessions → Type 0
-AnswersIf true sessions name command answer after = ExecutesUnder sessions.core sessions.labels name command answer after.core after.labels
-AnswersIf false sessions name command answer after = (answer ≡ a.Refused (r.Limit l.Sessions)) × (after ≡ sessions)
+abbrev pub AnswersIf : Bool → Script → List ℕ → List ℕ → Answer → Script → Type 0
+AnswersIf true script name command answer after = ExecutesUnder script.notes script.labels name command answer after.notes after.labels
+AnswersIf false script name command answer after = (answer ≡ a.Refused (r.Limit l.Sessions)) × (after ≡ script)
 
 -- the answer to a command under a label
-abbrev pub AnswersUnder : Sessions → List ℕ → List ℕ → Answer → Sessions → Type 0
-AnswersUnder sessions name command answer after = AnswersIf (nat_lt (place_of sessions.labels name) 64) sessions name command answer after
+abbrev pub AnswersUnder : Script → List ℕ → List ℕ → Answer → Script → Type 0
+AnswersUnder script name command answer after = AnswersIf (nat_lt (place_of script.labels name) 64) script name command answer after

@@ -1,7 +1,12 @@
 pub mod Lines
 pub mod Connects
 pub mod Sessions
+pub mod Parts
+pub mod Requests
 pub mod Blocks
-pub mod Carrying
-pub mod Labels
+pub mod Stops
+pub mod Books
 pub mod Rendering
+pub mod Labels
+pub mod Alone
+pub mod Scripts

@@ -1,10 +1,12 @@
 //! What a line is answered.
 
 ghost use Rattle.std.specs.Prelude.{◌≡◌, IfOk, OnOk, OnErr};
+ghost use Rattle.rls_session.specs.Sessions.{answer_to};
+ghost use Rattle.rls_guard.specs.declared.effect.Effect.{Effect};
+ghost use Rattle.rls_engine.specs.Drafts.{told_of};
 
 use rls_access::Reply;
 use rls_value::{Refusal, Tag};
-use std::alloc::AllocError;
 
 /// The answer to a line.
 #[derive(Drop)]
@@ -16,15 +18,13 @@ pub enum Answer {
 }
 
 impl Answer {
-    /// A refusal as an answer, but for want of memory, which ends the run.
-    pub fn refused(refusal: Refusal) -> Result<Answer, AllocError>
-        ensures ok { IfOk result (λ answer. answer ≡ Answer.Refused refusal) }
-        ensures memory { OnOk result (¬ (refusal ≡ Refusal.NoMemory)) }
-        ensures err { OnErr result (refusal ≡ Refusal.NoMemory) }
+    /// What is told of a statement with this tag.
+    pub(crate) fn of(tag: Tag, told: Result<Reply, Refusal>) -> Answer
+        ensures { (effect : Effect) → told ≡ told_of effect → result ≡ answer_to tag effect }
     {
-        match refusal {
-            Refusal::NoMemory => Err(AllocError),
-            refusal => Ok(Answer::Refused(refusal)),
+        match told {
+            Ok(reply) => Answer::Replied(tag, reply),
+            Err(refusal) => Answer::Refused(refusal),
         }
     }
 }

@@ -1,151 +1,201 @@
-//! Labels and their sessions.
+//! The labels of a script, each with a session of its own.
 
-ghost use Rattle.std.specs.Prelude.{◌≡◌, ◌<◌, ◌≤◌, ℕ, List, [], length, IfOk, OnErr};
+ghost use Rattle.std.specs.Prelude.{◌≡◌, ◌<◌, ◌≤◌, [], length, List, ℕ, IfOk, IsErrOf};
 ghost use Rattle.std.specs.Str.{bytes_eq};
 ghost use Rattle.rls_session.specs.Labels as spec;
-ghost use Rattle.rls_session.specs.Labels.{ClosesAll, ExecutesUnder};
-ghost use Rattle.rls_session.specs.Carrying.{IsLeft};
+ghost use Rattle.rls_session.specs.Labels.{AnswersUnder, ExecutesUnder};
 
 use crate::answer::Answer;
-use crate::block::{Session, open_txn};
-use crate::carrying::end;
-use crate::executing::execute;
-use rls_core::Core;
-use rls_value::Text;
-use std::alloc::{AllocError, Global};
+use crate::fault::RunFault;
+use crate::gate::{At, NoGate};
+use crate::label::Label;
+use crate::notes::Notes;
+use rls_engine::{Engine, Named};
+use rls_value::{Limit, Refusal, Text};
+use std::alloc::Global;
 use std::marker::Model;
+use std::sync::Wait;
+use std::time::Clock;
 
-/// A label that has come, with its session where somebody is connected under it.
-#[derive(Drop)]
-pub struct Label {
+/// The most labels that have sessions in a script.
+pub const MAX_LABELS: usize = 64;
+
+/// A label that has come, by its name. It must be closed.
+pub(crate) struct Entry<'a, N: Named> {
     name: Text,
-    session: Option<Session>,
+    label: Label<'a, N>,
 }
 
-/// The labels in the order in which they came, seen as their list.
-#[derive(Drop)]
-pub struct Labels {
-    labels: Vec<Label>,
+impl<'a, N: Named> Model for Entry<'a, N> {
+    ghost use Rattle.rls_session.specs.Labels.{Entry, entry_code};
+
+    ghost Value = { Entry };
+
+    ghost coded = { entry_code };
+
+    ghost view = { λ it. record { name = it.name; session = it.label } };
 }
 
-impl Model for Labels {
+/// The labels in the order in which they came, seen as their list. They must be closed.
+pub(crate) struct Labels<'a, N: Named> {
+    engine: &'a Engine<N>,
+    labels: Vec<Entry<'a, N>>,
+}
+
+impl<'a, N: Named> Model for Labels<'a, N> {
     ghost use Rattle.std.specs.Prelude.{List};
     ghost use Rattle.std.specs.Coded.{coded_list};
-    ghost use Rattle.rls_session.specs.declared.labels.Label.{Label as Came};
-    ghost use Rattle.rls_session.specs.contracts.labels.Label as label;
+    ghost use Rattle.rls_session.specs.Labels.{Entry, entry_code};
 
-    ghost Value = { List Came };
+    ghost Value = { List Entry };
 
-    ghost coded = { coded_list label.the_row.coded };
+    ghost coded = { coded_list entry_code };
 
     ghost view = { λ it. it.labels.items };
 }
 
-impl Labels {
-    pub fn new(alloc: Global) -> Labels
+impl<'a, N: Named> Labels<'a, N> {
+    /// No label has come.
+    pub(crate) fn new(alloc: Global, engine: &'a Engine<N>) -> Labels<'a, N>
         ensures { result ≡ [] }
     {
         Labels {
+            engine,
             labels: Vec::new(alloc),
         }
     }
 
-    pub fn len(&self) -> usize
+    /// Ends every session.
+    pub(crate) fn close<R: Wait>(self, rt: &R) {
+        let Labels {
+            engine: _,
+            mut labels,
+        } = self;
+        while let Some(entry) = labels.pop() {
+            let Entry { name: _, label } = entry;
+            label.close(rt);
+        }
+        labels.destroy_empty();
+    }
+
+    fn len(&self) -> usize
         ensures { result ≡ length self.now }
     {
         self.labels.len()
     }
 
     /// The place of the label; one that hasn't come is behind them all.
-    pub fn place_of(&self, name: &str) -> usize
+    fn place_of(&self, name: &str) -> usize
         ensures { result ≡ spec.place_of self.now name.now }
     {
         place_among(self.labels.as_slice(), name)
     }
 
-    /// Rolls open blocks back.
-    pub fn close(&self, core: &mut Core)
-        ensures { ClosesAll self.now core.old core.new }
-    {
-        close_all(self.labels.as_slice(), core);
-    }
-
-    /// Runs the command in the session of a label that has come. After an `Err` the
-    /// labels are as they were, and the core but for a number.
-    pub fn execute_at(
+    /// Executes one command under a label. A label counts from its first command, whatever that is answered; each command under a
+    /// 65th is refused.
+    pub(crate) fn answer<R: Wait + Clock>(
         &mut self,
+        rt: &R,
         alloc: Global,
-        core: &mut Core,
-        place: usize,
-        command: &str,
-    ) -> Result<Answer, AllocError>
-        requires { place < length self.old }
-        ensures ok { IfOk result (λ answer. (name : List ℕ) → place ≡ spec.place_of self.old name → ExecutesUnder core.old self.old name command.now answer core.new self.new) }
-        ensures core { OnErr result (IsLeft core.old core.new) }
-        ensures labels { OnErr result (self.new ≡ self.old) }
-    {
-        let label = &mut self.labels[place];
-        execute(alloc, core, &mut label.session, command)
-    }
-
-    /// Runs the first command under a label. After an `Err` the
-    /// labels are as they were, and the core but for a number.
-    pub fn execute_first(
-        &mut self,
-        alloc: Global,
-        core: &mut Core,
+        notes: &mut Notes<N>,
         name: &str,
         command: &str,
-    ) -> Result<Answer, AllocError>
-        requires { length self.old ≤ spec.place_of self.old name.now }
-        ensures ok { IfOk result (λ answer. ExecutesUnder core.old self.old name.now command.now answer core.new self.new) }
-        ensures core { OnErr result (IsLeft core.old core.new) }
-        ensures labels { OnErr result (self.new ≡ self.old) }
+    ) -> Result<Answer, RunFault>
+        requires wide { N.parts ≡ 18446744073709551615 }
+        ensures ok { IfOk result (λ answer. AnswersUnder record { labels = self.old; notes = notes.old } name.now command.now answer record { labels = self.new; notes = notes.new }) }
+        ensures read { ¬ IsErrOf result RunFault.Read }
+        ensures write { ¬ IsErrOf result RunFault.Write }
     {
-        let name = Text::new(alloc, name)?;
+        let place = self.place_of(name);
+        if place >= MAX_LABELS {
+            return Ok(Answer::Refused(Refusal::Limit(Limit::Sessions)));
+        }
+        let answer = if place < self.len() {
+            self.execute_at(rt, alloc, notes, place, command)
+        } else {
+            self.execute_first(rt, alloc, notes, name, command)
+        };
+        match answer {
+            Ok(answer) => Ok(answer),
+            Err(refusal) => Err(RunFault::of(refusal)),
+        }
+    }
+
+    /// Executes the command in the session of a label that has come.
+    fn execute_at<R: Wait + Clock>(
+        &mut self,
+        rt: &R,
+        alloc: Global,
+        notes: &mut Notes<N>,
+        place: usize,
+        command: &str,
+    ) -> Result<Answer, Refusal>
+        requires wide { N.parts ≡ 18446744073709551615 }
+        requires place { place < length self.old }
+        ensures { IfOk result (λ answer. (name : List ℕ) → place ≡ spec.place_of self.old name → ExecutesUnder notes.old self.old name command.now answer notes.new self.new) }
+    {
+        let entry = &mut self.labels[place];
+        entry
+            .label
+            .execute_at(rt, alloc, &nowhere(), notes, command)
+    }
+
+    /// Executes the first command under a label.
+    #[tactic(auto, using(crate::proofs::LabelLemmas::under_first))]
+    fn execute_first<R: Wait + Clock>(
+        &mut self,
+        rt: &R,
+        alloc: Global,
+        notes: &mut Notes<N>,
+        name: &str,
+        command: &str,
+    ) -> Result<Answer, Refusal>
+        requires wide { N.parts ≡ 18446744073709551615 }
+        requires new { length self.old ≤ spec.place_of self.old name.now }
+        ensures { IfOk result (λ answer. ExecutesUnder notes.old self.old name.now command.now answer notes.new self.new) }
+    {
+        let Ok(name) = Text::new(alloc, name) else {
+            return Err(Refusal::NoMemory);
+        };
         let labels = &mut self.labels;
-        labels.reserve(1)?;
-        let mut session = None;
-        let answer = match execute(alloc, core, &mut session, command) {
+        let Ok(()) = labels.reserve(1) else {
+            drop(name);
+            return Err(Refusal::NoMemory);
+        };
+        let mut label = Label::new(self.engine);
+        let answer = match label.execute_at(rt, alloc, &nowhere(), notes, command) {
             Ok(answer) => answer,
-            Err(refused) => {
+            Err(refusal) => {
                 drop(name);
-                drop(session);
-                return Err(refused);
+                label.close(rt);
+                return Err(refusal);
             }
         };
-        labels.push_reserved(Label { name, session });
+        labels.push_reserved(Entry { name, label });
         Ok(answer)
     }
 }
 
-fn close_all(labels: &[Label], core: &mut Core)
-    ensures { ClosesAll labels.now core.old core.new }
-{
-    let mut rest = labels;
-    while let [first, tail @ ..] = rest {
-        end(core, open_txn(&first.session));
-        rest = tail;
+/// Where no gate is.
+fn nowhere<'g>() -> At<'g, NoGate> {
+    At {
+        gate: &NoGate,
+        session: 0,
+        line: 0,
     }
 }
 
-fn place_among(labels: &[Label], name: &str) -> usize
+fn place_among<N: Named>(labels: &[Entry<'_, N>], name: &str) -> usize
     ensures { result ≡ spec.place_of labels.now name.now }
 {
     let mut place = 0;
     let mut rest = labels;
     while let [first, tail @ ..] = rest {
-        if is_named(first, name) {
+        if first.name.as_str() == name {
             break;
         }
         place += 1;
         rest = tail;
     }
     place
-}
-
-fn is_named(label: &Label, name: &str) -> bool
-    ensures { result ≡ bytes_eq label.now.name name.now }
-{
-    label.name.as_str() == name
 }

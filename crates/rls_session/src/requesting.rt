@@ -1,15 +1,13 @@
-//! What a command requests of the core.
+//! What a command requests of its label's session.
 
 ghost use Rattle.std.specs.Prelude.{◌≡◌, ℕ, true, length, nat_lt, IfOk, IsOkAnd, Ok};
-ghost use Rattle.rls_session.specs.Blocks as spec;
-ghost use Rattle.rls_session.specs.Blocks.{IsAtOnce, IsReadAs, Requests, RequestsAs, RequestsOf, requested_connect};
+ghost use Rattle.rls_session.specs.Requests as spec;
+ghost use Rattle.rls_session.specs.Requests.{AsksAs, AsksOf, IsAtOnce, IsReadAs, Requests, RequestsAs, requested_connect};
 ghost use Rattle.rls_session.specs.Connects.{ConnectsToLongName, is_long_name, role_named};
 ghost use Rattle.rls_session.specs.Sessions.{within_line};
 
-use crate::block::{Block, Session, open_txn};
 use crate::connect::{behind_connect, role_in};
 use rls_access::Mode;
-use rls_core::Begin;
 use rls_statement::{AccessMode, Command, Statement};
 use rls_text::parse_command;
 use rls_value::{Limit, Name, Refusal, TxnState};
@@ -18,79 +16,101 @@ use std::alloc::{AllocError, Global};
 /// The most bytes that a line's command has, after the blanks behind its label.
 pub const MAX_COMMAND: usize = 65_536;
 
-/// What a command requests of the core.
+/// How a label stands: nobody is connected, or its session is outside a block, in an open one, or in one that is over.
+#[derive(Clone, Copy)]
+pub enum Status {
+    Nobody,
+    Outside,
+    Open,
+    Over,
+}
+
+/// What is asked of a session.
+#[derive(Drop)]
+pub enum Ask {
+    /// A transaction, for a block.
+    Begin(Mode),
+    /// The statement, in the transaction of the open block.
+    Post(Statement),
+    /// The statement, in a transaction of its own: a begin, a post and a commit.
+    Run(Statement),
+    Commit,
+    /// The end of a block, open or over.
+    Rollback,
+}
+
+/// What a command requests.
 #[derive(Drop)]
 pub enum Request {
     /// Nothing: it is refused at once.
     Nothing(Refusal),
-    /// A session of the role, by a transaction without statements; that of an open block is rolled back before.
-    Connect(Option<u64>, Name),
-    /// A transaction, for a block.
-    Begin(Begin),
-    /// The statement, in the transaction of the open block.
-    Post(u64, Statement),
-    /// The statement, in a transaction of its own: a begin, a post and a commit.
-    Run(Begin, Statement),
-    Commit(u64),
-    Rollback(u64),
-    /// Nothing: it ends a block that is over.
-    Leave,
+    /// A session of the role, by a transaction without statements; that of an open block is rolled back.
+    Connect(Name),
+    Ask(Ask),
 }
 
-/// What the command requests under a label with this session, if any.
-pub fn request_for(
+/// What the command requests under a label that stands so.
+pub(crate) fn request_for(
     alloc: Global,
-    session: &Option<Session>,
+    status: Status,
     command: &str,
 ) -> Result<Request, AllocError>
-    ensures requests { IfOk result (Requests session.now command.now) }
+    ensures requests { IfOk result (Requests status command.now) }
 
     // A name over its limit is refused as such, and never as want of memory.
     ensures long_name { ConnectsToLongName command.now → IsOkAnd result IsAtOnce }
 {
     match behind_connect(command) {
-        Some(behind) => request_connect(alloc, open_txn(session), command, behind),
-        None => request_as(alloc, session, command),
+        Some(behind) => request_connect(alloc, command, behind),
+        None => request_as(alloc, status, command),
     }
 }
 
-fn request_connect(
-    alloc: Global,
-    running: Option<u64>,
-    command: &str,
-    behind: &str,
-) -> Result<Request, AllocError>
-    ensures requests { IfOk result (λ request. request ≡ requested_connect running (within_line command.now (role_named behind.now))) }
+fn request_connect(alloc: Global, command: &str, behind: &str) -> Result<Request, AllocError>
+    ensures requests { IfOk result (λ request. request ≡ requested_connect (within_line command.now (role_named behind.now))) }
     ensures long_name { is_long_name behind.now ≡ true → IsOkAnd result IsAtOnce }
 {
     if command.len() > MAX_COMMAND {
         return Ok(Request::Nothing(Refusal::Limit(Limit::Line)));
     }
     match role_in(alloc, behind) {
-        Ok(role) => Ok(Request::Connect(running, role)),
+        Ok(role) => Ok(Request::Connect(role)),
         Err(Refusal::NoMemory) => Err(AllocError),
         Err(refusal) => Ok(Request::Nothing(refusal)),
     }
 }
 
-fn request_as(
-    alloc: Global,
-    session: &Option<Session>,
-    command: &str,
-) -> Result<Request, AllocError>
-    ensures { IfOk result (RequestsAs session.now command.now) }
+fn request_as(alloc: Global, status: Status, command: &str) -> Result<Request, AllocError>
+    ensures { IfOk result (RequestsAs status command.now) }
 {
-    match session {
-        None => Ok(Request::Nothing(Refusal::NoLogin(None))),
-        Some(session) => request_of(alloc, session, command),
+    match ask_as(alloc, status, command) {
+        Ok(Ok(ask)) => Ok(Request::Ask(ask)),
+        Ok(Err(refusal)) => Ok(Request::Nothing(refusal)),
+        Err(refused) => Err(refused),
     }
 }
 
-fn request_of(alloc: Global, session: &Session, command: &str) -> Result<Request, AllocError>
-    ensures { IfOk result (RequestsOf session.now command.now) }
+fn ask_as(alloc: Global, status: Status, command: &str) -> Result<Result<Ask, Refusal>, AllocError>
+    ensures { IfOk result (AsksAs status command.now) }
+{
+    match status {
+        Status::Nobody => Ok(Err(Refusal::NoLogin(None))),
+        Status::Outside => ask_of(alloc, Status::Outside, command),
+        Status::Open => ask_of(alloc, Status::Open, command),
+        Status::Over => ask_of(alloc, Status::Over, command),
+    }
+}
+
+/// What a command that is no `\connect` asks of a session that stands so, or why it is refused at once.
+pub(crate) fn ask_of(
+    alloc: Global,
+    status: Status,
+    command: &str,
+) -> Result<Result<Ask, Refusal>, AllocError>
+    ensures { IfOk result (AsksOf status command.now) }
 {
     match read(alloc, command) {
-        Ok(read) => requested(session, read),
+        Ok(read) => Ok(asked(status, read)),
         Err(refused) => Err(refused),
     }
 }
@@ -110,73 +130,59 @@ fn read(alloc: Global, command: &str) -> Result<Result<Command, Refusal>, AllocE
 }
 
 // A block that is over is told before what the command is.
-fn requested(session: &Session, read: Result<Command, Refusal>) -> Result<Request, AllocError>
-    ensures { IfOk result (λ request. request ≡ spec.requested session.now session.now.block read) }
+fn asked(status: Status, read: Result<Command, Refusal>) -> Result<Ask, Refusal>
+    ensures { result ≡ spec.asked status read }
 {
-    match &session.block {
-        Block::Over => {
-            let request = requested_over(&read);
+    match status {
+        Status::Nobody => {
             drop(read);
-            Ok(request)
+            Err(Refusal::NoLogin(None))
         }
-        Block::Outside => match read {
-            Ok(command) => requested_outside(session, command),
-            Err(refusal) => Ok(Request::Nothing(refusal)),
+        Status::Over => {
+            let ask = asked_over(&read);
+            drop(read);
+            ask
+        }
+        Status::Outside => match read {
+            Ok(command) => asked_outside(command),
+            Err(refusal) => Err(refusal),
         },
-        Block::Open(it) => match read {
-            Ok(command) => Ok(requested_inside(it.txn, command)),
-            Err(refusal) => Ok(Request::Nothing(refusal)),
+        Status::Open => match read {
+            Ok(command) => asked_inside(command),
+            Err(refusal) => Err(refusal),
         },
     }
 }
 
-fn requested_outside(session: &Session, command: Command) -> Result<Request, AllocError>
-    ensures { IfOk result (λ request. request ≡ spec.requested_outside session.now command) }
+fn asked_outside(command: Command) -> Result<Ask, Refusal>
+    ensures { result ≡ spec.asked_outside command }
 {
     match command {
-        Command::Begin(mode) => Ok(Request::Begin(session.begin(mode_of(mode))?)),
-        Command::Commit | Command::Rollback => Ok(none_in_progress()),
-        Command::Run(statement) => run_for(session, statement),
+        Command::Begin(mode) => Ok(Ask::Begin(mode_of(mode))),
+        Command::Commit => Err(Refusal::TxnState(TxnState::NoneInProgress)),
+        Command::Rollback => Err(Refusal::TxnState(TxnState::NoneInProgress)),
+        Command::Run(statement) => Ok(Ask::Run(statement)),
     }
 }
 
-fn none_in_progress() -> Request
-    ensures { result ≡ Request.Nothing (Refusal.TxnState TxnState.NoneInProgress) }
-{
-    Request::Nothing(Refusal::TxnState(TxnState::NoneInProgress))
-}
-
-// Outside a block a transaction may write.
-fn run_for(session: &Session, statement: Statement) -> Result<Request, AllocError>
-    ensures { IfOk result (λ request. request ≡ Request.Run (spec.begin_of session.now Mode.Write) statement) }
-{
-    match session.begin(Mode::Write) {
-        Ok(begin) => Ok(Request::Run(begin, statement)),
-        Err(refused) => {
-            drop(statement);
-            Err(refused)
-        }
-    }
-}
-
-fn requested_inside(txn: u64, command: Command) -> Request
-    ensures { result ≡ spec.requested_inside txn command }
+fn asked_inside(command: Command) -> Result<Ask, Refusal>
+    ensures { result ≡ spec.asked_inside command }
 {
     match command {
-        Command::Begin(_) => Request::Nothing(Refusal::TxnState(TxnState::AlreadyInProgress)),
-        Command::Commit => Request::Commit(txn),
-        Command::Rollback => Request::Rollback(txn),
-        Command::Run(statement) => Request::Post(txn, statement),
+        Command::Begin(_) => Err(Refusal::TxnState(TxnState::AlreadyInProgress)),
+        Command::Commit => Ok(Ask::Commit),
+        Command::Rollback => Ok(Ask::Rollback),
+        Command::Run(statement) => Ok(Ask::Post(statement)),
     }
 }
 
-fn requested_over(read: &Result<Command, Refusal>) -> Request
-    ensures { result ≡ spec.requested_over read.now }
+fn asked_over(read: &Result<Command, Refusal>) -> Result<Ask, Refusal>
+    ensures { result ≡ spec.asked_over read.now }
 {
     match read {
-        Ok(Command::Commit) => Request::Leave,
-        Ok(Command::Rollback) => Request::Leave,
-        _ => Request::Nothing(Refusal::TxnState(TxnState::Over)),
+        Ok(Command::Commit) => Ok(Ask::Rollback),
+        Ok(Command::Rollback) => Ok(Ask::Rollback),
+        _ => Err(Refusal::TxnState(TxnState::Over)),
     }
 }
 

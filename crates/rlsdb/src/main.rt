@@ -3,16 +3,13 @@
 
 mod command_line;
 mod device;
-mod fault;
 mod passed;
-mod script;
-mod stream;
 
 use std::process::ExitCode;
 use std::thread;
 use std::thread::Builder;
 
-/// The stack in bytes on which a script runs. Evaluation goes as deep as policies lead from table to table, and no script of
+/// The stack in bytes on which a command runs. Evaluation goes as deep as policies lead from table to table, and no script of
 /// the size that is read leads deeper than this holds. The system gives it page by page, as it is used.
 const STACK: usize = 1 << 31;
 
@@ -20,9 +17,9 @@ const STACK: usize = 1 << 31;
 fn main(rt: HostRuntime) -> ExitCode {
     let status = thread::scope(thread::scope_env(), &rt, |scope| {
         let thread = Builder::new().stack_size(STACK);
-        match thread.spawn_scoped(scope, || command_line::run(&rt)) {
+        match thread.spawn_scoped(scope, || command_line::run(&rt, &rt)) {
             Ok(running) => running.join(&rt),
-            Err(_) => command_line::run(&rt),
+            Err(_) => command_line::run(&rt, &rt),
         }
     });
     ExitCode::from(status)

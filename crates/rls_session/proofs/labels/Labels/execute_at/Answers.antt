@@ -1,6 +1,6 @@
-use Rattle.rls_session.proofs.LabelLemmas.{under_known}
+use Rattle.rls_session.proofs.LabelLemmas.{under_known_as}
 use Rattle.rls_session.proofs.labels.Labels.execute_at.Goals as goal
 
 -- the label keeps its place and gets the session
-pub returns-clause-ok : goal.returns-clause-ok
-returns-clause-ok c = under_known c.args.core.now c.args.self.now c.self.inside.labels.items c.args.command.now c.index_mut-label.result.now c.args.place c.execute.new.core c.execute.new.session c.execute.result c.self.view_is c.requires c.index_mut-label.ensures.value c.execute.ensures.ok
+pub returns : goal.returns
+returns g c = under_known_as c.args.notes.now c.execute_at.new.notes c.args.self.now c.self.inside.labels.items c.args.command.now c.entry.inside.name c.entry.inside.label c.index_mut-entry.result.now c.args.place c.execute_at.new.self c.execute_at.result c.self.view_is c.requires.place c.entry.view_is c.index_mut-entry.ensures.value c.execute_at.ensures.ok

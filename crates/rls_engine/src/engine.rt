@@ -1,0 +1,264 @@
+//! One core under one lock.
+
+ghost use Rattle.std.specs.Prelude.{◌≡◌, ◌≢◌, ◌≤◌, false, length, None, IfOk, IfErr, IfSome, IsOk};
+ghost use Rattle.rls_value.specs.declared.refusal.Refusal.TheVariants.{Foreign};
+ghost use Rattle.rls_core.specs.Seen.{world_of};
+ghost use Rattle.rls_core.specs.Headline.{HaveOrder, AreExplained};
+ghost use Rattle.rls_engine.specs.Stands.{IsWorkOf};
+ghost use Rattle.rls_engine.specs.Drafts.{BeganAs, IsReceiptOf, RefusesBegin, StopsCommit, IsNext, WhenPosted};
+
+use crate::book::Book;
+use crate::commit::Commit;
+use crate::desk::Desk;
+use crate::held::{Held, Next};
+use crate::named::{Named, Records};
+use crate::posting::{Pending, Posting};
+use crate::receipt::Receipt;
+use crate::seen::Seen;
+use crate::step::Step;
+use crate::txn::Txn;
+use boxcar::Vec as Shared;
+use rls_core::{Begin, Core, Work};
+use rls_statement::Statement;
+use rls_value::{Name, Refusal};
+use std::alloc::{AllocError, Global};
+use std::marker::Model;
+use std::sync::{Mutex, Wait};
+
+/// A core under a lock, beside the places of its commits and of the steps of its transactions. Contracts see its tag.
+#[derive(Drop)]
+pub struct Engine<N: Named> {
+    tag: u64,
+    alloc: Global,
+    desk: Mutex<Desk<N>>,
+    commits: Shared<Commit>,
+    steps: Shared<Step>,
+}
+
+impl<N: Named> Model for Engine<N> {
+    ghost use Rattle.std.specs.Prelude.{◌≡◌, ℕ};
+
+    ghost Value = { ℕ };
+
+    ghost view = { λ it. it.tag };
+
+    ghost invariant = { λ it. (it.commits ≡ N.commits) × (it.steps ≡ N.steps) };
+}
+
+impl<N: Named> Engine<N> {
+    /// A core in which nothing happened. The caller gives each engine a tag of its own. For want of memory the records come back.
+    pub fn new(alloc: Global, tag: u64, records: Records) -> Result<Engine<N>, Records>
+        requires commits { records.commits ≡ N.commits }
+        requires steps { records.steps ≡ N.steps }
+        requires name { records.blank.name ≡ N.name }
+        requires parts { records.blank.parts ≡ N.parts }
+        ensures ok { IfOk result (λ engine. engine ≡ tag) }
+        ensures err { IfErr result (λ left. left ≡ records) }
+    {
+        let Ok(core) = Core::new(alloc) else {
+            return Err(records);
+        };
+        let Records {
+            commits,
+            steps,
+            blank,
+        } = records;
+        let (total, rest) = blank.open::<N>();
+        Ok(Engine {
+            tag,
+            alloc,
+            desk: Mutex::new(Desk::new(alloc, core, total, rest)),
+            commits,
+            steps,
+        })
+    }
+
+    /// The tag that the caller gave it.
+    pub fn tag(&self) -> u64
+        ensures { result ≡ self.now }
+    {
+        self.tag
+    }
+
+    /// Begins a transaction on a snapshot that has every commit that was learnt. A `Seen` of another engine, or one that has seen
+    /// more commits than there are, is `Foreign`.
+    pub fn begin<'a, R: Wait>(
+        &'a self,
+        rt: &R,
+        begin: Begin,
+        seen: &Seen<N>,
+    ) -> Result<Txn<'a, N>, Refusal>
+        ensures tag { IfOk result (λ txn. txn.tag ≡ self.entry.now) }
+        ensures began { IfOk result (λ txn. BeganAs txn.stand begin) }
+        ensures learnt { IfOk result (λ txn. seen.now.number ≤ txn.stand.running.so_far.snap) }
+        ensures new { IfOk result (λ txn. (txn.pending ≡ None) × (txn.over ≡ None)) }
+        ensures why { IfErr result (RefusesBegin begin) }
+        ensures known { seen.now.tag ≡ self.entry.now → seen.now.number ≡ 0 → IfErr result (λ why. why ≢ Foreign) }
+    {
+        if seen.tag != self.tag {
+            return Err(Refusal::Foreign);
+        }
+        let mut desk = self.desk.lock(rt);
+        if seen.number > desk.commits() {
+            return Err(Refusal::Foreign);
+        }
+        match desk.begin(rt, self.alloc, &self.commits, &self.steps, begin) {
+            Ok(held) => Ok(Txn::new(self, held)),
+            Err(refusal) => Err(refusal),
+        }
+    }
+
+    /// What the statement comes to on what is held, as it is pending.
+    pub(crate) fn run(&self, held: &Held<N>, statement: &Statement) -> Result<Pending, AllocError>
+        ensures { IfOk result (λ pending. (pending.statement ≡ statement.now) × IfSome pending.work (IsWorkOf held.now.txn held.now.stand statement.now)) }
+    {
+        let work = held.work(self.alloc, statement)?;
+        match statement.copy(self.alloc) {
+            Ok(statement) => Ok(Pending {
+                statement,
+                work: Some(work),
+            }),
+            Err(refused) => {
+                drop(work);
+                Err(refused)
+            }
+        }
+    }
+
+    /// Posts what is pending, which is run again if what it came to isn't here any more.
+    pub(crate) fn post<R: Wait>(&self, rt: &R, held: &Held<N>, pending: Pending) -> Posting
+        requires { IfSome pending.work (IsWorkOf held.now.txn held.now.stand pending.statement) }
+        ensures { WhenPosted N.steps held.now pending.statement result }
+    {
+        let Pending { statement, work } = pending;
+        let work = match work {
+            Some(work) => work,
+            None => match held.work(self.alloc, &statement) {
+                Ok(work) => work,
+                Err(_) => return Posting::NoMemory(Pending::asked(statement)),
+            },
+        };
+        match held.next(self.alloc, &work) {
+            Ok(next) => self.post_work(rt, held, statement, work, next),
+            Err(_) => Posting::NoMemory(Pending {
+                statement,
+                work: Some(work),
+            }),
+        }
+    }
+
+    /// Posts work: one hold of the lock.
+    fn post_work<R: Wait>(
+        &self,
+        rt: &R,
+        held: &Held<N>,
+        statement: Statement,
+        work: Work,
+        next: Next,
+    ) -> Posting
+        requires work { IsWorkOf held.now.txn held.now.stand statement work }
+        requires next { IsNext held.now.stand statement next }
+        ensures { WhenPosted N.steps held.now statement result }
+    {
+        let posted = self
+            .desk
+            .lock(rt)
+            .post(rt, self.alloc, &self.steps, held, work);
+        match posted {
+            Ok(at) => Posting::Done(next, at),
+            Err(Refusal::NoMemory) => Posting::NoMemory(Pending::asked(statement)),
+            Err(Refusal::Serial(why)) => Posting::Over(Refusal::Serial(why)),
+            Err(_) => Posting::Over(Refusal::Foreign),
+        }
+    }
+
+    /// Commits what is held: one hold of the lock.
+    pub(crate) fn commit<R: Wait>(
+        &self,
+        rt: &R,
+        held: &Held<N>,
+        role: Name,
+    ) -> Result<Receipt<N>, Refusal>
+        requires role { role ≡ held.now.stand.running.ctx.role }
+        ensures ok { IfOk result (IsReceiptOf self.now held.now.stand) }
+        ensures why { IfErr result (StopsCommit held.now.stand) }
+    {
+        let made = self
+            .desk
+            .lock(rt)
+            .commit(rt, self.alloc, &self.commits, &self.steps, held);
+        match made {
+            Ok((number, token, share, entry)) => Ok(Receipt {
+                tag: self.tag,
+                number,
+                role,
+                entry,
+                token,
+                share: Some(share),
+            }),
+            Err(refusal) => {
+                drop(role);
+                Err(refusal)
+            }
+        }
+    }
+
+    /// Ends a transaction: one hold of the lock.
+    pub(crate) fn rollback<R: Wait>(&self, rt: &R, txn: u64) {
+        self.desk.lock(rt).rollback(txn);
+    }
+
+    /// How many have committed: no fewer than receipts count in the `Seen`.
+    pub fn audited<R: Wait>(&self, rt: &R, seen: &mut Seen<N>) -> u64
+        ensures told { seen.new.told ≤ result }
+        ensures same { seen.new ≡ seen.old }
+    {
+        let mut desk = self.desk.lock(rt);
+        if let Some(share) = &mut seen.share {
+            desk.audit(share);
+        }
+        desk.commits()
+    }
+
+    /// Two receipts of one number have equal records.
+    pub fn agrees(&self, one: &Receipt<N>, other: &Receipt<N>)
+        requires { one.now.number ≡ other.now.number }
+        ensures { one.now.entry ≡ other.now.entry }
+    {
+        self.commits.agrees(&one.token, &other.token);
+    }
+
+    /// Ends the engine. Its book has at least as many records as the `Seen` has learnt and as receipts count in it; a `Seen` of
+    /// another engine, or one that has seen more, is `Foreign`, and the engine comes back.
+    pub fn close(self, seen: &Seen<N>) -> Result<Book, (Engine<N>, Refusal)>
+        ensures commits { IfOk result (λ book. book.commits ≡ N.commits) }
+        ensures ordered { IfOk result (λ book. HaveOrder (world_of book.seen)) }
+        ensures explained { IfOk result (λ book. AreExplained (world_of book.seen)) }
+        ensures learnt { IfOk result (λ book. seen.now.number ≤ length book.seen.committed) }
+        ensures told { IfOk result (λ book. seen.now.told ≤ length book.seen.committed) }
+        ensures err { IfErr result (λ left. (left.0 ≡ self) × (left.1 ≡ Foreign)) }
+        ensures known { seen.now.tag ≡ self → seen.now.number ≡ 0 → seen.now.told ≡ 0 → IsOk result }
+    {
+        let Engine {
+            tag,
+            alloc,
+            desk,
+            commits,
+            steps,
+        } = self;
+        let desk = desk.into_inner();
+        desk.kept();
+        let count = desk.commits();
+        if seen.tag != tag || seen.number > count || seen.told > count {
+            let engine = Engine {
+                tag,
+                alloc,
+                desk: Mutex::new(desk),
+                commits,
+                steps,
+            };
+            return Err((engine, Refusal::Foreign));
+        }
+        Ok(Book::new(desk, commits))
+    }
+}

@@ -1,0 +1,217 @@
+-- Each rule of a session, from what the calls ensure.
+use Rattle.std.proofs.Common.{◌≡◌, ◌⊎◌, inl, inr, ℕ, ◌+◌, max, true, false, List, [], ◌∷◌, ◌++◌, length, Option, Some, None, Result, Ok, Err, IfOk, refl, sym, ap, subst, ◌∙◌, append-nil, arith}
+use Rattle.rls_value.specs.declared.refusal.Refusal.{Refusal}
+use Rattle.rls_value.specs.declared.refusal.Refusal.TheVariants.{NoMemory, Serial, NoLogin}
+use Rattle.rls_value.specs.declared.refusal.Cause.{Cause}
+use Rattle.rls_value.specs.declared.refusal.TxnState.{TxnState}
+use Rattle.rls_value.specs.declared.refusal.TxnState.TheVariants.{NoneInProgress}
+use Rattle.rls_value.specs.declared.tag.Tag.{Tag}
+use Rattle.rls_statement.specs.{Tags.tag_of, declared.statement.Statement.Statement}
+use Rattle.rls_guard.specs.{declared.context.Mode.Mode, declared.effect.Effect.Effect, declared.reply.Reply.Reply}
+use Rattle.rls_guard.specs.declared.context.Mode.TheVariants as m
+use Rattle.rls_guard.specs.declared.effect.Effect.TheVariants as e
+use Rattle.rls_guard.specs.declared.reply.Reply.TheVariants as p
+use Rattle.rls_access.specs.{Statements.role_after, Transactions.Begin}
+use Rattle.rls_engine.specs.Drafts.{told_of}
+use Rattle.rls_session.specs.Sessions.{answer_to}
+use Rattle.rls_session.specs.Parts.{Block, Session, Shown, Notes, noted}
+use Rattle.rls_session.specs.Requests.{AsksOf, Requests, status_of}
+use Rattle.rls_session.specs.Blocks.{Came, CanCome, Carries, Executes, ExecutesIn, Given, RefusesAnyBegin, Ticket, begin_of, begun, committed, given, given_in, in_block, inside, outside, over_in, posted, ran, shows, started, with_statement}
+use Rattle.rls_session.specs.Stops.{CommitsAlone, Ended, HasCommitted, HasPosted, IsConflictAnswer, IsStarted}
+use Rattle.rls_session.specs.declared.answer.Answer.{Answer}
+use Rattle.rls_session.specs.declared.answer.Answer.TheVariants as a
+use Rattle.rls_session.specs.declared.requesting.Ask.{Ask}
+use Rattle.rls_session.specs.declared.requesting.Ask.TheVariants as ask
+use Rattle.rls_session.specs.declared.requesting.Request.{Request}
+use Rattle.rls_session.specs.declared.requesting.Request.TheVariants as q
+
+-- nothing was asked of the engine
+abbrev pub unasked : Came
+unasked = record { begin = Ok (record { txn = 0; snap = 0 }); post = Ok (e.Refused NoMemory []); commit = Ok 0 }
+
+-- nothing is noted
+pub noted_none : (notes : Notes) → notes ≡ noted notes []
+noted_none notes =
+    let told : notes.told ≡ notes.told + 0 = omega arith in
+    λ i. record { tag = notes.tag; newest = notes.newest; told = told i; shown = sym (append-nil notes.shown) i }
+
+-- what is given without a commit
+pub carries_as : (notes : Notes) (session : Option Session) (request : Request) (came : Came) (answer : Answer) (then : Option Session) → CanCome came → answer ≡ (given notes.newest session request came).answer → then ≡ (given notes.newest session request came).session → (given notes.newest session request came).shown ≡ [] → Carries notes session request answer notes then
+carries_as notes session request came answer then can answered becomes none = record {
+  came = came;
+  can = can;
+  answered = answered;
+  becomes = becomes;
+  notes = noted_none notes ∙ ap (λ (more : List Shown). noted notes more) (sym none);
+}
+
+-- refused at once
+pub carries_nothing : (notes : Notes) (session : Option Session) (refusal : Refusal) → Carries notes session (q.Nothing refusal) (a.Refused refusal) notes session
+carries_nothing notes session refusal = carries_as notes session (q.Nothing refusal) unasked (a.Refused refusal) session (record { begin = tt; post = tt; commit = tt }) refl refl refl
+
+-- asked where nobody is connected
+pub carries_nobody : (notes : Notes) (asked : Ask) → Carries notes None (q.Ask asked) (a.Refused (NoLogin None)) notes None
+carries_nobody notes asked = carries_as notes None (q.Ask asked) unasked (a.Refused (NoLogin None)) None (record { begin = tt; post = tt; commit = tt }) refl refl refl
+
+-- a connect
+pub carries_connect : (notes : Notes) (session : Option Session) (role : List ℕ) (y : Session) → y ≡ outside role role → Carries notes session (q.Connect role) (a.Replied Tag.Connect p.Done) notes (Some y)
+carries_connect notes session role y is = carries_as notes session (q.Connect role) unasked (a.Replied Tag.Connect p.Done) (Some y) (record { begin = tt; post = tt; commit = tt }) refl (ap (λ (s : Session). Some s) is) refl
+
+pub carries_connect_refused : (notes : Notes) (session : Option Session) (role : List ℕ) (refusal : Refusal) (answer : Answer) (then : Option Session) → answer ≡ a.Refused refusal → RefusesAnyBegin refusal → then ≡ None → Carries notes session (q.Connect role) answer notes then
+carries_connect_refused notes session role refusal answer then is refuses none = carries_as notes session (q.Connect role) (record unasked { begin = Err refusal }) answer then (record { begin = refuses; post = tt; commit = tt }) is none refl
+
+-- where it is refused, or a fault
+pub connect_stopped : {E : Type 0} (notes : Notes) (session then : Option Session) (role : List ℕ) (refusal : Refusal) (result : Result Answer E) → IfOk result (λ answer. (answer ≡ a.Refused refusal) × RefusesAnyBegin refusal × (then ≡ None)) → IfOk result (λ answer. Carries notes session (q.Connect role) answer notes then)
+connect_stopped notes session then role refusal (Ok answer) stopped = carries_connect_refused notes session role refusal answer then stopped.0 stopped.1 stopped.2
+connect_stopped notes session then role refusal (Err fault) stopped = tt
+
+-- BEGIN
+pub carries_begin : (notes : Notes) (x y : Session) (mode : Mode) (b : Block) → IsStarted notes.newest (begin_of x mode) b → y ≡ inside x.login x.role b → Carries notes (Some x) (q.Ask (ask.Begin mode)) (a.Replied Tag.Begin p.Done) notes (Some y)
+carries_begin notes x y mode b is_started is =
+    carries_as notes (Some x) (q.Ask (ask.Begin mode)) (record unasked { begin = Ok (record { txn = b.part.txn; snap = b.part.snap }) }) (a.Replied Tag.Begin p.Done) (Some y) (record { begin = tt; post = tt; commit = tt }) refl
+    (ap (λ (s : Session). Some s) (is ∙ ap (λ (block : Block). inside x.login x.role block) is_started)) refl
+
+pub begin_stopped : {E : Type 0} (notes : Notes) (x : Session) (mode : Mode) (refusal : Refusal) (result : Result Answer E) → IfOk result (λ answer. (answer ≡ a.Refused refusal) × RefusesAnyBegin refusal) → IfOk result (λ answer. Carries notes (Some x) (q.Ask (ask.Begin mode)) answer notes (Some x))
+begin_stopped notes x mode refusal (Ok answer) stopped = carries_as notes (Some x) (q.Ask (ask.Begin mode)) (record unasked { begin = Err refusal }) answer (Some x) (record { begin = stopped.1; post = tt; commit = tt }) stopped.0 refl refl
+begin_stopped notes x mode refusal (Err fault) stopped = tt
+
+-- what is asked of the open block
+pub in_open : (x : Session) (b : Block) (gives : Block → Given) → x ≡ inside x.login x.role b → in_block x x.block gives ≡ gives b
+in_open x b gives is = ap (λ (s : Session). in_block x s.block gives) is
+
+pub in_none : (x : Session) (gives : Block → Given) → x.block ≡ None → in_block x x.block gives ≡ record { answer = a.Refused (Refusal.TxnState NoneInProgress); session = Some x; shown = [] }
+in_none x gives none = ap (λ (o : Option Block). in_block x o gives) none
+
+-- the end of what a block is given, without a commit
+abbrev pub Gives : Notes → Session → Ask → Came → Given → Type 0
+Gives notes x asked came g = given_in notes.newest x asked came ≡ g
+
+pub carries_given : (notes : Notes) (x : Session) (asked : Ask) (came : Came) (g : Given) (answer : Answer) (then : Option Session) → Gives notes x asked came g → CanCome came → answer ≡ g.answer → then ≡ g.session → g.shown ≡ [] → Carries notes (Some x) (q.Ask asked) answer notes then
+carries_given notes x asked came g answer then gives can answered becomes none =
+    carries_as notes (Some x) (q.Ask asked) came answer then can
+    (answered ∙ ap (λ (h : Given). h.answer) (sym gives)) (becomes ∙ ap (λ (h : Given). h.session) (sym gives)) (ap (λ (h : Given). h.shown) gives ∙ none)
+
+-- no block is open
+pub post_without : (notes : Notes) (x y : Session) (asked : Statement) (answer : Answer) → x.block ≡ None → answer ≡ a.Refused (Refusal.TxnState NoneInProgress) → y ≡ x → Carries notes (Some x) (q.Ask (ask.Post asked)) answer notes (Some y)
+post_without notes x y asked answer none is same =
+    carries_given notes x (ask.Post asked) unasked (record { answer = a.Refused (Refusal.TxnState NoneInProgress); session = Some x; shown = [] }) answer (Some y)
+    (in_none x (λ block. posted x block asked unasked.post) none) (record { begin = tt; post = tt; commit = tt }) is (ap (λ (s : Session). Some s) same) refl
+
+pub commit_without : (notes : Notes) (x y : Session) (answer : Answer) → x.block ≡ None → answer ≡ a.Refused (Refusal.TxnState NoneInProgress) → y ≡ x → Carries notes (Some x) (q.Ask ask.Commit) answer notes (Some y)
+commit_without notes x y answer none is same =
+    carries_given notes x ask.Commit unasked (record { answer = a.Refused (Refusal.TxnState NoneInProgress); session = Some x; shown = [] }) answer (Some y)
+    (in_none x (λ block. committed x block unasked.commit) none) (record { begin = tt; post = tt; commit = tt }) is (ap (λ (s : Session). Some s) same) refl
+
+-- a session that is put back into a block
+pub put_in : (x x' y : Session) (b : Block) → x' ≡ outside x.login x.role → y ≡ inside x'.login x'.role b → y ≡ inside x.login x.role b
+put_in x x' y b taken put = put ∙ ap (λ (s : Session). inside s.login s.role b) taken
+
+-- the block is as it was
+pub put_back : (x x' y : Session) (b b' : Block) → x ≡ inside x.login x.role b → x' ≡ outside x.login x.role → b' ≡ b → y ≡ inside x'.login x'.role b' → y ≡ x
+put_back x x' y b b' is taken same put = put_in x x' y b' taken put ∙ (ap (λ (block : Block). inside x.login x.role block) same ∙ sym is)
+
+-- a statement in a block
+pub carries_post : (notes : Notes) (x x' y : Session) (b b' : Block) (asked : Statement) (told : Result Reply Refusal) (tag : Tag) (answer : Answer) → x ≡ inside x.login x.role b → x' ≡ outside x.login x.role → HasPosted b asked b' told → y ≡ inside x'.login x'.role b' → tag ≡ tag_of asked → ((effect : Effect) → told ≡ told_of effect → answer ≡ answer_to tag effect) → Carries notes (Some x) (q.Ask (ask.Post asked)) answer notes (Some y)
+carries_post notes x x' y b b' asked told tag answer is taken has put same says =
+    let came : Came = record unasked { post = Ok has.effect } in
+    carries_given notes x (ask.Post asked) came (posted x b asked (Ok has.effect)) answer (Some y)
+    (in_open x b (λ block. posted x block asked came.post) is) (record { begin = tt; post = tt; commit = tt })
+    (says has.effect has.told_is ∙ ap (λ (t : Tag). answer_to t has.effect) same)
+    (ap (λ (s : Session). Some s) (put_in x x' y b' taken put ∙ ap (λ (block : Block). inside x.login x.role block) has.block)) refl
+
+-- one that met a conflict
+pub carries_post_over : (notes : Notes) (x y : Session) (b : Block) (asked : Statement) (why : Cause) → x ≡ inside x.login x.role b → y ≡ over_in x.login x.role → Carries notes (Some x) (q.Ask (ask.Post asked)) (a.Refused (Serial why)) notes (Some y)
+carries_post_over notes x y b asked why is over =
+    let came : Came = record unasked { post = Err (Serial why) } in
+    carries_given notes x (ask.Post asked) came (posted x b asked (Err (Serial why))) (a.Refused (Serial why)) (Some y)
+    (in_open x b (λ block. posted x block asked came.post) is) (record { begin = tt; post = tt; commit = tt }) refl (ap (λ (s : Session). Some s) over) refl
+
+-- COMMIT
+pub carries_commit : (old new : Notes) (x y : Session) (b : Block) (role : List ℕ) → x ≡ inside x.login x.role b → HasCommitted b old new role → y ≡ outside x.login role → Carries old (Some x) (q.Ask ask.Commit) (a.Replied Tag.Commit p.Done) new (Some y)
+carries_commit old new x y b role is done becomes =
+    let came : Came = record unasked { commit = Ok done.number } in
+    let gives : given_in old.newest x ask.Commit came ≡ committed x b (Ok done.number) = in_open x b (λ block. committed x block came.commit) is in
+    record {
+      came = came;
+      can = record { begin = tt; post = tt; commit = tt };
+      answered = ap (λ (h : Given). h.answer) (sym gives);
+      becomes = ap (λ (s : Session). Some s) (becomes ∙ ap (λ (r : List ℕ). outside x.login r) done.role_is) ∙ ap (λ (h : Given). h.session) (sym gives);
+      notes = done.notes ∙ ap (λ (h : Given). noted old h.shown) (sym gives);
+    }
+
+-- one that met a conflict
+pub carries_commit_over : (old new : Notes) (x y : Session) (b : Block) (why : Cause) → x ≡ inside x.login x.role b → new ≡ old → y ≡ outside x.login x.role → Carries old (Some x) (q.Ask ask.Commit) (a.Refused (Serial why)) new (Some y)
+carries_commit_over old new x y b why is same becomes =
+    let came : Came = record unasked { commit = Err (Serial why) } in
+    subst (λ (n : Notes). Carries old (Some x) (q.Ask ask.Commit) (a.Refused (Serial why)) n (Some y)) (sym same)
+    (carries_given old x ask.Commit came (committed x b (Err (Serial why))) (a.Refused (Serial why)) (Some y)
+    (in_open x b (λ block. committed x block came.commit) is) (record { begin = tt; post = tt; commit = tt }) refl (ap (λ (s : Session). Some s) becomes) refl)
+
+-- ROLLBACK
+pub carries_rollback : (notes : Notes) (x y : Session) → y ≡ outside x.login x.role → Carries notes (Some x) (q.Ask ask.Rollback) (a.Replied Tag.Rollback p.Done) notes (Some y)
+carries_rollback notes x y becomes = carries_as notes (Some x) (q.Ask ask.Rollback) unasked (a.Replied Tag.Rollback p.Done) (Some y) (record { begin = tt; post = tt; commit = tt }) refl (ap (λ (s : Session). Some s) becomes) refl
+
+-- a statement outside a block: its begin is refused
+pub run_unbegun : {E : Type 0} (old new : Notes) (x y : Session) (asked : Statement) (refusal : Refusal) (result : Result Answer E) → IfOk result (λ answer. (answer ≡ a.Refused refusal) × RefusesAnyBegin refusal) → new ≡ old → y ≡ x → IfOk result (λ answer. Carries old (Some x) (q.Ask (ask.Run asked)) answer new (Some y))
+run_unbegun old new x y asked refusal (Ok answer) stopped same becomes =
+    subst (λ (n : Notes). Carries old (Some x) (q.Ask (ask.Run asked)) answer n (Some y)) (sym same)
+    (carries_as old (Some x) (q.Ask (ask.Run asked)) (record unasked { begin = Err refusal }) answer (Some y) (record { begin = stopped.1; post = tt; commit = tt }) stopped.0 (ap (λ (s : Session). Some s) becomes) refl)
+run_unbegun old new x y asked refusal (Err fault) stopped same becomes = tt
+
+-- its post meets a conflict
+run_over : (old new : Notes) (x y : Session) (asked : Statement) (answer : Answer) → IsConflictAnswer answer → new ≡ old → y ≡ x → Carries old (Some x) (q.Ask (ask.Run asked)) answer new (Some y)
+run_over old new x y asked answer conflict same becomes =
+    subst (λ (n : Notes). Carries old (Some x) (q.Ask (ask.Run asked)) answer n (Some y)) (sym same)
+    (carries_as old (Some x) (q.Ask (ask.Run asked)) (record unasked { post = Err (Serial conflict.why) }) answer (Some y) (record { begin = tt; post = tt; commit = tt }) conflict.is (ap (λ (s : Session). Some s) becomes) refl)
+
+pub run_stopped : {E : Type 0} (old new : Notes) (x y : Session) (asked : Statement) (result : Result Answer E) → IfOk result IsConflictAnswer → new ≡ old → y ≡ x → IfOk result (λ answer. Carries old (Some x) (q.Ask (ask.Run asked)) answer new (Some y))
+run_stopped old new x y asked (Ok answer) conflict same becomes = run_over old new x y asked answer conflict same becomes
+run_stopped old new x y asked (Err fault) conflict same becomes = tt
+
+-- it is committed, or its commit meets a conflict
+run_ended : (old new : Notes) (x y : Session) (asked : Statement) (b b' : Block) (told : Result Reply Refusal) (tag : Tag) (answer said : Answer) → IsStarted old.newest (begin_of x m.Write) b → HasPosted b asked b' told → tag ≡ tag_of asked → ((effect : Effect) → told ≡ told_of effect → answer ≡ answer_to tag effect) → Ended b' answer old x said new y → Carries old (Some x) (q.Ask (ask.Run asked)) said new (Some y)
+run_ended old new x y asked b b' told tag answer said is_started has same says ended =
+    let ticket : Ticket = record { txn = b.part.txn; snap = b.part.snap } in
+    let effect = has.effect in
+    let block : b' ≡ with_statement (started old.newest (begin_of x m.Write) ticket) asked effect = has.block ∙ ap (λ (it : Block). with_statement it asked effect) is_started in
+    record {
+      came = record { begin = Ok ticket; post = Ok effect; commit = Ok ended.done.number };
+      can = record { begin = tt; post = tt; commit = tt };
+      answered = ended.said_is ∙ (says effect has.told_is ∙ ap (λ (t : Tag). answer_to t effect) same);
+      becomes = ap (λ (s : Session). Some s) (ended.session_is ∙ ap (λ (r : List ℕ). outside x.login r) (ended.done.role_is ∙ ap (λ (it : Block). it.role) block));
+      notes = ended.done.notes ∙ ap (λ (it : Block). noted old (shows it ended.done.number ∷ [])) block;
+    }
+
+pub run_committed : {E : Type 0} (old new : Notes) (x y : Session) (asked : Statement) (b b' : Block) (told : Result Reply Refusal) (tag : Tag) (answer : Answer) (result : Result Answer E) → IsStarted old.newest (begin_of x m.Write) b → HasPosted b asked b' told → tag ≡ tag_of asked → ((effect : Effect) → told ≡ told_of effect → answer ≡ answer_to tag effect) → IfOk result (λ said. CommitsAlone b' answer old x said new y) → IfOk result (λ said. Carries old (Some x) (q.Ask (ask.Run asked)) said new (Some y))
+run_committed old new x y asked b b' told tag answer (Ok said) is_started has same says (inl ended) = run_ended old new x y asked b b' told tag answer said is_started has same says ended
+run_committed old new x y asked b b' told tag answer (Ok said) is_started has same says (inr stopped) = run_over old new x y asked said stopped.0 stopped.1 stopped.2
+run_committed old new x y asked b b' told tag answer (Err fault) is_started has same says done = tt
+
+-- a commit that meets a conflict, or a fault
+pub commit_stopped : {E : Type 0} (block : Block) (answer : Answer) (old new : Notes) (x y : Session) (result : Result Answer E) → IfOk result IsConflictAnswer → new ≡ old → y ≡ x → IfOk result (λ said. CommitsAlone block answer old x said new y)
+commit_stopped block answer old new x y (Ok said) conflict same becomes = inr (conflict, same, becomes)
+commit_stopped block answer old new x y (Err fault) conflict same becomes = tt
+
+pub committed_alone : (block : Block) (answer : Answer) (old new : Notes) (x y : Session) (role : List ℕ) → HasCommitted block old new role → y ≡ outside x.login role → CommitsAlone block answer old x answer new y
+committed_alone block answer old new x y role done is = inl (record { role = role; done = done; said_is = refl; session_is = is })
+
+-- a command that is refused at once, and one that is asked of the session
+pub executes_nothing : (notes : Notes) (x : Session) (command : List ℕ) (refusal : Refusal) → AsksOf (status_of (Some x)) command (Err refusal) → ExecutesIn notes x command (a.Refused refusal) notes x
+executes_nothing notes x command refusal asks = record { given = Err refusal; asks = asks; carries = carries_nothing notes (Some x) refusal }
+
+pub executes_asked : {E : Type 0} (old new : Notes) (x y : Session) (command : List ℕ) (asked : Ask) (result : Result Answer E) → AsksOf (status_of (Some x)) command (Ok asked) → IfOk result (λ answer. Carries old (Some x) (q.Ask asked) answer new (Some y)) → IfOk result (λ answer. ExecutesIn old x command answer new y)
+executes_asked old new x y command asked (Ok answer) asks carries = record { given = Ok asked; asks = asks; carries = carries }
+executes_asked old new x y command asked (Err fault) asks carries = tt
+
+-- a command of a label
+pub executes_as : {E : Type 0} (old new : Notes) (x y : Option Session) (command : List ℕ) (request : Request) (result : Result Answer E) → Requests (status_of x) command request → IfOk result (λ answer. Carries old x request answer new y) → IfOk result (λ answer. Executes old x command answer new y)
+executes_as old new x y command request (Ok answer) requests carries = record { request = request; requests = requests; carries = carries }
+executes_as old new x y command request (Err fault) requests carries = tt
+
+-- a session whose block is over now
+pub over_is : (s x : Session) → s ≡ outside x.login x.role → record { login = s.login; role = s.role; block = s.block; over = true } ≡ over_in x.login x.role
+over_is s x is = λ i. record { login = (is i).login; role = (is i).role; block = (is i).block; over = true }
+
+-- a block that began, by what it began as
+pub started_as : (n m : ℕ) (begin other : Begin) (b : Block) → IsStarted n begin b → n ≡ m → begin ≡ other → IsStarted m other b
+started_as n m begin other b is newest same = subst (λ (z : Begin). IsStarted m z b) same (subst (λ (k : ℕ). IsStarted k begin b) newest is)
