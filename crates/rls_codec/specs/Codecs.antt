@@ -5,7 +5,7 @@ use Rattle.std.proofs.Common.{refl, arith}
 use Rattle.serde_json.specs.Data.{boolean, number, string, array, unsigned, no_items, item}
 use Rattle.serde_json.specs.Find.{at, as_str, as_bool, as_array, of_integer}
 use Rattle.serde_json.specs.View.{items_of}
-use Rattle.rls_codec.specs.Looking.{Anything, Both, paired, found_where, found_after, has_length, is_int, int_found, natural_found, below, FitsIfThere, written_or_null, found_unless_null}
+use Rattle.rls_codec.specs.Looking.{Anything, Both, paired, worded, found_where, found_after, has_length, is_int, int_found, natural_found, below, FitsIfThere, written_or_null, found_unless_null}
 use Rattle.rls_codec.specs.Codec.{Codec}
 use Rattle.rls_codec.specs.CodecLaws as laws
 
@@ -137,3 +137,7 @@ parsed Fits to from c fits same = record {
   plain = λ b. c.plain (to b);
   flat = λ b. c.flat (to b);
 }
+
+-- one of these values, by its word
+abbrev pub one_word : {A : Type 0} (word : A → List ℕ) (all : List A) → ((a : A) → worded word all (word a) ≡ Some a) → Codec A
+one_word word all told = parsed Anything word (worded word all) text (λ a h. tt) (λ a h. told a)

@@ -49,6 +49,13 @@ below bound n = found_where (nat_lt n bound) (Some n)
 abbrev pub is_null : Data → Bool
 is_null d = is_some (as_null d)
 
+-- ---- words
+
+-- the first of these whose word the text is
+abbrev pub worded : {A : Type 0} → (A → List ℕ) → List A → List ℕ → Option A
+worded word [] t = None
+worded word (a ∷ others) t = if bytes_eq t (word a) then Some a else worded word others t
+
 -- ---- what may be absent
 
 -- what is there fits, and its JSON isn't `null`

@@ -7,6 +7,7 @@ mod lines;
 mod objects;
 mod options;
 mod scalars;
+mod words;
 
 pub use arrays::{
     array_of, has_length, is_number, is_word, item, list_from_json, list_to_json, require_length,
@@ -15,3 +16,4 @@ pub use coded::{Coded, NeverNull, Unread, json_of};
 pub use lines::{read_line, write_line};
 pub use objects::{has_size, member, require_size};
 pub use scalars::read_text;
+pub use words::{Worded, read_word, write_word};

@@ -1,3 +1,6 @@
 pub mod TokenLemmas
 pub mod HoldLemmas
 pub mod KeepLemmas
+pub mod StatementsCross
+pub mod CoreCrosses
+pub mod EngineCrosses

@@ -5,6 +5,12 @@ pub mod Examples
 pub mod LabelLemmas
 pub mod LimitLemmas
 pub mod LineLemmas
+pub mod NameLemmas
+pub mod PlanLemmas
 pub mod RenderingLemmas
 pub mod RuleLemmas
 pub mod ScriptLemmas
+pub mod TaskLemmas
+pub mod TextLemmas
+pub mod TrackLemmas
+pub mod WorkersCross

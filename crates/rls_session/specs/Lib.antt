@@ -10,3 +10,7 @@ pub mod Rendering
 pub mod Labels
 pub mod Alone
 pub mod Scripts
+pub mod Phases
+pub mod Plans
+pub mod Texts
+pub mod Works

@@ -81,3 +81,11 @@ abbrev pub notes_code : Coded Notes
 notes_code =
     code_by (ℕ × (ℕ × (ℕ × List Shown))) (coded× coded_ℕ (coded× coded_ℕ (coded× coded_ℕ (coded_list shown_code))))
     (λ n. (n.tag, (n.newest, (n.told, n.shown)))) (λ p. record { tag = p.0; newest = p.1.0; told = p.1.1.0; shown = p.1.1.1 }) (λ _. refl)
+
+-- the same knowledge, where nothing was shown
+abbrev pub alike : Notes → Notes
+alike notes = record { tag = notes.tag; newest = notes.newest; told = 0; shown = [] }
+
+-- with all that others show
+abbrev pub joined : Notes → Notes → Notes
+joined notes other = record { tag = notes.tag; newest = max notes.newest other.newest; told = notes.told + other.told; shown = notes.shown ++ other.shown }

@@ -1,13 +1,13 @@
 //! What a caller was shown.
 
-ghost use Rattle.std.specs.Prelude.{◌≡◌, ◌≤◌, [], length, All, IfOk, IfErr, OnErr};
+ghost use Rattle.std.specs.Prelude.{◌≡◌, ◌≤◌, [], length, All, IfOk, IfErr, OnOk, OnErr};
 ghost use Rattle.rls_session.specs.Books.{IsBooked};
-ghost use Rattle.rls_session.specs.Parts.{noted};
-ghost use Rattle.rls_session.specs.Stops.{HasCommitted, WhenStopped};
+ghost use Rattle.rls_session.specs.Parts.{noted, alike, joined};
+ghost use Rattle.rls_session.specs.Stops.{HasCommitted, WhenStopped, IsFault};
 
 use crate::open::{Kept, Open, Stopped, stopped_by};
 use rls_engine::{Book, CommitFault, Named, Seen};
-use rls_value::Name;
+use rls_value::{Name, Refusal};
 use std::alloc::Global;
 use std::marker::Model;
 use std::sync::Wait;
@@ -92,6 +92,33 @@ impl<N: Named> Notes<N> {
     {
         let _seen = &self.seen;
         agree_all(self.kept.as_slice(), book);
+    }
+
+    /// The same knowledge, where nothing was shown.
+    pub fn alike(&self, alloc: Global) -> Notes<N>
+        ensures { result ≡ alike self.now }
+    {
+        Notes {
+            seen: self.seen.alike(),
+            kept: Vec::new(alloc),
+        }
+    }
+
+    /// Takes all that others show. `Err` is want of memory, or `Foreign` where the others are of another tag.
+    pub fn join(&mut self, other: &mut Notes<N>) -> Result<(), Refusal>
+        requires wide { N.parts ≡ 18446744073709551615 }
+        ensures ok { OnOk result (self.new ≡ joined self.old other.old) }
+        ensures left { OnOk result (other.new ≡ alike other.old) }
+        ensures fault { IfErr result IsFault }
+    {
+        if self.seen.tag() != other.seen.tag() {
+            return Err(Refusal::Foreign);
+        }
+        let Ok(()) = self.kept.append(&mut other.kept) else {
+            return Err(Refusal::NoMemory);
+        };
+        self.seen.join(&mut other.seen);
+        Ok(())
     }
 }
 

@@ -1,14 +1,15 @@
-//! The command line: `rlsdb run FILE`, or `-` for standard input; its faults and its exit status.
+//! The command line: `rlsdb run FILE [--threads]`, or `-` for standard input; its faults and its exit status.
 
 use crate::device::{DeviceIn, DeviceOut};
 use clap::error::ErrorKind;
-use clap::{Arg, Command};
-use rls_session::{Book, RunFault, run_script};
+use clap::{Arg, ArgAction, Command};
+use rls_session::{Book, NoGate, RunFault, run_script, run_threads};
 use std::alloc::{AllocError, Global};
 use std::convert::AsStr;
 use std::fs::File;
 use std::io::Read;
 use std::sync::Wait;
+use std::thread::Threads;
 use std::time::Clock;
 use std::{env, io};
 
@@ -28,14 +29,24 @@ A FILE has a command a line: `LABEL: \\connect ROLE` or `LABEL: STATEMENT`. The 
 
 A label is 1 to 63 lower case letters, digits or underscores; up to 64 labels have a session each.
 Empty lines and lines that begin with `--` are skipped; every answer is written as `LABEL: TEXT`.
-Lines run in their order.
+Lines run in their order. With --threads each label runs its lines on a thread of its own up to the next line `==`, and answers
+are written label by label.
 
-Example: rlsdb run FILE
+Example: rlsdb run FILE --threads
 
 Exit statuses: 0 done, refused statements included; 1 a read or write fault, or want of memory; 2 a usage fault.";
 
+/// A script to run.
+#[derive(Clone, Copy)]
+pub struct ScriptFile<'a> {
+    /// Its file, or `-` for standard input.
+    pub file: &'a str,
+    /// Whether each label has a thread.
+    pub threads: bool,
+}
+
 /// Runs what the words of the command line ask for, and gives the exit status.
-pub fn run<W: Wait + Clock>(rt: &HostRuntime, waits: &W) -> u8 {
+pub fn run<W: Threads + Wait + Clock + Sync>(rt: &HostRuntime, waits: &W) -> u8 {
     let Ok(words) = env::args(rt) else {
         return report(rt, RunFault::NoMemory);
     };
@@ -43,22 +54,26 @@ pub fn run<W: Wait + Clock>(rt: &HostRuntime, waits: &W) -> u8 {
         return report(rt, RunFault::NoMemory);
     };
     match script_named(rt.alloc(), words.as_slice()) {
-        Ok(Some(file)) => run_named(rt, waits, file),
+        Ok(Some(run)) => run_named(rt, waits, run),
         Ok(None) => USAGE,
         Err(error) => explain(rt, &error),
     }
 }
 
-/// The file of the script that the words name, or `-` for standard input.
+/// The script that the words name.
 pub fn script_named<'a, T: AsStr>(
     alloc: Global,
     words: &'a [T],
-) -> Result<Option<&'a str>, clap::Error> {
+) -> Result<Option<ScriptFile<'a>>, clap::Error> {
     let matches = command(alloc)?.try_get_matches_from(words)?;
     let Some((_, words)) = matches.subcommand() else {
         return Ok(None);
     };
-    Ok(words.get_str("FILE"))
+    let threads = words.get_flag("threads");
+    match words.get_str("FILE") {
+        Some(file) => Ok(Some(ScriptFile { file, threads })),
+        None => Ok(None),
+    }
 }
 
 fn command<'a>(alloc: Global) -> Result<Command<'a>, AllocError> {
@@ -75,10 +90,15 @@ fn run_command<'a>(alloc: Global) -> Result<Command<'a>, AllocError> {
     let file = Arg::new(alloc, "FILE")
         .required(true)
         .help("The script to run, or `-` for standard input");
+    let threads = Arg::new(alloc, "threads")
+        .long("threads")
+        .action(ArgAction::SetTrue)
+        .help("Give each label a thread of its own");
     Command::new(alloc, "run")
         .about("Runs a script on an empty database and writes each answer under its label")
         .after_help(AFTER_HELP)
-        .arg(file)
+        .arg(file)?
+        .arg(threads)
 }
 
 // Help goes to standard output, all else to standard error.
@@ -98,22 +118,32 @@ fn report(rt: &HostRuntime, fault: RunFault) -> u8 {
     FAULT
 }
 
-fn run_named<W: Wait + Clock>(rt: &HostRuntime, waits: &W, file: &str) -> u8 {
-    if file == "-" {
-        return run_reader(rt, waits, rt.reader());
+fn run_named<W: Threads + Wait + Clock + Sync>(
+    rt: &HostRuntime,
+    waits: &W,
+    run: ScriptFile<'_>,
+) -> u8 {
+    if run.file == "-" {
+        return run_reader(rt, waits, run.threads, rt.reader());
     }
-    match File::open(rt, file) {
-        Ok(reader) => run_reader(rt, waits, reader),
+    match File::open(rt, run.file) {
+        Ok(file) => run_reader(rt, waits, run.threads, file),
         Err(error) if error.kind() == io::ErrorKind::OutOfMemory => report(rt, RunFault::NoMemory),
         Err(error) => {
-            let _ = eprintln!(rt; "rlsdb: cannot read {file}: {error}");
+            let name = run.file;
+            let _ = eprintln!(rt; "rlsdb: cannot read {name}: {error}");
             FAULT
         }
     }
 }
 
-fn run_reader<W: Wait + Clock, R: Read + Drop>(rt: &HostRuntime, waits: &W, reader: R) -> u8 {
-    match run_from(rt, waits, reader) {
+fn run_reader<W: Threads + Wait + Clock + Sync, R: Read + Drop>(
+    rt: &HostRuntime,
+    waits: &W,
+    threads: bool,
+    reader: R,
+) -> u8 {
+    match run_from(rt, waits, threads, reader) {
         Ok(book) => {
             drop(book);
             0
@@ -122,15 +152,20 @@ fn run_reader<W: Wait + Clock, R: Read + Drop>(rt: &HostRuntime, waits: &W, read
     }
 }
 
-fn run_from<W: Wait + Clock, R: Read + Drop>(
+fn run_from<W: Threads + Wait + Clock + Sync, R: Read + Drop>(
     rt: &HostRuntime,
     waits: &W,
+    threads: bool,
     reader: R,
 ) -> Result<Book, RunFault> {
     let alloc = rt.alloc();
     let mut input = DeviceIn::new(alloc, reader).map_err(|_| RunFault::NoMemory)?;
     let mut output = DeviceOut::new(alloc, io::writer(rt)).map_err(|_| RunFault::NoMemory)?;
-    let ran = run_script(waits, alloc, &mut input, &mut output);
+    let ran = if threads {
+        run_threads(waits, alloc, &mut input, &mut output, &NoGate)
+    } else {
+        run_script(waits, alloc, &mut input, &mut output)
+    };
     let finished = output.finish();
     let book = ran?;
     match finished {

@@ -1,0 +1,335 @@
+//! The line of what is recorded of a transaction.
+
+ghost use Rattle.std.specs.Prelude.{◌≡◌, ◌<◌, length, map, option_map, IfOk};
+ghost use Rattle.std.specs.List.{All, AllZip, flat_map};
+ghost use Rattle.rls_core.specs.Posts.{effect_of};
+ghost use Rattle.rls_audit.specs.Lines as spec;
+ghost use Rattle.rls_audit.specs.Lines.{in_object_order, ordered_changes};
+ghost use Rattle.rls_audit.specs.Showing.{IsSpellable, IsPolicySpellable, AreTexts, HasKey, CanTell, CanShow, Gives};
+ghost use Rattle.rls_audit.specs.Shows.{NamesColumn, SpellsPolicy, ShowsTable, ShowsLine};
+ghost use Rattle.rls_audit.specs.ShownParts.{Adds, ShowsChange, ShowsPost, ShowsPolicy, line_of};
+ghost use Rattle.rls_text.specs.{Answers.IsSpelled, Words.words_of};
+
+use crate::changes::Changed;
+use crate::contents::TableShape;
+use crate::lines::{Answered, Line, Shown};
+use crate::ordering::{are_in_order, in_order};
+use crate::refusals::Audited;
+use rls_catalog::{Change, Grant, Keyed, Membership};
+use rls_core::{Posted, Record};
+use rls_expr::{Column, Policy, TableDef};
+use rls_guard::{Effect, Reply};
+use rls_printing::{print, print_policy};
+use rls_statement::Statement;
+use rls_value::{Items, Name, Row, Text};
+use shared_map::Share;
+use std::alloc::{AllocError, AllocFailed, Global};
+
+/// Why there is no line.
+#[derive(Drop)]
+pub enum Unshown {
+    NoMemory,
+    /// No audit can say this: a refusal that none has, or a primary key with a column that isn't there.
+    Never,
+}
+
+impl From<AllocError> for Unshown {
+    ghost use Rattle.rls_audit.specs.declared.showing.Unshown.TheVariants.{NoMemory};
+
+    ghost from_gives = { λ _ unshown. unshown ≡ NoMemory };
+
+    fn from(_error: AllocError) -> Unshown {
+        Unshown::NoMemory
+    }
+}
+
+impl<T: Drop> From<AllocFailed<T>> for Unshown {
+    ghost use Rattle.rls_audit.specs.declared.showing.Unshown.TheVariants.{NoMemory};
+
+    ghost from_gives = { λ _ unshown. unshown ≡ NoMemory };
+
+    fn from(_failed: AllocFailed<T>) -> Unshown {
+        Unshown::NoMemory
+    }
+}
+
+/// The line of the record with this commit. Where texts spell its statements and policies, it shows just the record.
+pub fn line_of_record(alloc: Global, commit: u64, record: &Record) -> Result<Line, Unshown>
+    ensures { Gives result (All CanShow record.now.effects) (λ line. AreTexts record.now → ShowsLine line (spec.Txn (spec.shown commit record.now))) }
+{
+    match answered_and_changed(alloc, record.posts()) {
+        Ok((statements, changes)) => Ok(line_with(alloc, commit, record, statements, changes)?),
+        Err(why) => Err(why),
+    }
+}
+
+/// With these statements and changes.
+fn line_with(
+    alloc: Global,
+    commit: u64,
+    record: &Record,
+    statements: Items<Answered>,
+    changes: Items<Changed>,
+) -> Result<Line, AllocError>
+    ensures { IfOk result (λ line. line ≡ line_of commit record.now statements changes) }
+{
+    let begin = record.begin();
+    let login = begin.login.copy()?;
+    let role = begin.role.copy()?;
+    Ok(Line::Txn(Shown {
+        changes,
+        commit,
+        login,
+        mode: begin.mode,
+        role,
+        snap: record.snap() as u64,
+        statements,
+        txn: record.txn(),
+    }))
+}
+
+/// The statements with what they were answered, and what they changed.
+fn answered_and_changed(
+    alloc: Global,
+    posts: &[Share<Posted>],
+) -> Result<(Items<Answered>, Items<Changed>), Unshown>
+    ensures { Gives result (All CanShow (map effect_of posts.now)) (λ both. AllZip ShowsPost both.0 posts.now × AllZip ShowsChange both.1 (flat_map ordered_changes (map effect_of posts.now))) }
+{
+    match answered(alloc, posts) {
+        Ok(statements) => match all_changed(alloc, posts) {
+            Ok(changes) => Ok((statements, changes)),
+            Err(why) => {
+                drop(statements);
+                Err(why)
+            }
+        },
+        Err(why) => Err(why),
+    }
+}
+
+// ---- statements
+
+/// The statements with what they were answered.
+fn answered(alloc: Global, posts: &[Share<Posted>]) -> Result<Items<Answered>, Unshown>
+    ensures { Gives result (All CanShow (map effect_of posts.now)) (λ all. AllZip ShowsPost all posts.now) }
+{
+    let mut all = Items::new(alloc);
+    for posted in posts {
+        match answer_to(alloc, posted.get()) {
+            Ok(answered) => all.push(answered)?,
+            Err(why) => return Err(why),
+        }
+    }
+    Ok(all)
+}
+
+fn answer_to(alloc: Global, posted: &Posted) -> Result<Answered, Unshown>
+    ensures { Gives result (CanShow posted.now.effect) (λ answered. ShowsPost answered posted.now) }
+{
+    match reply_to(alloc, posted.bare()) {
+        Ok(reply) => Ok(answer_with(alloc, posted, reply)?),
+        Err(why) => Err(why),
+    }
+}
+
+/// With that reply.
+fn answer_with(
+    alloc: Global,
+    posted: &Posted,
+    reply: Result<Reply, Audited>,
+) -> Result<Answered, AllocError>
+    ensures { IfOk result (λ answered. reply ≡ spec.reply_of posted.now.effect → ShowsPost answered posted.now) }
+{
+    let decisions = posted.decisions().copy_all(alloc)?;
+    let text = statement_text(alloc, posted.statement())?;
+    Ok(Answered {
+        decisions,
+        reply,
+        text,
+    })
+}
+
+fn reply_to(alloc: Global, effect: &Effect) -> Result<Result<Reply, Audited>, Unshown>
+    ensures { Gives result (CanShow effect.now) (λ reply. reply ≡ spec.reply_of effect.now) }
+{
+    match effect {
+        Effect::Done(reply, _, _, _) => Ok(Ok(reply.copy(alloc)?)),
+        Effect::Refused(refusal, _) => match Audited::copy_of(alloc, refusal) {
+            Ok(audited) => Ok(Err(audited)),
+            Err(why) => Err(why),
+        },
+    }
+}
+
+fn statement_text(alloc: Global, statement: &Statement) -> Result<Text, AllocError>
+    ensures { IfOk result (λ text. IsSpellable statement.now → IsSpelled (words_of text) statement.now) }
+{
+    let text = print(alloc, statement)?;
+    Ok(Text::from_string(text))
+}
+
+// ---- changes
+
+/// What the statements changed, of each in the order of objects.
+fn all_changed(alloc: Global, posts: &[Share<Posted>]) -> Result<Items<Changed>, Unshown>
+    ensures { Gives result (All CanShow (map effect_of posts.now)) (λ all. AllZip ShowsChange all (flat_map ordered_changes (map effect_of posts.now))) }
+{
+    let mut all = Items::new(alloc);
+    for posted in posts {
+        match push_effect(alloc, &mut all, posted.get()) {
+            Ok(()) => {}
+            Err(why) => return Err(why),
+        }
+    }
+    Ok(all)
+}
+
+/// What the statement changed, in the order of objects.
+fn push_effect(alloc: Global, all: &mut Items<Changed>, posted: &Posted) -> Result<(), Unshown>
+    ensures { Gives result (CanShow posted.now.effect) (λ _. Adds all.old all.new (ordered_changes posted.now.effect)) }
+{
+    match posted.bare() {
+        Effect::Done(_, _, delta, _) => push_ordered(alloc, all, delta.as_slice()),
+        Effect::Refused(_, _) => Ok(()),
+    }
+}
+
+fn push_ordered(alloc: Global, all: &mut Items<Changed>, changes: &[Change]) -> Result<(), Unshown>
+    ensures { Gives result (All CanTell changes.now) (λ _. Adds all.old all.new (in_object_order changes.now)) }
+{
+    if are_in_order(changes) {
+        push_changes(alloc, all, changes)
+    } else {
+        push_reordered(alloc, all, changes)
+    }
+}
+
+fn push_reordered(
+    alloc: Global,
+    all: &mut Items<Changed>,
+    changes: &[Change],
+) -> Result<(), Unshown>
+    ensures { Gives result (All CanTell changes.now) (λ _. Adds all.old all.new (in_object_order changes.now)) }
+{
+    let ordered = in_order(alloc, changes)?;
+    push_changes(alloc, all, ordered.as_slice())
+}
+
+fn push_changes(alloc: Global, all: &mut Items<Changed>, changes: &[Change]) -> Result<(), Unshown>
+    ensures { Gives result (All CanTell changes.now) (λ _. Adds all.old all.new changes.now) }
+{
+    for change in changes {
+        match changed_by(alloc, change) {
+            Ok(changed) => all.push(changed)?,
+            Err(why) => return Err(why),
+        }
+    }
+    Ok(())
+}
+
+/// What the change leaves at its object.
+fn changed_by(alloc: Global, change: &Change) -> Result<Changed, Unshown>
+    ensures { Gives result (CanTell change.now) (λ changed. ShowsChange changed change.now) }
+{
+    match change {
+        Change::Role(name, def) => Ok(Changed::Role(name.copy()?, *def)),
+        Change::Members(member, content) => Ok(Changed::Members(
+            member.copy()?,
+            Membership::copy_all(alloc, content.as_slice())?,
+        )),
+        Change::Table(name, def) => match shape_of(alloc, def) {
+            Ok(shape) => Ok(Changed::Table(name.copy()?, shape)),
+            Err(why) => Err(why),
+        },
+        Change::Grants(table, content) => Ok(Changed::Grants(
+            table.copy()?,
+            Grant::copy_all(alloc, content.as_slice())?,
+        )),
+        Change::Policies(table, content) => Ok(Changed::Policies(
+            table.copy()?,
+            policy_texts(alloc, table, content.as_slice())?,
+        )),
+        Change::Row(row) => Ok(Changed::Row(
+            row.table.copy()?,
+            row.id,
+            copy_values(alloc, &row.after)?,
+        )),
+    }
+}
+
+/// The values of a row, if there is one.
+fn copy_values(alloc: Global, keyed: &Option<Keyed>) -> Result<Option<Row>, AllocError>
+    ensures { IfOk result (λ row. row ≡ option_map (λ keyed. keyed.row) keyed.now) }
+{
+    match keyed {
+        Some(keyed) => Ok(Some(keyed.row.copy(alloc)?)),
+        None => Ok(None),
+    }
+}
+
+/// The table, its key by the names of the columns.
+fn shape_of(alloc: Global, def: &TableDef) -> Result<TableShape, Unshown>
+    ensures { Gives result (HasKey def.now) (λ shape. ShowsTable shape def.now) }
+{
+    match key_names(alloc, def.columns.as_slice(), def.key.as_slice()) {
+        Ok(key) => Ok(shape_with(alloc, def, key)?),
+        Err(why) => Err(why),
+    }
+}
+
+/// With a key of these columns.
+fn shape_with(alloc: Global, def: &TableDef, key: Items<Name>) -> Result<TableShape, AllocError>
+    ensures { IfOk result (λ shape. shape ≡ record { owner = def.now.owner; enabled = def.now.enabled; forced = def.now.forced; columns = def.now.columns; key = key }) }
+{
+    let columns = Column::copy_all(alloc, def.columns.as_slice())?;
+    let owner = def.owner.copy()?;
+    Ok(TableShape {
+        owner,
+        enabled: def.enabled,
+        forced: def.forced,
+        columns,
+        key,
+    })
+}
+
+/// The names of the columns at the places.
+fn key_names(alloc: Global, columns: &[Column], key: &[usize]) -> Result<Items<Name>, Unshown>
+    ensures { Gives result (All (λ place. place < length columns.now) key.now) (λ names. AllZip (NamesColumn columns.now) names key.now) }
+{
+    let mut names = Items::new(alloc);
+    for place in key {
+        match key_name(columns, *place) {
+            Ok(name) => names.push(name)?,
+            Err(why) => return Err(why),
+        }
+    }
+    Ok(names)
+}
+
+fn key_name(columns: &[Column], place: usize) -> Result<Name, Unshown>
+    ensures { Gives result (place < length columns.now) (λ name. NamesColumn columns.now name place) }
+{
+    match columns.get(place) {
+        Some(column) => Ok(column.name.copy()?),
+        None => Err(Unshown::Never),
+    }
+}
+
+/// The policies of the table, as statements that create them.
+fn policy_texts(alloc: Global, table: &Name, policies: &[Policy]) -> Result<Items<Text>, AllocError>
+    ensures { IfOk result (λ texts. All (IsPolicySpellable table.now) policies.now → AllZip (SpellsPolicy table.now) texts policies.now) }
+{
+    let mut texts = Items::new(alloc);
+    for policy in policies {
+        let text = policy_text(alloc, table, policy)?;
+        texts.push(text)?;
+    }
+    Ok(texts)
+}
+
+fn policy_text(alloc: Global, table: &Name, policy: &Policy) -> Result<Text, AllocError>
+    ensures { IfOk result (λ text. ShowsPolicy table.now text policy.now) }
+{
+    let text = print_policy(alloc, table, policy)?;
+    Ok(Text::from_string(text))
+}

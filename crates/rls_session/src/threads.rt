@@ -1,0 +1,147 @@
+//! A script, run in phases with a thread for each label.
+
+ghost use Rattle.std.specs.Prelude.{◌≡◌, ◌⊎◌, ◌+◌, ◌<◌, ◌≤◌, length, true, All, IfOk, OnOk, IsErrOf};
+ghost use Rattle.rls_core.specs.Seen.{world_of};
+ghost use Rattle.rls_core.specs.Headline.{HaveOrder, AreExplained};
+ghost use Rattle.rls_session.specs.Labels.{opening_script};
+ghost use Rattle.rls_session.specs.Scripts.{GrewBy};
+ghost use Rattle.rls_session.specs.Texts.{IsPhasesText, LeadsTo, RunsInPhases};
+
+use crate::fault::RunFault;
+use crate::gate::Gate;
+use crate::notes::Notes;
+use crate::phases::{add_workers, close_workers, run_phases};
+use crate::plan::{Plan, read_plan};
+use crate::script::{MAX_SCRIPT, TAG, close, read_script};
+use crate::stream::{ScriptIn, ScriptOut};
+use rls_engine::{Book, Engine, Named, Records};
+use std::alloc::Global;
+use std::marker::Brand;
+use std::sync::Wait;
+use std::thread::Threads;
+use std::time::Clock;
+
+/// Reads the script whole, then runs its phases one after another: in each phase every label runs its lines on a thread of its own,
+/// all are joined, and the answers are written label by label, in the order in which the labels first appear in the script. `Read`
+/// comes exactly where the reader failed or the script is over `MAX_SCRIPT` bytes, `Write` exactly where the writer failed. `Ok` is
+/// the book of the transactions that committed, with open blocks rolled back. The gate is told of each point that commands come to;
+/// where no thread can be made, labels run one after another.
+#[tactic(auto, using(crate::proofs::TextLemmas::ran_in_phases))]
+pub fn run_threads<R, I, O, G>(
+    rt: &R,
+    alloc: Global,
+    input: &mut I,
+    output: &mut O,
+    gate: &G,
+) -> Result<Book, RunFault>
+where
+    R: Threads + Wait + Clock + Sync,
+    I: ScriptIn,
+    O: ScriptOut,
+    G: Gate + Sync,
+    ensures text { IfOk result (λ book. RunsInPhases (I.given input.old) (I.given input.new) (O.taken output.old) (O.taken output.new) book.seen.committed) }
+    ensures ordered { IfOk result (λ book. HaveOrder (world_of book.seen)) }
+    ensures explained { IfOk result (λ book. AreExplained (world_of book.seen)) }
+    ensures ended { OnOk result (I.ended input.new ≡ true) }
+    ensures read { IsErrOf result RunFault.Read → (I.failures input.old < I.failures input.new) ⊎ (length (I.given input.old) + MAX_SCRIPT < length (I.given input.new)) }
+    ensures read_failed { I.failures input.old < I.failures input.new → IsErrOf result RunFault.Read }
+    ensures too_long { length (I.given input.old) + MAX_SCRIPT < length (I.given input.new) → IsErrOf result RunFault.Read }
+    ensures unwritten { IsErrOf result RunFault.Read → O.taken output.new ≡ O.taken output.old }
+    ensures write { IsErrOf result RunFault.Write → O.failures output.old < O.failures output.new }
+    ensures write_failed { O.failures output.old < O.failures output.new → IsErrOf result RunFault.Write }
+    ensures reads { length (I.given input.new) ≤ length (I.given input.old) + MAX_SCRIPT + 1 }
+{
+    let script = read_script(alloc, input)?;
+    let Ok(records) = Records::new(alloc) else {
+        drop(script);
+        return Err(RunFault::NoMemory);
+    };
+    run_named::<Brand, R, O, G>(rt, alloc, records, script.as_slice(), output, gate)
+}
+
+#[tactic(auto, using(crate::proofs::TextLemmas::closed))]
+fn run_named<N, R, O, G>(
+    rt: &R,
+    alloc: Global,
+    records: Records,
+    script: &[u8],
+    output: &mut O,
+    gate: &G,
+) -> Result<Book, RunFault>
+where
+    N: Named + Send + Sync,
+    R: Threads + Wait + Clock + Sync,
+    O: ScriptOut,
+    G: Gate + Sync,
+    requires commits { records.commits ≡ N.commits }
+    requires steps { records.steps ≡ N.steps }
+    requires name { records.blank.name ≡ N.name }
+    requires parts { records.blank.parts ≡ N.parts }
+    ensures text { IfOk result (λ book. GrewBy (O.taken output.old) (O.taken output.new) (λ written. IsPhasesText script.now written book.seen.committed)) }
+    ensures ordered { IfOk result (λ book. HaveOrder (world_of book.seen)) }
+    ensures explained { IfOk result (λ book. AreExplained (world_of book.seen)) }
+    ensures read { ¬ IsErrOf result RunFault.Read }
+    ensures write { IsErrOf result RunFault.Write → O.failures output.old < O.failures output.new }
+    ensures write_failed { O.failures output.old < O.failures output.new → IsErrOf result RunFault.Write }
+{
+    let plan = read_plan(alloc, script)?;
+    let Ok(engine) = Engine::<N>::new(alloc, TAG, records) else {
+        drop(plan);
+        return Err(RunFault::NoMemory);
+    };
+    let mut notes = Notes::new(alloc, TAG);
+    match run_engine(rt, alloc, &engine, &mut notes, plan, output, gate) {
+        Ok(()) => close(engine, notes),
+        Err(fault) => {
+            drop(notes);
+            drop(engine);
+            Err(fault)
+        }
+    }
+}
+
+/// Runs the phases, and then ends every session.
+#[tactic(auto, using(crate::proofs::TextLemmas::leads))]
+fn run_engine<'a, N, R, O, G>(
+    rt: &R,
+    alloc: Global,
+    engine: &'a Engine<N>,
+    notes: &mut Notes<N>,
+    plan: Plan<'a>,
+    output: &mut O,
+    gate: &'a G,
+) -> Result<(), RunFault>
+where
+    N: Named + Send + Sync,
+    R: Threads + Wait + Clock + Sync,
+    O: ScriptOut,
+    G: Gate + Sync,
+    requires wide { N.parts ≡ 18446744073709551615 }
+    requires fresh { notes.old ≡ opening_script.notes }
+    ensures text { OnOk result (GrewBy (O.taken output.old) (O.taken output.new) (λ written. LeadsTo plan.entry written notes.new)) }
+    ensures read { ¬ IsErrOf result RunFault.Read }
+    ensures write { IsErrOf result RunFault.Write → O.failures output.old < O.failures output.new }
+    ensures write_failed { O.failures output.old < O.failures output.new → IsErrOf result RunFault.Write }
+{
+    let (names, phases) = plan.into_parts()?;
+    let mut workers = Vec::new(alloc);
+    match add_workers(alloc, engine, gate, &names, &mut workers) {
+        Ok(()) => {
+            let ran = run_phases(
+                rt,
+                alloc,
+                workers.as_mut_slice(),
+                notes,
+                &names,
+                phases.as_slice(),
+                output,
+            );
+            close_workers(rt, workers);
+            ran
+        }
+        Err(fault) => {
+            close_workers(rt, workers);
+            Err(fault)
+        }
+    }
+}
