@@ -114,7 +114,8 @@ impl Same for GrantRoles {
 
 impl Same for RevokeRoles {
     fn is_same(&self, other: &RevokeRoles) -> bool {
-        self.option == other.option
+        self.cascade == other.cascade
+            && self.option == other.option
             && self.roles.is_same(&other.roles)
             && self.from.is_same(&other.from)
     }

@@ -615,9 +615,10 @@ statement_low (Statement.GrantRoles x) room le flat =
     (both_low room (form.listed form.name x.roles) (Word (codes "TO") ∷ (form.listed form.name x.to ++ form.options x.options)) (names_low room x.roles)
     (behind_word room (codes "TO") (form.listed form.name x.to ++ form.options x.options) (both_low room (form.listed form.name x.to) (form.options x.options) (names_low room x.to) (options_low room x.options))))
 statement_low (Statement.RevokeRoles x) room le flat =
-    behind_word room (codes "REVOKE") (form.option_for x.option ++ (form.listed form.name x.roles ++ Word (codes "FROM") ∷ form.listed form.name x.from))
-    (both_low room (form.option_for x.option) (form.listed form.name x.roles ++ Word (codes "FROM") ∷ form.listed form.name x.from) (option_for_low room x.option)
-    (both_low room (form.listed form.name x.roles) (Word (codes "FROM") ∷ form.listed form.name x.from) (names_low room x.roles) (behind_word room (codes "FROM") (form.listed form.name x.from) (names_low room x.from))))
+    behind_word room (codes "REVOKE") (form.option_for x.option ++ (form.listed form.name x.roles ++ Word (codes "FROM") ∷ (form.listed form.name x.from ++ form.cascade x.cascade)))
+    (both_low room (form.option_for x.option) (form.listed form.name x.roles ++ Word (codes "FROM") ∷ (form.listed form.name x.from ++ form.cascade x.cascade)) (option_for_low room x.option)
+    (both_low room (form.listed form.name x.roles) (Word (codes "FROM") ∷ (form.listed form.name x.from ++ form.cascade x.cascade)) (names_low room x.roles)
+    (behind_word room (codes "FROM") (form.listed form.name x.from ++ form.cascade x.cascade) (both_low room (form.listed form.name x.from) (form.cascade x.cascade) (names_low room x.from) (cascade_low room x.cascade)))))
 statement_low (Statement.SetRole x) room le flat = set_role_low room x
 
 -- a statement within the limits is no higher than 64

@@ -428,13 +428,9 @@ grant_full : Full g.grant.spells g.grant.prints.writes
 unfolding g.grant
 grant_full = word_full (codes "grant") _ _ (either_full g.granted_privileges.spells g.granted_roles.spells g.granted_privileges.prints.writes g.granted_roles.prints.writes granted_privileges_full granted_roles_full)
 
-members_full : Full g.members.spells g.members.prints.writes
-unfolding g.members
-members_full = before_full g.names.spells g.names.prints.writes _ (λ z. Some []) None tt names_full
-
 roles_from_full : Full g.roles_from.spells g.roles_from.prints.writes
 unfolding g.roles_from
-roles_from_full = both_full g.names.spells g.names.prints.writes _ _ names_full (word_full (codes "from") g.members.spells g.members.prints.writes members_full)
+roles_from_full = both_full g.names.spells g.names.prints.writes _ _ names_full (word_full (codes "from") _ _ (both_full g.names.spells g.names.prints.writes g.cascade.spells g.cascade.prints.writes names_full (each_full _ _ cascade_there)))
 
 revoked_roles_full : Full g.revoked_roles.spells g.revoked_roles.prints.writes
 unfolding g.revoked_roles

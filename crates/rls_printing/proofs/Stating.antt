@@ -545,11 +545,12 @@ granted_roles_tell x =
     (both_tell (Some (Token.Word (codes "to") ∷ [])) (joined (g.names.prints.writes x.to) (g.options.prints.writes x.options)) (Word (codes "TO") ∷ []) (form.listed form.name x.to ++ form.options x.options) (λ ts e. e)
     (both_tell (g.names.prints.writes x.to) (g.options.prints.writes x.options) (form.listed form.name x.to) (form.options x.options) (names_tell x.to) (options_tell x.options.admin x.options.inherit x.options.set)))
 
-roles_from_tell : (xs ys : List (List ℕ)) → Tells (g.roles_from.prints.writes (xs, ys)) (form.listed form.name xs ++ Word (codes "FROM") ∷ form.listed form.name ys)
-unfolding g.roles_from g.members
-roles_from_tell xs ys =
-    both_tell (g.names.prints.writes xs) (joined (Some (Token.Word (codes "from") ∷ [])) (joined (g.names.prints.writes ys) (Some []))) (form.listed form.name xs) (Word (codes "FROM") ∷ form.listed form.name ys) (names_tell xs)
-    (both_tell (Some (Token.Word (codes "from") ∷ [])) (joined (g.names.prints.writes ys) (Some [])) (Word (codes "FROM") ∷ []) (form.listed form.name ys) (λ ts e. e) (behind_none (g.names.prints.writes ys) (form.listed form.name ys) (names_tell ys)))
+roles_from_tell : (xs ys : List (List ℕ)) (b : Bool) → Tells (g.roles_from.prints.writes (xs, (ys, b))) (form.listed form.name xs ++ Word (codes "FROM") ∷ (form.listed form.name ys ++ form.cascade b))
+unfolding g.roles_from
+roles_from_tell xs ys b =
+    both_tell (g.names.prints.writes xs) (joined (Some (Token.Word (codes "from") ∷ [])) (joined (g.names.prints.writes ys) (g.cascade.prints.writes b))) (form.listed form.name xs) (Word (codes "FROM") ∷ (form.listed form.name ys ++ form.cascade b)) (names_tell xs)
+    (both_tell (Some (Token.Word (codes "from") ∷ [])) (joined (g.names.prints.writes ys) (g.cascade.prints.writes b)) (Word (codes "FROM") ∷ []) (form.listed form.name ys ++ form.cascade b) (λ ts e. e)
+    (both_tell (g.names.prints.writes ys) (g.cascade.prints.writes b) (form.listed form.name ys) (form.cascade b) (names_tell ys) (cascade_tells b)))
 
 option_for_tells : (x : MembershipOption) → Tells (g.option_for.prints.writes x) (form.option_for (Some x))
 unfolding g.option_for g.option
@@ -557,12 +558,13 @@ option_for_tells MembershipOption.Admin = λ ts e. e
 option_for_tells MembershipOption.Inherit = λ ts e. e
 option_for_tells MembershipOption.Set = λ ts e. e
 
-memberships_tell : (option : Option MembershipOption) (xs ys : List (List ℕ)) → Tells (g.revoked_memberships.prints.writes (Statement.RevokeRoles record { option = option; roles = xs; from = ys })) (form.option_for option ++ (form.listed form.name xs ++ Word (codes "FROM") ∷ form.listed form.name ys))
+memberships_tell : (option : Option MembershipOption) (xs ys : List (List ℕ)) (b : Bool) → Tells (g.revoked_memberships.prints.writes (Statement.RevokeRoles record { option = option; roles = xs; from = ys; cascade = b }))
+    (form.option_for option ++ (form.listed form.name xs ++ Word (codes "FROM") ∷ (form.listed form.name ys ++ form.cascade b)))
 unfolding g.revoked_memberships g.revoked_option g.revoked_roles
-memberships_tell None xs ys = roles_from_tell xs ys
-memberships_tell (Some x) xs ys =
-    last_tells (joined (g.option_for.prints.writes x) (g.roles_from.prints.writes (xs, ys))) (form.option_for (Some x) ++ (form.listed form.name xs ++ Word (codes "FROM") ∷ form.listed form.name ys))
-    (both_tell (g.option_for.prints.writes x) (g.roles_from.prints.writes (xs, ys)) (form.option_for (Some x)) (form.listed form.name xs ++ Word (codes "FROM") ∷ form.listed form.name ys) (option_for_tells x) (roles_from_tell xs ys))
+memberships_tell None xs ys b = roles_from_tell xs ys b
+memberships_tell (Some x) xs ys b =
+    last_tells (joined (g.option_for.prints.writes x) (g.roles_from.prints.writes (xs, (ys, b)))) (form.option_for (Some x) ++ (form.listed form.name xs ++ Word (codes "FROM") ∷ (form.listed form.name ys ++ form.cascade b)))
+    (both_tell (g.option_for.prints.writes x) (g.roles_from.prints.writes (xs, (ys, b))) (form.option_for (Some x)) (form.listed form.name xs ++ Word (codes "FROM") ∷ (form.listed form.name ys ++ form.cascade b)) (option_for_tells x) (roles_from_tell xs ys b))
 
 grant_tells : (x : GrantPrivileges) → Tells (g.grant.prints.writes (Statement.Grant x)) (form.statement (Statement.Grant x))
 unfolding g.grant g.granted_roles
@@ -585,8 +587,8 @@ revoke_tells x =
 revoke_roles_tell : (x : RevokeRoles) → Tells (g.revoke.prints.writes (Statement.RevokeRoles x)) (form.statement (Statement.RevokeRoles x))
 unfolding g.revoke g.revoked_privileges
 revoke_roles_tell x =
-    both_tell (Some (Token.Word (codes "revoke") ∷ [])) (g.revoked_memberships.prints.writes (Statement.RevokeRoles x)) (Word (codes "REVOKE") ∷ []) (form.option_for x.option ++ (form.listed form.name x.roles ++ Word (codes "FROM") ∷ form.listed form.name x.from)) (λ ts e. e)
-    (memberships_tell x.option x.roles x.from)
+    both_tell (Some (Token.Word (codes "revoke") ∷ [])) (g.revoked_memberships.prints.writes (Statement.RevokeRoles x)) (Word (codes "REVOKE") ∷ []) (form.option_for x.option ++ (form.listed form.name x.roles ++ Word (codes "FROM") ∷ (form.listed form.name x.from ++ form.cascade x.cascade))) (λ ts e. e)
+    (memberships_tell x.option x.roles x.from x.cascade)
 
 -- ---- SET ROLE
 

@@ -240,5 +240,5 @@ statement (st.Grant x) = Word (codes "GRANT") ∷ (privileges x.privileges ++ Wo
 statement (st.Revoke x) =
     Word (codes "REVOKE") ∷ (option_only x.option_only ++ (privileges x.privileges ++ Word (codes "ON") ∷ Word x.table ∷ Word (codes "FROM") ∷ (listed grantee x.from ++ cascade x.cascade)))
 statement (st.GrantRoles x) = Word (codes "GRANT") ∷ (listed name x.roles ++ Word (codes "TO") ∷ (listed name x.to ++ options x.options))
-statement (st.RevokeRoles x) = Word (codes "REVOKE") ∷ (option_for x.option ++ (listed name x.roles ++ Word (codes "FROM") ∷ listed name x.from))
+statement (st.RevokeRoles x) = Word (codes "REVOKE") ∷ (option_for x.option ++ (listed name x.roles ++ Word (codes "FROM") ∷ (listed name x.from ++ cascade x.cascade)))
 statement (st.SetRole x) = set_role x

@@ -148,5 +148,6 @@ pub fn put_revoke_roles(page: &mut Page, statement: &RevokeRoles) -> Result<(), 
     put_option_for(page, statement.option)?;
     put_names(page, statement.roles.as_slice())?;
     page.word("FROM")?;
-    put_names(page, statement.from.as_slice())
+    put_names(page, statement.from.as_slice())?;
+    put_cascade(page, statement.cascade)
 }

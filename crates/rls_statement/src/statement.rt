@@ -144,12 +144,14 @@ pub struct MembershipOptions {
     pub set: Option<bool>,
 }
 
-/// `REVOKE` of roles, or of one option of the memberships. `CASCADE` and `RESTRICT` have no effect on memberships.
+/// `REVOKE` of roles, or of one option of the memberships.
 #[derive(Drop)]
 pub struct RevokeRoles {
     pub option: Option<MembershipOption>,
     pub roles: Items<Name>,
     pub from: Items<Name>,
+    /// `CASCADE` is written. It has no effect on memberships.
+    pub cascade: bool,
 }
 
 /// An option of a membership.
@@ -310,6 +312,7 @@ impl RevokeRoles {
                 option: self.option,
                 roles,
                 from,
+                cascade: self.cascade,
             }),
             Err(refused) => {
                 drop(roles);

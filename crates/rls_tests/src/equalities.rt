@@ -108,7 +108,7 @@ fn statements_are_the_same(rt: HostRuntime) {
             "GRANT ALL ON t TO a",
             "GRANT DELETE, SELECT, UPDATE, INSERT, SELECT ON TABLE t TO a",
         ),
-        ("REVOKE r, s FROM a", "REVOKE r, s FROM a CASCADE"),
+        ("REVOKE r, s FROM a", "REVOKE r, s FROM a RESTRICT"),
         (
             "CREATE POLICY p ON t USING (a)",
             "CREATE POLICY p ON t AS PERMISSIVE FOR ALL TO PUBLIC USING ((a))",
@@ -166,6 +166,7 @@ fn statements_are_told_apart(rt: HostRuntime) {
         ),
         ("GRANT r TO a", "GRANT r TO a WITH SET FALSE"),
         ("REVOKE r FROM a", "REVOKE ADMIN OPTION FOR r FROM a"),
+        ("REVOKE r, s FROM a", "REVOKE r, s FROM a CASCADE"),
         ("SET ROLE NONE", "RESET ROLE"),
         (
             "INSERT INTO t VALUES (1), (2)",

@@ -55,6 +55,10 @@ fn prints_statements(rt: HostRuntime) {
             "revoke inherit option for a from b restrict",
             "REVOKE INHERIT OPTION FOR a FROM b",
         ),
+        (
+            "revoke admin option for a from u cascade",
+            "REVOKE ADMIN OPTION FOR a FROM u CASCADE",
+        ),
         ("revoke admin from b, c", "REVOKE admin FROM b, c"),
         ("set role Alice", "SET ROLE alice"),
         ("set role none", "SET ROLE NONE"),

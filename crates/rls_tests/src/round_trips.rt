@@ -33,6 +33,8 @@ fn reads_roles_and_memberships_again(rt: HostRuntime) {
         "REVOKE a FROM b, b, c",
         "REVOKE a FROM u CASCADE",
         "REVOKE ADMIN OPTION FOR b FROM c",
+        "REVOKE ADMIN OPTION FOR a FROM u CASCADE",
+        "REVOKE a FROM b, c RESTRICT",
         "REVOKE INHERIT OPTION FOR g FROM r",
         "REVOKE SET OPTION FOR a FROM u",
         "GRANT SELECT ON t TO r",

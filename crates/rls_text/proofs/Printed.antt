@@ -299,10 +299,10 @@ grant_roles_written : (g.statement 1).rule.prints.writes (st.GrantRoles record {
 unfolding reserved g.statement g.body g.select g.insert g.update g.delete g.create g.role g.table g.policy g.alter g.altered_role g.altered_table g.altered_policy g.flat_body g.dropped_policy g.grant g.granted_privileges g.granted_roles g.names g.options g.settings_if_any g.settings g.all_settings g.setting g.option g.flag with_comma g.name
 grant_roles_written = refl
 
--- REVOKE ADMIN OPTION FOR a FROM b, c
-revoke_roles_written : (g.statement 1).rule.prints.writes (st.RevokeRoles record { option = Some MembershipOption.Admin; roles = codes "a" ∷ []; from = codes "b" ∷ codes "c" ∷ [] }) ≡ Some
-    (Word (codes "revoke") ∷ Word (codes "admin") ∷ Word (codes "option") ∷ Word (codes "for") ∷ Word (codes "a") ∷ Word (codes "from") ∷ Word (codes "b") ∷ t.Symbol s.Comma ∷ Word (codes "c") ∷ [])
-unfolding reserved g.statement g.body g.select g.insert g.update g.delete g.create g.role g.table g.policy g.alter g.altered_role g.altered_table g.altered_policy g.flat_body g.dropped_policy g.grant g.granted_privileges g.granted_roles g.revoke g.revoked_privileges g.revoked_memberships g.revoked_option g.option_for g.option g.roles_from g.members g.names with_comma g.name
+-- REVOKE ADMIN OPTION FOR a FROM b, c CASCADE
+revoke_roles_written : (g.statement 1).rule.prints.writes (st.RevokeRoles record { option = Some MembershipOption.Admin; roles = codes "a" ∷ []; from = codes "b" ∷ codes "c" ∷ []; cascade = true }) ≡ Some
+    (Word (codes "revoke") ∷ Word (codes "admin") ∷ Word (codes "option") ∷ Word (codes "for") ∷ Word (codes "a") ∷ Word (codes "from") ∷ Word (codes "b") ∷ t.Symbol s.Comma ∷ Word (codes "c") ∷ Word (codes "cascade") ∷ [])
+unfolding reserved g.statement g.body g.select g.insert g.update g.delete g.create g.role g.table g.policy g.alter g.altered_role g.altered_table g.altered_policy g.flat_body g.dropped_policy g.grant g.granted_privileges g.granted_roles g.revoke g.revoked_privileges g.revoked_memberships g.revoked_option g.option_for g.option g.roles_from g.cascade g.names with_comma g.name
 revoke_roles_written = refl
 
 -- SET ROLE NONE, and RESET ROLE
@@ -322,13 +322,13 @@ insert_is_a_role = refl
 
 -- REVOKE admin FROM r CASCADE is of a role called admin.
 admin_is_a_role : g.revoke.parses.read (Word (codes "revoke") ∷ Word (codes "admin") ∷ Word (codes "from") ∷ Word (codes "r") ∷ Word (codes "cascade") ∷ []) ≡ Some
-    (st.RevokeRoles record { option = None; roles = codes "admin" ∷ []; from = codes "r" ∷ [] }, [])
-unfolding reserved read_many g.revoke g.revoked_memberships g.revoked_roles g.roles_from g.members g.how g.names with_comma g.name
+    (st.RevokeRoles record { option = None; roles = codes "admin" ∷ []; from = codes "r" ∷ []; cascade = true }, [])
+unfolding reserved read_many g.revoke g.revoked_memberships g.revoked_roles g.roles_from g.cascade g.names with_comma g.name
 admin_is_a_role = refl
 
 -- REVOKE select FROM r is nothing, since SELECT is reserved and so no role.
 select_is_no_role : g.revoke.parses.read (Word (codes "revoke") ∷ Word (codes "select") ∷ Word (codes "from") ∷ Word (codes "r") ∷ []) ≡ None
-unfolding reserved read_many g.revoke g.revoked_memberships g.revoked_roles g.roles_from g.members g.how g.names with_comma g.name
+unfolding reserved read_many g.revoke g.revoked_memberships g.revoked_roles g.roles_from g.cascade g.names with_comma g.name
 select_is_no_role = refl
 
 -- REVOKE DELETE ON TABLE t FROM restrict RESTRICT is from a role called restrict, without CASCADE.

@@ -7,7 +7,7 @@ use Rattle.rls_value.specs.{declared.value.Value.Value, declared.value.ColType.C
 use Rattle.rls_expr.specs.{Terms.Term, Terms.terms_of, declared.column_name.ColumnName.ColumnName, declared.expr.Comparison.Comparison, declared.expr.Sign.Sign as PartSign, declared.policy.Grantee.Grantee}
 use Rattle.rls_expr.specs.Terms as e
 use Rattle.rls_statement.specs.{declared.statement.Attributes.Attributes, declared.statement.MarkedColumn.MarkedColumn, declared.statement.MembershipOption.MembershipOption, declared.statement.MembershipOptions.MembershipOptions, declared.statement.Privileges.Privileges, declared.statement.RowSecurity.RowSecurity, declared.statement.Selected.Selected, declared.statement.SetRole.SetRole, declared.statement.Statement.Statement}
-use Rattle.rls_text.specs.{declared.token.Symbol.Symbol, declared.token.Token.Token, declared.token.Token.TheVariants.Word, declared.attributes.RoleAttribute.RoleAttribute, declared.columns.ColumnMark.ColumnMark, declared.tables.TableElement.TableElement, declared.tables.TableElements.TableElements, Elements.elements_of, Parses.unseen_parts, declared.tree.Choices.TheVariants.Listed, declared.tree.Choices.TheVariants.Queried, Heights.height, Heights.heights, Cut.Cut, Cut.of_some, Heads.Names, Heads.Numbers, Heads.Texts, Heads.Keyword, Heads.Sign, Heads.begins, Heads.sees, Lang.only, Lang.Both, Lang.Mapped, Lang.Perhaps, Lang.Many, Lang.put_in, Writes.through, Writes.without_second, Writes.without_first, FirstSets.constant_heads, FirstSets.literal_heads, FirstSets.item_heads, FirstSets.item_more, FirstSets.items_more, FirstSets.prim_heads, FirstSets.sign_heads, FirstSets.sum_more, FirstSets.in_heads, FirstSets.memb_more, FirstSets.comparison_heads, FirstSets.cmp_more, FirstSets.is_more, FirstSets.expr_heads, FirstSets.expr_more, FirstSets.alias_heads, FirstSets.condition_more, FirstSets.select_more, FirstSets.inserted_more, FirstSets.changed_more, FirstSets.attribute_heads, FirstSets.role_more, FirstSets.mark_heads, FirstSets.change_more, FirstSets.policy_more, FirstSets.create_more, FirstSets.alter_more, FirstSets.privilege_heads, FirstSets.privileges_heads, FirstSets.option_heads, FirstSets.granted_more, FirstSets.revoked_more, FirstSets.flat_heads, FirstSets.flat_more, FirstSets.body_heads, FirstSets.body_more, FirstSets.literal_apart, FirstSets.name_apart, FirstSets.exists_apart, FirstSets.select_apart, FirstSets.not_apart, FirstSets.as_apart, FirstSets.alias_apart, FirstSets.public_apart, FirstSets.primary_apart, FirstSets.table_apart, FirstSets.none_apart, FirstSets.on_apart, FirstSets.to_apart, Ahead.on_comes_first, Ahead.second_is, Ahead.Skips, Ahead.both_skips, Ahead.mapped_skips, Ahead.either_skips, Ahead.perhaps_skips, Ahead.many_skips, Ahead.token_skips, Ahead.one_skips, Ahead.decided_at, Ahead.decided_before, Ahead.decided_behind, Ahead.Begins, Ahead.only_begins, Ahead.one_begins, Ahead.mapped_begins, Ahead.checked_begins, Ahead.either_begins, Ahead.both_begins, Ahead.perhaps_begins, Ahead.no_second, Ahead.Alone, Ahead.only_alone, Ahead.mapped_alone, Ahead.either_alone, Rule.Rule, Rule.word, Rule.sign, Rule.one, Rule.both, Rule.mapped, Rule.after_as, Rule.before_as, Rule.after, Rule.before, Rule.in_parentheses, Rule.either, Rule.either_by, Rule.perhaps, Rule.many, Rule.checked, Rule.widened, Rule.with_comma, Rule.as_list, Rule.list_law, Rule.listed, Rule.spelled_as, Rule.standing_for, Rule.word_for, Rule.sign_for, Cutting.tree_of, Cutting.selected_kept, Cutting.select_kept, Cutting.choices_kept, Cutting.in_kept, Cutting.exists_kept, Cutting.scalar_kept, Cutting.tuple_kept, Cutting.tuples_kept, Cutting.rows_kept, Cutting.set_column_kept, Cutting.set_columns_kept, Cutting.ending_kept, Cutting.draft_of, Cutting.signed_kept, Cutting.sum_kept, Cutting.among_kept, Cutting.compared_kept, Cutting.tested_kept, Cutting.negated_kept, Cutting.and_kept, Cutting.or_kept, Cutting.tuple_is_kept, Cutting.tuples_are_kept, Cutting.set_columns_are_kept, Cutting.even_kept, Cutting.long_kept, Cutting.distinct_kept, Cutting.conditions_kept, Cutting.description_kept, Cutting.change_kept, Cutting.is_policy_kept, Cutting.is_change_kept}
+use Rattle.rls_text.specs.{declared.token.Symbol.Symbol, declared.token.Token.Token, declared.token.Token.TheVariants.Word, declared.attributes.RoleAttribute.RoleAttribute, declared.columns.ColumnMark.ColumnMark, declared.tables.TableElement.TableElement, declared.tables.TableElements.TableElements, Elements.elements_of, Parses.unseen_parts, declared.tree.Choices.TheVariants.Listed, declared.tree.Choices.TheVariants.Queried, Heights.height, Heights.heights, Cut.Cut, Cut.of_some, Heads.Names, Heads.Numbers, Heads.Texts, Heads.Keyword, Heads.Sign, Heads.begins, Heads.sees, Lang.only, Lang.Both, Lang.Mapped, Lang.Perhaps, Lang.Many, Lang.put_in, Writes.through, Writes.without_second, Writes.without_first, FirstSets.constant_heads, FirstSets.literal_heads, FirstSets.item_heads, FirstSets.item_more, FirstSets.items_more, FirstSets.prim_heads, FirstSets.sign_heads, FirstSets.sum_more, FirstSets.in_heads, FirstSets.memb_more, FirstSets.comparison_heads, FirstSets.cmp_more, FirstSets.is_more, FirstSets.expr_heads, FirstSets.expr_more, FirstSets.alias_heads, FirstSets.condition_more, FirstSets.select_more, FirstSets.inserted_more, FirstSets.changed_more, FirstSets.attribute_heads, FirstSets.role_more, FirstSets.mark_heads, FirstSets.change_more, FirstSets.policy_more, FirstSets.create_more, FirstSets.alter_more, FirstSets.privilege_heads, FirstSets.privileges_heads, FirstSets.option_heads, FirstSets.granted_more, FirstSets.revoked_more, FirstSets.flat_heads, FirstSets.flat_more, FirstSets.body_heads, FirstSets.body_more, FirstSets.literal_apart, FirstSets.name_apart, FirstSets.exists_apart, FirstSets.select_apart, FirstSets.not_apart, FirstSets.as_apart, FirstSets.alias_apart, FirstSets.public_apart, FirstSets.primary_apart, FirstSets.table_apart, FirstSets.none_apart, FirstSets.on_apart, FirstSets.to_apart, Ahead.on_comes_first, Ahead.second_is, Ahead.Skips, Ahead.both_skips, Ahead.mapped_skips, Ahead.either_skips, Ahead.perhaps_skips, Ahead.many_skips, Ahead.token_skips, Ahead.one_skips, Ahead.decided_at, Ahead.decided_before, Ahead.decided_behind, Ahead.Begins, Ahead.only_begins, Ahead.one_begins, Ahead.mapped_begins, Ahead.checked_begins, Ahead.either_begins, Ahead.both_begins, Ahead.perhaps_begins, Ahead.no_second, Ahead.Alone, Ahead.only_alone, Ahead.mapped_alone, Ahead.either_alone, Rule.Rule, Rule.word, Rule.sign, Rule.one, Rule.both, Rule.mapped, Rule.after_as, Rule.after, Rule.before, Rule.in_parentheses, Rule.either, Rule.either_by, Rule.perhaps, Rule.many, Rule.checked, Rule.widened, Rule.with_comma, Rule.as_list, Rule.list_law, Rule.listed, Rule.spelled_as, Rule.standing_for, Rule.word_for, Rule.sign_for, Cutting.tree_of, Cutting.selected_kept, Cutting.select_kept, Cutting.choices_kept, Cutting.in_kept, Cutting.exists_kept, Cutting.scalar_kept, Cutting.tuple_kept, Cutting.tuples_kept, Cutting.rows_kept, Cutting.set_column_kept, Cutting.set_columns_kept, Cutting.ending_kept, Cutting.draft_of, Cutting.signed_kept, Cutting.sum_kept, Cutting.among_kept, Cutting.compared_kept, Cutting.tested_kept, Cutting.negated_kept, Cutting.and_kept, Cutting.or_kept, Cutting.tuple_is_kept, Cutting.tuples_are_kept, Cutting.set_columns_are_kept, Cutting.even_kept, Cutting.long_kept, Cutting.distinct_kept, Cutting.conditions_kept, Cutting.description_kept, Cutting.change_kept, Cutting.is_policy_kept, Cutting.is_change_kept}
 use Rattle.rls_text.specs.Elements as elements
 use Rattle.rls_text.specs.Trees as t
 use Rattle.rls_text.specs.Cut as cut
@@ -735,19 +735,11 @@ grant_kept : (ts : List Token) (x : Statement) → grant.spells ts x → draft_o
 unfolding grant granted_privileges granted_roles
 grant_kept ts x h = rw (h.value) (elim h.spelled.other [ inl y ↦ rw (y.value) refl | inr y ↦ rw (y.value) refl ])
 
--- CASCADE | RESTRICT
-unfoldable pub how : Rule (Unit {0}) (Keyword (codes "cascade") ∷ Keyword (codes "restrict") ∷ []) [] false
-how = either (word (codes "cascade")) (word (codes "restrict")) refl
+-- names FROM names [CASCADE | RESTRICT]
+unfoldable pub roles_from : Rule (List (List ℕ) × (List (List ℕ) × Bool)) (Names ∷ []) revoked_more false
+roles_from = widened (both names (after (word (codes "from")) (both names cascade refl) refl) refl) refl refl
 
--- names [how], which has no effect on memberships and isn't written
-unfoldable pub members : Rule (List (List ℕ)) (Names ∷ []) revoked_more false
-members = widened (before_as None names (perhaps how) refl) refl refl
-
--- names FROM names [how]
-unfoldable pub roles_from : Rule (List (List ℕ) × List (List ℕ)) (Names ∷ []) revoked_more false
-roles_from = widened (both names (after (word (codes "from")) members refl) refl) refl refl
-
--- names FROM names [how], as a statement
+-- names FROM names [CASCADE | RESTRICT], as a statement
 unfoldable pub revoked_roles : Rule Statement (Names ∷ []) revoked_more false
 revoked_roles = mapped g.revoking_of back.as_revoking back.revoking_law roles_from
 
@@ -755,7 +747,7 @@ revoked_roles = mapped g.revoking_of back.as_revoking back.revoking_law roles_fr
 unfoldable pub option_for : Rule MembershipOption option_heads [] false
 option_for = before option (after (word (codes "option")) (word (codes "for")) refl) refl
 
--- option OPTION FOR names FROM names [how]
+-- option OPTION FOR names FROM names [CASCADE | RESTRICT]
 unfoldable pub revoked_option : Rule Statement option_heads revoked_more false
 revoked_option = widened (mapped g.option_revoking_of back.as_option_revoking back.option_revoking_law (both option_for roles_from refl)) refl refl
 
@@ -782,11 +774,11 @@ no_option_second front rest a h stop =
     let n = x.one.spelled in
     rw (x.split, n.split, n.one.alone) (go n.rest x.rest x.one.source.1 n.other x.other.source y)
   where
-    go : (ts us : List Token) (more : List (List ℕ)) → Many (with_comma name).spells ts more → (r : Unit {0} × List (List ℕ)) → Both (only (Word (codes "from"))) members.spells us r → sees (Keyword (codes "option") ∷ []) ((ts ++ us) ++ rest) ≡ false
+    go : (ts us : List Token) (more : List (List ℕ)) → Many (with_comma name).spells ts more → (r : Unit {0} × (List (List ℕ) × Bool)) → Both (only (Word (codes "from"))) (Both names.spells cascade.spells) us r → sees (Keyword (codes "option") ∷ []) ((ts ++ us) ++ rest) ≡ false
     go ts us [] m r y = rw (m, y.split, y.one) refl
     go ts us (n ∷ more) m r y = rw (m.2, m.3.spelled.split, m.3.spelled.one) refl
 
--- [option OPTION FOR] names FROM names [how]: where the second word is OPTION, it is of an option
+-- [option OPTION FOR] names FROM names [CASCADE | RESTRICT]: where the second word is OPTION, it is of an option
 unfoldable pub revoked_memberships : Rule Statement (option_heads ++ Names ∷ []) revoked_more false
 revoked_memberships = widened (either_by (second_is (Keyword (codes "option") ∷ [])) revoked_option revoked_roles option_second no_option_second) refl refl
 
@@ -805,9 +797,9 @@ unfolding option_for
 option_for_skips = mapped_skips _ _ _ (both_skips _ _ _ option_skips (mapped_skips _ _ _ (both_skips _ _ _ (word_skips (codes "option") refl refl) (word_skips (codes "for") refl refl))))
 
 -- behind names FROM comes first
-from_decides : (front rest : List Token) (r : List (List ℕ) × List (List ℕ)) → roles_from.spells front r → on_comes_first (front ++ rest) ≡ false
+from_decides : (front rest : List Token) (r : List (List ℕ) × (List (List ℕ) × Bool)) → roles_from.spells front r → on_comes_first (front ++ rest) ≡ false
 unfolding roles_from
-from_decides = decided_behind on_comes_first names.spells _ names_skip false (decided_at on_comes_first (Word (codes "from")) members.spells false (λ ts. refl))
+from_decides = decided_behind on_comes_first names.spells _ names_skip false (decided_at on_comes_first (Word (codes "from")) _ false (λ ts. refl))
 
 -- where privileges are revoked ON comes first
 pub on_still_first : (front rest : List Token) (a : Statement) → revoked_privileges.spells front a → sees revoked_more rest ≡ false → on_comes_first (front ++ rest) ≡ true
@@ -823,7 +815,7 @@ from_first front rest a h stop = elim h [
   | inr x ↦ from_decides front rest x.source x.spelled
 ]
 
--- REVOKE ([GRANT OPTION FOR] privileges ON [TABLE] name FROM grantees [CASCADE | RESTRICT] | [option OPTION FOR] names FROM names [how]): where ON comes before FROM, it is of privileges
+-- REVOKE ([GRANT OPTION FOR] privileges ON [TABLE] name FROM grantees [CASCADE | RESTRICT] | [option OPTION FOR] names FROM names [CASCADE | RESTRICT]): where ON comes before FROM, it is of privileges
 unfoldable pub revoke : Rule Statement (Keyword (codes "revoke") ∷ []) revoked_more false
 revoke = widened (after (word (codes "revoke")) (either_by on_comes_first revoked_privileges revoked_memberships on_still_first from_first) refl) refl refl
 

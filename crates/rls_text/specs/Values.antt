@@ -414,9 +414,9 @@ abbrev pub granting_of : List (List ℕ) × (List (List ℕ) × MembershipOption
 granting_of r = Statement.GrantRoles record { roles = r.0; to = r.1.0; options = r.1.1 }
 
 -- REVOKE of roles, of its parts
-abbrev pub revoking_of : List (List ℕ) × List (List ℕ) → Statement
-revoking_of r = Statement.RevokeRoles record { option = None; roles = r.0; from = r.1 }
+abbrev pub revoking_of : List (List ℕ) × (List (List ℕ) × Bool) → Statement
+revoking_of r = Statement.RevokeRoles record { option = None; roles = r.0; from = r.1.0; cascade = r.1.1 }
 
 -- REVOKE of an option, of its parts
-abbrev pub option_revoking_of : MembershipOption × (List (List ℕ) × List (List ℕ)) → Statement
-option_revoking_of r = Statement.RevokeRoles record { option = Some r.0; roles = r.1.0; from = r.1.1 }
+abbrev pub option_revoking_of : MembershipOption × (List (List ℕ) × (List (List ℕ) × Bool)) → Statement
+option_revoking_of r = Statement.RevokeRoles record { option = Some r.0; roles = r.1.0; from = r.1.1.0; cascade = r.1.1.1 }

@@ -695,31 +695,32 @@ abbrev pub beside_option : {A : Type 0} → Option MembershipOption → A → Op
 beside_option None r = None
 beside_option (Some x) r = Some (x, r)
 
--- roles, members
-abbrev pub as_revoking : Statement → Option (List (List ℕ) × List (List ℕ))
-as_revoking (Statement.RevokeRoles x) = without_option x.option (x.roles, x.from)
+-- roles, members, CASCADE
+abbrev pub as_revoking : Statement → Option (List (List ℕ) × (List (List ℕ) × Bool))
+as_revoking (Statement.RevokeRoles x) = without_option x.option (x.roles, (x.from, x.cascade))
 as_revoking _ = None
 
-revoking_back : (o : Option MembershipOption) (roles from : List (List ℕ)) (a : List (List ℕ) × List (List ℕ)) → without_option o (roles, from) ≡ Some a → Statement.RevokeRoles record { option = o; roles = roles; from = from } ≡ g.revoking_of a
-revoking_back None roles from a h = ap g.revoking_of (some_is (roles, from) a h)
-revoking_back (Some x) roles from a h = cc
+revoking_back : (o : Option MembershipOption) (roles from : List (List ℕ)) (cascade : Bool) (a : List (List ℕ) × (List (List ℕ) × Bool)) → without_option o (roles, (from, cascade)) ≡ Some a
+    → Statement.RevokeRoles record { option = o; roles = roles; from = from; cascade = cascade } ≡ g.revoking_of a
+revoking_back None roles from cascade a h = ap g.revoking_of (some_is (roles, (from, cascade)) a h)
+revoking_back (Some x) roles from cascade a h = cc
 
-pub revoking_law : (b : Statement) (a : List (List ℕ) × List (List ℕ)) → as_revoking b ≡ Some a → b ≡ g.revoking_of a
-revoking_law (Statement.RevokeRoles x) a h = revoking_back x.option x.roles x.from a h
+pub revoking_law : (b : Statement) (a : List (List ℕ) × (List (List ℕ) × Bool)) → as_revoking b ≡ Some a → b ≡ g.revoking_of a
+revoking_law (Statement.RevokeRoles x) a h = revoking_back x.option x.roles x.from x.cascade a h
 revoking_law _ a h = cc
 
--- the option, roles, members
-abbrev pub as_option_revoking : Statement → Option (MembershipOption × (List (List ℕ) × List (List ℕ)))
-as_option_revoking (Statement.RevokeRoles x) = beside_option x.option (x.roles, x.from)
+-- the option, roles, members, CASCADE
+abbrev pub as_option_revoking : Statement → Option (MembershipOption × (List (List ℕ) × (List (List ℕ) × Bool)))
+as_option_revoking (Statement.RevokeRoles x) = beside_option x.option (x.roles, (x.from, x.cascade))
 as_option_revoking _ = None
 
-option_revoking_back : (o : Option MembershipOption) (roles from : List (List ℕ)) (a : MembershipOption × (List (List ℕ) × List (List ℕ))) → beside_option o (roles, from) ≡ Some a
-    → Statement.RevokeRoles record { option = o; roles = roles; from = from } ≡ g.option_revoking_of a
-option_revoking_back None roles from a h = cc
-option_revoking_back (Some x) roles from a h = ap g.option_revoking_of (some_is (x, (roles, from)) a h)
+option_revoking_back : (o : Option MembershipOption) (roles from : List (List ℕ)) (cascade : Bool) (a : MembershipOption × (List (List ℕ) × (List (List ℕ) × Bool))) → beside_option o (roles, (from, cascade)) ≡ Some a
+    → Statement.RevokeRoles record { option = o; roles = roles; from = from; cascade = cascade } ≡ g.option_revoking_of a
+option_revoking_back None roles from cascade a h = cc
+option_revoking_back (Some x) roles from cascade a h = ap g.option_revoking_of (some_is (x, (roles, (from, cascade))) a h)
 
-pub option_revoking_law : (b : Statement) (a : MembershipOption × (List (List ℕ) × List (List ℕ))) → as_option_revoking b ≡ Some a → b ≡ g.option_revoking_of a
-option_revoking_law (Statement.RevokeRoles x) a h = option_revoking_back x.option x.roles x.from a h
+pub option_revoking_law : (b : Statement) (a : MembershipOption × (List (List ℕ) × (List (List ℕ) × Bool))) → as_option_revoking b ≡ Some a → b ≡ g.option_revoking_of a
+option_revoking_law (Statement.RevokeRoles x) a h = option_revoking_back x.option x.roles x.from x.cascade a h
 option_revoking_law _ a h = cc
 
 -- ---- SET ROLE

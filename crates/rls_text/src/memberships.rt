@@ -1,6 +1,6 @@
 //! GRANT and REVOKE of roles behind the first word, and SET ROLE, from tokens.
 
-ghost use Rattle.std.specs.Prelude.{◌≡◌, [], ◌∷◌, length, codes};
+ghost use Rattle.std.specs.Prelude.{◌≡◌, [], ◌∷◌, length, codes, Some};
 ghost use Rattle.rls_text.specs.{Gives.Gives, Gives.with_front, Gives.or_no_items, Parses.and_then, Parses.read_both, Parses.read_many, Parses.read_token, Heads.Sign, Heads.Keyword, Lang.put_in, Rule.with_comma};
 ghost use Rattle.rls_text.specs.Ahead as ahead;
 ghost use Rattle.rls_text.specs.Grammar as g;
@@ -83,11 +83,12 @@ fn revoked_option(alloc: Global, tokens: &[Token]) -> Result<(Statement, &[Token
 {
     let (option, rest) = option_for(tokens)?;
     match roles_from(alloc, rest) {
-        Ok(((roles, from), rest)) => {
+        Ok(((roles, (from, cascade)), rest)) => {
             let revoke = RevokeRoles {
                 option: Some(option),
                 roles,
                 from,
+                cascade,
             };
             Ok((Statement::RevokeRoles(revoke), rest))
         }
@@ -100,11 +101,12 @@ fn revoked_roles(alloc: Global, tokens: &[Token]) -> Result<(Statement, &[Token]
     ensures { Gives result (g.revoked_roles.parses.read tokens.now) }
 {
     match roles_from(alloc, tokens) {
-        Ok(((roles, from), rest)) => {
+        Ok(((roles, (from, cascade)), rest)) => {
             let revoke = RevokeRoles {
                 option: None,
                 roles,
                 from,
+                cascade,
             };
             Ok((Statement::RevokeRoles(revoke), rest))
         }
@@ -129,12 +131,12 @@ fn option_for(tokens: &[Token]) -> Result<(MembershipOption, &[Token]), Fault>
 fn roles_from(
     alloc: Global,
     tokens: &[Token],
-) -> Result<((Items<Name>, Items<Name>), &[Token]), Fault>
+) -> Result<((Items<Name>, (Items<Name>, bool)), &[Token]), Fault>
     ensures { Gives result (g.roles_from.parses.read tokens.now) }
 {
     match names(alloc, tokens) {
         Ok((roles, rest)) => match from_members(alloc, rest) {
-            Ok((from, rest)) => Ok(((roles, from), rest)),
+            Ok(((from, cascade), rest)) => Ok(((roles, (from, cascade)), rest)),
             Err(fault) => {
                 drop(roles);
                 Err(fault)
@@ -144,28 +146,33 @@ fn roles_from(
     }
 }
 
-/// FROM and the members.
-fn from_members(alloc: Global, tokens: &[Token]) -> Result<(Items<Name>, &[Token]), Fault>
-    ensures { Gives result (and_then (read_token (Token.Word (codes "from")) tokens.now) (λ _ rest. g.members.parses.read rest)) }
+/// FROM, the members, and whether CASCADE is written.
+fn from_members(alloc: Global, tokens: &[Token]) -> Result<((Items<Name>, bool), &[Token]), Fault>
+    ensures { Gives result (and_then (read_token (Token.Word (codes "from")) tokens.now) (λ _ rest. read_both g.names.parses.read g.cascade.parses.read rest)) }
 {
-    match word(tokens, b"from") {
-        Some(rest) => members(alloc, rest),
-        None => Err(Fault::Syntax),
+    let Some(rest) = word(tokens, b"from") else {
+        return Err(Fault::Syntax);
+    };
+    match names(alloc, rest) {
+        Ok((from, rest)) => {
+            let (cascade, rest) = cascade(rest);
+            Ok(((from, cascade), rest))
+        }
+        Err(fault) => Err(fault),
     }
 }
 
-/// The members, and CASCADE or RESTRICT, which have no effect on memberships.
-#[tactic(auto, unfolding(crate::specs::Grammar::members, crate::specs::Grammar::how))]
-fn members(alloc: Global, tokens: &[Token]) -> Result<(Items<Name>, &[Token]), Fault>
-    ensures { Gives result (g.members.parses.read tokens.now) }
+/// Whether CASCADE is written. RESTRICT says what holds without it.
+#[tactic(auto, unfolding(crate::specs::Grammar::cascade))]
+pub fn cascade(tokens: &[Token]) -> (bool, &[Token])
+    ensures { g.cascade.parses.read tokens.now ≡ Some (result.0, result.1.now) }
 {
-    let (members, rest) = names(alloc, tokens)?;
-    if let Some(rest) = word(rest, b"cascade") {
-        Ok((members, rest))
-    } else if let Some(rest) = word(rest, b"restrict") {
-        Ok((members, rest))
+    if let Some(rest) = word(tokens, b"cascade") {
+        (true, rest)
+    } else if let Some(rest) = word(tokens, b"restrict") {
+        (false, rest)
     } else {
-        Ok((members, rest))
+        (false, tokens)
     }
 }
 

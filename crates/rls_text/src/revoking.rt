@@ -1,12 +1,11 @@
 //! REVOKE from tokens, of privileges here.
 
-ghost use Rattle.std.specs.Prelude.{◌≡◌, Some};
 ghost use Rattle.rls_text.specs.Gives.{Gives};
 ghost use Rattle.rls_text.specs.Grammar as g;
 
 use crate::fault::Fault;
 use crate::granting::{grantees, on_comes_first, privileges_on};
-use crate::memberships::revoked_memberships;
+use crate::memberships::{cascade, revoked_memberships};
 use crate::reading::{two_words, word};
 use crate::token::Token;
 use rls_expr::Grantee;
@@ -85,19 +84,5 @@ fn revoked_from(
             Ok(((from, cascade), rest))
         }
         Err(fault) => Err(fault),
-    }
-}
-
-/// Whether CASCADE is written. RESTRICT says what holds without it.
-#[tactic(auto, unfolding(crate::specs::Grammar::cascade))]
-fn cascade(tokens: &[Token]) -> (bool, &[Token])
-    ensures { g.cascade.parses.read tokens.now ≡ Some (result.0, result.1.now) }
-{
-    if let Some(rest) = word(tokens, b"cascade") {
-        (true, rest)
-    } else if let Some(rest) = word(tokens, b"restrict") {
-        (false, rest)
-    } else {
-        (false, tokens)
     }
 }

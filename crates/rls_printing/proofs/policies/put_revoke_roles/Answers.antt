@@ -3,13 +3,14 @@ use Rattle.std.specs.Prelude.{codes}
 use Rattle.rls_printing.specs.Pieces.{Word}
 use Rattle.rls_printing.specs.Sheets.{put_all, sheet_of}
 use Rattle.rls_printing.specs.StatementForms as form
-use Rattle.rls_printing.proofs.SheetLemmas.{put_on, put_one, on_same}
+use Rattle.rls_printing.proofs.SheetLemmas.{put_on, put_one}
 use Rattle.rls_printing.proofs.policies.put_revoke_roles.Goals as goal
 
 pub returns : goal.returns
 returns c =
-    put_one (Some (sheet_of c.args.page.now)) (Word (codes "REVOKE")) ((form.option_for c.args.statement.now.option) ++ ((form.listed form.name c.args.statement.now.roles) ++ (Word (codes "FROM") ∷ (form.listed form.name c.args.statement.now.from)))) (Some (sheet_of c.word.new.self)) (Some (sheet_of c.put_names-2.new.page)) c.put_names-2.result
-    c.in_ok-word.ensures (put_on (Some (sheet_of c.word.new.self)) (form.option_for c.args.statement.now.option) ((form.listed form.name c.args.statement.now.roles) ++ (Word (codes "FROM") ∷ (form.listed form.name c.args.statement.now.from))) (Some (sheet_of c.put_option_for.new.page)) (Some (sheet_of c.put_names-2.new.page)) c.put_names-2.result
-    c.in_ok-put_option_for.ensures (put_on (Some (sheet_of c.put_option_for.new.page)) (form.listed form.name c.args.statement.now.roles) (Word (codes "FROM") ∷ (form.listed form.name c.args.statement.now.from)) (Some (sheet_of c.put_names.new.page)) (Some (sheet_of c.put_names-2.new.page)) c.put_names-2.result
-    ((ap (λ z. put_all (Some (sheet_of c.put_option_for.new.page)) (form.listed form.name z)) (sym c.as_slice.ensures)) ∙ c.in_ok-put_names.ensures) (put_one (Some (sheet_of c.put_names.new.page)) (Word (codes "FROM")) (form.listed form.name c.args.statement.now.from) (Some (sheet_of c.word-2.new.self)) (Some (sheet_of c.put_names-2.new.page)) c.put_names-2.result
-    c.in_ok-word-2.ensures (on_same c.put_names-2.result _ _ _ (ap (λ z. put_all (Some (sheet_of c.word-2.new.self)) (form.listed form.name z)) (sym c.as_slice-2.ensures)) c.put_names-2.ensures))))
+    put_one (Some (sheet_of c.args.page.now)) (Word (codes "REVOKE")) ((form.option_for c.args.statement.now.option) ++ ((form.listed form.name c.args.statement.now.roles) ++ (Word (codes "FROM") ∷ ((form.listed form.name c.args.statement.now.from) ++ (form.cascade c.args.statement.now.cascade))))) (Some (sheet_of c.word.new.self)) (Some (sheet_of c.put_cascade.new.page)) c.put_cascade.result
+    c.in_ok-word.ensures (put_on (Some (sheet_of c.word.new.self)) (form.option_for c.args.statement.now.option) ((form.listed form.name c.args.statement.now.roles) ++ (Word (codes "FROM") ∷ ((form.listed form.name c.args.statement.now.from) ++ (form.cascade c.args.statement.now.cascade)))) (Some (sheet_of c.put_option_for.new.page)) (Some (sheet_of c.put_cascade.new.page)) c.put_cascade.result
+    c.in_ok-put_option_for.ensures (put_on (Some (sheet_of c.put_option_for.new.page)) (form.listed form.name c.args.statement.now.roles) (Word (codes "FROM") ∷ ((form.listed form.name c.args.statement.now.from) ++ (form.cascade c.args.statement.now.cascade))) (Some (sheet_of c.put_names.new.page)) (Some (sheet_of c.put_cascade.new.page)) c.put_cascade.result
+    ((ap (λ z. put_all (Some (sheet_of c.put_option_for.new.page)) (form.listed form.name z)) (sym c.as_slice.ensures)) ∙ c.in_ok-put_names.ensures) (put_one (Some (sheet_of c.put_names.new.page)) (Word (codes "FROM")) ((form.listed form.name c.args.statement.now.from) ++ (form.cascade c.args.statement.now.cascade)) (Some (sheet_of c.word-2.new.self)) (Some (sheet_of c.put_cascade.new.page)) c.put_cascade.result
+    c.in_ok-word-2.ensures (put_on (Some (sheet_of c.word-2.new.self)) (form.listed form.name c.args.statement.now.from) (form.cascade c.args.statement.now.cascade) (Some (sheet_of c.put_names-2.new.page)) (Some (sheet_of c.put_cascade.new.page)) c.put_cascade.result
+    ((ap (λ z. put_all (Some (sheet_of c.word-2.new.self)) (form.listed form.name z)) (sym c.as_slice-2.ensures)) ∙ c.in_ok-put_names-2.ensures) c.put_cascade.ensures))))
