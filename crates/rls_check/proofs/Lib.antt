@@ -1,0 +1,12 @@
+pub mod EndLemmas
+pub mod OrderLemmas
+pub mod PlacingLemmas
+pub mod HoldsLemmas
+pub mod HeldLemmas
+pub mod FirstLemmas
+pub mod ExplainedLemmas
+pub mod CommittedLemmas
+pub mod RunningLemmas
+pub mod FormLemmas
+pub mod KeepingLemmas
+pub mod ReadLemmas

@@ -1,0 +1,96 @@
+//! Whether what a run comes to is what is shown.
+
+ghost use Rattle.std.specs.Prelude.{◌≡◌, ◌↔◌, true, map, option_map};
+ghost use Rattle.rls_audit.specs.Lines as lines;
+ghost use Rattle.rls_audit.specs.Lines.{reply_of, written_by};
+ghost use Rattle.rls_check.specs.Audited.{written_of};
+ghost use Rattle.rls_check.specs.Checking.{ArePuts, IsAnswer};
+
+use crate::audit::{Answer, Put};
+use rls_access::{Decision, Effect};
+use rls_catalog::{Change, Keyed};
+use rls_equality::{Same, are_same};
+use rls_value::{Items, Row};
+
+/// Whether the effect is the reply or the refusal that is shown, with its decisions.
+pub(crate) fn is_answer(answer: &Answer, effect: &Effect) -> bool
+    ensures { (result ≡ true) ↔ IsAnswer answer.now effect.now }
+{
+    is_reply(answer, effect) && answer.decisions.is_same(decisions_of(effect))
+}
+
+fn is_reply(answer: &Answer, effect: &Effect) -> bool
+    ensures { (result ≡ true) ↔ (answer.now.reply ≡ reply_of effect.now) }
+{
+    match (&answer.reply, effect) {
+        (Ok(reply), Effect::Done(made, _, _, _)) => reply.is_same(made),
+        (Err(refused), Effect::Refused(made, _)) => refused.get().is_same(made),
+        (_, _) => false,
+    }
+}
+
+fn decisions_of(effect: &Effect) -> &Items<Decision>
+    ensures { result.now ≡ lines.decisions_of effect.now }
+{
+    match effect {
+        Effect::Done(_, decisions, _, _) => decisions,
+        Effect::Refused(_, decisions) => decisions,
+    }
+}
+
+/// Whether the changes are those that are shown.
+pub(crate) fn are_puts(mut puts: &[Put], mut changes: &[Change]) -> bool
+    ensures { (result ≡ true) ↔ ArePuts puts.entry.now changes.entry.now }
+{
+    while let [put, more @ ..] = puts {
+        match changes {
+            [change, others @ ..] => {
+                if !is_put(put, change) {
+                    return false;
+                }
+                changes = others;
+            }
+            [] => return false,
+        }
+        puts = more;
+    }
+    changes.is_empty()
+}
+
+/// Whether the change is the one that is shown.
+fn is_put(put: &Put, change: &Change) -> bool
+    ensures { (result ≡ true) ↔ (written_of put.now ≡ written_by change.now) }
+{
+    match (put, change) {
+        (Put::Role(name, def), Change::Role(other, made)) => {
+            name.is_same(other) && def.is_same(made)
+        }
+        (Put::Members(member, content), Change::Members(other, made)) => {
+            member.is_same(other) && content.is_same(made)
+        }
+        (Put::Table(name, def), Change::Table(other, made)) => {
+            name.is_same(other) && def.is_same(made)
+        }
+        (Put::Grants(table, content), Change::Grants(other, made)) => {
+            table.is_same(other) && content.is_same(made)
+        }
+        (Put::Policies(table, policies), Change::Policies(other, made)) => {
+            table.is_same(other) && are_same(policies.as_slice(), made.as_slice())
+        }
+        (Put::Row(table, id, values), Change::Row(row)) => {
+            table.is_same(&row.table) && id.is_same(&row.id) && are_values(values, &row.after)
+        }
+        (_, _) => false,
+    }
+}
+
+/// Whether the values are the row's.
+fn are_values(values: &Option<Row>, after: &Option<Keyed>) -> bool
+    ensures { (result ≡ true) ↔ (values.now ≡ option_map (λ keyed. keyed.row) after.now) }
+{
+    match (values, after) {
+        (Some(values), Some(keyed)) => values.is_same(&keyed.row),
+        (None, None) => true,
+        (_, _) => false,
+    }
+}
