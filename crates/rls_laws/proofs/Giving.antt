@@ -1,0 +1,119 @@
+-- What the steps of a statement give, and that a refusal of one is a refusal that an audit has.
+use Rattle.std.specs.Prelude.{◌≡◌, refl, List, [], ◌∷◌, Bool, true, false, Option, Some, None, Result, Ok, Err, if◌then◌else◌}
+use Rattle.std.specs.List.{AllByRecursion}
+use Rattle.rls_value.specs.{declared.refusal.Refusal.Refusal, Giving.and_then}
+use Rattle.rls_catalog.specs.{declared.change.Change.Change, State.State}
+use Rattle.rls_source.specs.{Askings.Asking, Askings.asked_if, Askings.followed_by, Askings.known, Named.found_or, Sequences.each_of, Sequences.each_or_refused}
+use Rattle.rls_guard.specs.{declared.effect.Effect.Effect, Effects.shown}
+use Rattle.rls_guard.specs.declared.effect.Effect.TheVariants as effect
+use Rattle.rls_evaluation.specs.Gathering.{gathered}
+use Rattle.rls_audit.specs.RefusalCodecs.{IsAudited}
+use Rattle.rls_meaning.specs.Naming.{provided}
+
+-- this holds of what is given, where something is
+abbrev pub GivenAs : {A : Type 0} → (A → Type 0) → Result A Refusal → Type 0
+GivenAs Holds (Ok a) = Holds a
+GivenAs Holds (Err refusal) = IsAudited refusal
+
+-- the same as a type of its own, which shows what is given
+pub record Gives {A : Type 0} (Holds : A → Type 0) (given : Result A Refusal) : Type 0 where
+  pub is : GivenAs Holds given
+
+-- nothing is said of what is given
+abbrev pub Any : {A : Type 0} → A → Type 0
+Any a = Unit {0}
+
+-- ---- one after another
+
+-- the next may take what a step gives
+pub after : {A B : Type 0} {P : A → Type 0} {Q : B → Type 0} {given : Result A Refusal} {next : A → Result B Refusal} → Gives P given → ((a : A) → P a → Gives Q (next a)) → Gives Q (and_then given next)
+after {given = Ok a} one more = more a one.is
+after {given = Err refusal} one more = record { is = one.is }
+
+-- it is given
+pub gives : {A : Type 0} (P : A → Type 0) (a : A) → P a → Gives P (Ok a)
+gives P a is = record { is = is }
+
+-- ---- tests
+
+-- the test has to pass
+pub tested : {A : Type 0} (b : Bool) (a : A) (refusal : Refusal) → IsAudited refusal → Gives Any (if b then Ok a else Err refusal)
+tested true a refusal is = record { is = tt }
+tested false a refusal is = record { is = is }
+
+-- the test may not pass
+pub untested : {A : Type 0} (b : Bool) (a : A) (refusal : Refusal) → IsAudited refusal → Gives Any (if b then Err refusal else Ok a)
+untested true a refusal is = record { is = is }
+untested false a refusal is = record { is = tt }
+
+-- the same, where something is known of what is given
+pub refused_or : {A : Type 0} (P : A → Type 0) (b : Bool) (a : A) (refusal : Refusal) → IsAudited refusal → P a → Gives P (if b then Err refusal else Ok a)
+refused_or P true a refusal is holds = record { is = is }
+refused_or P false a refusal is holds = record { is = holds }
+
+-- it has to hold
+pub provided_gives : (b : Bool) (refusal : Refusal) → IsAudited refusal → Gives Any (provided b refusal)
+provided_gives b refusal is = tested b tt refusal is
+
+-- it has to be there
+pub found_gives : {A : Type 0} (refusal : Refusal) (found : Option A) → IsAudited refusal → Gives (λ a. found ≡ Some a) (found_or refusal found)
+found_gives refusal (Some a) is = record { is = refl }
+found_gives refusal None is = record { is = is }
+
+-- ---- lists
+
+pub each_gives : {A B : Type 0} (give : A → Result B Refusal) → ((x : A) → Gives Any (give x)) → (xs : List A) → Gives Any (each_of give xs)
+each_gives give all [] = record { is = tt }
+each_gives give all (x ∷ xs) = after (all x) (λ y _. after (each_gives give all xs) (λ ys _. gives Any (y ∷ ys) tt))
+
+pub each_passes : {A : Type 0} (test : A → Result (Unit {0}) Refusal) → ((x : A) → Gives Any (test x)) → (xs : List A) → Gives Any (each_or_refused test xs)
+each_passes test all [] = record { is = tt }
+each_passes test all (x ∷ xs) = after (all x) (λ _ _. each_passes test all xs)
+
+-- ---- questions
+
+-- in the state the question gives something, or a refusal that an audit has
+pub record Asks {A : Type 0} (s : State) (asking : Asking A) : Type 0 where
+  pub given : Gives Any (asking.in_state s).gives
+
+pub asks_known : {A : Type 0} (s : State) (a : A) → Asks s (known (Ok a))
+asks_known s a = record { given = record { is = tt } }
+
+pub asks_then : {A B : Type 0} {s : State} {first : Asking A} {next : A → Asking B} → Asks s first → ((a : A) → Asks s (next a)) → Asks s (followed_by first next)
+asks_then one more = record { given = after one.given (λ a _. (more a).given) }
+
+-- a value made of what is asked
+pub asks_told : {A B : Type 0} {s : State} {first : Asking A} (f : A → B) → Asks s first → Asks s (followed_by first (λ a. known (Ok (f a))))
+asks_told {s = s} f one = record { given = after one.given (λ a _. gives Any (f a) tt) }
+
+pub asks_if : {A : Type 0} {s : State} {one other : Asking A} (b : Bool) → Asks s one → Asks s other → Asks s (asked_if b one other)
+asks_if true first second = record { given = first.given }
+asks_if false first second = record { given = second.given }
+
+pub asks_each : {A B R : Type 0} (s : State) (put : A → B → R → R) (none : R) (ask : A → Asking B) → ((x : A) → Asks s (ask x)) → (xs : List A) → Asks s (gathered put none ask xs)
+asks_each s put none ask all [] = asks_known s none
+asks_each s put none ask all (x ∷ xs) = asks_then (all x) (λ y. asks_told (λ rest. put x y rest) (asks_each s put none ask all xs))
+
+-- ---- effects
+
+-- of what is changed each change is as it is to be, or the refusal is one that an audit has
+abbrev pub Ends : (Change → Type 0) → Effect → Type 0
+Ends Is (effect.Done reply decisions changes role) = AllByRecursion Is changes
+Ends Is (effect.Refused refusal decisions) = IsAudited refusal
+
+-- so also of what is shown
+pub shown_ends : (Is : Change → Type 0) (given : Result Effect Refusal) → Gives (Ends Is) given → Ends Is (shown given)
+shown_ends Is (Ok done) is = is.is
+shown_ends Is (Err refusal) is = is.is
+
+-- ---- what is known of what is given
+
+-- it is what is given
+pub known_gives : {A : Type 0} (given : Result A Refusal) → Gives Any given → Gives (λ a. given ≡ Ok a) given
+known_gives (Ok a) is = record { is = refl }
+known_gives (Err refusal) is = record { is = is.is }
+
+-- what holds of it lets more hold of it
+pub weaker : {A : Type 0} {P Q : A → Type 0} {given : Result A Refusal} → ((a : A) → P a → Q a) → Gives P given → Gives Q given
+weaker {given = Ok a} more one = record { is = more a one.is }
+weaker {given = Err refusal} more one = record { is = one.is }

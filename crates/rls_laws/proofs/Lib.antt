@@ -1,0 +1,12 @@
+pub mod SpelledAlone
+pub mod Ascending
+pub mod GrantsAscending
+pub mod MembershipsAscending
+pub mod Fitting
+pub mod Giving
+pub mod Evaluating
+pub mod Defining
+pub mod Handing
+pub mod Judging
+pub mod Ending
+pub mod Recording

@@ -1,0 +1,12 @@
+use Rattle.rls_laws.proofs.Ending.{effect_shown, refusal_audited}
+use Rattle.rls_laws.proofs.Recording.{after_shown}
+use Rattle.rls_laws.proofs.refusing.effects_are_shown.Goals as goal
+
+pub returns-clause-refused : goal.returns-clause-refused
+returns-clause-refused c = refusal_audited c.statement_means.ensures
+
+pub returns-clause-shown : goal.returns-clause-shown
+returns-clause-shown c = effect_shown c.statement_means.ensures
+
+pub returns-clause-events : goal.returns-clause-events
+returns-clause-events c = after_shown c.statement_means.ensures

@@ -1,0 +1,10 @@
+//! Laws over statements as a whole, each a clause of a function that does nothing.
+#![tactic(auto)]
+
+mod order;
+mod refusing;
+mod spelling;
+
+pub use order::lists_stay_in_order;
+pub use refusing::effects_are_shown;
+pub use spelling::{one_command, one_statement, printed_command, printed_statement};

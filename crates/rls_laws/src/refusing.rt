@@ -1,0 +1,26 @@
+//! What an audit can show of a statement.
+
+ghost use Rattle.std.specs.Prelude.{◌≡◌, List};
+ghost use Rattle.std.specs.List.{All};
+ghost use Rattle.rls_value.specs.declared.refusal.Refusal.{Refusal};
+ghost use Rattle.rls_catalog.specs.State.{State};
+ghost use Rattle.rls_statement.specs.declared.statement.Statement.{Statement};
+ghost use Rattle.rls_guard.specs.{declared.context.Ctx.Ctx, declared.reply.Decision.Decision};
+ghost use Rattle.rls_guard.specs.declared.effect.Effect.TheVariants as effect;
+ghost use Rattle.rls_access.specs.Statements.{effect_in};
+ghost use Rattle.rls_core.specs.Events.{Event, Rules, after};
+ghost use Rattle.rls_audit.specs.{RefusalCodecs.IsAudited, Showing.CanShow};
+ghost use Rattle.rls_laws.specs.Shown.{KeysAreThere};
+
+use rls_meaning::statement_means;
+
+/// The refusal of a statement is one that an audit has: none of a text, of a login, of a conflict, of want of memory or of
+/// another engine. Where the columns of primary keys are there, an audit can show what a statement comes to; so after every
+/// list of begins, statements, commits and rollbacks it can show all that the committed transactions came to.
+pub fn effects_are_shown()
+    ensures refused { (s : State) (ctx : Ctx) (asked : Statement) (refusal : Refusal) (decisions : List Decision) → effect_in s ctx asked ≡ effect.Refused refusal decisions → IsAudited refusal }
+    ensures shown { (s : State) (ctx : Ctx) (asked : Statement) → KeysAreThere s → CanShow (effect_in s ctx asked) }
+    ensures events { (rules : Rules) (events : List Event) → All (λ it. All CanShow it.effects) (after rules events).committed }
+{
+    statement_means()
+}
