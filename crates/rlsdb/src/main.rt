@@ -1,9 +1,16 @@
-//! The program: runs a script of statements and writes the answers.
+//! The program: runs scripts of statements, and says what audits of runs hold.
 #![tactic(auto)]
 
+mod audit_file;
+mod audits;
 mod command_line;
+mod commands;
 mod device;
+mod fault;
 mod passed;
+mod running;
+mod same_file;
+mod words;
 
 use std::process::ExitCode;
 use std::thread;
@@ -17,9 +24,9 @@ const STACK: usize = 1 << 31;
 fn main(rt: HostRuntime) -> ExitCode {
     let status = thread::scope(thread::scope_env(), &rt, |scope| {
         let thread = Builder::new().stack_size(STACK);
-        match thread.spawn_scoped(scope, || command_line::run(&rt, &rt)) {
+        match thread.spawn_scoped(scope, || commands::run(&rt, &rt)) {
             Ok(running) => running.join(&rt),
-            Err(_) => command_line::run(&rt, &rt),
+            Err(_) => commands::run(&rt, &rt),
         }
     });
     ExitCode::from(status)

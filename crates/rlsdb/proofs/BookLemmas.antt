@@ -1,0 +1,37 @@
+-- What is written of a book, line by line.
+use Rattle.std.proofs.Common.{◌≡◌, ◌+◌, ◌<◌, ◌++◌, ◌∷◌, [], ℕ, suc, List, length, drop, get_or, sym, subst, arith}
+use Rattle.std.proofs.Math.Seq.{drop-cons}
+use Rattle.std.proofs.lemmas.List.Elements.{All-get_or}
+use Rattle.std.specs.List.{All}
+use Rattle.rls_core.specs.Records.{Record}
+use Rattle.rls_audit.specs.declared.lines.Line.{Line}
+use Rattle.rls_audit.specs.Lines as shown
+use Rattle.rls_audit.specs.Showing.{AreTexts}
+use Rattle.rls_audit.specs.Shows.{ShowsLine}
+use Rattle.rlsdb.specs.AuditLines.{WritesLine, WritesLines, none, next}
+
+-- lines behind lines
+joined : (one other : List shown.Line) (before middle after : List ℕ) → WritesLines one before middle → WritesLines other middle after → WritesLines (one ++ other) before after
+joined _ other before middle after none others = others
+joined _ other before middle after (next {more = more} {middle = between} line shows writes rest) others = next line shows writes (joined more other between middle after rest others)
+
+-- one line, lines behind it, and a last one
+pub whole : (first last : shown.Line) (lines : List shown.Line) (head end : Line) (before one two after : List ℕ) → ShowsLine head first → WritesLine head before one → WritesLines lines one two → ShowsLine end last → WritesLine end two after → WritesLines (first ∷ (lines ++ (last ∷ []))) before after
+whole first last lines head end before one two after is_head writes more is_end ends = next head is_head writes (joined lines (last ∷ []) one two after more (next end is_end ends none))
+
+-- no lines
+pub ended : (lines : List shown.Line) (bytes : List ℕ) → lines ≡ [] → WritesLines lines bytes bytes
+ended lines bytes is = subst (λ it. WritesLines it bytes bytes) (sym is) none
+
+-- the line of a record in front of those of the records behind it
+pub led : (records : List Record) (place : ℕ) (it : Record) (line : Line) (before between after : List ℕ) → place < length records → it ≡ get_or records place it → All AreTexts records
+    → (AreTexts it → ShowsLine line (shown.Txn (shown.shown (place + 1) it))) → WritesLine line before between
+    → WritesLines (shown.lines_from (suc (place + 1)) (drop (place + 1) records)) between after → WritesLines (shown.lines_from (suc place) (drop place records)) before after
+led records place it line before between after below is texts shows writes more =
+    subst (λ left. WritesLines (shown.lines_from (suc place) left) before after) (sym (drop-cons records place it below))
+    (subst (λ now. WritesLines (shown.lines_from (suc place) (now ∷ drop (suc place) records)) before after) is
+    (subst (λ n. WritesLines (shown.Txn (shown.shown n it) ∷ shown.lines_from (suc n) (drop n records)) before after) later
+    (next line (shows (subst AreTexts (sym is) (All-get_or AreTexts records place it below texts))) writes more)))
+  where
+    later : place + 1 ≡ suc place
+    later = omega arith

@@ -1,0 +1,3 @@
+pub mod BookLemmas
+pub mod LineLemmas
+pub mod WordLemmas

@@ -1,0 +1,41 @@
+-- What ends a command, by what failed, and the exit status that tells it.
+use Rattle.std.specs.Prelude.{◌≡◌, ◌⊎◌, ℕ, Bool, true}
+use Rattle.rls_value.specs.declared.refusal.Refusal.{Refusal}
+use Rattle.rls_value.specs.declared.refusal.Refusal.TheVariants as r
+use Rattle.rls_session.specs.declared.fault.RunFault.TheVariants as run
+use Rattle.rlsdb.specs.declared.fault.Fault.{Fault}
+use Rattle.rlsdb.specs.declared.fault.Fault.TheVariants as fault
+use Rattle.rlsdb.specs.declared.command_line.Mistake.{Mistake}
+use Rattle.rlsdb.specs.declared.command_line.Mistake.TheVariants as mistake
+use Rattle.clap.specs.Words.{kind_of}
+use Rattle.clap.specs.declared.error.kind.ErrorKind.{ErrorKind}
+use Rattle.clap.specs.declared.error.kind.ErrorKind.TheVariants as kind
+
+-- the fault of a refused line of an audit
+abbrev pub line_fault : Refusal → Fault
+line_fault (r.BadAudit line) = fault.BadLine line
+line_fault r.NoMemory = fault.Ended run.NoMemory
+line_fault _ = fault.Ended run.Foreign
+
+-- The fault that is told, of a fault and of the rest of the audit: a bad line only where the rest was read, up to the end.
+abbrev pub IsToldOf : Fault → Bool → Fault → Type 0
+IsToldOf (fault.BadLine line) ended told = ((told ≡ fault.BadLine line) × (ended ≡ true)) ⊎ (told ≡ fault.Ended run.Read)
+IsToldOf other ended told = told ≡ other
+
+-- the exit status: 3 for a bad line, or 1 where that can't be written; 2 where a file would be written over itself; else 1
+abbrev pub EndsWith : Fault → ℕ → Type 0
+EndsWith (fault.BadLine line) status = (status ≡ 3) ⊎ (status ≡ 1)
+EndsWith (fault.SameFile argument) status = status ≡ 2
+EndsWith other status = status ≡ 1
+
+-- the same by what `clap` says: 1 for want of memory, 0 for help and the version, or 1 where they can't be written, and else 2
+abbrev pub EndsWithKind : ErrorKind → ℕ → Type 0
+EndsWithKind kind.OutOfMemory status = status ≡ 1
+EndsWithKind kind.DisplayHelp status = (status ≡ 0) ⊎ (status ≡ 1)
+EndsWithKind kind.DisplayVersion status = (status ≡ 0) ⊎ (status ≡ 1)
+EndsWithKind other status = status ≡ 2
+
+-- the same of a mistake in the words: 2 where it isn't `clap` that found it
+abbrev pub EndsMistake : Mistake → ℕ → Type 0
+EndsMistake (mistake.Words error) status = EndsWithKind (kind_of error) status
+EndsMistake other status = status ≡ 2

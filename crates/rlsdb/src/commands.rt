@@ -1,0 +1,141 @@
+//! The commands, and how the program ends.
+
+ghost use Rattle.std.specs.Prelude.{◌≡◌, ◌≤◌};
+ghost use Rattle.std.specs.IoError.{error_kind};
+ghost use Rattle.std.specs.declared.io.ErrorKind.TheVariants.{OutOfMemory};
+ghost use Rattle.rlsdb.specs.Faults.{EndsWith, EndsMistake};
+
+use crate::command_line::Mistake;
+use crate::fault::Fault;
+use crate::words::Request;
+use crate::{audits, command_line, running};
+use clap::error::ErrorKind;
+use rls_session::RunFault;
+use std::sync::Wait;
+use std::thread::Threads;
+use std::time::Clock;
+use std::{env, io};
+
+const DONE: u8 = 0;
+
+// A read or a write fault, or want of memory.
+const FAULT: u8 = 1;
+
+const USAGE: u8 = 2;
+
+// A check says no, a line of an audit is bad, or there is no such decision.
+const NO: u8 = 3;
+
+// What stands behind a mistake of usage.
+const MORE: &str = "\nFor more information, try '--help'.";
+
+/// Does what the words of the command line ask for, and gives the exit status.
+pub fn run<W: Threads + Wait + Clock + Sync>(rt: &HostRuntime, waits: &W) -> u8
+    ensures { result ≤ 3 }
+{
+    let words = match env::args(rt) {
+        Ok(words) => words,
+        Err(error) => return unread_words(rt, &error),
+    };
+    let Ok(words) = words.collect::<Vec<String>>(rt.alloc()) else {
+        return report(rt, Fault::Ended(RunFault::NoMemory));
+    };
+    match command_line::request_of(rt.alloc(), words.as_slice()) {
+        Ok(request) => match answer(rt, waits, request) {
+            Ok(true) => DONE,
+            Ok(false) => NO,
+            Err(fault) => report(rt, fault),
+        },
+        Err(mistake) => explain(rt, mistake),
+    }
+}
+
+// A word that isn't UTF-8 is a mistake of usage.
+fn unread_words(rt: &HostRuntime, error: &io::Error) -> u8
+    ensures memory { error_kind error.now ≡ OutOfMemory → result ≡ 1 }
+    ensures usage { ¬ (error_kind error.now ≡ OutOfMemory) → result ≡ 2 }
+{
+    if error.kind() == io::ErrorKind::OutOfMemory {
+        return report(rt, Fault::Ended(RunFault::NoMemory));
+    }
+    let _ = eprintln!(rt; "error: a word of the command line is not UTF-8");
+    USAGE
+}
+
+/// Does what is asked for. False where the answer is no.
+fn answer<'a, W: Threads + Wait + Clock + Sync>(
+    rt: &HostRuntime,
+    waits: &W,
+    request: Request<'a>,
+) -> Result<bool, Fault<'a>> {
+    match request {
+        Request::Run(run) => running::run(rt, waits, run).map(|()| true),
+        Request::Order(audit) => audits::order(rt, audit).map(|()| true),
+        Request::Check(audit) => audits::check(rt, audit),
+        Request::Explain(asked) => audits::explain(rt, asked),
+        Request::Migrate(from, to) => audits::migrate(rt, from, to).map(|()| true),
+    }
+}
+
+// Help goes to standard output, all else to standard error.
+fn explain(rt: &HostRuntime, mistake: Mistake<'_>) -> u8
+    ensures { EndsMistake mistake.entry result }
+{
+    match mistake {
+        Mistake::Value(argument, value, wanted) => {
+            let _ = eprintln!(rt;
+                "error: invalid value '{value}' for '{argument}': {wanted} is wanted\n{MORE}"
+            );
+            USAGE
+        }
+        Mistake::Words(error) => {
+            if error.kind() == ErrorKind::OutOfMemory {
+                return report(rt, Fault::Ended(RunFault::NoMemory));
+            }
+            match error.print(rt) {
+                Err(_) if !error.use_stderr() => report(rt, Fault::Ended(RunFault::Write)),
+                _ if error.use_stderr() => USAGE,
+                _ => DONE,
+            }
+        }
+        Mistake::Nothing => USAGE,
+    }
+}
+
+/// Tells the fault, and gives its status.
+fn report(rt: &HostRuntime, fault: Fault<'_>) -> u8
+    ensures { EndsWith fault.entry result }
+{
+    match fault {
+        Fault::BadLine(line) => {
+            return match println!(rt; "bad audit line {line}") {
+                Ok(()) => NO,
+                Err(_) => report_run(rt, RunFault::Write),
+            };
+        }
+        Fault::Unread(name, error) => {
+            let _ = eprintln!(rt; "rlsdb: cannot read {name}: {error}");
+        }
+        Fault::Unwritten(name, error) => {
+            let _ = eprintln!(rt; "rlsdb: cannot write {name}: {error}");
+        }
+        Fault::SameFile(argument) => {
+            let _ = eprintln!(rt; "error: {argument} and OUT are the same file\n{MORE}");
+            return USAGE;
+        }
+        Fault::Ended(fault) => return report_run(rt, fault),
+    }
+    FAULT
+}
+
+fn report_run(rt: &HostRuntime, fault: RunFault) -> u8
+    ensures { result ≡ 1 }
+{
+    match fault {
+        RunFault::Foreign => {}
+        fault => {
+            let _ = eprintln!(rt; "rlsdb: {fault}");
+        }
+    }
+    FAULT
+}

@@ -1,0 +1,87 @@
+//! What the words of the command line ask for.
+
+ghost use Rattle.std.specs.Prelude.{◌≡◌, ◌^◌, SomeIff, MatchOption};
+ghost use Rattle.std.specs.Str.Parse.{digits_value};
+ghost use Rattle.rls_value.specs.declared.row.RowId.{RowId};
+ghost use Rattle.rlsdb.specs.Words.{IsDecimal, IsRowText};
+
+use rls_value::RowId;
+
+/// A script to run.
+#[derive(Clone, Copy)]
+pub struct ScriptFile<'a> {
+    /// Its file, or `-` for standard input.
+    pub file: &'a str,
+    /// Whether each label has a thread.
+    pub threads: bool,
+    /// The file that its audit is written to.
+    pub audit: Option<&'a str>,
+}
+
+/// A statement of an audit to be explained, and perhaps a row.
+#[derive(Clone, Copy)]
+pub struct Explain<'a> {
+    pub audit: &'a str,
+    pub txn: u64,
+    /// Counted from 1.
+    pub statement: u64,
+    pub row: Option<RowId>,
+}
+
+/// A command with what it is about.
+#[derive(Clone, Copy)]
+pub enum Request<'a> {
+    Run(ScriptFile<'a>),
+    Order(&'a str),
+    Check(&'a str),
+    Explain(Explain<'a>),
+    /// From the first file into the second.
+    Migrate(&'a str, &'a str),
+}
+
+/// The number below 2^64 that the text is: decimal digits alone.
+pub fn number_of(text: &str) -> Option<u64>
+    ensures { SomeIff result (IsDecimal (2 ^ 64) text.now) (digits_value 10 text.now) }
+{
+    // `parse` would take a plus.
+    if text.starts_with('+') {
+        return None;
+    }
+    match text.parse::<u64>() {
+        Ok(number) => Some(number),
+        Err(_) => None,
+    }
+}
+
+/// The same below 2^32.
+fn place_of(text: &str) -> Option<u32>
+    ensures { SomeIff result (IsDecimal (2 ^ 32) text.now) (digits_value 10 text.now) }
+{
+    if text.starts_with('+') {
+        return None;
+    }
+    match text.parse::<u32>() {
+        Ok(place) => Some(place),
+        Err(_) => None,
+    }
+}
+
+/// The number of a row that the text is: `T.N`.
+pub fn row_of(text: &str) -> Option<RowId>
+    ensures { MatchOption result ((row : RowId) → ¬ (IsRowText text.now row)) (IsRowText text.now) }
+{
+    match text.split_once('.') {
+        Some((txn, n)) => row_with(txn, n),
+        None => None,
+    }
+}
+
+/// The row whose numbers the two texts are.
+fn row_with(txn: &str, n: &str) -> Option<RowId>
+    ensures { SomeIff result (IsDecimal (2 ^ 64) txn.now × IsDecimal (2 ^ 32) n.now) (record { txn = digits_value 10 txn.now; n = digits_value 10 n.now }) }
+{
+    match (number_of(txn), place_of(n)) {
+        (Some(txn), Some(n)) => Some(RowId { txn, n }),
+        _ => None,
+    }
+}
