@@ -3,10 +3,8 @@ use Rattle.std.proofs.Common.{◌≡◌, ◌+◌, ◌<◌, ◌++◌, ◌∷◌, 
 use Rattle.std.proofs.Math.Seq.{drop-cons}
 use Rattle.std.proofs.lemmas.List.Elements.{All-get_or}
 use Rattle.std.specs.List.{All}
-use Rattle.rls_core.specs.Records.{Record}
 use Rattle.rls_audit.specs.declared.lines.Line.{Line}
 use Rattle.rls_audit.specs.Lines as shown
-use Rattle.rls_audit.specs.Showing.{AreTexts}
 use Rattle.rls_audit.specs.Shows.{ShowsLine}
 use Rattle.rlsdb.specs.AuditLines.{WritesLine, WritesLines, none, next}
 
@@ -23,15 +21,16 @@ whole first last lines head end before one two after is_head writes more is_end 
 pub ended : (lines : List shown.Line) (bytes : List ℕ) → lines ≡ [] → WritesLines lines bytes bytes
 ended lines bytes is = subst (λ it. WritesLines it bytes bytes) (sym is) none
 
--- the line of a record in front of those of the records behind it
-pub led : (records : List Record) (place : ℕ) (it : Record) (line : Line) (before between after : List ℕ) → place < length records → it ≡ get_or records place it → All AreTexts records
-    → (AreTexts it → ShowsLine line (shown.Txn (shown.shown (place + 1) it))) → WritesLine line before between
-    → WritesLines (shown.lines_from (suc (place + 1)) (drop (place + 1) records)) between after → WritesLines (shown.lines_from (suc place) (drop place records)) before after
-led records place it line before between after below is texts shows writes more =
-    subst (λ left. WritesLines (shown.lines_from (suc place) left) before after) (sym (drop-cons records place it below))
-    (subst (λ now. WritesLines (shown.lines_from (suc place) (now ∷ drop (suc place) records)) before after) is
-    (subst (λ n. WritesLines (shown.Txn (shown.shown n it) ∷ shown.lines_from (suc n) (drop n records)) before after) later
-    (next line (shows (subst AreTexts (sym is) (All-get_or AreTexts records place it below texts))) writes more)))
+-- the line of one of the records in front of those of the records behind it, however records are shown
+pub led : {A : Type 0} (P : A → Type 0) (first : ℕ → A → shown.Line) (from : ℕ → List A → List shown.Line) → ((n : ℕ) (it : A) (more : List A) → from n (it ∷ more) ≡ first n it ∷ from (suc n) more)
+    → (records : List A) (place : ℕ) (it : A) (line : Line) (before between after : List ℕ) → place < length records → it ≡ get_or records place it → All P records → (P it → ShowsLine line (first (place + 1) it)) → WritesLine line before between
+    → WritesLines (from (suc (place + 1)) (drop (place + 1) records)) between after → WritesLines (from (suc place) (drop place records)) before after
+led P first from cut records place it line before between after below is holds shows writes more =
+    subst (λ left. WritesLines (from (suc place) left) before after) (sym (drop-cons records place it below))
+    (subst (λ now. WritesLines (from (suc place) (now ∷ drop (suc place) records)) before after) is
+    (subst (λ lines. WritesLines lines before after) (sym (cut (suc place) it (drop (suc place) records)))
+    (subst (λ n. WritesLines (first n it ∷ from (suc n) (drop n records)) before after) later
+    (next line (shows (subst P (sym is) (All-get_or P records place it below holds))) writes more))))
   where
     later : place + 1 ≡ suc place
     later = omega arith

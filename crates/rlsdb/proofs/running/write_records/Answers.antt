@@ -1,5 +1,6 @@
-use Rattle.std.proofs.Common.{◌≡◌, drop, [], ap, subst, drop_of_length-le}
+use Rattle.std.proofs.Common.{◌≡◌, refl, drop, [], ap, subst, drop_of_length-le}
 use Rattle.std.specs.List.{All}
+use Rattle.rls_audit.specs.Lines as shown
 use Rattle.rls_audit.specs.Lines.{lines_from}
 use Rattle.rls_audit.specs.Showing.{AreTexts}
 use Rattle.rlsdb.specs.AuditLines.{WritesLines}
@@ -18,6 +19,6 @@ pub loop-place-preserved : goal.loop-place-preserved
 loop-place-preserved g c = record {
   are = c.loop-place.invariant.are;
   lead = λ after texts more. c.loop-place.invariant.lead after texts
-      (led c.records-records.result.now c.loop-place.place c.index-records-place.result c.in_ok-line.line (g.O.ScriptOut.taken c.loop-place.output) (g.O.ScriptOut.taken c.write_audit_line.new.output) after
+      (led AreTexts (λ n it. shown.Txn (shown.shown n it)) lines_from (λ n it more. refl) c.records-records.result.now c.loop-place.place c.index-records-place.result c.in_ok-line.line (g.O.ScriptOut.taken c.loop-place.output) (g.O.ScriptOut.taken c.write_audit_line.new.output) after
       c.loop-place-test.true c.index-records-place.is texts c.in_ok-line.ensures c.in_ok-write_audit_line.ensures more);
 }
