@@ -1,4 +1,6 @@
 pub mod SpelledAlone
+pub mod Closing
+pub mod PolicyTexts
 pub mod Ascending
 pub mod GrantsAscending
 pub mod MembershipsAscending

@@ -3,6 +3,7 @@
 
 mod order;
 mod refusing;
+mod spelled;
 mod spelling;
 
 pub use order::lists_stay_in_order;
