@@ -17,15 +17,16 @@ use Rattle.rls_catalog.specs.declared.change.Change.TheVariants as c
 use Rattle.rls_catalog.proofs.PolicyListLaws.{created_in_order, dropped_in_order}
 use Rattle.rls_statement.specs.{declared.statement.AlterPolicy.AlterPolicy, declared.statement.AlterRole.AlterRole, declared.statement.AlterTable.AlterTable, declared.statement.CreatePolicy.CreatePolicy, declared.statement.CreateRole.CreateRole, declared.statement.CreateTable.CreateTable, declared.statement.DropPolicy.DropPolicy, declared.statement.RowSecurity.RowSecurity, declared.statement.SetRole.SetRole}
 use Rattle.rls_statement.specs.declared.statement.RowSecurity.TheVariants as security
+use Rattle.rls_statement.specs.declared.statement.Statement.TheVariants as st
 use Rattle.rls_statement.specs.declared.statement.SetRole.TheVariants as set
 use Rattle.rls_guard.specs.{declared.context.Ctx.Ctx, Checks.is_unsupported, Effects.writes, Naming.names_over, Naming.there_or_undefined}
 use Rattle.rls_grant.specs.Granting.{own_grants, with_grants}
 use Rattle.rls_ddl.specs.{AlteringPolicies.conditions_or_refused, AlteringPolicies.has_no_place_for, AlteringPolicies.with_altered, AlteringRoles.role_altered, AlteringTables.altered, Conditions.both_conditions, Conditions.condition_fits, Conditions.condition_names, Conditions.is_supported, CreatingPolicies.new_or_duplicate, CreatingPolicies.policy_or_refused, CreatingRoles.role_with, CreatingTables.key_names, CreatingTables.key_or_undefined, CreatingTables.place_of, CreatingTables.place_or_undefined, CreatingTables.table_with, NamedPolicies.policy_or_undefined, SettingRoles.sets}
 use Rattle.rls_ddl.proofs.{PolicyOrderLaws.altered_in_order, PrimaryKeyLaws.key_takes_no_null}
-use Rattle.rls_audit.specs.Showing.{HasKey}
+use Rattle.rls_audit.specs.Showing.{HasKey, IsSpellable}
 use Rattle.rls_meaning.specs.{Naming.grantees_in, Naming.named_in, Naming.role_in, Naming.roles_in, Naming.table_in}
 use Rattle.rls_meaning.specs.{Policies.alter_policy_in, Policies.create_policy_in, Policies.drop_policy_in, Policies.grantees_if, Roles.alter_role_in, Roles.create_role_in, Roles.set_role_in, Roles.superuser_in, Tables.alter_table_in, Tables.create_table_in, Tables.owner_in}
-use Rattle.rls_laws.proofs.{Fitting.Fits, GrantsAscending.with_grants_ascend}
+use Rattle.rls_laws.proofs.{Fitting.Fits, GrantsAscending.with_grants_ascend, SpelledPolicies.altered_spelled, SpelledPolicies.created_spelled, SpelledPolicies.dropped_spelled}
 use Rattle.rls_laws.proofs.Giving.{Any, Ends, Gives, after, each_gives, found_gives, gives, known_gives, provided_gives, tested, untested, weaker}
 
 -- ---- names
@@ -60,25 +61,25 @@ named_gives s (Leave ∷ steps) tables found = named_gives s steps (drop 1 table
 superuser_gives : (s : State) (role managed : List ℕ) → Gives Any (superuser_in s role managed)
 superuser_gives s role managed = provided_gives (attributes_of s role).superuser (r.Denied (why.Admin managed)) tt
 
-pub create_role_gives : (s : State) (role : List ℕ) (asked : CreateRole) → Gives (Ends (Fits s)) (create_role_in s role asked)
-create_role_gives s role asked =
+pub create_role_gives : (Known : Type 0) (s : State) (role : List ℕ) (asked : CreateRole) → Gives (Ends (Fits s Known)) (create_role_in s role asked)
+create_role_gives Known s role asked =
     after (provided_gives (not (is_some (role_of s asked.name))) (r.Duplicate defined.Role asked.name) tt) (λ _ _.
     after (superuser_gives s role asked.name) (λ _ _.
-    gives (Ends (Fits s)) (writes (c.Role asked.name (role_with asked.attributes) ∷ [])) (record { ordered = λ _. tt; told = λ _. tt }, tt)))
+    gives (Ends (Fits s Known)) (writes (c.Role asked.name (role_with asked.attributes) ∷ [])) (record { ordered = λ _. tt; told = λ _. tt; spelled = λ _ _ _. tt }, tt)))
 
-pub alter_role_gives : (s : State) (role : List ℕ) (asked : AlterRole) → Gives (Ends (Fits s)) (alter_role_in s role asked)
-alter_role_gives s role asked =
+pub alter_role_gives : (Known : Type 0) (s : State) (role : List ℕ) (asked : AlterRole) → Gives (Ends (Fits s Known)) (alter_role_in s role asked)
+alter_role_gives Known s role asked =
     after (role_gives s asked.name) (λ def _.
     after (superuser_gives s role asked.name) (λ _ _.
-    gives (Ends (Fits s)) (writes (c.Role asked.name (role_altered asked.attributes def) ∷ [])) (record { ordered = λ _. tt; told = λ _. tt }, tt)))
+    gives (Ends (Fits s Known)) (writes (c.Role asked.name (role_altered asked.attributes def) ∷ [])) (record { ordered = λ _. tt; told = λ _. tt; spelled = λ _ _ _. tt }, tt)))
 
-pub set_role_gives : (s : State) (ctx : Ctx) (asked : SetRole) → Gives (Ends (Fits s)) (set_role_in s ctx asked)
-set_role_gives s ctx (set.To role) =
+pub set_role_gives : (Known : Type 0) (s : State) (ctx : Ctx) (asked : SetRole) → Gives (Ends (Fits s Known)) (set_role_in s ctx asked)
+set_role_gives Known s ctx (set.To role) =
     after (role_gives s role) (λ _ _.
     after (provided_gives (can_set s ctx.login role) (r.Denied (why.SetRole role)) tt) (λ _ _.
-    gives (Ends (Fits s)) (sets role) tt))
-set_role_gives s ctx set.None = gives (Ends (Fits s)) (sets ctx.login) tt
-set_role_gives s ctx set.Reset = gives (Ends (Fits s)) (sets ctx.login) tt
+    gives (Ends (Fits s Known)) (sets role) tt))
+set_role_gives Known s ctx set.None = gives (Ends (Fits s Known)) (sets ctx.login) tt
+set_role_gives Known s ctx set.Reset = gives (Ends (Fits s Known)) (sets ctx.login) tt
 
 -- ---- tables
 
@@ -93,13 +94,13 @@ place_there columns place takes = go (slice_get columns place) refl takes
 key_there : (table : TableDef) → All (λ place. takes_no_null (slice_get table.columns place) ≡ true) table.key → HasKey table
 key_there table takes = All-weaker (λ place. takes_no_null (slice_get table.columns place) ≡ true) (λ place. place < length table.columns) (λ place is. place_there table.columns place is) table.key takes
 
-pub create_table_gives : (s : State) (role : List ℕ) (asked : CreateTable) → Gives (Ends (Fits s)) (create_table_in s role asked)
-create_table_gives s role asked =
+pub create_table_gives : (Known : Type 0) (s : State) (role : List ℕ) (asked : CreateTable) → Gives (Ends (Fits s Known)) (create_table_in s role asked)
+create_table_gives Known s role asked =
     after (known_gives (key_or_undefined asked) (each_gives (place_or_undefined asked.columns) (λ name. weaker (λ _ _. tt) (found_gives (r.Undefined name_kind.Column name) (place_of asked.columns name) tt)) (key_names asked))) (λ key there.
     after (provided_gives (not (is_some (table_of s asked.name))) (r.Duplicate defined.Relation asked.name) tt) (λ _ _.
-    gives (Ends (Fits s)) (writes (c.Table asked.name (table_with role asked key) ∷ c.Grants asked.name (with_grants (grants_of s asked.name) (own_grants role)) ∷ [])) (
-      record { ordered = λ _. tt; told = λ _. key_there (table_with role asked key) (key_takes_no_null role asked key there) },
-      (record { ordered = λ is. with_grants_ascend (grants_of s asked.name) (own_grants role) (is.grants asked.name); told = λ _. tt }, tt),
+    gives (Ends (Fits s Known)) (writes (c.Table asked.name (table_with role asked key) ∷ c.Grants asked.name (with_grants (grants_of s asked.name) (own_grants role)) ∷ [])) (
+      record { ordered = λ _. tt; told = λ _. key_there (table_with role asked key) (key_takes_no_null role asked key there); spelled = λ _ _ _. tt },
+      (record { ordered = λ is. with_grants_ascend (grants_of s asked.name) (own_grants role) (is.grants asked.name); told = λ _. tt; spelled = λ _ _ _. tt }, tt),
     )))
 
 pub owner_gives : (s : State) (role name : List ℕ) (table : TableDef) → Gives Any (owner_in s role name table)
@@ -111,12 +112,12 @@ altered_key security.Disable table key = key
 altered_key security.Force table key = key
 altered_key security.NoForce table key = key
 
-pub alter_table_gives : (s : State) (role : List ℕ) (asked : AlterTable) → Gives (Ends (Fits s)) (alter_table_in s role asked)
-alter_table_gives s role asked =
+pub alter_table_gives : (Known : Type 0) (s : State) (role : List ℕ) (asked : AlterTable) → Gives (Ends (Fits s Known)) (alter_table_in s role asked)
+alter_table_gives Known s role asked =
     after (table_gives s asked.table) (λ table there.
     after (owner_gives s role asked.table table) (λ _ _.
-    gives (Ends (Fits s)) (writes (c.Table asked.table (altered asked.change table) ∷ []))
-    (record { ordered = λ _. tt; told = λ keys. altered_key asked.change table (keys asked.table table there) }, tt)))
+    gives (Ends (Fits s Known)) (writes (c.Table asked.table (altered asked.change table) ∷ []))
+    (record { ordered = λ _. tt; told = λ keys. altered_key asked.change table (keys asked.table table there); spelled = λ _ _ _. tt }, tt)))
 
 -- ---- policies
 
@@ -142,44 +143,48 @@ right_gives names policies policy =
     after (both_give (is_supported names) (supported_gives names) policy.using policy.check) (λ _ _.
     weaker (λ _ _. new) (tested (nat_lt (length policies) 64) tt (r.Limit limit.Policies) tt))))
 
-pub create_policy_gives : (s : State) (role : List ℕ) (asked : CreatePolicy) → Gives (Ends (Fits s)) (create_policy_in s role asked)
+pub create_policy_gives : (s : State) (role : List ℕ) (asked : CreatePolicy) → Gives (Ends (Fits s (IsSpellable (st.CreatePolicy asked)))) (create_policy_in s role asked)
 create_policy_gives s role asked =
     after (table_gives s asked.table) (λ table _.
     after (grantees_give s asked.policy.to) (λ _ _.
     after (named_gives s (condition_names asked.policy.using asked.policy.check) ((asked.table, table) ∷ []) []) (λ found _.
     after (right_gives (names_over (asked.table, table) found) (policies_of s asked.table) asked.policy) (λ _ new.
     after (owner_gives s role asked.table table) (λ _ _.
-    gives (Ends (Fits s)) (writes (c.Policies asked.table (with_policy (policies_of s asked.table) asked.policy) ∷ []))
-    (record { ordered = λ is. created_in_order (policies_of s asked.table) asked.policy new (is.policies asked.table); told = λ _. tt }, tt))))))
+    gives (Ends (Fits s (IsSpellable (st.CreatePolicy asked)))) (writes (c.Policies asked.table (with_policy (policies_of s asked.table) asked.policy) ∷ []))
+    (record { ordered = λ is. created_in_order (policies_of s asked.table) asked.policy new (is.policies asked.table); told = λ _. tt; spelled = λ text _ texts. created_spelled asked (policies_of s asked.table) text (texts asked.table) }, tt))))))
 
 grantees_if_give : (s : State) (to : Option (List Grantee)) → Gives Any (grantees_if s to)
 grantees_if_give s None = record { is = tt }
 grantees_if_give s (Some to) = grantees_give s to
 
-conditions_give : (names : Names) (kind : PolicyKind) (asked : AlterPolicy) → Gives Any (conditions_or_refused names kind asked)
+placed_if : (b : Bool) → Gives {A = Unit {0}} (λ _. b ≡ false) (if◌then◌else◌ {A = Result (Unit {0}) Refusal} b (Err r.Unsupported) (Ok tt))
+placed_if true = record { is = tt }
+placed_if false = record { is = refl }
+
+conditions_give : (names : Names) (kind : PolicyKind) (asked : AlterPolicy) → Gives (λ _. has_no_place_for kind asked ≡ false) (conditions_or_refused names kind asked)
 conditions_give names kind asked =
     after (both_give (condition_fits names) (fits_gives names) asked.using asked.check) (λ _ _.
     after (both_give (is_supported names) (supported_gives names) asked.using asked.check) (λ _ _.
-    untested (has_no_place_for kind asked) tt r.Unsupported tt))
+    placed_if (has_no_place_for kind asked)))
 
-policy_gives : (policies : List Policy) (name : List ℕ) → Gives Any (policy_or_undefined policies name)
-policy_gives policies name = weaker (λ _ _. tt) (found_gives (r.Undefined name_kind.Policy name) (find (is_named name) policies) tt)
+policy_gives : (policies : List Policy) (name : List ℕ) → Gives (λ policy. find (is_named name) policies ≡ Some policy) (policy_or_undefined policies name)
+policy_gives policies name = found_gives (r.Undefined name_kind.Policy name) (find (is_named name) policies) tt
 
-pub alter_policy_gives : (s : State) (role : List ℕ) (asked : AlterPolicy) → Gives (Ends (Fits s)) (alter_policy_in s role asked)
+pub alter_policy_gives : (s : State) (role : List ℕ) (asked : AlterPolicy) → Gives (Ends (Fits s (IsSpellable (st.AlterPolicy asked)))) (alter_policy_in s role asked)
 alter_policy_gives s role asked =
     after (table_gives s asked.table) (λ table _.
-    after (policy_gives (policies_of s asked.table) asked.name) (λ policy _.
+    after (policy_gives (policies_of s asked.table) asked.name) (λ policy there.
     after (grantees_if_give s asked.to) (λ _ _.
     after (named_gives s (condition_names asked.using asked.check) ((asked.table, table) ∷ []) []) (λ found _.
-    after (conditions_give (names_over (asked.table, table) found) policy.kind asked) (λ _ _.
+    after (conditions_give (names_over (asked.table, table) found) policy.kind asked) (λ _ placed.
     after (owner_gives s role asked.table table) (λ _ _.
-    gives (Ends (Fits s)) (writes (c.Policies asked.table (with_altered asked (policies_of s asked.table)) ∷ []))
-    (record { ordered = λ is. altered_in_order (policies_of s asked.table) asked (is.policies asked.table); told = λ _. tt }, tt)))))))
+    gives (Ends (Fits s (IsSpellable (st.AlterPolicy asked)))) (writes (c.Policies asked.table (with_altered asked (policies_of s asked.table)) ∷ []))
+    (record { ordered = λ is. altered_in_order (policies_of s asked.table) asked (is.policies asked.table); told = λ _. tt; spelled = λ text is texts. altered_spelled asked policy (policies_of s asked.table) text (is.policies asked.table) there placed (texts asked.table) }, tt)))))))
 
-pub drop_policy_gives : (s : State) (role : List ℕ) (asked : DropPolicy) → Gives (Ends (Fits s)) (drop_policy_in s role asked)
-drop_policy_gives s role asked =
+pub drop_policy_gives : (Known : Type 0) (s : State) (role : List ℕ) (asked : DropPolicy) → Gives (Ends (Fits s Known)) (drop_policy_in s role asked)
+drop_policy_gives Known s role asked =
     after (table_gives s asked.table) (λ table _.
     after (policy_gives (policies_of s asked.table) asked.name) (λ _ _.
     after (owner_gives s role asked.table table) (λ _ _.
-    gives (Ends (Fits s)) (writes (c.Policies asked.table (without_policy (policies_of s asked.table) asked.name) ∷ []))
-    (record { ordered = λ is. dropped_in_order (policies_of s asked.table) asked.name (is.policies asked.table); told = λ _. tt }, tt))))
+    gives (Ends (Fits s Known)) (writes (c.Policies asked.table (without_policy (policies_of s asked.table) asked.name) ∷ []))
+    (record { ordered = λ is. dropped_in_order (policies_of s asked.table) asked.name (is.policies asked.table); told = λ _. tt; spelled = λ _ _ texts. dropped_spelled asked.table (policies_of s asked.table) asked.name (texts asked.table) }, tt))))

@@ -7,16 +7,17 @@ use Rattle.rls_expr.specs.{declared.policy.Policy.Policy, declared.table.TableDe
 use Rattle.rls_catalog.specs.{Changed.changed, Changed.changed_all, Changed.opening, PolicyLists.InNameOrder, State.State, State.grants_of, State.members_of, State.policies_of, State.table_of, declared.change.Change.Change, declared.grant.Grant.Grant, declared.role.Membership.Membership}
 use Rattle.rls_catalog.specs.declared.change.Change.TheVariants as c
 use Rattle.rls_catalog.proofs.ContentsLaws.{grants_of_changed, is_name, members_of_changed, policies_of_changed, table_of_changed}
-use Rattle.rls_audit.specs.Showing.{CanTell, HasKey}
-use Rattle.rls_laws.specs.{InOrder.GrantsAscend, InOrder.IsInOrder, InOrder.MembershipsAscend, InOrder.WritesInOrder, Shown.KeysAreThere}
+use Rattle.rls_audit.specs.Showing.{ArePoliciesSpellable, CanTell, HasKey}
+use Rattle.rls_laws.specs.{InOrder.GrantsAscend, InOrder.IsInOrder, InOrder.MembershipsAscend, InOrder.WritesInOrder, Shown.KeysAreThere, Spelled.PoliciesAreTexts}
 use Rattle.rls_laws.proofs.Ascending.{none_ascend}
 
 -- ---- a change
 
--- in such a state the change is such a one
-pub record Fits (s : State) (change : Change) : Type 0 where
+-- in such a state the change is such a one, of which nothing more is said than what follows from what is known of the statement
+pub record Fits (s : State) (Known : Type 0) (change : Change) : Type 0 where
   pub ordered : IsInOrder s → WritesInOrder change
   pub told : KeysAreThere s → CanTell change
+  pub spelled : Known → IsInOrder s → PoliciesAreTexts s → ArePoliciesSpellable change
 
 -- it is one
 pub record IsFit (change : Change) : Type 0 where
@@ -94,9 +95,9 @@ changed_stands s (change ∷ changes) stands fit =
     changed_stands (changed s change) changes (record { ordered = changed_in_order s change stands.ordered fit.0.ordered; keys = changed_keys s change stands.keys fit.0.told }) fit.1
 
 -- where a statement is run in a state that stands so its changes are such ones
-pub all_fit : (s : State) (changes : List Change) → Stands s → AllByRecursion (Fits s) changes → AllByRecursion IsFit changes
-all_fit s [] stands fit = tt
-all_fit s (change ∷ changes) stands fit = (record { ordered = fit.0.ordered stands.ordered; told = fit.0.told stands.keys }, all_fit s changes stands fit.1)
+pub all_fit : (Known : Type 0) (s : State) (changes : List Change) → Stands s → AllByRecursion (Fits s Known) changes → AllByRecursion IsFit changes
+all_fit Known s [] stands fit = tt
+all_fit Known s (change ∷ changes) stands fit = (record { ordered = fit.0.ordered stands.ordered; told = fit.0.told stands.keys }, all_fit Known s changes stands fit.1)
 
 -- so are those of two statements
 pub both_fit : (changes more : List Change) → AllByRecursion IsFit changes → AllByRecursion IsFit more → AllByRecursion IsFit (changes ++ more)
@@ -106,6 +107,6 @@ both_fit (change ∷ changes) more fit further = (fit.0, both_fit changes more f
 -- ---- order alone
 
 -- a state in order stays so with the changes of a statement on that was run in a state in order
-pub all_in_order : (s seen : State) (changes : List Change) → IsInOrder s → IsInOrder seen → AllByRecursion (Fits seen) changes → IsInOrder (changed_all s changes)
-all_in_order s seen [] is saw fit = is
-all_in_order s seen (change ∷ changes) is saw fit = all_in_order (changed s change) seen changes (changed_in_order s change is (fit.0.ordered saw)) saw fit.1
+pub all_in_order : (Known : Type 0) (s seen : State) (changes : List Change) → IsInOrder s → IsInOrder seen → AllByRecursion (Fits seen Known) changes → IsInOrder (changed_all s changes)
+all_in_order Known s seen [] is saw fit = is
+all_in_order Known s seen (change ∷ changes) is saw fit = all_in_order Known (changed s change) seen changes (changed_in_order s change is (fit.0.ordered saw)) saw fit.1

@@ -19,8 +19,8 @@ use Rattle.rls_laws.proofs.{Defining.grantees_give, Defining.roles_give, Definin
 use Rattle.rls_laws.proofs.Giving.{Any, Ends, Gives, after, each_gives, each_passes, gives, provided_gives, refused_or, untested, weaker}
 
 -- the changes are written
-pub written_gives : (s : State) (changes : Result (List Change) Refusal) → Gives (AllByRecursion (Fits s)) changes → Gives (Ends (Fits s)) (written changes)
-written_gives s changes one = after one (λ delta fit. gives (Ends (Fits s)) (writes delta) fit)
+pub written_gives : (Known : Type 0) (s : State) (changes : Result (List Change) Refusal) → Gives (AllByRecursion (Fits s Known)) changes → Gives (Ends (Fits s Known)) (written changes)
+written_gives Known s changes one = after one (λ delta fit. gives (Ends (Fits s Known)) (writes delta) fit)
 
 -- ---- privileges
 
@@ -40,14 +40,14 @@ options_give : (option : Bool) (owner : List ℕ) (grants : List Grant) (by : Li
 options_give true owner grants by grantees = each_passes (optioned_or_refused owner grants by) (optioned_gives owner grants by) grantees
 options_give false owner grants by grantees = record { is = tt }
 
-pub grant_gives : (s : State) (role : List ℕ) (asked : GrantPrivileges) → Gives (AllByRecursion (Fits s)) (grant_in s role asked)
-grant_gives s role asked =
+pub grant_gives : (Known : Type 0) (s : State) (role : List ℕ) (asked : GrantPrivileges) → Gives (AllByRecursion (Fits s Known)) (grant_in s role asked)
+grant_gives Known s role asked =
     after (table_gives s asked.table) (λ table _.
     after (grantees_give s asked.to) (λ _ _.
     after (grantors_give s role asked.table table asked.privileges) (λ by _.
     after (options_give asked.with_option table.owner (grants_of s asked.table) by asked.to) (λ _ _.
-    gives (AllByRecursion (Fits s)) (grants_with (grants_of s asked.table) by asked)
-    (record { ordered = λ is. with_grants_ascend (grants_of s asked.table) (flat_map (grants_by asked.with_option asked.to) by) (is.grants asked.table); told = λ _. tt }, tt)))))
+    gives (AllByRecursion (Fits s Known)) (grants_with (grants_of s asked.table) by asked)
+    (record { ordered = λ is. with_grants_ascend (grants_of s asked.table) (flat_map (grants_by asked.with_option asked.to) by) (is.grants asked.table); told = λ _. tt; spelled = λ _ _ _. tt }, tt)))))
 
 -- what is left of grants that ascend ascends
 abbrev StillAscend : List Grant → List Grant → Type 0
@@ -63,14 +63,14 @@ all_left_give cascade table owner (grantor ∷ by) grants =
     after (left_gives cascade table grantor.privilege (one_of (holders_of owner grants grantor.privilege)) grants) (λ left one.
     weaker (λ last more up. more (one up)) (all_left_give cascade table owner by left))
 
-pub revoke_gives : (s : State) (role : List ℕ) (asked : RevokePrivileges) → Gives (AllByRecursion (Fits s)) (revoke_in s role asked)
-revoke_gives s role asked =
+pub revoke_gives : (Known : Type 0) (s : State) (role : List ℕ) (asked : RevokePrivileges) → Gives (AllByRecursion (Fits s Known)) (revoke_in s role asked)
+revoke_gives Known s role asked =
     after (table_gives s asked.table) (λ table _.
     after (grantees_give s asked.from) (λ _ _.
     after (grantors_give s role asked.table table asked.privileges) (λ by _.
     after (all_left_give asked.cascade asked.table table.owner by (without_taken asked.option_only by asked.from (grants_of s asked.table))) (λ left still.
-    gives (AllByRecursion (Fits s)) (grants_written asked.table left)
-    (record { ordered = λ is. still (without_taken_ascend asked.option_only by asked.from (grants_of s asked.table) (is.grants asked.table)); told = λ _. tt }, tt)))))
+    gives (AllByRecursion (Fits s Known)) (grants_written asked.table left)
+    (record { ordered = λ is. still (without_taken_ascend asked.option_only by asked.from (grants_of s asked.table) (is.grants asked.table)); told = λ _. tt; spelled = λ _ _ _. tt }, tt)))))
 
 -- ---- roles
 
@@ -91,25 +91,25 @@ turns_give : {A : Type 0} (step : A → State → Result State Refusal) → ((x 
 turns_give step all [] t = gives (StaysInOrder t) t (λ is. is)
 turns_give step all (x ∷ xs) t = after (all x t) (λ left one. weaker (λ last more is. more (one is)) (turns_give step all xs left))
 
-members_fit : (s left : State) → (IsInOrder s → IsInOrder left) → (members : List (List ℕ)) → AllByRecursion (Fits s) (map (λ member. c.Members member (members_of left member)) members)
-members_fit s left stays [] = tt
-members_fit s left stays (member ∷ members) = (record { ordered = λ is. (stays is).members member; told = λ _. tt }, members_fit s left stays members)
+members_fit : (Known : Type 0) (s left : State) → (IsInOrder s → IsInOrder left) → (members : List (List ℕ)) → AllByRecursion (Fits s Known) (map (λ member. c.Members member (members_of left member)) members)
+members_fit Known s left stays [] = tt
+members_fit Known s left stays (member ∷ members) = (record { ordered = λ is. (stays is).members member; told = λ _. tt; spelled = λ _ _ _. tt }, members_fit Known s left stays members)
 
-pub grant_roles_give : (s : State) (role : List ℕ) (asked : GrantRoles) → Gives (AllByRecursion (Fits s)) (grant_roles_in s role asked)
-grant_roles_give s role asked =
+pub grant_roles_give : (Known : Type 0) (s : State) (role : List ℕ) (asked : GrantRoles) → Gives (AllByRecursion (Fits s Known)) (grant_roles_in s role asked)
+grant_roles_give Known s role asked =
     after (roles_give s asked.roles) (λ _ _.
     after (roles_give s asked.to) (λ _ _.
     after (managed_gives s role asked.roles) (λ _ _.
     after (turns_give (λ granted. in_turn (joined_in asked.options granted) asked.to) (λ granted. turns_give (joined_in asked.options granted) (joined_gives asked.options granted) asked.to) asked.roles s) (λ left stays.
-    gives (AllByRecursion (Fits s)) (map (λ member. c.Members member (members_of left member)) (fresh [] asked.to)) (members_fit s left stays (fresh [] asked.to))))))
+    gives (AllByRecursion (Fits s Known)) (map (λ member. c.Members member (members_of left member)) (fresh [] asked.to)) (members_fit Known s left stays (fresh [] asked.to))))))
 
-taken_fit : (s : State) (asked : RevokeRoles) (members : List (List ℕ)) → AllByRecursion (Fits s) (map (λ member. c.Members member (taken_from asked.option asked.roles (members_of s member))) members)
-taken_fit s asked [] = tt
-taken_fit s asked (member ∷ members) = (record { ordered = λ is. taken_from_ascend asked.option asked.roles (members_of s member) (is.members member); told = λ _. tt }, taken_fit s asked members)
+taken_fit : (Known : Type 0) (s : State) (asked : RevokeRoles) (members : List (List ℕ)) → AllByRecursion (Fits s Known) (map (λ member. c.Members member (taken_from asked.option asked.roles (members_of s member))) members)
+taken_fit Known s asked [] = tt
+taken_fit Known s asked (member ∷ members) = (record { ordered = λ is. taken_from_ascend asked.option asked.roles (members_of s member) (is.members member); told = λ _. tt; spelled = λ _ _ _. tt }, taken_fit Known s asked members)
 
-pub revoke_roles_give : (s : State) (role : List ℕ) (asked : RevokeRoles) → Gives (AllByRecursion (Fits s)) (revoke_roles_in s role asked)
-revoke_roles_give s role asked =
+pub revoke_roles_give : (Known : Type 0) (s : State) (role : List ℕ) (asked : RevokeRoles) → Gives (AllByRecursion (Fits s Known)) (revoke_roles_in s role asked)
+revoke_roles_give Known s role asked =
     after (roles_give s asked.roles) (λ _ _.
     after (roles_give s asked.from) (λ _ _.
     after (managed_gives s role asked.roles) (λ _ _.
-    gives (AllByRecursion (Fits s)) (map (λ member. c.Members member (taken_from asked.option asked.roles (members_of s member))) (fresh [] asked.from)) (taken_fit s asked (fresh [] asked.from)))))
+    gives (AllByRecursion (Fits s Known)) (map (λ member. c.Members member (taken_from asked.option asked.roles (members_of s member))) (fresh [] asked.from)) (taken_fit Known s asked (fresh [] asked.from)))))

@@ -166,78 +166,78 @@ allowed_gives s name columns order decided replaced rows =
 
 -- ---- changes of rows
 
-deleted_fit : (s : State) (name : List ℕ) (rows : List Stored) → AllByRecursion (Fits s) (map (deleted_row name) rows)
-deleted_fit s name [] = tt
-deleted_fit s name (row ∷ rows) = (record { ordered = λ _. tt; told = λ _. tt }, deleted_fit s name rows)
+deleted_fit : (Known : Type 0) (s : State) (name : List ℕ) (rows : List Stored) → AllByRecursion (Fits s Known) (map (deleted_row name) rows)
+deleted_fit Known s name [] = tt
+deleted_fit Known s name (row ∷ rows) = (record { ordered = λ _. tt; told = λ _. tt; spelled = λ _ _ _. tt }, deleted_fit Known s name rows)
 
-inserted_fit : (s : State) (name : List ℕ) (rows : List Stored) → AllByRecursion (Fits s) (map (inserted_row name) rows)
-inserted_fit s name [] = tt
-inserted_fit s name (row ∷ rows) = (record { ordered = λ _. tt; told = λ _. tt }, inserted_fit s name rows)
+inserted_fit : (Known : Type 0) (s : State) (name : List ℕ) (rows : List Stored) → AllByRecursion (Fits s Known) (map (inserted_row name) rows)
+inserted_fit Known s name [] = tt
+inserted_fit Known s name (row ∷ rows) = (record { ordered = λ _. tt; told = λ _. tt; spelled = λ _ _ _. tt }, inserted_fit Known s name rows)
 
-changed_fit : (s : State) (name : List ℕ) (olds news : List Stored) → AllByRecursion (Fits s) (changed_rows name olds news)
-changed_fit s name olds [] = tt
-changed_fit s name [] (new ∷ news) = tt
-changed_fit s name (old ∷ olds) (new ∷ news) = (record { ordered = λ _. tt; told = λ _. tt }, changed_fit s name olds news)
+changed_fit : (Known : Type 0) (s : State) (name : List ℕ) (olds news : List Stored) → AllByRecursion (Fits s Known) (changed_rows name olds news)
+changed_fit Known s name olds [] = tt
+changed_fit Known s name [] (new ∷ news) = tt
+changed_fit Known s name (old ∷ olds) (new ∷ news) = (record { ordered = λ _. tt; told = λ _. tt; spelled = λ _ _ _. tt }, changed_fit Known s name olds news)
 
-inserted_ends : (s : State) (name : List ℕ) (returning : Option Selected) (role : List ℕ) (decided : List Decision) (rows : List Stored) (allowed : Result (Unit {0}) Refusal) → Gives Any allowed → Ends (Fits s) (inserted name returning role decided rows allowed)
-inserted_ends s name returning role decided rows (Ok u) is = inserted_fit s name rows
-inserted_ends s name returning role decided rows (Err refusal) is = is.is
+inserted_ends : (Known : Type 0) (s : State) (name : List ℕ) (returning : Option Selected) (role : List ℕ) (decided : List Decision) (rows : List Stored) (allowed : Result (Unit {0}) Refusal) → Gives Any allowed → Ends (Fits s Known) (inserted name returning role decided rows allowed)
+inserted_ends Known s name returning role decided rows (Ok u) is = inserted_fit Known s name rows
+inserted_ends Known s name returning role decided rows (Err refusal) is = is.is
 
-updated_ends : (s : State) (name : List ℕ) (parts : Revision) (role : List ℕ) (decided : List Decision) (old new : List Stored) (allowed : Result (Unit {0}) Refusal) → Gives Any allowed → Ends (Fits s) (updated name parts role decided old new allowed)
-updated_ends s name parts role decided old new (Ok u) is = changed_fit s name old new
-updated_ends s name parts role decided old new (Err refusal) is = is.is
+updated_ends : (Known : Type 0) (s : State) (name : List ℕ) (parts : Revision) (role : List ℕ) (decided : List Decision) (old new : List Stored) (allowed : Result (Unit {0}) Refusal) → Gives Any allowed → Ends (Fits s Known) (updated name parts role decided old new allowed)
+updated_ends Known s name parts role decided old new (Ok u) is = changed_fit Known s name old new
+updated_ends Known s name parts role decided old new (Err refusal) is = is.is
 
 -- ---- the statements
 
-pub select_gives : (s : State) (ctx : Ctx) (asked : Select) → Gives (Ends (Fits s)) (select_in s ctx asked)
-select_gives s ctx asked =
+pub select_gives : (Known : Type 0) (s : State) (ctx : Ctx) (asked : Select) → Gives (Ends (Fits s Known)) (select_in s ctx asked)
+select_gives Known s ctx asked =
     after (table_gives s asked.table) (λ table _.
     after (after (named_gives s (query_names asked) ((qualifier_of asked, table) ∷ []) []) (λ found _. query_gives asked (qualifier_of asked, table) found)) (λ parts _.
     let c : Command = record { role = ctx.role; name = asked.table; table = table; kind = k.Select; reads = false; queries = tables_if parts.condition } in
     after (permitted_gives s c) (λ _ _.
     after (hits_give s c parts.condition) (λ judged _.
-    gives (Ends (Fits s)) (listed_by parts ctx.role judged) tt))))
+    gives (Ends (Fits s Known)) (listed_by parts ctx.role judged) tt))))
 
-pub delete_gives : (s : State) (ctx : Ctx) (asked : Delete) → Gives (Ends (Fits s)) (delete_in s ctx asked)
-delete_gives s ctx asked =
+pub delete_gives : (Known : Type 0) (s : State) (ctx : Ctx) (asked : Delete) → Gives (Ends (Fits s Known)) (delete_in s ctx asked)
+delete_gives Known s ctx asked =
     after (table_gives s asked.table) (λ table _.
     after (after (named_gives s (removal_names asked) ((asked.table, table) ∷ []) []) (λ found _. removal_gives asked (asked.table, table) found)) (λ parts _.
     let c : Command = record { role = ctx.role; name = asked.table; table = table; kind = k.Delete; reads = removal_reads parts; queries = tables_if parts.condition } in
     after (permitted_gives s c) (λ _ _.
     after (hits_give s c parts.condition) (λ judged _.
-    gives (Ends (Fits s)) (deleted asked.table parts ctx.role judged) (deleted_fit s asked.table judged.1)))))
+    gives (Ends (Fits s Known)) (deleted asked.table parts ctx.role judged) (deleted_fit Known s asked.table judged.1)))))
 
-insert_rows_give : (s : State) (ctx : Ctx) (parts : Addition) (c : Command) → Gives (Ends (Fits s)) (insert_rows s ctx parts c)
-insert_rows_give s ctx parts c =
+insert_rows_give : (Known : Type 0) (s : State) (ctx : Ctx) (parts : Addition) (c : Command) → Gives (Ends (Fits s Known)) (insert_rows s ctx parts c)
+insert_rows_give Known s ctx parts c =
     after (permitted_gives s c) (λ _ _.
     after (tuples_give s c parts.tuples) (λ values _.
     after (new_rows_give ctx c.table parts values) (λ rows _.
     after (decisions_give s c rows) (λ decided _.
     let allowed : Result (Unit {0}) Refusal = allowed_in s c.name c.table.columns (order_of parts.places c.table.columns) decided [] rows in
-    gives (Ends (Fits s)) (inserted c.name parts.returning c.role decided rows allowed)
-    (inserted_ends s c.name parts.returning c.role decided rows allowed (allowed_gives s c.name c.table.columns (order_of parts.places c.table.columns) decided [] rows))))))
+    gives (Ends (Fits s Known)) (inserted c.name parts.returning c.role decided rows allowed)
+    (inserted_ends Known s c.name parts.returning c.role decided rows allowed (allowed_gives s c.name c.table.columns (order_of parts.places c.table.columns) decided [] rows))))))
 
-pub insert_gives : (s : State) (ctx : Ctx) (asked : Insert) → Gives (Ends (Fits s)) (insert_in s ctx asked)
-insert_gives s ctx asked =
+pub insert_gives : (Known : Type 0) (s : State) (ctx : Ctx) (asked : Insert) → Gives (Ends (Fits s Known)) (insert_in s ctx asked)
+insert_gives Known s ctx asked =
     after (table_gives s asked.table) (λ table _.
     after (after (places_give table.columns asked.columns) (λ places _.
     after (after (named_gives s (tuples_names asked.tuples) [] []) (λ found _. named_gives s (returning_names asked.returning) ((asked.table, table) ∷ []) found)) (λ found _.
     addition_gives ctx.next asked (asked.table, table) places found))) (λ parts _.
-    insert_rows_give s ctx parts (record { role = ctx.role; name = asked.table; table = table; kind = k.Insert; reads = returning_reads parts.returning; queries = tuples_tables parts.tuples })))
+    insert_rows_give Known s ctx parts (record { role = ctx.role; name = asked.table; table = table; kind = k.Insert; reads = returning_reads parts.returning; queries = tuples_tables parts.tuples })))
 
-update_rows_give : (s : State) (parts : Revision) (c : Command) → Gives (Ends (Fits s)) (meaning.update_rows s parts c)
-update_rows_give s parts c =
+update_rows_give : (Known : Type 0) (s : State) (parts : Revision) (c : Command) → Gives (Ends (Fits s Known)) (meaning.update_rows s parts c)
+update_rows_give Known s parts c =
     after (permitted_gives s c) (λ _ _.
     after (hits_give s c parts.condition) (λ judged _.
     after (settings_give s c parts.settings judged.1) (λ values _.
     after (updated_rows_give c.table (places_set parts.settings) judged.1 values) (λ new _.
     after (decisions_give s c new) (λ decided _.
     let allowed : Result (Unit {0}) Refusal = allowed_in s c.name c.table.columns (order_of (places_set parts.settings) c.table.columns) decided judged.1 new in
-    gives (Ends (Fits s)) (updated c.name parts c.role (judged.0 ++ decided) judged.1 new allowed)
-    (updated_ends s c.name parts c.role (judged.0 ++ decided) judged.1 new allowed (allowed_gives s c.name c.table.columns (order_of (places_set parts.settings) c.table.columns) decided judged.1 new)))))))
+    gives (Ends (Fits s Known)) (updated c.name parts c.role (judged.0 ++ decided) judged.1 new allowed)
+    (updated_ends Known s c.name parts c.role (judged.0 ++ decided) judged.1 new allowed (allowed_gives s c.name c.table.columns (order_of (places_set parts.settings) c.table.columns) decided judged.1 new)))))))
 
-pub update_gives : (s : State) (ctx : Ctx) (asked : Update) → Gives (Ends (Fits s)) (update_in s ctx asked)
-update_gives s ctx asked =
+pub update_gives : (Known : Type 0) (s : State) (ctx : Ctx) (asked : Update) → Gives (Ends (Fits s Known)) (update_in s ctx asked)
+update_gives Known s ctx asked =
     after (table_gives s asked.table) (λ table _.
     after (after (named_gives s (revision_names asked) ((asked.table, table) ∷ []) []) (λ found _. revision_gives asked (asked.table, table) found)) (λ parts _.
-    update_rows_give s parts (record { role = ctx.role; name = asked.table; table = table; kind = k.Update; reads = revision_reads parts; queries = revision_tables parts })))
+    update_rows_give Known s parts (record { role = ctx.role; name = asked.table; table = table; kind = k.Update; reads = revision_reads parts; queries = revision_tables parts })))

@@ -1,6 +1,7 @@
 pub mod SpelledAlone
 pub mod Closing
 pub mod PolicyTexts
+pub mod SpelledPolicies
 pub mod Ascending
 pub mod GrantsAscending
 pub mod MembershipsAscending
@@ -12,3 +13,4 @@ pub mod Handing
 pub mod Judging
 pub mod Ending
 pub mod Recording
+pub mod RecordedTexts

@@ -71,7 +71,7 @@ record Made {A B : Type 0} (f : A → B) (p : List Token → A → Type 0) (b : 
 source_of : {A B : Type 0} (f : A → B) (p : List Token → A → Type 0) (b : B) → Phrase (Mapped f p) b → Made f p b
 source_of f p b x = record { source = x.spelled.source; phrase = record { tokens = x.tokens; spelled = x.spelled.spelled; words = x.words }; value = x.spelled.value }
 
-mapped_of : {A B : Type 0} (f : A → B) (p : List Token → A → Type 0) (a : A) → Phrase p a → Phrase (Mapped f p) (f a)
+pub mapped_of : {A B : Type 0} (f : A → B) (p : List Token → A → Type 0) (a : A) → Phrase p a → Phrase (Mapped f p) (f a)
 mapped_of f p a x = record { tokens = x.tokens; spelled = record { source = a; spelled = x.spelled; value = refl }; words = x.words }
 
 -- behind a word

@@ -11,18 +11,18 @@ use Rattle.rls_guard.specs.{Effects.changes_of}
 use Rattle.rls_access.specs.{Statements.effect_in, Transactions.Begin, Transactions.first_ctx, Transactions.may_begin}
 use Rattle.rls_core.specs.{Events.Event, Events.Rules, Events.Running, Events.World, Events.after, Events.begin, Events.commit, Events.happens, Events.is_taken, Events.post, Events.posted_in, Events.run, Events.seen_by, Events.with_running, Records.Record, Records.history_by, Records.new_record, Records.record_at, Records.state_after}
 use Rattle.rls_core.specs.Events.Event.{Begins, Posts, Commits, RollsBack}
-use Rattle.rls_audit.specs.Showing.{CanShow}
+use Rattle.rls_audit.specs.Showing.{CanShow, IsSpellable}
 use Rattle.rls_meaning.specs.Meaning.{StatementMeans}
 use Rattle.rls_laws.specs.InOrder.{ListsAreInOrder, WritesInOrder}
 use Rattle.rls_laws.proofs.{Ending.changes_fit, Ending.effect_ends, Ending.effect_shown, Fitting.IsFit, Fitting.Stands, Fitting.all_fit, Fitting.both_fit, Fitting.changed_stands, Fitting.opening_stands}
 
 -- what is recorded of a transaction
-record IsRecorded (it : Record) : Type 0 where
+pub record IsRecorded (it : Record) : Type 0 where
   pub fit : AllByRecursion IsFit it.changes
   pub shown : AllByRecursion CanShow it.effects
 
 -- so of all that committed, and of all that run
-record AreRecorded (world : World) : Type 0 where
+pub record AreRecorded (world : World) : Type 0 where
   pub committed : AllByRecursion IsRecorded world.committed
   pub running : (txn : ℕ) (it : Running) → world.running txn ≡ Some it → IsRecorded it.so_far
 
@@ -37,37 +37,49 @@ committed_stands : (records : List Record) (n : ℕ) → AllByRecursion IsRecord
 committed_stands records zero are = opening_stands
 committed_stands records (suc n) are = changed_stands (state_after records n) (record_at records n).changes (committed_stands records n are) (record_fits records n are)
 
-seen_stands : (records : List Record) (it : Record) → AllByRecursion IsRecorded records → IsRecorded it → Stands (seen_by records it)
+pub seen_stands : (records : List Record) (it : Record) → AllByRecursion IsRecorded records → IsRecorded it → Stands (seen_by records it)
 seen_stands records it are is = changed_stands (state_after records it.snap) it.changes (committed_stands records it.snap are) is.fit
 
 -- ---- events
 
-all_more : {A : Type 0} (Is : A → Type 0) (xs : List A) (x : A) → AllByRecursion Is xs → Is x → AllByRecursion Is (xs ++ x ∷ [])
+pub all_more : {A : Type 0} (Is : A → Type 0) (xs : List A) (x : A) → AllByRecursion Is xs → Is x → AllByRecursion Is (xs ++ x ∷ [])
 all_more Is [] x all one = (one, tt)
 all_more Is (y ∷ xs) x all one = (all.0, all_more Is xs x all.1 one)
 
--- each that runs is recorded so
-abbrev AllRun : (ℕ → Option Running) → Type 0
-AllRun running = (txn : ℕ) (it : Running) → running txn ≡ Some it → IsRecorded it.so_far
+-- this holds of what runs, if it does
+abbrev pub OfOne : (Running → Type 0) → Option Running → Type 0
+OfOne Is running = (it : Running) → running ≡ Some it → Is it
 
-with_if : (b : Bool) (new old : Option Running) (it : Running) → ((one : Running) → new ≡ Some one → IsRecorded one.so_far) → ((one : Running) → old ≡ Some one → IsRecorded one.so_far) → cond b new old ≡ Some it → IsRecorded it.so_far
-with_if true new old it here there is = here it is
-with_if false new old it here there is = there it is
+-- it holds of each that runs
+abbrev pub OfAll : (Running → Type 0) → (ℕ → Option Running) → Type 0
+OfAll Is running = (txn : ℕ) → OfOne Is (running txn)
 
-with_recorded : (txn : ℕ) (new : Option Running) (running : ℕ → Option Running) → ((one : Running) → new ≡ Some one → IsRecorded one.so_far) → AllRun running → AllRun (with_running txn new running)
-with_recorded txn new running here all other it is = with_if (other == txn) new (running other) it here (all other) is
+with_if : (Is : Running → Type 0) (b : Bool) (new old : Option Running) → OfOne Is new → OfOne Is old → OfOne Is (cond b new old)
+with_if Is true new old here there = here
+with_if Is false new old here there = there
 
-none_recorded : (one : Running) → ◌≡◌ {A = Option Running} None (Some one) → IsRecorded one.so_far
-none_recorded one is = cc
+pub of_all_with : (Is : Running → Type 0) (txn : ℕ) (new : Option Running) (running : ℕ → Option Running) → OfOne Is new → OfAll Is running → OfAll Is (with_running txn new running)
+of_all_with Is txn new running here all other = with_if Is (other == txn) new (running other) here (all other)
 
-one_recorded : (new : Running) → IsRecorded new.so_far → (one : Running) → Some new ≡ Some one → IsRecorded one.so_far
-one_recorded new here one is = subst (λ (it : Running). IsRecorded it.so_far) (same_Some new one is) here
+pub of_none : (Is : Running → Type 0) → OfOne Is None
+of_none Is one is = cc
+
+pub of_one : (Is : Running → Type 0) (new : Running) → Is new → OfOne Is (Some new)
+of_one Is new here one is = subst Is (same_Some new one is) here
+
+pub of_taken : (Is : Running → Type 0) (b : Bool) (new : Running) → Is new → OfOne Is (cond b None (Some new))
+of_taken Is true new here = of_none Is
+of_taken Is false new here = of_one Is new here
+
+-- it is recorded so
+abbrev RunsRecorded : Running → Type 0
+RunsRecorded it = IsRecorded it.so_far
 
 begun : (world : World) (as_who : Begin) → AreRecorded world → AreRecorded (begin world as_who)
 begun world as_who are = record {
   committed = are.committed;
-  running = with_recorded world.next (Some (record { so_far = new_record world.next as_who (length world.committed); ctx = first_ctx world.next as_who })) world.running
-      (one_recorded (record { so_far = new_record world.next as_who (length world.committed); ctx = first_ctx world.next as_who }) (record { fit = tt; shown = tt })) are.running;
+  running = of_all_with RunsRecorded world.next (Some (record { so_far = new_record world.next as_who (length world.committed); ctx = first_ctx world.next as_who })) world.running
+      (of_one RunsRecorded (record { so_far = new_record world.next as_who (length world.committed); ctx = first_ctx world.next as_who }) (record { fit = tt; shown = tt })) are.running;
 }
 
 begun_if : (b : Bool) (world : World) (as_who : Begin) → AreRecorded world → AreRecorded (cond b (begin world as_who) world)
@@ -76,13 +88,9 @@ begun_if false world as_who are = are
 
 posted_recorded : StatementMeans → (rules : Rules) (s : State) (it : Running) (asked : Statement) → Stands s → IsRecorded it.so_far → IsRecorded (posted_in rules s it asked).so_far
 posted_recorded means rules s it asked stands is = record {
-  fit = both_fit it.so_far.changes (changes_of (effect_in s it.ctx asked)) is.fit (all_fit s (changes_of (effect_in s it.ctx asked)) stands (changes_fit s (effect_in s it.ctx asked) (effect_ends means s it.ctx asked)));
+  fit = both_fit it.so_far.changes (changes_of (effect_in s it.ctx asked)) is.fit (all_fit (IsSpellable asked) s (changes_of (effect_in s it.ctx asked)) stands (changes_fit (IsSpellable asked) s (effect_in s it.ctx asked) (effect_ends means s it.ctx asked)));
   shown = all_more CanShow it.so_far.effects (effect_in s it.ctx asked) is.shown (effect_shown means s it.ctx asked stands.keys);
 }
-
-taken_recorded : (b : Bool) (new : Running) → IsRecorded new.so_far → (one : Running) → cond b None (Some new) ≡ Some one → IsRecorded one.so_far
-taken_recorded true new here one is = none_recorded one is
-taken_recorded false new here one is = one_recorded new here one is
 
 posted : StatementMeans → (rules : Rules) (world : World) (txn : ℕ) (asked : Statement) (now : Option Running) → AreRecorded world → ((it : Running) → now ≡ Some it → IsRecorded it.so_far) → AreRecorded (post rules world txn asked now)
 posted means rules world txn asked None are runs = are
@@ -91,8 +99,8 @@ posted means rules world txn asked (Some it) are runs =
     let new : Running = posted_in rules s it asked in
     record {
       committed = are.committed;
-      running = with_recorded txn (cond (is_taken world txn it.so_far.snap (changes_of (effect_in s it.ctx asked))) None (Some new)) world.running
-          (taken_recorded (is_taken world txn it.so_far.snap (changes_of (effect_in s it.ctx asked))) new (posted_recorded means rules s it asked (seen_stands world.committed it.so_far are.committed (runs it refl)) (runs it refl)))
+      running = of_all_with RunsRecorded txn (cond (is_taken world txn it.so_far.snap (changes_of (effect_in s it.ctx asked))) None (Some new)) world.running
+          (of_taken RunsRecorded (is_taken world txn it.so_far.snap (changes_of (effect_in s it.ctx asked))) new (posted_recorded means rules s it asked (seen_stands world.committed it.so_far are.committed (runs it refl)) (runs it refl)))
           are.running;
     }
 
@@ -104,21 +112,25 @@ committed : (rules : Rules) (world : World) (txn : ℕ) (now : Option Running) �
 committed rules world txn None are runs = are
 committed rules world txn (Some it) are runs = record {
   committed = refused_if (rules.test (history_by (world.committed ++ it.so_far ∷ [])) (length world.committed)) world.committed (world.committed ++ it.so_far ∷ []) are.committed (all_more IsRecorded world.committed it.so_far are.committed (runs it refl));
-  running = with_recorded txn None world.running none_recorded are.running;
+  running = of_all_with RunsRecorded txn None world.running (of_none RunsRecorded) are.running;
 }
 
-happened : StatementMeans → (rules : Rules) (world : World) (event : Event) → AreRecorded world → AreRecorded (happens rules world event)
+pub happened : StatementMeans → (rules : Rules) (world : World) (event : Event) → AreRecorded world → AreRecorded (happens rules world event)
 happened means rules world (Begins as_who) are = begun_if (may_begin (state_after world.committed (length world.committed)) as_who) world as_who are
 happened means rules world (Posts txn asked) are = posted means rules world txn asked (world.running txn) are (are.running txn)
 happened means rules world (Commits txn) are = committed rules world txn (world.running txn) are (are.running txn)
-happened means rules world (RollsBack txn) are = record { committed = are.committed; running = with_recorded txn None world.running none_recorded are.running }
+happened means rules world (RollsBack txn) are = record { committed = are.committed; running = of_all_with RunsRecorded txn None world.running (of_none RunsRecorded) are.running }
 
 all_happened : StatementMeans → (rules : Rules) (world : World) (events : List Event) → AreRecorded world → AreRecorded (run rules world events)
 all_happened means rules world [] are = are
 all_happened means rules world (event ∷ events) are = all_happened means rules (happens rules world event) events (happened means rules world event are)
 
+-- before all events nothing is recorded
+pub nothing_recorded : AreRecorded (record { committed = []; running = λ txn. None; next = 1 })
+nothing_recorded = record { committed = tt; running = λ txn. of_none RunsRecorded }
+
 after_recorded : StatementMeans → (rules : Rules) (events : List Event) → AreRecorded (after rules events)
-after_recorded means rules events = all_happened means rules (record { committed = []; running = λ txn. None; next = 1 }) events (record { committed = tt; running = λ txn it is. none_recorded it is })
+after_recorded means rules events = all_happened means rules (record { committed = []; running = λ txn. None; next = 1 }) events nothing_recorded
 
 -- ---- the laws
 

@@ -2,7 +2,8 @@
 use Rattle.std.specs.Prelude.{ℕ, List}
 use Rattle.std.specs.List.{All}
 use Rattle.rls_catalog.specs.State.{State, policies_of}
-use Rattle.rls_core.specs.Records.{Record}
+use Rattle.rls_core.specs.{Events.Event, Records.Record}
+use Rattle.rls_core.specs.Events.Event.{Posts}
 use Rattle.rls_audit.specs.Showing.{IsPolicySpellable, IsSpellable}
 
 -- texts create each policy of each table
@@ -12,3 +13,8 @@ PoliciesAreTexts s = (table : List ℕ) → All (IsPolicySpellable table) (polic
 -- texts spell its statements
 abbrev pub StatementsAreTexts : Record → Type 0
 StatementsAreTexts it = All IsSpellable it.statements
+
+-- if it posts a statement, some text spells it
+abbrev pub PostsText : Event → Type 0
+PostsText (Posts txn asked) = IsSpellable asked
+PostsText _ = Unit {0}

@@ -8,4 +8,5 @@ mod spelling;
 
 pub use order::lists_stay_in_order;
 pub use refusing::effects_are_shown;
+pub use spelled::records_are_texts;
 pub use spelling::{one_command, one_statement, printed_command, printed_statement};
