@@ -13,7 +13,7 @@ use Rattle.rls_laws.proofs.Ascending.{none_ascend}
 
 -- ---- a change
 
--- in such a state the change is such a one, of which nothing more is said than what follows from what is known of the statement
+-- in such a state the change is such a one; of what texts spell, where this is known of the statement
 pub record Fits (s : State) (Known : Type 0) (change : Change) : Type 0 where
   pub ordered : IsInOrder s → WritesInOrder change
   pub told : KeysAreThere s → CanTell change

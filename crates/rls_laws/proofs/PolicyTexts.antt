@@ -1,16 +1,16 @@
 -- Of which parts texts of CREATE POLICY and ALTER POLICY are, and that such parts make a text of CREATE POLICY.
-use Rattle.std.specs.Prelude.{◌≡◌, refl, ℕ, zero, suc, ◌+◌, ◌≤◌, ◌<◌, max, List, [], ◌∷◌, ◌++◌, length, Bool, true, false, Option, Some, None, Result, Ok, Err, is_some, nat_lt, codes, ◌⊎◌, if◌then◌else◌}
+use Rattle.std.specs.Prelude.{◌≡◌, refl, ℕ, zero, suc, ◌+◌, ◌≤◌, ◌<◌, max, List, [], ◌∷◌, ◌++◌, length, Bool, true, false, Option, Some, None, is_some, nat_lt, codes, ◌⊎◌}
 use Rattle.std.proofs.Common.{arith, ap, sym, subst, ◌∙◌, inl, inr, append-nil, length-append}
 use Rattle.std.proofs.lemmas.Bool.{le-ltb, true≢false}
 use Rattle.rls_value.specs.declared.refusal.Limit.{Limit}
-use Rattle.rls_expr.specs.{Terms.Term, Terms.maybe_term, declared.policy.Grantee.Grantee, declared.policy.Policy.Policy}
+use Rattle.rls_expr.specs.{Terms.Term, Terms.maybe_term, declared.policy.Policy.Policy}
 use Rattle.rls_statement.specs.{declared.statement.AlterPolicy.AlterPolicy, declared.statement.CreatePolicy.CreatePolicy, declared.statement.Statement.Statement}
 use Rattle.rls_statement.specs.declared.statement.Statement.TheVariants as st
-use Rattle.rls_text.specs.{declared.token.Symbol.Symbol, declared.token.Token.Token, declared.token.Token.TheVariants.Word, Answers.IsSpelled, Answers.limit_at, Answers.limit_from, Answers.limited, Answers.open_behind, Answers.or_next, Cut.Cut, Cutting.tree_of, FirstSets.expr_heads, FirstSets.expr_more, Heights.height_if, Heights.height_of, Nested.deepest_query, Nested.subqueries_of, Lang.only, Lang.Both, Lang.Mapped, Lang.Either, Lang.Perhaps, Lang.Checked, Lang.After, Lang.Before}
+use Rattle.rls_text.specs.{declared.token.Token.Token, declared.token.Token.TheVariants.Word, Answers.IsSpelled, Answers.limit_at, Answers.limit_from, Answers.open_behind, Answers.or_next, Cut.Cut, Cutting.tree_of, FirstSets.expr_heads, FirstSets.expr_more, Heights.height_if, Heights.height_of, Nested.deepest_query, Nested.subqueries_of, Lang.only, Lang.Both, Lang.Mapped, Lang.Perhaps, Lang.Checked, Lang.After, Lang.Before}
 use Rattle.rls_text.specs.Values as v
 use Rattle.rls_text.specs.Grammar as g
 use Rattle.rls_text.proofs.Laws.{Within, or_within, spelled_few, spelled_low}
-use Rattle.rls_laws.proofs.Closing.{Closes, open_after, check_closes, expr_closes, grantees_close, new_grantees_close, on_closes, options_close, using_closes, word_closes}
+use Rattle.rls_laws.proofs.Closing.{Closes, open_after, expr_closes, grantees_close, new_grantees_close, on_closes, options_close, using_closes, word_closes}
 
 -- ---- limits on words
 
@@ -363,7 +363,7 @@ policy_phrase depth table policy parts using check =
     let behind = both_of _ _ policy.to (policy.using, policy.check) grantees_close parts.to conditions in
     let all = both_of _ _ (policy.permissive, policy.kind) (policy.to, (policy.using, policy.check)) options_close parts.options behind in
     let described : Phrase (Checked v.is_policy (Both g.policy_options.spells (Both g.for_grantees.spells (Both (using_at depth) (check_at depth))))) ((policy.permissive, policy.kind), (policy.to, (policy.using, policy.check))) =
-        record { tokens = all.tokens; spelled = record { spelled = all.spelled; passes = parts.fits }; words = all.words } in
+    record { tokens = all.tokens; spelled = record { spelled = all.spelled; passes = parts.fits }; words = all.words } in
     mapped_of v.policy_of _ ((policy.name, table), ((policy.permissive, policy.kind), (policy.to, (policy.using, policy.check)))) (both_of _ _ (policy.name, table) ((policy.permissive, policy.kind), (policy.to, (policy.using, policy.check))) on_closes parts.on described)
 
 -- such parts make a text

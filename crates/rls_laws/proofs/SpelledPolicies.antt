@@ -1,15 +1,15 @@
 -- Policies that texts create stay such: with one more, with one altered, without one.
-use Rattle.std.specs.Prelude.{◌≡◌, refl, ℕ, zero, suc, List, [], ◌∷◌, ◌++◌, Bool, true, false, not, cond, Option, Some, None, map, filter, take, drop, is_some, if◌then◌else◌, unwrap_or}
+use Rattle.std.specs.Prelude.{◌≡◌, refl, ℕ, zero, suc, List, [], ◌∷◌, ◌++◌, Bool, true, false, not, cond, Option, Some, None, filter, take, drop, is_some, if◌then◌else◌, unwrap_or}
 use Rattle.std.specs.List.{All, AllByRecursion, find, position_or_len}
 use Rattle.std.specs.Option.{option_or}
-use Rattle.std.proofs.Common.{ap, sym, subst, ◌∙◌}
+use Rattle.std.proofs.Common.{ap, subst, ◌∙◌}
 use Rattle.std.proofs.lemmas.List.Elements.{All-from_recursion, recursion_from_All}
 use Rattle.std.proofs.lemmas.Option.{none-some, same_Some}
 use Rattle.rls_value.specs.declared.verb.PolicyKind.{PolicyKind}
 use Rattle.rls_value.specs.declared.verb.PolicyKind.TheVariants as kind
 use Rattle.rls_value.specs.declared.verb.Kind.TheVariants as k
 use Rattle.rls_expr.specs.{Terms.Term, declared.policy.Grantee.Grantee, declared.policy.Policy.Policy}
-use Rattle.rls_catalog.specs.PolicyLists.{InNameOrder, is_after, is_named, replaced_if_named, with_policy, with_replaced, without_policy}
+use Rattle.rls_catalog.specs.PolicyLists.{InNameOrder, is_after, is_named, with_policy, with_replaced, without_policy}
 use Rattle.rls_statement.specs.{declared.statement.AlterPolicy.AlterPolicy, declared.statement.CreatePolicy.CreatePolicy}
 use Rattle.rls_statement.specs.declared.statement.Statement.TheVariants as st
 use Rattle.rls_ddl.specs.AlteringPolicies.{altered, has_no_place_for, with_altered}
