@@ -13,7 +13,7 @@ use Rattle.rls_guard.specs.declared.context.Mode.TheVariants as mode
 use Rattle.rls_guard.specs.declared.effect.Effect.TheVariants as effect
 use Rattle.rls_access.specs.Statements.{effect_in, mode_or_refused}
 use Rattle.rls_audit.specs.{RefusalCodecs.IsAudited, Showing.ArePoliciesSpellable, Showing.CanShow, Showing.CanTell, Showing.IsSpellable}
-use Rattle.rls_meaning.specs.Meaning.{StatementMeans, meant_in}
+use Rattle.rls_meaning.specs.Meaning.{StatementMeans, effect_of, meant_in}
 use Rattle.rls_meaning.specs.{Memberships.grant_roles_in, Memberships.revoke_roles_in, Privileges.grant_in, Privileges.revoke_in}
 use Rattle.rls_laws.specs.{InOrder.IsInOrder, Shown.KeysAreThere, Spelled.PoliciesAreTexts}
 use Rattle.rls_laws.proofs.{Fitting.Fits, Fitting.all_in_order}
@@ -47,10 +47,13 @@ each_gives s ctx (statement.Update asked) = update_gives _ s ctx asked
 each_gives s ctx (statement.Delete asked) = delete_gives _ s ctx asked
 each_gives s ctx (statement.Select asked) = select_gives _ s ctx asked
 
--- each change of a statement fits the state that it is run in, or the refusal is one that an audit has
+-- each change that a statement means fits the state that it is run in, or the refusal is one that an audit has
+pub meaning_ends : (s : State) (ctx : Ctx) (asked : Statement) → Ends (Fits s (IsSpellable asked)) (effect_of s ctx asked)
+meaning_ends s ctx asked = shown_ends (Fits s (IsSpellable asked)) _ (after (mode_gives ctx.mode (tag_of asked)) (λ _ _. each_gives s ctx asked))
+
+-- so does each that it comes to
 pub effect_ends : StatementMeans → (s : State) (ctx : Ctx) (asked : Statement) → Ends (Fits s (IsSpellable asked)) (effect_in s ctx asked)
-effect_ends means s ctx asked =
-    subst (Ends (Fits s (IsSpellable asked))) (sym (means s ctx asked)) (shown_ends (Fits s (IsSpellable asked)) _ (after (mode_gives ctx.mode (tag_of asked)) (λ _ _. each_gives s ctx asked)))
+effect_ends means s ctx asked = subst (Ends (Fits s (IsSpellable asked))) (sym (means s ctx asked)) (meaning_ends s ctx asked)
 
 pub changes_fit : (Known : Type 0) (s : State) (done : Effect) → Ends (Fits s Known) done → AllByRecursion (Fits s Known) (changes_of done)
 changes_fit Known s (effect.Done reply decisions changes role) is = is
@@ -70,7 +73,7 @@ all_told : (Known : Type 0) (s : State) (changes : List Change) → KeysAreThere
 all_told Known s [] keys fit = tt
 all_told Known s (change ∷ changes) keys fit = (fit.0.told keys, all_told Known s changes keys fit.1)
 
-can_show : (Known : Type 0) (s : State) (done : Effect) → KeysAreThere s → Ends (Fits s Known) done → CanShow done
+pub can_show : (Known : Type 0) (s : State) (done : Effect) → KeysAreThere s → Ends (Fits s Known) done → CanShow done
 can_show Known s (effect.Done reply decisions changes role) keys is = All-from_recursion CanTell changes (all_told Known s changes keys is)
 can_show Known s (effect.Refused refusal decisions) keys is = is
 

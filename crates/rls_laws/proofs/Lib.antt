@@ -12,5 +12,6 @@ pub mod Defining
 pub mod Handing
 pub mod Judging
 pub mod Ending
+pub mod Explained
 pub mod Recording
 pub mod RecordedTexts

@@ -1,4 +1,5 @@
 use Rattle.rls_laws.proofs.Ending.{effect_shown, refusal_audited}
+use Rattle.rls_laws.proofs.Explained.{audit_shown}
 use Rattle.rls_laws.proofs.Recording.{after_shown}
 use Rattle.rls_laws.proofs.refusing.effects_are_shown.Goals as goal
 
@@ -10,3 +11,6 @@ returns-clause-shown c = effect_shown c.statement_means.ensures
 
 pub returns-clause-events : goal.returns-clause-events
 returns-clause-events c = after_shown c.statement_means.ensures
+
+pub returns-clause-audits : goal.returns-clause-audits
+returns-clause-audits c = audit_shown
