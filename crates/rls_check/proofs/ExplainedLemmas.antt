@@ -7,8 +7,8 @@ use Rattle.rls_catalog.specs.State.{State}
 use Rattle.rls_catalog.specs.Changed.{opening}
 use Rattle.rls_statement.specs.declared.statement.Statement.{Statement}
 use Rattle.rls_explain.specs.declared.explanation.Explanation.{Explanation}
-use Rattle.rls_check.specs.declared.audit.Answer.{Answer}
-use Rattle.rls_check.specs.declared.audit.Transaction.{Transaction}
+use Rattle.rls_check.specs.declared.transaction.Answer.{Answer}
+use Rattle.rls_check.specs.declared.transaction.Transaction.{Transaction}
 use Rattle.rls_check.specs.declared.explaining.Why.{Why}
 use Rattle.rls_check.specs.Audited.{transaction_at, asked_of}
 use Rattle.rls_check.specs.Checking.{IsPlaced, IsNoOrder, state_behind}

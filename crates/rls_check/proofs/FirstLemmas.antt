@@ -3,7 +3,7 @@ use Rattle.std.specs.Prelude.{◌≡◌, refl, ◌↔◌, ℕ, List, Result, Ok,
 use Rattle.std.specs.declared.alloc.AllocError.{AllocError}
 use Rattle.std.proofs.Common.{sym, ◌∙◌, inl, inr}
 use Rattle.rls_audit.specs.Audits.{AuditHolds}
-use Rattle.rls_check.specs.declared.audit.Transaction.{Transaction}
+use Rattle.rls_check.specs.declared.transaction.Transaction.{Transaction}
 use Rattle.rls_check.specs.declared.finding.Finding.{Finding}
 use Rattle.rls_check.specs.declared.finding.Finding.TheVariants as f
 use Rattle.rls_check.specs.Audited.{lines_of}

@@ -6,7 +6,7 @@ use Rattle.rls_value.specs.declared.refusal.Refusal.{Refusal}
 use Rattle.rls_value.specs.declared.refusal.Refusal.TheVariants as r
 use Rattle.rls_audit.specs.declared.lines.Line.{Line}
 use Rattle.rls_audit.specs.declared.lines.Line.TheVariants.{Head, Txn, End}
-use Rattle.rls_audit.specs.Reading.{line_found, MeansLine, IsLineRead, TextsParse}
+use Rattle.rls_audit.specs.Reading.{line_found, MeansLine, IsLineRead}
 use Rattle.rls_check.specs.declared.form.Stage.{Stage}
 use Rattle.rls_check.specs.declared.form.Stage.TheVariants as stage
 use Rattle.rls_check.specs.declared.form.Form.{Form}
@@ -18,7 +18,7 @@ some_same : {A : Type 0} (x y : A) → ◌≡◌ {A = Option A} (Some x) (Some y
 some_same x y h = cc
 
 -- a text is one line of a format
-one_line : (second : Bool) (text : List ℕ) (it other : Line) → MeansLine second text it → MeansLine second text other → it ≡ other
+pub one_line : (second : Bool) (text : List ℕ) (it other : Line) → MeansLine second text it → MeansLine second text other → it ≡ other
 one_line second text it other m n = some_same it other (sym m.0 ∙ n.0)
 
 -- a refusal by which no line of the format is there
@@ -94,17 +94,17 @@ no_text number form bytes never = inr (refl, λ it second next. never next.utf8)
 
 -- the line that was found is the one that is given
 pub taken : (form after : Form) (bytes : List ℕ) (line : Line) (second : Bool) → IsNext form bytes line second → IsBehind form line second after
-    → IsTakenAmong (form.lines + 1) (IsNext form bytes) (λ it own given. (given ≡ it) × IsBehind form it own after) (Ok line)
+    → IsTakenAmong {A = Line × Bool} (form.lines + 1) (IsNext form bytes) (λ it own given. (given ≡ (it, own)) × IsBehind form it own after) (Ok (line, second))
 taken form after bytes line second next behind = (line, second, next, (refl, behind))
 
 -- ---- the lines that a reader takes
 
 -- the given line is one of the format
-pub texts_parse : (number : ℕ) (form after : Form) (bytes : List ℕ) (given : Line) → IsTakenAmong number (IsNext form bytes) (λ it own line. (line ≡ it) × IsBehind form it own after) (Ok given) → TextsParse given
-texts_parse number form after bytes given h = subst TextsParse (sym h.3.0) h.2.means.1
+pub given_means : (number : ℕ) (form after : Form) (bytes : List ℕ) (given : Line × Bool) → IsTakenAmong number (IsNext form bytes) (λ it own both. (both ≡ (it, own)) × IsBehind form it own after) (Ok given) → MeansLine given.1 bytes given.0
+given_means number form after bytes given h = subst (λ (both : Line × Bool). MeansLine both.1 bytes both.0) (sym h.3.0) h.2.means
 
 -- what holds of the given line holds of the line
-pub taken_more : {A : Type 0} (number : ℕ) (form after : Form) (bytes : List ℕ) (given : Line) (Gives : Line → A → Type 0) (made : A)
-    → IsTakenAmong number (IsNext form bytes) (λ it own line. (line ≡ it) × IsBehind form it own after) (Ok given) → Gives given made
+pub taken_more : {A : Type 0} (number : ℕ) (form after : Form) (bytes : List ℕ) (given : Line × Bool) (Gives : Line → A → Type 0) (made : A)
+    → IsTakenAmong number (IsNext form bytes) (λ it own both. (both ≡ (it, own)) × IsBehind form it own after) (Ok given) → Gives given.0 made
     → IsTakenAmong number (IsNext form bytes) (λ it own x. IsBehind form it own after × Gives it x) (Ok made)
-taken_more number form after bytes given Gives made h gives = (h.0, h.1, h.2, (h.3.1, subst (λ (line : Line). Gives line made) h.3.0 gives))
+taken_more number form after bytes given Gives made h gives = (h.0, h.1, h.2, (h.3.1, subst (λ (both : Line × Bool). Gives both.0 made) h.3.0 gives))

@@ -20,8 +20,8 @@ use Rattle.rls_core.specs.Records.{Record, nobody, record_at, transaction_of, hi
 use Rattle.rls_core.specs.Alone.{effects_alone, state_alone, changes_made, Explains}
 use Rattle.rls_audit.specs.Lines.{Line, Head, Txn, End, Shown, Answered, Written, written_by, reply_of, decisions_of, ordered_changes, answered, shown, lines_from, audit_of}
 use Rattle.rls_audit.specs.Audits.{AreRecords, ChangesAreMade, numbers_at, AuditHolds}
-use Rattle.rls_check.specs.declared.audit.Answer.{Answer}
-use Rattle.rls_check.specs.declared.audit.Transaction.{Transaction}
+use Rattle.rls_check.specs.declared.transaction.Answer.{Answer}
+use Rattle.rls_check.specs.declared.transaction.Transaction.{Transaction}
 use Rattle.rls_check.specs.declared.finding.Finding.{Finding}
 use Rattle.rls_check.specs.declared.finding.Finding.TheVariants as f
 use Rattle.rls_check.specs.declared.running.RanAlone.{RanAlone}

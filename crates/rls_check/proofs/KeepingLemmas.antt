@@ -19,15 +19,17 @@ use Rattle.rls_statement.specs.declared.statement.Statement.{Statement}
 use Rattle.rls_statement.specs.declared.statement.Statement.TheVariants as st
 use Rattle.rls_text.specs.{Answers.Answers, Answers.IsSpelled, Words.words_of, declared.token.Token.Token}
 use Rattle.rls_audit.specs.Reading.{IsStatementText, IsPolicyText}
-use Rattle.rls_audit.specs.Shows.{NamesColumn, SpellsPolicy}
+use Rattle.rls_audit.specs.Shows.{NamesColumn, SpellsPolicy, ShowsChanged}
 use Rattle.rls_audit.specs.Showing.{HasKey, CanTell}
 use Rattle.rls_audit.specs.Lines.{Content, Written, written_by}
 use Rattle.rls_audit.specs.Lines as content
 use Rattle.rls_audit.specs.declared.contents.TableShape.{TableShape}
+use Rattle.rls_audit.specs.declared.changes.Changed.{Changed}
 use Rattle.rls_audit.specs.declared.changes.Changed.TheVariants as changed
-use Rattle.rls_check.specs.declared.audit.Put.TheVariants as put
+use Rattle.rls_check.specs.declared.transaction.Put.{Put}
+use Rattle.rls_check.specs.declared.transaction.Put.TheVariants as put
 use Rattle.rls_check.specs.Audited.{written_of}
-use Rattle.rls_check.specs.Keeping.{IsMade, KeepsPut, KeepsTable, place_of, policy_in}
+use Rattle.rls_check.specs.Keeping.{IsMade, KeepsPut, NamesKey, NamesKeys, place_of, policy_in, table_of}
 
 -- ---- lists that belong together
 
@@ -151,7 +153,7 @@ key_there columns (name ∷ key) h =
       key_there columns key (All-tail P (place_of columns name) (map (place_of columns) key) h),
     )
 
--- ---- what is kept of a table
+-- ---- what is kept of a change
 
 same_table : (d def : TableDef) → ◌≡◌ {A = Content} (content.Table d) (content.Table def) → d ≡ def
 same_table d def h = cc
@@ -165,8 +167,29 @@ told_table name def (c.Grants n d) can is = let e : ◌≡◌ {A = Content} (con
 told_table name def (c.Policies n d) can is = let e : ◌≡◌ {A = Content} (content.Policies d) (content.Table def) = ap (λ (w : Written). w.content) is in absurd (cc)
 told_table name def (c.Row row) can is = let e : ◌≡◌ {A = Content} (content.Row (option_map (λ keyed. keyed.row) row.after)) (content.Table def) = ap (λ (w : Written). w.content) is in absurd (cc)
 
-pub kept_table : (name : List ℕ) (shape : TableShape) (def : TableDef) → KeepsTable shape def → KeepsPut (changed.Table name shape) (put.Table name def)
-kept_table name shape def h = record {
-  named = λ named. record { object = refl; content = h.named named };
-  told = λ change can is. h.there (told_table name def change can is);
-}
+-- a table whose key's columns are there has a key that names columns
+pub there_named : (shape : TableShape) → HasKey (table_of shape) → NamesKey shape
+there_named shape has = (map (place_of shape.columns) shape.key, key_there shape.columns shape.key has)
+
+-- what an audit can tell of a table has a key that names columns
+pub put_told : (x : Changed) (it : Put) → KeepsPut x it → (change : Change) → CanTell change → written_by change ≡ written_of it → NamesKeys x
+put_told (changed.Role name def) it h change can is = tt
+put_told (changed.Members member memberships) it h change can is = tt
+put_told (changed.Table name shape) it h change can is = there_named shape (told_table name (table_of shape) change can (is ∙ ap written_of h))
+put_told (changed.Grants table grants) it h change can is = tt
+put_told (changed.Policies table texts) it h change can is = tt
+put_told (changed.Row table id values) it h change can is = tt
+
+-- what is kept of a change is shown by it, where its key names columns
+put_shown : (x : Changed) (it : Put) → KeepsPut x it → NamesKeys x → ShowsChanged x (written_of it)
+put_shown (changed.Role name def) it h named = subst (λ (p : Put). ShowsChanged (changed.Role name def) (written_of p)) (sym h) (record { object = refl; content = refl })
+put_shown (changed.Members member memberships) it h named = subst (λ (p : Put). ShowsChanged (changed.Members member memberships) (written_of p)) (sym h) (record { object = refl; content = refl })
+put_shown (changed.Table name shape) it h named =
+    subst (λ (p : Put). ShowsChanged (changed.Table name shape) (written_of p)) (sym h)
+    (record { object = refl; content = record { owner = refl; enabled = refl; forced = refl; columns = refl; key = key_named shape.columns shape.key named.0 named.1 } })
+put_shown (changed.Grants table grants) it h named = subst (λ (p : Put). ShowsChanged (changed.Grants table grants) (written_of p)) (sym h) (record { object = refl; content = refl })
+put_shown (changed.Policies table texts) it h named = subst (λ (p : Put). ShowsChanged (changed.Policies table texts) (written_of p)) (sym h.1) (record { object = refl; content = h.2 })
+put_shown (changed.Row table id values) it h named = subst (λ (p : Put). ShowsChanged (changed.Row table id values) (written_of p)) (sym h) (record { object = refl; content = refl })
+
+pub put_shows : (x : Changed) (it : Put) → KeepsPut x it → (change : Change) → CanTell change → written_by change ≡ written_of it → ShowsChanged x (written_of it)
+put_shows x it h change can is = put_shown x it h (put_told x it h change can is)

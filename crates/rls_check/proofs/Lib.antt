@@ -8,5 +8,10 @@ pub mod ExplainedLemmas
 pub mod CommittedLemmas
 pub mod RunningLemmas
 pub mod FormLemmas
+pub mod StoredLemmas
 pub mod KeepingLemmas
+pub mod HeadLemmas
+pub mod WholeLemmas
+pub mod OneFindingLemmas
+pub mod ConvertedLemmas
 pub mod ReadLemmas

@@ -4,7 +4,7 @@ use Rattle.std.proofs.Common.{ap, sym, ◌∙◌, subst, inl, inr, ◌⊎◌, eq
 use Rattle.std.proofs.lemmas.Bool.{cases_lt, or_parts, or_cases, or_left, or_right, true≢false}
 use Rattle.rls_history.specs.History.{History, before, rw as edge}
 use Rattle.rls_history.specs.Orders.{with_placed, none_placed, IsNext, StandInTurn, placed_by}
-use Rattle.rls_check.specs.declared.audit.Transaction.{Transaction}
+use Rattle.rls_check.specs.declared.transaction.Transaction.{Transaction}
 use Rattle.rls_check.specs.Audited.{transaction_at}
 use Rattle.rls_check.specs.Checking.{numbers_of}
 

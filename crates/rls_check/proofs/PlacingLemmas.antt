@@ -11,7 +11,7 @@ use Rattle.std.proofs.lemmas.List.{get_or-set_same, get_or-set_other, length-set
 use Rattle.std.proofs.lemmas.List.Elements.{All-push}
 use Rattle.rls_history.specs.History.{History, before, rw as edge, concurrent}
 use Rattle.rls_history.specs.Orders.{precedes, with_placed, none_placed, IsNext, StandInTurn, placed_by, IsOrder}
-use Rattle.rls_check.specs.declared.audit.Transaction.{Transaction}
+use Rattle.rls_check.specs.declared.transaction.Transaction.{Transaction}
 use Rattle.rls_check.specs.Audited.{nobody, transaction_at}
 use Rattle.rls_check.specs.Checking.{history_of, numbers_of, IsPlaced, IsNoOrder}
 use Rattle.rls_check.specs.Placing.{AreApart, HasToWait, IsIndex, IsPlacing}
@@ -87,10 +87,10 @@ equal_if true same h = absurd (true≢false (sym h))
 equal_if false true h = refl
 equal_if false false h = absurd (true≢false (sym h))
 
-own_number : (a b : ℕ) → is_at (nat_cmp a) b ≡ true → a ≡ b
+pub own_number : (a b : ℕ) → is_at (nat_cmp a) b ≡ true → a ≡ b
 own_number a b is = eqb-true a b (equal_if (nat_lt a b) (a == b) is)
 
-nat_own : (a : ℕ) → is_at (nat_cmp a) a ≡ true
+pub nat_own : (a : ℕ) → is_at (nat_cmp a) a ≡ true
 nat_own a = ap is_eq (tied_itself nat_cmp_total a)
 
 -- where the number of the next isn't there yet

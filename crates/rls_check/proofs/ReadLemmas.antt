@@ -1,7 +1,7 @@
 -- What the lines show that were read and kept, where what is kept shows records.
-use Rattle.std.specs.Prelude.{◌≡◌, refl, ℕ, zero, suc, ◌++◌, List, [], ◌∷◌, map, length, not, take, drop}
+use Rattle.std.specs.Prelude.{◌≡◌, refl, ℕ, zero, suc, Bool, ◌++◌, List, [], ◌∷◌, map, length, not, take, drop}
 use Rattle.std.specs.List.{All, AllByRecursion, AllZip, flat_map, position_or_len}
-use Rattle.std.proofs.Common.{ap, sym}
+use Rattle.std.proofs.Common.{ap, sym, subst}
 use Rattle.std.proofs.lemmas.List.Elements.{All-append, All-nil, All-from_recursion, recursion_from_All}
 use Rattle.rls_expr.specs.declared.table.TableDef.{TableDef}
 use Rattle.rls_catalog.specs.declared.change.Change.{Change}
@@ -14,20 +14,23 @@ use Rattle.rls_audit.specs.declared.changes.Changed.{Changed}
 use Rattle.rls_audit.specs.declared.changes.Changed.TheVariants as changed
 use Rattle.rls_audit.specs.declared.lines.Answered.{Answered}
 use Rattle.rls_audit.specs.declared.lines.Shown.{Shown}
+use Rattle.rls_audit.specs.declared.lines.Line.{Line}
 use Rattle.rls_audit.specs.declared.lines.Line.TheVariants as line
 use Rattle.rls_audit.specs.Audits.{AuditHolds}
 use Rattle.rls_audit.specs.Lines.{written_by, comes_before, in_object_order, ordered_changes}
 use Rattle.rls_audit.specs.Lines as lines
 use Rattle.rls_audit.specs.Showing.{CanShow, CanTell, HasKey}
-use Rattle.rls_audit.specs.Shows.{ShowsAnswered, ShowsChanged, ShowsTxn, ShowsLine}
-use Rattle.rls_check.specs.declared.audit.Answer.{Answer}
-use Rattle.rls_check.specs.declared.audit.Put.{Put}
-use Rattle.rls_check.specs.declared.audit.Put.TheVariants as put
-use Rattle.rls_check.specs.declared.audit.Transaction.{Transaction}
+use Rattle.rls_audit.specs.Shows.{ShowsAnswered, ShowsChanged, ShowsTxn, ShowsLine, Means}
+use Rattle.rls_check.specs.declared.transaction.Answer.{Answer}
+use Rattle.rls_check.specs.declared.transaction.Put.{Put}
+use Rattle.rls_check.specs.declared.transaction.Put.TheVariants as put
+use Rattle.rls_check.specs.declared.transaction.Transaction.{Transaction}
 use Rattle.rls_check.specs.Audited.{answered_of, written_of, shown_of, lines_between, lines_of}
-use Rattle.rls_check.specs.Keeping.{Keeps, KeepsAnswer, KeepsPut, NamesKey, AreKept, lines_read}
+use Rattle.rls_check.specs.Keeping.{Keeps, KeepsAnswer, KeepsPut, NamesKey, AreKept, lines_read, table_of}
+use Rattle.rls_check.specs.declared.audit.Audit.{Audit}
+use Rattle.rls_check.specs.Wholes.{IsTextOf, IsAuditOf}
 use Rattle.rls_check.proofs.HeldLemmas.{AreShown, audit_parts, fits_one}
-use Rattle.rls_check.proofs.KeepingLemmas.{zip_push}
+use Rattle.rls_check.proofs.KeepingLemmas.{zip_push, put_shows, there_named}
 
 -- ---- what an audit can tell
 
@@ -65,7 +68,7 @@ puts_show (x ∷ xs) (y ∷ ys) [] h can is = absurd (cc)
 puts_show (x ∷ xs) (y ∷ ys) (change ∷ changes) h can is =
     let one : written_of y ≡ written_by change = cc in
     let rest : map written_of ys ≡ map written_by changes = cc in
-    (h.0.named (h.0.told change can.0 (sym one)), puts_show xs ys changes h.1 can.1 rest)
+    (put_shows x y h.0 change can.0 (sym one), puts_show xs ys changes h.1 can.1 rest)
 
 txn_shows : (commit : ℕ) (shown : Shown) (it : Transaction) (r : Record) → shown.commit ≡ commit → Keeps shown it → All CanShow r.effects → shown_of commit it ≡ lines.shown commit r → ShowsTxn shown (shown_of commit it)
 txn_shows commit shown it r at keeps can is =
@@ -107,6 +110,20 @@ read_show read its order holds kept can =
       zip_push ShowsLine (map line.Txn read) (lines_between 1 its) (line.End (length read) order) (lines.End (length its) order) among (kept_length 1 read its kept, refl),
     )
 
+texts_mean : (second : Bool) (texts : List (List ℕ)) (ls : List Line) (ms : List lines.Line) → AllZip (IsTextOf second) texts ls → AllZip ShowsLine ls ms → AllZip (Means second) texts ms
+texts_mean second [] [] [] h k = tt
+texts_mean second [] [] (m ∷ ms) h k = absurd k
+texts_mean second [] (l ∷ ls) ms h k = absurd h
+texts_mean second (t ∷ texts) [] ms h k = absurd h
+texts_mean second (t ∷ texts) (l ∷ ls) [] h k = absurd k
+texts_mean second (t ∷ texts) (l ∷ ls) (m ∷ ms) h k = (record { line = l; reads = h.0.1; shows = k.0 }, texts_mean second texts ls ms h.1 k.1)
+
+-- so do their texts
+pub texts_show : (texts : List (List ℕ)) (audit : Audit) (holds : AuditHolds (lines_of audit.transactions audit.order)) → IsAuditOf texts audit → All (λ (r : Record). All CanShow r.effects) holds.records
+    → (second : Bool) × AllZip (Means second) texts (lines_of audit.transactions audit.order)
+texts_show texts audit holds is can =
+    (is.second, texts_mean is.second texts (lines_read is.read audit.order) (lines_of audit.transactions audit.order) is.are.lines (read_show is.read audit.transactions audit.order holds is.kept can))
+
 -- of a table whose key names no column no key is kept that has its columns
 pub key_kept : (name : List ℕ) (shape : TableShape) (def : TableDef) → KeepsPut (changed.Table name shape) (put.Table name def) → HasKey def → NamesKey shape
-key_kept name shape def keeps has = keeps.told (c.Table name def) has refl
+key_kept name shape def keeps has = let same : def ≡ table_of shape = cc in there_named shape (subst HasKey same has)

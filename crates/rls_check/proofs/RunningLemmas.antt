@@ -4,7 +4,7 @@ use Rattle.std.proofs.Common.{inl, inr, sym, subst, arith}
 use Rattle.std.proofs.lemmas.List.{drop_more}
 use Rattle.rls_catalog.specs.declared.change.Change.{Change}
 use Rattle.rls_catalog.specs.State.{State}
-use Rattle.rls_check.specs.declared.audit.Transaction.{Transaction}
+use Rattle.rls_check.specs.declared.transaction.Transaction.{Transaction}
 use Rattle.rls_check.specs.declared.finding.Finding.{Finding}
 use Rattle.rls_check.specs.declared.running.RanAlone.TheVariants as alone
 use Rattle.rls_check.specs.declared.running.RanAlong.{RanAlong}

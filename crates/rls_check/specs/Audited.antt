@@ -5,10 +5,10 @@ use Rattle.rls_guard.specs.declared.context.Mode.TheVariants.{Write}
 use Rattle.rls_value.specs.declared.object.Object.TheVariants as o
 use Rattle.rls_audit.specs.Lines.{Written, Answered, Shown, Line, Head, Txn, End}
 use Rattle.rls_audit.specs.Lines as content
-use Rattle.rls_check.specs.declared.audit.Put.{Put}
-use Rattle.rls_check.specs.declared.audit.Put.TheVariants as put
-use Rattle.rls_check.specs.declared.audit.Answer.{Answer}
-use Rattle.rls_check.specs.declared.audit.Transaction.{Transaction}
+use Rattle.rls_check.specs.declared.transaction.Put.{Put}
+use Rattle.rls_check.specs.declared.transaction.Put.TheVariants as put
+use Rattle.rls_check.specs.declared.transaction.Answer.{Answer}
+use Rattle.rls_check.specs.declared.transaction.Transaction.{Transaction}
 
 -- the object, and what it has then
 abbrev pub written_of : Put → Written

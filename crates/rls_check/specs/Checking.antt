@@ -15,9 +15,9 @@ use Rattle.rls_history.specs.History.{History}
 use Rattle.rls_history.specs.Orders.{IsOrder}
 use Rattle.rls_core.specs.Alone.{effects_alone, state_alone, changes_made}
 use Rattle.rls_audit.specs.Lines.{written_by, reply_of, decisions_of, ordered_changes}
-use Rattle.rls_check.specs.declared.audit.Put.{Put}
-use Rattle.rls_check.specs.declared.audit.Answer.{Answer}
-use Rattle.rls_check.specs.declared.audit.Transaction.{Transaction}
+use Rattle.rls_check.specs.declared.transaction.Put.{Put}
+use Rattle.rls_check.specs.declared.transaction.Answer.{Answer}
+use Rattle.rls_check.specs.declared.transaction.Transaction.{Transaction}
 use Rattle.rls_check.specs.declared.finding.Finding.{Finding}
 use Rattle.rls_check.specs.declared.finding.Finding.TheVariants as f
 use Rattle.rls_check.specs.declared.running.RanAlone.{RanAlone}

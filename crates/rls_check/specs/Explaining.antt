@@ -10,7 +10,7 @@ use Rattle.rls_meaning.specs.Meaning.{effect_of}
 use Rattle.rls_core.specs.Alone.{state_alone}
 use Rattle.rls_explain.specs.declared.explanation.{Explanation.Explanation, Explained.Explained}
 use Rattle.rls_explain.specs.Explaining.{explained_in}
-use Rattle.rls_check.specs.declared.audit.Transaction.{Transaction}
+use Rattle.rls_check.specs.declared.transaction.Transaction.{Transaction}
 use Rattle.rls_check.specs.declared.explaining.Why.{Why}
 use Rattle.rls_check.specs.Audited.{transaction_at, asked_of}
 use Rattle.rls_check.specs.Checking.{ctx_of, state_behind, IsPlaced, IsNoOrder}

@@ -5,7 +5,6 @@ use Rattle.std.specs.Str.{bytes_eq}
 use Rattle.rls_value.specs.declared.refusal.Refusal.{Refusal}
 use Rattle.rls_value.specs.declared.refusal.Refusal.TheVariants as r
 use Rattle.rls_expr.specs.{declared.policy.Policy.Policy, declared.table.Column.Column, declared.table.TableDef.TableDef}
-use Rattle.rls_catalog.specs.declared.change.Change.{Change}
 use Rattle.rls_statement.specs.declared.statement.Statement.{Statement}
 use Rattle.rls_statement.specs.declared.statement.Statement.TheVariants as st
 use Rattle.rls_audit.specs.declared.contents.TableShape.{TableShape}
@@ -15,14 +14,12 @@ use Rattle.rls_audit.specs.declared.lines.Answered.{Answered}
 use Rattle.rls_audit.specs.declared.lines.Shown.{Shown}
 use Rattle.rls_audit.specs.declared.lines.Line.{Line}
 use Rattle.rls_audit.specs.declared.lines.Line.TheVariants.{Head, Txn, End}
-use Rattle.rls_audit.specs.Lines.{written_by}
-use Rattle.rls_audit.specs.Showing.{HasKey, CanTell}
-use Rattle.rls_audit.specs.Shows.{NamesColumn, ShowsTable, ShowsChanged, ShowsAnswered}
-use Rattle.rls_check.specs.declared.audit.Answer.{Answer}
-use Rattle.rls_check.specs.declared.audit.Put.{Put}
-use Rattle.rls_check.specs.declared.audit.Transaction.{Transaction}
-use Rattle.rls_check.specs.declared.audit.Reader.{Reader}
-use Rattle.rls_check.specs.Audited.{answered_of, written_of}
+use Rattle.rls_audit.specs.Shows.{NamesColumn, SpellsPolicy, ShowsAnswered}
+use Rattle.rls_check.specs.declared.transaction.Answer.{Answer}
+use Rattle.rls_check.specs.declared.transaction.Put.{Put}
+use Rattle.rls_check.specs.declared.transaction.Put.TheVariants as put
+use Rattle.rls_check.specs.declared.transaction.Transaction.{Transaction}
+use Rattle.rls_check.specs.Audited.{answered_of}
 
 -- the policy that the statement creates
 abbrev pub policy_in : Statement → Option Policy
@@ -46,15 +43,18 @@ NamesKeys _ = Unit {0}
 abbrev pub KeepsAnswer : Answered → Answer → Type 0
 KeepsAnswer answered it = ShowsAnswered answered (answered_of it)
 
--- the table is kept, if its key names columns; else the key that is kept has a place where no column is
-pub record KeepsTable (shape : TableShape) (def : TableDef) : Type 0 where
-  pub named : NamesKey shape → ShowsTable shape def
-  pub there : HasKey def → NamesKey shape
+-- the table of that shape; a name in its key that no column has stands behind the last column
+abbrev pub table_of : TableShape → TableDef
+table_of shape = record { owner = shape.owner; enabled = shape.enabled; forced = shape.forced; columns = shape.columns; key = map (place_of shape.columns) shape.key }
 
--- what was changed is kept, if its key names columns; else no change that an audit can tell is what is kept
-pub record KeepsPut (changed : Changed) (it : Put) : Type 0 where
-  pub named : NamesKeys changed → ShowsChanged changed (written_of it)
-  pub told : (change : Change) → CanTell change → written_by change ≡ written_of it → NamesKeys changed
+-- the object was changed, and has this then: policies what their texts create
+abbrev pub KeepsPut : Changed → Put → Type 0
+KeepsPut (c.Role name def) it = it ≡ put.Role name def
+KeepsPut (c.Members member content) it = it ≡ put.Members member content
+KeepsPut (c.Table name shape) it = it ≡ put.Table name (table_of shape)
+KeepsPut (c.Grants table content) it = it ≡ put.Grants table content
+KeepsPut (c.Policies table texts) it = (policies : List Policy) × (it ≡ put.Policies table policies) × AllZip (SpellsPolicy table) texts policies
+KeepsPut (c.Row table id values) it = it ≡ put.Row table id values
 
 -- what is shown of the transaction is kept
 pub record Keeps (shown : Shown) (it : Transaction) : Type 0 where
@@ -70,12 +70,6 @@ pub record Keeps (shown : Shown) (it : Transaction) : Type 0 where
 abbrev pub IsMade : {A : Type 0} → (A → Type 0) → Result A Refusal → Type 0
 IsMade Holds (Ok made) = Holds made
 IsMade Holds (Err refusal) = refusal ≡ r.NoMemory
-
--- the reader keeps the line: one transaction more, or the order
-abbrev pub Takes : Line → Reader → Reader → Type 0
-Takes Head before after = (after.transactions ≡ before.transactions) × (after.order ≡ before.order)
-Takes (Txn shown) before after = ((it : Transaction) × (after.transactions ≡ before.transactions ++ it ∷ []) × Keeps shown it) × (after.order ≡ before.order)
-Takes (End count order) before after = (after.transactions ≡ before.transactions) × (after.order ≡ order)
 
 -- the lines of these transactions were read, the first of which has this commit, and each is kept
 abbrev pub AreKept : ℕ → List Shown → List Transaction → Type 0

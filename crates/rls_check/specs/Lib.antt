@@ -5,3 +5,6 @@ pub mod Explaining
 pub mod Findings
 pub mod Forms
 pub mod Keeping
+pub mod KeepingLaws
+pub mod Stored
+pub mod Wholes

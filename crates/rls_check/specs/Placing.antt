@@ -4,7 +4,7 @@ use Rattle.std.specs.List.{All}
 use Rattle.std.specs.Ordering.{nat_cmp}
 use Rattle.std.specs.BTreeMap.{BTreeMap, get}
 use Rattle.rls_history.specs.Orders.{StandInTurn, placed_by, none_placed}
-use Rattle.rls_check.specs.declared.audit.Transaction.{Transaction}
+use Rattle.rls_check.specs.declared.transaction.Transaction.{Transaction}
 use Rattle.rls_check.specs.Audited.{transaction_at}
 use Rattle.rls_check.specs.Checking.{history_of}
 

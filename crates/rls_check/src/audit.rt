@@ -1,57 +1,22 @@
 //! An audit, and how it is read.
 
-ghost use Rattle.std.specs.Prelude.{◌≡◌, ◌+◌, []};
+ghost use Rattle.std.specs.Prelude.{◌≡◌, ◌⊎◌, ◌+◌, ◌++◌, ◌∷◌, [], ℕ, List, length, IsUtf8, IfOk, IfErr};
+ghost use Rattle.rls_value.specs.declared.refusal.Refusal.TheVariants as r;
+ghost use Rattle.rls_audit.specs.Reading.{MeansLine};
 ghost use Rattle.rls_check.specs.Forms.{IsNext, IsBehind, IsUnread, IsTakenAmong, IsEnded};
-ghost use Rattle.rls_audit.specs.Reading.{TextsParse};
-ghost use Rattle.rls_check.specs.Keeping.{IsMade, Takes};
+ghost use Rattle.rls_check.specs.Keeping.{IsMade};
+ghost use Rattle.rls_check.specs.Wholes.{AreNoAudit, BeginNoAudit, HasRead, IsAuditOf, Takes};
 
 use crate::form::Form;
-use crate::keeping::kept;
-use rls_audit::{Audited, Line};
-use rls_catalog::{Grant, Membership, RoleDef};
-use rls_core::Begin;
-use rls_expr::{Policy, TableDef};
-use rls_guard::{Decision, Reply};
-use rls_statement::Statement;
-use rls_value::{Items, Name, Refusal, Row, RowId};
+use crate::stored::Stored;
+use rls_audit::Line;
+use rls_value::{Items, Refusal};
 use std::alloc::Global;
-
-/// An object that was changed, and what it has then.
-#[derive(Drop)]
-pub enum Put {
-    Role(Name, RoleDef),
-    /// The memberships that the role has.
-    Members(Name, Items<Membership>),
-    Table(Name, TableDef),
-    Grants(Name, Items<Grant>),
-    Policies(Name, Items<Policy>),
-    /// The values of the row, or none where it is gone.
-    Row(Name, RowId, Option<Row>),
-}
-
-/// A statement, what it was answered, and what row security said of each row.
-#[derive(Drop)]
-pub struct Answer {
-    pub statement: Statement,
-    pub reply: Result<Reply, Audited>,
-    pub decisions: Items<Decision>,
-}
-
-/// What an audit shows of a committed transaction; the number of its commit is told by its place.
-#[derive(Drop)]
-pub struct Transaction {
-    pub txn: u64,
-    pub begin: Begin,
-    /// How many had committed when it began.
-    pub snap: u64,
-    pub answers: Items<Answer>,
-    pub puts: Items<Put>,
-}
 
 /// An audit: its transactions in the order of their commits, and numbers of transactions as their serial order.
 #[derive(Drop)]
 pub struct Audit {
-    pub(crate) transactions: Items<Transaction>,
+    pub(crate) transactions: Items<Stored>,
     pub(crate) order: Items<u64>,
 }
 
@@ -68,14 +33,16 @@ impl Audit {
 #[derive(Drop)]
 pub struct Reader {
     form: Form,
-    transactions: Items<Transaction>,
+    transactions: Items<Stored>,
     order: Items<u64>,
 }
 
 impl Reader {
+    #[tactic(auto, using(crate::proofs::WholeLemmas::nothing_read))]
     pub fn new(alloc: Global) -> Reader
         ensures unread { IsUnread result.form }
         ensures empty { result.transactions ≡ [] }
+        ensures whole { HasRead [] result }
     {
         Reader {
             form: Form::new(alloc),
@@ -84,36 +51,57 @@ impl Reader {
         }
     }
 
-    /// Reads the next line, without its end: keeps what it means, where it may stand there; else its number is that of the bad
-    /// line.
-    #[tactic(auto, using(crate::proofs::FormLemmas::texts_parse, crate::proofs::FormLemmas::taken_more))]
-    pub fn line(&mut self, alloc: Global, text: &[u8]) -> Result<(), Refusal>
-        ensures { IsTakenAmong (self.old.form.lines + 1) (IsNext self.old.form text.now) (λ it second _. IsBehind self.old.form it second self.new.form × Takes it self.old self.new) result }
+    /// Reads the next line, without its end, and keeps what it means. `BadAudit` of its number exactly where no audit begins with
+    /// the lines so far and this one; nothing is left to go on with then.
+    pub fn line(self, alloc: Global, text: &[u8]) -> Result<Reader, Refusal>
+        ensures taken { IsTakenAmong (self.form.lines + 1) (IsNext self.form text.now) (λ it second after. IsBehind self.form it second after.form × Takes it self after) result }
+        ensures whole { (texts : List (List ℕ)) → HasRead texts self → IfOk result (HasRead (texts ++ text.now ∷ [])) }
+        ensures refused { (texts : List (List ℕ)) → HasRead texts self → IfErr result (λ refusal. (refusal ≡ r.NoMemory) ⊎ ((refusal ≡ r.BadAudit (length texts + 1)) × BeginNoAudit (texts ++ text.now ∷ []))) }
     {
-        let line = self.form.next(alloc, text)?;
-        self.take(alloc, line)
+        let mut reader = self;
+        match reader.take(alloc, text) {
+            Ok(()) => Ok(reader),
+            Err(refusal) => {
+                drop(reader);
+                Err(refusal)
+            }
+        }
     }
 
-    /// Keeps the line.
-    fn take(&mut self, alloc: Global, line: Line) -> Result<(), Refusal>
-        requires { TextsParse line }
+    /// The same in place.
+    #[tactic(auto, using(crate::proofs::FormLemmas::taken_more))]
+    fn take(&mut self, alloc: Global, text: &[u8]) -> Result<(), Refusal>
+        ensures { IsTakenAmong (self.old.form.lines + 1) (IsNext self.old.form text.now) (λ it second _. IsBehind self.old.form it second self.new.form × Takes it self.old self.new) result }
+    {
+        let (line, second) = self.form.next(alloc, text)?;
+        self.keep(alloc, text, second, line)
+    }
+
+    /// Keeps the line, which is this text.
+    fn keep(&mut self, alloc: Global, text: &[u8], second: bool, line: Line) -> Result<(), Refusal>
+        requires utf8 { IsUtf8 text.now }
+        requires means { MeansLine second text.now line }
         ensures kept { IsMade (λ _. Takes line self.old self.new) result }
         ensures form { self.new.form ≡ self.old.form }
     {
         match line {
             Line::Head => {}
             Line::Txn(shown) => {
-                let transaction = kept(alloc, shown)?;
-                self.transactions.push(transaction)?;
+                let stored = Stored::new(alloc, second, text, &shown);
+                drop(shown);
+                self.transactions.push(stored?)?;
             }
             Line::End(_, order) => self.order = order,
         }
         Ok(())
     }
 
-    /// The audit, once its last line is read.
+    /// The audit, once its last line is read; else the line behind the last one is missing.
+    #[tactic(auto, using(crate::proofs::WholeLemmas::whole_read, crate::proofs::WholeLemmas::refused_end))]
     pub fn finish(self) -> Result<Audit, Refusal>
-        ensures { IsEnded self.form (λ audit. (audit.transactions ≡ self.transactions) × (audit.order ≡ self.order)) result }
+        ensures ended { IsEnded self.form (λ audit. (audit.transactions ≡ self.transactions) × (audit.order ≡ self.order)) result }
+        ensures whole { (texts : List (List ℕ)) → HasRead texts self → IfOk result (IsAuditOf texts) }
+        ensures refused { (texts : List (List ℕ)) → HasRead texts self → IfErr result (λ refusal. (refusal ≡ r.NoMemory) ⊎ ((refusal ≡ r.BadAudit (length texts + 1)) × AreNoAudit texts)) }
     {
         let Reader {
             form,

@@ -8,11 +8,12 @@ ghost use Rattle.rls_check.specs.Checking.{EndsAs, IsFirst, IsFoundAlong, no_cha
 ghost use Rattle.rls_check.specs.declared.finding.Finding.TheVariants.{Holds};
 
 use crate::agreeing::agree;
-use crate::audit::{Audit, Transaction};
+use crate::audit::Audit;
 use crate::committed::committed;
 use crate::finding::Finding;
 use crate::ordering::places_of;
 use crate::running::{RanAlong, run_along};
+use crate::stored::Stored;
 use rls_catalog::Delta;
 use rls_source::uncovered_stays;
 use std::alloc::{AllocError, Global};
@@ -32,11 +33,7 @@ impl Audit {
 
 /// What is found first.
 #[tactic(auto, using(crate::proofs::FirstLemmas::first_along, crate::proofs::FirstLemmas::first_none))]
-fn first_found(
-    alloc: Global,
-    transactions: &[Transaction],
-    order: &[u64],
-) -> Result<Finding, AllocError>
+fn first_found(alloc: Global, transactions: &[Stored], order: &[u64]) -> Result<Finding, AllocError>
     ensures { IfOk result (IsFirst transactions.now order.now) }
 {
     match places_of(alloc, transactions, order)? {
@@ -48,7 +45,7 @@ fn first_found(
 /// What is found along the order.
 fn check_along(
     alloc: Global,
-    transactions: &[Transaction],
+    transactions: &[Stored],
     places: &[usize],
 ) -> Result<Finding, AllocError>
     requires { All (λ place. place < length transactions.now) places.now }

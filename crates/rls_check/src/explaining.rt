@@ -9,8 +9,10 @@ ghost use Rattle.rls_check.specs.Checking.{ctx_of, state_behind};
 ghost use Rattle.rls_check.specs.Explaining.{Explains, ExplainsBehind, IsExplained, SaysOf, ctx_alone, met};
 
 use crate::alone::Alone;
-use crate::audit::{Answer, Audit, Transaction};
+use crate::audit::Audit;
 use crate::ordering::{places_of, transaction_at};
+use crate::stored::Stored;
+use crate::transaction::{Answer, Transaction};
 use rls_explain::{Explanation, explain_row};
 use rls_meaning::statement_means;
 use rls_rows::State;
@@ -63,7 +65,7 @@ impl Audit {
 #[tactic(auto, using(crate::proofs::ExplainedLemmas::met_here))]
 fn explain_along(
     alloc: Global,
-    transactions: &[Transaction],
+    transactions: &[Stored],
     places: &[usize],
     txn: u64,
     number: u64,
@@ -74,11 +76,12 @@ fn explain_along(
 {
     let mut state = State::opening(alloc)?;
     for place in places {
-        let transaction = transaction_at(transactions, *place);
-        if transaction.txn == txn {
-            return explain_in(alloc, &state, transaction, number, row);
+        let stored = transaction_at(transactions, *place);
+        let transaction = stored.read(alloc)?;
+        if stored.txn() == txn {
+            return explain_in(alloc, &state, &transaction, number, row);
         }
-        state = state_behind(alloc, &state, transaction)?;
+        state = state_behind(alloc, &state, &transaction)?;
     }
     Ok(None)
 }

@@ -42,14 +42,14 @@ impl Form {
         }
     }
 
-    /// The line that the bytes are, where it may stand next.
+    /// The line that the bytes are, where it may stand next, and its format.
     #[tactic(auto, using(crate::proofs::FormLemmas::taken))]
-    pub(crate) fn next(&mut self, alloc: Global, bytes: &[u8]) -> Result<Line, Refusal>
-        ensures { IsTakenAmong (self.old.lines + 1) (IsNext self.old bytes.now) (λ it second given. (given ≡ it) × IsBehind self.old it second self.new) result }
+    pub(crate) fn next(&mut self, alloc: Global, bytes: &[u8]) -> Result<(Line, bool), Refusal>
+        ensures { IsTakenAmong (self.old.lines + 1) (IsNext self.old bytes.now) (λ it second given. (given ≡ (it, second)) × IsBehind self.old it second self.new) result }
     {
         let (line, second) = self.found(alloc, bytes)?;
         match self.go_on(&line, second) {
-            Ok(()) => Ok(line),
+            Ok(()) => Ok((line, second)),
             Err(_) => {
                 drop(line);
                 Err(Refusal::NoMemory)
@@ -220,7 +220,8 @@ fn is_head(line: &Line) -> bool
     }
 }
 
-fn read_as(alloc: Global, second: bool, number: u64, text: &str) -> Result<Line, Refusal>
+/// The line that the text is in the format.
+pub(crate) fn read_as(alloc: Global, second: bool, number: u64, text: &str) -> Result<Line, Refusal>
     ensures { IsLineRead number result (MeansLine second text.now) }
 {
     if second {

@@ -7,9 +7,9 @@ ghost use Rattle.rls_text.specs.{Answers.IsSpelled, Words.words_of};
 ghost use Rattle.rls_audit.specs.Reading.{HasStatement, HasPolicies, IsStatementText, IsPolicyText};
 ghost use Rattle.rls_audit.specs.Shows.{SpellsPolicy};
 ghost use Rattle.rls_check.specs.Keeping as spec;
-ghost use Rattle.rls_check.specs.Keeping.{IsMade, Keeps, KeepsAnswer, KeepsPut, KeepsTable};
+ghost use Rattle.rls_check.specs.Keeping.{IsMade, Keeps, KeepsAnswer, KeepsPut, table_of};
 
-use crate::audit::{Answer, Put, Transaction};
+use crate::transaction::{Answer, Put, Transaction};
 use rls_audit::{Answered, Changed, Shown, TableShape};
 use rls_core::Begin;
 use rls_expr::{Column, Policy, TableDef};
@@ -98,7 +98,6 @@ fn puts_of(alloc: Global, changes: Vec<Changed>) -> Result<Items<Put>, Refusal>
     Ok(puts)
 }
 
-#[tactic(auto, using(crate::proofs::KeepingLemmas::kept_table))]
 fn put_of(alloc: Global, changed: Changed) -> Result<Put, Refusal>
     requires { HasPolicies changed }
     ensures { IsMade (KeepsPut changed) result }
@@ -116,9 +115,8 @@ fn put_of(alloc: Global, changed: Changed) -> Result<Put, Refusal>
     }
 }
 
-#[tactic(auto, using(crate::proofs::KeepingLemmas::key_named, crate::proofs::KeepingLemmas::key_there))]
 fn def_of(alloc: Global, shape: TableShape) -> Result<TableDef, AllocError>
-    ensures { IfOk result (KeepsTable shape) }
+    ensures { IfOk result (λ def. def ≡ table_of shape) }
 {
     let TableShape {
         owner,

@@ -15,10 +15,13 @@ mod laws;
 mod matching;
 mod ordering;
 mod running;
+mod stored;
 mod texts;
+mod transaction;
 
-pub use audit::{Answer, Audit, Put, Reader, Transaction};
+pub use audit::{Audit, Reader};
 pub use converting::Converter;
 pub use explaining::Why;
 pub use finding::Finding;
-pub use laws::lines_are_shown;
+pub use laws::{conversions_are_same, lines_are_shown};
+pub use transaction::{Answer, Put, Transaction};

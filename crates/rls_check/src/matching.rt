@@ -6,7 +6,7 @@ ghost use Rattle.rls_audit.specs.Lines.{reply_of, written_by};
 ghost use Rattle.rls_check.specs.Audited.{written_of};
 ghost use Rattle.rls_check.specs.Checking.{ArePuts, IsAnswer};
 
-use crate::audit::{Answer, Put};
+use crate::transaction::{Answer, Put};
 use rls_access::{Decision, Effect};
 use rls_catalog::{Change, Keyed};
 use rls_equality::{Same, are_same};

@@ -6,7 +6,7 @@ ghost use Rattle.rls_check.specs.Audited.{transaction_at};
 ghost use Rattle.rls_check.specs.Checking.{IsNoOrder, IsPlaced, numbers_of};
 ghost use Rattle.rls_check.specs.Placing.{AreApart, HasToWait, IsIndex, IsPlacing};
 
-use crate::audit::Transaction;
+use crate::stored::Stored;
 use std::alloc::{AllocError, Global};
 use std::collections::BTreeMap;
 
@@ -26,7 +26,7 @@ struct Placing {
 #[tactic(auto, using(crate::proofs::PlacingLemmas::doubled_no_order))]
 pub(crate) fn places_of(
     alloc: Global,
-    transactions: &[Transaction],
+    transactions: &[Stored],
     order: &[u64],
 ) -> Result<Option<Vec<usize>>, AllocError>
     ensures placed { IfOk result (λ found. IfSome found (λ places. IsPlaced transactions.now order.now places.items)) }
@@ -41,7 +41,7 @@ pub(crate) fn places_of(
 /// The same, with the places of the numbers.
 fn places_by(
     alloc: Global,
-    transactions: &[Transaction],
+    transactions: &[Stored],
     index: &BTreeMap<u64, usize>,
     order: &[u64],
 ) -> Result<Option<Vec<usize>>, AllocError>
@@ -65,17 +65,18 @@ fn places_by(
 #[tactic(auto, using(crate::proofs::PlacingLemmas::one_more))]
 fn index_of(
     alloc: Global,
-    transactions: &[Transaction],
+    transactions: &[Stored],
 ) -> Result<Option<BTreeMap<u64, usize>>, AllocError>
     ensures index { IfOk result (λ found. IfSome found (IsIndex transactions.now (length transactions.now))) }
     ensures none { IfOk result (λ found. IfNone found (¬ AreApart transactions.now)) }
 {
     let mut index = BTreeMap::new(alloc);
     for (place, transaction) in transactions.iter().enumerate() {
-        if index.contains_key(&transaction.txn) {
+        let txn = transaction.txn();
+        if index.contains_key(&txn) {
             return Ok(None);
         }
-        index.insert(transaction.txn, place)?;
+        index.insert(txn, place)?;
     }
     Ok(Some(index))
 }
@@ -83,7 +84,7 @@ fn index_of(
 /// Places the transaction of that number, if it may stand next.
 #[tactic(auto, using(crate::proofs::PlacingLemmas::numbers_push))]
 fn place_next(
-    transactions: &[Transaction],
+    transactions: &[Stored],
     index: &BTreeMap<u64, usize>,
     placing: &mut Placing,
     number: u64,
@@ -105,7 +106,7 @@ fn place_next(
 
 /// The place of the transaction of that number, if it may stand next.
 fn next_place(
-    transactions: &[Transaction],
+    transactions: &[Stored],
     index: &BTreeMap<u64, usize>,
     placing: &Placing,
     number: u64,
@@ -119,7 +120,7 @@ fn next_place(
     ensures none { IfNone result (HasToWait transactions.now placing.now.placed.items placing.now.left number) }
 {
     let place = *index.get(&number)?;
-    if placing.placed[place] || transaction_at(transactions, place).snap > placing.left as u64 {
+    if placing.placed[place] || transaction_at(transactions, place).snap() > placing.left as u64 {
         return None;
     }
     Some(place)
@@ -127,7 +128,7 @@ fn next_place(
 
 /// The transaction at the place.
 #[tactic(auto, using(std::proofs::lemmas::List::get_or_read))]
-pub(crate) fn transaction_at(transactions: &[Transaction], place: usize) -> &Transaction
+pub(crate) fn transaction_at(transactions: &[Stored], place: usize) -> &Stored
     requires { place < length transactions.now }
     ensures { result.now ≡ transaction_at transactions.now place }
 {
@@ -156,7 +157,7 @@ impl Placing {
 
     /// Places the transaction.
     #[tactic(auto, using(crate::proofs::PlacingLemmas::goes_on))]
-    fn place(&mut self, transactions: &[Transaction], place: usize) -> Result<(), AllocError>
+    fn place(&mut self, transactions: &[Stored], place: usize) -> Result<(), AllocError>
         requires placing { IsPlacing transactions.now self.old.placed.items self.old.left self.old.places.items }
         requires within { place < length transactions.now }
         requires is_left { get_or self.old.placed.items place false ≡ false }

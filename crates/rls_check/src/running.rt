@@ -9,10 +9,11 @@ ghost use Rattle.rls_check.specs.Audited.{asked_of};
 ghost use Rattle.rls_check.specs.Checking.{FirstOther, IsRunAlone, RunsAlong};
 
 use crate::alone::Alone;
-use crate::audit::{Answer, Transaction};
 use crate::finding::Finding;
 use crate::matching::{are_puts, is_answer};
 use crate::ordering::transaction_at;
+use crate::stored::Stored;
+use crate::transaction::{Answer, Transaction};
 use rls_catalog::Delta;
 use rls_rows::State;
 use std::alloc::{AllocError, Global};
@@ -35,7 +36,7 @@ pub(crate) enum RanAlong {
 #[tactic(auto, using(crate::proofs::RunningLemmas::ran_all))]
 pub(crate) fn run_along(
     alloc: Global,
-    transactions: &[Transaction],
+    transactions: &[Stored],
     places: &[usize],
     deltas: &mut [Delta],
 ) -> Result<RanAlong, AllocError>
@@ -45,7 +46,8 @@ pub(crate) fn run_along(
 {
     let mut state = State::opening(alloc)?;
     for place in places {
-        match run_alone(alloc, &state, transaction_at(transactions, *place))? {
+        let transaction = transaction_at(transactions, *place).read(alloc)?;
+        match run_alone(alloc, &state, &transaction)? {
             RanAlone::Agrees(after, changes) => {
                 state = after;
                 deltas[*place] = changes;

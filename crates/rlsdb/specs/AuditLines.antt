@@ -1,20 +1,47 @@
 -- What is read of an audit file, and what is written: lines.
 use Rattle.std.specs.Prelude.{◌≡◌, ◌⊎◌, ◌≢◌, ◌++◌, ◌∷◌, [], ℕ, List, Bool, true, false, Some}
-use Rattle.std.specs.List.{All}
+use Rattle.std.specs.List.{All, flat_map}
 use Rattle.rls_audit.specs.declared.lines.Line.{Line}
+use Rattle.rlsdb.specs.declared.audit_file.NextLine.{NextLine}
+use Rattle.rlsdb.specs.declared.audit_file.NextLine.TheVariants as came
 use Rattle.rls_audit.specs.Lines as shown
 use Rattle.rls_audit.specs.Reading.{line_found}
 use Rattle.rls_audit.specs.Shows.{ShowsLine}
+use Rattle.rls_check.specs.declared.converting.Converter.{Converter}
+use Rattle.rls_check.specs.Wholes.{HasConverted}
 
--- what was read grew by the line and its LF, or by a last line that has none
-pub record ReadsLine (before after : List ℕ) (ended : Bool) (line : List ℕ) : Type 0 where
-  pub whole : All (λ byte. byte ≢ 10) line
-  pub read : (after ≡ before ++ (line ++ (10 ∷ []))) ⊎ ((after ≡ before ++ line) × (ended ≡ true))
+-- lines, each with its LF behind it
+abbrev pub ended_lines : List (List ℕ) → List ℕ
+ended_lines lines = flat_map (λ line. line ++ (10 ∷ [])) lines
 
--- there is a next line, and it is read; or the end was reached
-abbrev pub ReadsNext : Bool → List ℕ → List ℕ → Bool → List ℕ → Type 0
-ReadsNext true before after ended line = ReadsLine before after ended line
-ReadsNext false before after ended line = (after ≡ before) × (ended ≡ true)
+-- no byte of the line is an LF
+abbrev pub IsLine : List ℕ → Type 0
+IsLine line = All (λ byte. byte ≢ 10) line
+
+-- what was read grew by a line and its LF, or by a last line that has none; or the end was reached
+abbrev pub ReadsNext : NextLine → List ℕ → List ℕ → Bool → List ℕ → Type 0
+ReadsNext came.Whole before after ended line = (after ≡ before ++ (line ++ (10 ∷ []))) × IsLine line
+ReadsNext came.Last before after ended line = (after ≡ before ++ line) × IsLine line × (line ≢ []) × (ended ≡ true)
+ReadsNext came.End before after ended line = (after ≡ before) × (ended ≡ true)
+
+-- the bytes are these lines: each has an LF behind it, but a last one that isn't empty may lack it
+pub record AreLinesOf (bytes : List ℕ) (lines : List (List ℕ)) : Type 0 where
+  pub whole : All IsLine lines
+  pub parted : (bytes ≡ ended_lines lines) ⊎ ((front : List (List ℕ)) × (last : List ℕ) × (lines ≡ front ++ (last ∷ [])) × (last ≢ []) × (bytes ≡ ended_lines front ++ last))
+
+-- what was read grew by these lines, of which this holds
+pub record Reads (before after : List ℕ) (Holds : List (List ℕ) → Type 0) : Type 0 where
+  pub bytes : List ℕ
+  pub lines : List (List ℕ)
+  pub grew : after ≡ before ++ bytes
+  pub are : AreLinesOf bytes lines
+  pub holds : Holds lines
+
+-- one line more was converted, behind these: what was written grew by a text and its LF
+pub record Converted (texts written : List (List ℕ)) (line before after : List ℕ) (behind : Converter) : Type 0 where
+  pub text : List ℕ
+  pub grew : after ≡ before ++ (text ++ (10 ∷ []))
+  pub converted : HasConverted (texts ++ (line ∷ [])) (written ++ (text ∷ [])) behind
 
 -- what was written grew by a text that is read back as the line, in the second format, and its LF
 pub record WritesLine (line : Line) (before after : List ℕ) : Type 0 where

@@ -11,6 +11,17 @@ use std::alloc::Global;
 /// The most bytes that an audit file has.
 pub const MAX_AUDIT: u64 = 4_294_967_296;
 
+/// What a read of a line came to.
+#[derive(Clone, Copy, PartialEq, Eq)]
+pub enum NextLine {
+    /// A line with its LF.
+    Whole,
+    /// A last line, which has none.
+    Last,
+    /// There is no line any more.
+    End,
+}
+
 /// An audit file that is read.
 #[derive(Drop)]
 pub struct AuditIn<I: ScriptIn + Drop> {
@@ -30,17 +41,18 @@ impl<I: ScriptIn + Drop> AuditIn<I> {
         }
     }
 
-    /// Reads the next line, without its LF, which the last one may lack; false at the end.
-    pub fn next_line(&mut self, line: &mut Vec<u8>) -> Result<bool, RunFault>
-        ensures line { IfOk result (λ more. ReadsNext more (I.given self.old.input) (I.given self.new.input) (I.ended self.new.input) line.new.items) }
+    /// Reads the next line, without its LF, which the last one may lack.
+    pub fn next_line(&mut self, line: &mut Vec<u8>) -> Result<NextLine, RunFault>
+        ensures line { IfOk result (λ came. ReadsNext came (I.given self.old.input) (I.given self.new.input) (I.ended self.new.input) line.new.items) }
         ensures err { IfErr result (λ fault. (fault ≡ RunFault.Read) ⊎ (fault ≡ RunFault.NoMemory)) }
     {
         line.clear();
         for _ in 0..=MAX_AUDIT {
             match self.next_byte()? {
-                Some(b'\n') => return Ok(true),
+                Some(b'\n') => return Ok(NextLine::Whole),
                 Some(byte) => line.push(byte)?,
-                None => return Ok(!line.is_empty()),
+                None if line.is_empty() => return Ok(NextLine::End),
+                None => return Ok(NextLine::Last),
             }
         }
         Err(RunFault::Read)

@@ -1,9 +1,11 @@
 //! The commands about audits.
 
-ghost use Rattle.std.specs.Prelude.{◌≡◌, true, OnOk};
+ghost use Rattle.std.specs.Prelude.{◌≡◌, ◌++◌, ℕ, true, List, IfOk, OnOk};
+ghost use Rattle.rls_check.specs.Wholes.{AreConverted, HasConverted, HasRead, IsAuditOf};
+ghost use Rattle.rlsdb.specs.AuditLines.{Converted, Reads, ended_lines};
 ghost use Rattle.rlsdb.specs.Faults.{IsToldOf};
 
-use crate::audit_file::{AuditIn, MAX_AUDIT, write_text_line};
+use crate::audit_file::{AuditIn, MAX_AUDIT, NextLine, write_text_line};
 use crate::device::{DeviceIn, DeviceOut, Nowhere};
 use crate::fault::Fault;
 use crate::same_file::is_same_file;
@@ -63,17 +65,20 @@ pub fn migrate<'a>(rt: &HostRuntime, from: &'a str, to: &'a str) -> Result<(), F
     if !metadata.is_file() {
         return Err(Fault::Ended(RunFault::Read));
     }
-    convert(rt.alloc(), audit_in(rt, from)?, &mut Nowhere::new())?;
-    let again = audit_in(rt, from)?;
+    let mut first = audit_in(rt, from)?;
+    convert(rt.alloc(), &mut first, &mut Nowhere::new())?;
+    drop(first);
+    let mut again = audit_in(rt, from)?;
     let file = File::create(rt, to).map_err(|error| Fault::of_create(to, error))?;
     let mut output = DeviceOut::new(rt.alloc(), file)?;
-    convert(rt.alloc(), again, &mut output)?;
+    convert(rt.alloc(), &mut again, &mut output)?;
     Ok(output.finish()?)
 }
 
 /// The audit in the file of that name.
 fn audit_of<'a>(rt: &HostRuntime, name: &'a str) -> Result<Audit, Fault<'a>> {
-    read_audit(rt.alloc(), audit_in(rt, name)?)
+    let mut input = audit_in(rt, name)?;
+    read_audit(rt.alloc(), &mut input)
 }
 
 // A file that is too long is not read for it: its first line may be as long.
@@ -92,31 +97,32 @@ fn audit_in<'a>(rt: &HostRuntime, name: &'a str) -> Result<AuditIn<DeviceIn<File
 /// The audit that is read. Where a line is bad the rest is read too: that it can't be read would come first.
 fn read_audit<'a, I: ScriptIn + Drop>(
     alloc: Global,
-    mut input: AuditIn<I>,
-) -> Result<Audit, Fault<'a>> {
-    let mut reader = Reader::new(alloc);
-    match read_lines(alloc, &mut input, &mut reader) {
-        Ok(()) => Ok(reader.finish()?),
-        Err(fault) => {
-            drop(reader);
-            Err(first_of(&mut input, fault))
-        }
+    input: &mut AuditIn<I>,
+) -> Result<Audit, Fault<'a>>
+    ensures { IfOk result (λ audit. Reads (I.given input.old.input) (I.given input.new.input) (λ texts. IsAuditOf texts audit)) }
+{
+    match read_lines(alloc, input) {
+        Ok(reader) => Ok(reader.finish()?),
+        Err(fault) => Err(first_of(input, fault)),
     }
 }
 
+/// Reads the lines to the end.
 fn read_lines<'a, I: ScriptIn + Drop>(
     alloc: Global,
     input: &mut AuditIn<I>,
-    reader: &mut Reader,
-) -> Result<(), Fault<'a>>
-    ensures { OnOk result (I.ended input.new.input ≡ true) }
+) -> Result<Reader, Fault<'a>>
+    ensures lines { IfOk result (λ reader. Reads (I.given input.old.input) (I.given input.new.input) (λ texts. HasRead texts reader)) }
+    ensures ended { OnOk result (I.ended input.new.input ≡ true) }
 {
+    let mut reader = Reader::new(alloc);
     let mut line = Vec::new(alloc);
     for _ in 0..=MAX_AUDIT {
-        if !input.next_line(&mut line)? {
-            return Ok(());
+        match input.next_line(&mut line)? {
+            NextLine::Whole => reader = reader.line(alloc, line.as_slice())?,
+            NextLine::Last => return Ok(reader.line(alloc, line.as_slice())?),
+            NextLine::End => return Ok(reader),
         }
-        reader.line(alloc, line.as_slice())?;
     }
     Err(Fault::Ended(RunFault::Read))
 }
@@ -124,36 +130,54 @@ fn read_lines<'a, I: ScriptIn + Drop>(
 /// Writes the audit that is read in the second format.
 fn convert<'a, I: ScriptIn + Drop, O: ScriptOut>(
     alloc: Global,
-    mut input: AuditIn<I>,
+    input: &mut AuditIn<I>,
     output: &mut O,
-) -> Result<(), Fault<'a>> {
-    let mut converter = Converter::new(alloc);
-    match convert_lines(alloc, &mut input, &mut converter, output) {
-        Ok(()) => Ok(converter.finish()?),
-        Err(fault) => {
-            drop(converter);
-            Err(first_of(&mut input, fault))
-        }
+) -> Result<(), Fault<'a>>
+    ensures { OnOk result (Reads (I.given input.old.input) (I.given input.new.input) (λ texts. (written : List (List ℕ)) × (O.taken output.new ≡ O.taken output.old ++ ended_lines written) × AreConverted texts written)) }
+{
+    match convert_lines(alloc, input, output) {
+        Ok(converter) => Ok(converter.finish()?),
+        Err(fault) => Err(first_of(input, fault)),
     }
 }
 
+/// Writes the lines that are read, to the end.
 fn convert_lines<'a, I: ScriptIn + Drop, O: ScriptOut>(
     alloc: Global,
     input: &mut AuditIn<I>,
-    converter: &mut Converter,
     output: &mut O,
-) -> Result<(), Fault<'a>>
-    ensures { OnOk result (I.ended input.new.input ≡ true) }
+) -> Result<Converter, Fault<'a>>
+    ensures lines { IfOk result (λ converter. Reads (I.given input.old.input) (I.given input.new.input) (λ texts. (written : List (List ℕ)) × (O.taken output.new ≡ O.taken output.old ++ ended_lines written) × HasConverted texts written converter)) }
+    ensures ended { OnOk result (I.ended input.new.input ≡ true) }
 {
+    let mut converter = Converter::new(alloc);
     let mut line = Vec::new(alloc);
     for _ in 0..=MAX_AUDIT {
-        if !input.next_line(&mut line)? {
-            return Ok(());
+        match input.next_line(&mut line)? {
+            NextLine::Whole => {
+                converter = convert_line(alloc, converter, line.as_slice(), output)?;
+            }
+            NextLine::Last => {
+                return Ok(convert_line(alloc, converter, line.as_slice(), output)?);
+            }
+            NextLine::End => return Ok(converter),
         }
-        let text = converter.line(alloc, line.as_slice())?;
-        write_text_line(text.as_str(), output)?;
     }
     Err(Fault::Ended(RunFault::Read))
+}
+
+/// Writes one line that is read.
+fn convert_line<'a, O: ScriptOut>(
+    alloc: Global,
+    converter: Converter,
+    line: &[u8],
+    output: &mut O,
+) -> Result<Converter, Fault<'a>>
+    ensures { (texts written : List (List ℕ)) → HasConverted texts written converter → IfOk result (λ behind. Converted texts written line.now (O.taken output.old) (O.taken output.new) behind) }
+{
+    let (behind, text) = converter.line(alloc, line)?;
+    write_text_line(text.as_str(), output)?;
+    Ok(behind)
 }
 
 /// The fault, or that the rest can't be read where a line is bad.

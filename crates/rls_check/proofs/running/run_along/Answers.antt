@@ -12,7 +12,7 @@ returns-in-Differs c =
     let ts = c.args.transactions.now in
     let place = get_or c.args.places.now c.loop-place.place-index 0 in
     let one : IsRunAlone c.loop-place.state (transaction_at ts place) (alone.Differs c.in-Differs.finding) =
-    subst (IsRunAlone c.loop-place.state (transaction_at ts place)) c.in-Differs.is (subst (λ t. IsRunAlone c.loop-place.state t c.in_ok-after.field-0) c.transaction_at.ensures c.in_ok-after.ensures) in
+    subst (IsRunAlone c.loop-place.state (transaction_at ts place)) c.in-Differs.is (subst (λ t. IsRunAlone c.loop-place.state t c.in_ok-after.field-0) (c.in_ok-transaction.ensures ∙ c.transaction_at.ensures) c.in_ok-after.ensures) in
     c.loop-place.invariant.run _ _ (next_differs ts c.loop-place.state c.loop-place.deltas c.loop-place.deltas c.args.places.now c.loop-place.place-index c.in-Differs.finding c.loop-place-test.true one)
 
 pub loop-place-preserved : goal.loop-place-preserved
@@ -20,7 +20,7 @@ loop-place-preserved c =
     let ts = c.args.transactions.now in
     let place = get_or c.args.places.now c.loop-place.place-index 0 in
     let one : IsRunAlone c.loop-place.state (transaction_at ts place) (alone.Agrees c.in-Agrees.after c.in-Agrees.changes) =
-    subst (IsRunAlone c.loop-place.state (transaction_at ts place)) c.in-Agrees.is (subst (λ t. IsRunAlone c.loop-place.state t c.in_ok-after.field-0) c.transaction_at.ensures c.in_ok-after.ensures) in
+    subst (IsRunAlone c.loop-place.state (transaction_at ts place)) c.in-Agrees.is (subst (λ t. IsRunAlone c.loop-place.state t c.in_ok-after.field-0) (c.in_ok-transaction.ensures ∙ c.transaction_at.ensures) c.in_ok-after.ensures) in
     record {
       room = length-set c.loop-place.deltas place c.in-Agrees.changes ∙ c.loop-place.invariant.room;
       run = λ ran left h.

@@ -1,0 +1,9 @@
+use Rattle.std.specs.Prelude.{Ok, Err}
+use Rattle.rls_check.proofs.WholeLemmas.{read_more, refused_more}
+use Rattle.rls_check.proofs.audit.Reader.line.Goals as goal
+
+pub returns-in-Ok-clause-whole : goal.returns-in-Ok-clause-whole
+returns-in-Ok-clause-whole c = read_more c.args.self c.args.text.now (Ok c.take.new.self) c.in-Ok.ensures
+
+pub returns-in-Err-clause-refused : goal.returns-in-Err-clause-refused
+returns-in-Err-clause-refused c = refused_more c.args.self c.args.text.now (Err c.in-Err.refusal) c.in-Err.ensures
