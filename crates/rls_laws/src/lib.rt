@@ -1,11 +1,13 @@
 //! Laws over statements as a whole, each a clause of a function that does nothing.
 #![tactic(auto)]
 
+mod holding;
 mod order;
 mod refusing;
 mod spelled;
 mod spelling;
 
+pub use holding::texts_show_what_holds;
 pub use order::lists_stay_in_order;
 pub use refusing::effects_are_shown;
 pub use spelled::records_are_texts;
