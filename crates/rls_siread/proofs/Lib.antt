@@ -6,3 +6,4 @@ pub mod ForgetLaws
 pub mod CopyLaws
 pub mod PromotedLaws
 pub mod WideningLaws
+pub mod PlainLaws

@@ -1,6 +1,7 @@
 -- Promotion: where a transaction noted many keys of one table, or all of its rows, the table's rows stand for its keys.
 -- It widens what is noted, and bounds how much of it is kept (Ports and Grittner, VLDB 2012, 5.2, granularity of locks).
-use Rattle.std.specs.Prelude.{ℕ, List, ◌||◌, Bool, false, nat_lt, map, filter, length, if◌then◌else◌}
+use Rattle.std.specs.Prelude.{ℕ, List, ◌||◌, ◌&&◌, Bool, true, false, not, nat_lt, nat_le, map, filter, length, if◌then◌else◌}
+use Rattle.std.specs.List.{list_any}
 use Rattle.std.specs.Str.{bytes_eq}
 use Rattle.rls_value.specs.declared.object.Object.{Object}
 use Rattle.rls_value.specs.declared.object.Object.TheVariants.{Rows, Key}
@@ -27,3 +28,12 @@ promoted limit objects = footprint_of (map (stands_for limit objects) objects)
 -- what is noted once more was read
 abbrev pub noted_with : ℕ → List Object → List Object → List Object
 noted_with limit objects reads = promoted limit (with_reads objects reads)
+
+-- the object is all rows of a table
+abbrev pub is_rows : Object → Bool
+is_rows (Rows table) = true
+is_rows _ = false
+
+-- there are so few objects that no table is crowded: no more than the limit, and none is all rows of a table
+abbrev pub is_plain : ℕ → List Object → Bool
+is_plain limit objects = nat_le (length objects) limit && not (list_any is_rows objects)

@@ -1,26 +1,99 @@
 //! Promotion of keys to the rows of their tables.
 
-ghost use Rattle.std.specs.Prelude.{◌≡◌, ◌&&◌, not, if◌then◌else◌, IfOk, IfSome, OnOk, length, filter};
+ghost use Rattle.std.specs.Prelude.{◌≡◌, ◌&&◌, true, not, if◌then◌else◌, IfOk, IfSome, OnOk, length, filter};
+ghost use Rattle.std.specs.List.{list_any};
 ghost use Rattle.rls_value.specs.declared.object.Object.{Object as Read};
-ghost use Rattle.rls_source.specs.Footprints.{with_object, with_reads, is_among};
-ghost use Rattle.rls_siread.specs.Promotion.{is_key_of, is_crowded, stands_for, promoted, noted_with};
+ghost use Rattle.rls_source.specs.Footprints.{with_object, with_reads, is_among, IsInOrder};
+ghost use Rattle.rls_siread.specs.Promotion.{is_key_of, is_rows, is_plain, is_crowded, stands_for, promoted, noted_with};
 
 use rls_source::Footprint;
 use rls_value::{Name, Object, Row};
 use std::alloc::{AllocError, Global};
 
-/// What is noted once more was read.
+/// What is noted once more was read; which of it is new; and which of what was noted before it isn't there any longer.
+#[derive(Drop)]
+pub(crate) struct More {
+    pub(crate) objects: Footprint,
+    pub(crate) fresh: Footprint,
+    pub(crate) dropped: Footprint,
+}
+
+/// What is noted once more was read. Where no table can be crowded then, nothing is promoted.
 pub(crate) fn noted_more(
     alloc: Global,
     noted: &Footprint,
     reads: &Footprint,
     limit: usize,
-) -> Result<Footprint, AllocError>
-    ensures { IfOk result (λ objects. objects ≡ noted_with limit noted.now reads.now) }
+) -> Result<More, AllocError>
+    ensures objects { IfOk result (λ more. more.objects ≡ noted_with limit noted.now reads.now) }
+    ensures fresh { IfOk result (λ more. (object : Read) → is_among more.fresh object ≡ (is_among more.objects object && not (is_among noted.now object))) }
+    ensures dropped { IfOk result (λ more. (object : Read) → is_among more.dropped object ≡ (is_among noted.now object && not (is_among more.objects object))) }
 {
-    let mut objects = noted.copy(alloc)?;
-    add_all(alloc, &mut objects, reads)?;
-    promote(alloc, &objects, limit)
+    let fresh = missing(alloc, reads, noted)?;
+    let objects = with_fresh(alloc, noted, &fresh)?;
+    if is_plain(&objects, limit) {
+        return Ok(More {
+            objects,
+            fresh,
+            dropped: Footprint::new(alloc),
+        });
+    }
+    promoted_more(alloc, noted, &objects, limit)
+}
+
+/// The objects with the fresh ones.
+fn with_fresh(alloc: Global, objects: &Footprint, fresh: &Footprint) -> Result<Footprint, AllocError>
+    ensures all { IfOk result (λ all. all ≡ with_reads objects.now fresh.now) }
+    ensures ordered { IsInOrder objects.now }
+{
+    let _in_order = objects.iter();
+    let mut all = objects.copy(alloc)?;
+    add_all(alloc, &mut all, fresh)?;
+    Ok(all)
+}
+
+/// The objects promoted, with what is new among them, and what was noted before and isn't there any longer.
+fn promoted_more(
+    alloc: Global,
+    noted: &Footprint,
+    objects: &Footprint,
+    limit: usize,
+) -> Result<More, AllocError>
+    ensures objects { IfOk result (λ more. more.objects ≡ promoted limit objects.now) }
+    ensures fresh { IfOk result (λ more. (object : Read) → is_among more.fresh object ≡ (is_among more.objects object && not (is_among noted.now object))) }
+    ensures dropped { IfOk result (λ more. (object : Read) → is_among more.dropped object ≡ (is_among noted.now object && not (is_among more.objects object))) }
+{
+    let objects = promote(alloc, objects, limit)?;
+    let fresh = missing(alloc, &objects, noted)?;
+    let dropped = missing(alloc, noted, &objects)?;
+    Ok(More {
+        objects,
+        fresh,
+        dropped,
+    })
+}
+
+/// Whether no table is crowded for sure: there are no more objects than the limit, and none is all rows of a table.
+fn is_plain(objects: &Footprint, limit: usize) -> bool
+    ensures { result ≡ true → is_plain limit objects.now ≡ true }
+{
+    objects.len() <= limit && !has_rows(objects)
+}
+
+/// Whether one of them is all rows of a table.
+fn has_rows(objects: &Footprint) -> bool
+    ensures { result ≡ list_any is_rows objects.now }
+{
+    objects.iter().any(|object| is_rows(object))
+}
+
+fn is_rows(object: &Object) -> bool
+    ensures { result ≡ is_rows object.now }
+{
+    match object {
+        Object::Rows(_) => true,
+        _ => false,
+    }
 }
 
 /// The objects that aren't among the others.

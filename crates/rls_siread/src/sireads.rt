@@ -10,7 +10,7 @@ ghost use Rattle.rls_siread.specs.Locks.{no_locks, held_by, noted_by, notes_at, 
 use crate::covering::covered_by_one;
 use crate::index::Index;
 use crate::notes::Noted;
-use crate::promotion::{missing, noted_more};
+use crate::promotion::{More, noted_more};
 use rls_catalog::Change;
 use rls_source::Footprint;
 use rls_value::Object;
@@ -210,25 +210,31 @@ fn renoted(
 {
     match notes.get(&txn) {
         Some(noted) => {
-            let objects = noted_more(alloc, noted.objects(), footprint, limit)?;
-            let fresh = missing(alloc, &objects, noted.objects())?;
-            let dropped = missing(alloc, noted.objects(), &objects)?;
-            Ok(Renewal {
-                noted: Noted::new(noted.commit(), objects),
-                fresh,
-                dropped,
-            })
+            let more = noted_more(alloc, noted.objects(), footprint, limit)?;
+            Ok(renewal_of(noted.commit(), more))
         }
         None => {
             let nothing = Footprint::new(alloc);
-            let objects = noted_more(alloc, &nothing, footprint, limit)?;
-            let fresh = missing(alloc, &objects, &nothing)?;
-            Ok(Renewal {
-                noted: Noted::new(None, objects),
-                fresh,
-                dropped: nothing,
-            })
+            let more = noted_more(alloc, &nothing, footprint, limit)?;
+            Ok(renewal_of(None, more))
         }
+    }
+}
+
+fn renewal_of(commit: Option<u64>, more: More) -> Renewal
+    ensures noted { result.noted ≡ record { commit = commit; objects = more.objects } }
+    ensures fresh { result.fresh ≡ more.fresh }
+    ensures dropped { result.dropped ≡ more.dropped }
+{
+    let More {
+        objects,
+        fresh,
+        dropped,
+    } = more;
+    Renewal {
+        noted: Noted::new(commit, objects),
+        fresh,
+        dropped,
     }
 }
 
