@@ -42,7 +42,11 @@ pub(crate) fn noted_more(
 }
 
 /// The objects with the fresh ones.
-fn with_fresh(alloc: Global, objects: &Footprint, fresh: &Footprint) -> Result<Footprint, AllocError>
+fn with_fresh(
+    alloc: Global,
+    objects: &Footprint,
+    fresh: &Footprint,
+) -> Result<Footprint, AllocError>
     ensures all { IfOk result (λ all. all ≡ with_reads objects.now fresh.now) }
     ensures ordered { IsInOrder objects.now }
 {
