@@ -1,4 +1,4 @@
--- Which policies apply to a role on a table, the whole rule (PostgreSQL manual, 5.9 and CREATE POLICY): none where row
+-- Which policies apply to a role on a table, the whole rule (PostgreSQL manual, 5.8 and CREATE POLICY): none where row
 -- security doesn't apply to the role, else those for the type of command that are TO it, with the expression asked for.
 use Rattle.std.specs.Prelude.{ℕ, List, [], ◌∷◌, ◌++◌, Option, Some, None, if◌then◌else◌}
 use Rattle.rls_value.specs.declared.verb.Kind.{Kind}

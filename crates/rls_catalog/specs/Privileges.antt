@@ -1,4 +1,4 @@
--- Privileges on tables (PostgreSQL manual, 5.8, "Privileges").
+-- Privileges on tables (PostgreSQL manual, 5.7, "Privileges").
 use Rattle.std.specs.Prelude.{◌≡◌, ◌↔◌, ℕ, List, [], ◌∷◌, ◌++◌, Bool, true, false, ◌&&◌, ◌||◌, if◌then◌else◌, filter}
 use Rattle.std.specs.List.{list_any, flat_map}
 use Rattle.std.specs.Str.{bytes_eq}

@@ -1,5 +1,5 @@
 -- Rows as they have to stand in a state: in tables that there are, in order of their numbers, each with its own primary
--- key, which is unique and not null (PostgreSQL manual, 5.5, "Primary Keys").
+-- key, which is unique and not null (PostgreSQL manual, 5.4, "Primary Keys").
 use Rattle.std.specs.Prelude.{◌≡◌, ℕ, List, [], Option, Some, None, Bool, true, false, map, slice_get}
 use Rattle.std.specs.BTreeMap.{is_at}
 use Rattle.std.specs.List.{All, list_any}

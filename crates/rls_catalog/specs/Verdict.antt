@@ -1,4 +1,4 @@
--- Row security (PostgreSQL manual, 5.9, "Row Security Policies", and CREATE POLICY): who is exempt, which policies
+-- Row security (PostgreSQL manual, 5.8, "Row Security Policies", and CREATE POLICY): who is exempt, which policies
 -- apply, and what they say of a row.
 use Rattle.std.specs.Prelude.{ℕ, List, [], ◌∷◌, Option, Some, None, Bool, true, false, ◌&&◌, ◌||◌, not, if◌then◌else◌, map, filter, is_some}
 use Rattle.std.specs.List.{list_any, list_all}

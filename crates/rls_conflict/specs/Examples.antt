@@ -24,7 +24,7 @@ inserted table txn key content = c.Row (record { table = table; id = record { tx
 abbrev pub sought : List ℕ → List ℕ → Object
 sought table key = o.Key table (Text key ∷ [])
 
--- The manual's race between a policy's subquery and an update (PostgreSQL manual, 5.9, "Row Security Policies"). A policy of
+-- The manual's race between a policy's subquery and an update (PostgreSQL manual, 5.8, "Row Security Policies"). A policy of
 -- `information` asks `users` for the group of who reads. Alice takes the group from mallory, writes the secret, and commits;
 -- mallory reads on the snapshot of before.
 abbrev pub clearance_race : List Transaction

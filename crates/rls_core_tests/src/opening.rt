@@ -49,7 +49,7 @@ pub fn post(core: &mut Core, alloc: Global, txn: u64, statement: &str) -> Result
     core.post(alloc, txn, statement)
 }
 
-/// The manual's tables of users and of information that only groups may see (PostgreSQL manual, 5.9, "Row Security Policies").
+/// The manual's tables of users and of information that only groups may see (PostgreSQL manual, 5.8, "Row Security Policies").
 /// Then mallory and alice connect.
 pub fn with_information(alloc: Global) -> Result<Core, Refusal> {
     opened(

@@ -1,5 +1,5 @@
 -- ALTER POLICY (PostgreSQL manual, ALTER POLICY): that the policy is there, names, then types, then what isn't supported,
--- and what a policy of its kind has no place for, then that the role is one that owns the table. What is written changes, the rest stays.
+-- and what a policy of its kind has no place for, then that the role has the privileges of the table's owner. What is written changes, the rest stays.
 use Rattle.std.specs.Prelude.{ℕ, List, [], ◌∷◌, Option, Some, None, Bool, false, Result, Ok, Err, is_some, unwrap_or, map, if◌then◌else◌}
 use Rattle.std.specs.Option.{option_or}
 use Rattle.rls_value.specs.{declared.refusal.Refusal.Refusal, declared.refusal.Refusal.TheVariants.Unsupported, declared.verb.PolicyKind.PolicyKind, Giving.and_then, declared.verb.PolicyKind.TheVariants.All, declared.verb.PolicyKind.TheVariants.Only}

@@ -1,5 +1,5 @@
 -- CREATE POLICY (PostgreSQL manual, CREATE POLICY): names, then that none of the name is there, then types, then that nothing
--- in it isn't supported, then how many there are, then that the role is one that owns the table.
+-- in it isn't supported, then how many there are, then that the role has the privileges of the table's owner.
 use Rattle.std.specs.Prelude.{ℕ, List, [], ◌∷◌, nat_lt, Result, Ok, Err, length, if◌then◌else◌}
 use Rattle.rls_value.specs.{declared.refusal.Refusal.Refusal, Giving.and_then, declared.refusal.Refusal.TheVariants.Duplicate, declared.refusal.Refusal.TheVariants.Limit}
 use Rattle.rls_value.specs.declared.refusal.DefinedKind.TheVariants as kind

@@ -1,4 +1,4 @@
--- CREATE TABLE (PostgreSQL manual, CREATE TABLE, and 5.8 for the owner's privileges): any role makes one and owns it.
+-- CREATE TABLE (PostgreSQL manual, CREATE TABLE, and 5.7 for the owner's privileges): any role makes one and owns it.
 -- Names come first, then that the table's own is free.
 use Rattle.std.specs.Prelude.{ℕ, List, [], ◌∷◌, Option, false, ◌||◌, Result, Ok, Err, is_some, unwrap_or, map, filter, position}
 use Rattle.std.specs.Str.{bytes_eq}

@@ -1,4 +1,4 @@
--- DROP POLICY (PostgreSQL manual, DROP POLICY): that the policy is there, then that the role is one that owns the table.
+-- DROP POLICY (PostgreSQL manual, DROP POLICY): that the policy is there, then that the role has the privileges of the table's owner.
 use Rattle.std.specs.Prelude.{ℕ, List, [], ◌∷◌, Ok}
 use Rattle.rls_expr.specs.{declared.table.TableDef.TableDef, declared.policy.Policy.Policy}
 use Rattle.rls_catalog.specs.declared.change.Change.TheVariants as change

@@ -1,5 +1,5 @@
 -- What a table shows, told by depth: the rows that its policies allow, whose subqueries see what their tables show, and so
--- on, so many policies deep (PostgreSQL manual, 5.9). And who guards a table's rows from a role, as the state has it.
+-- on, so many policies deep (PostgreSQL manual, 5.8). And who guards a table's rows from a role, as the state has it.
 use Rattle.std.specs.Prelude.{◌≡◌, ℕ, zero, suc, List, [], Option, Some, None, Ok, if◌then◌else◌}
 use Rattle.std.specs.List.{AllByRecursion}
 use Rattle.rls_value.specs.{declared.value.Value.Value, declared.verb.Kind.Kind}

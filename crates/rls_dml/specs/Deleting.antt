@@ -1,4 +1,4 @@
--- DELETE (PostgreSQL manual, DELETE, and 5.9): names, then types, then the privileges; then the rows that row security
+-- DELETE (PostgreSQL manual, DELETE, and 5.8): names, then types, then the privileges; then the rows that row security
 -- lets go and that WHERE holds of. A row that it hides stays, and nothing is said of it.
 use Rattle.std.specs.Prelude.{ℕ, List, [], ◌∷◌, ◌++◌, Some, None, Bool, ◌&&◌, ◌||◌, Result, Ok, map}
 use Rattle.rls_value.specs.{declared.refusal.Refusal.Refusal, Giving.and_then, declared.verb.Privilege.Privilege, declared.verb.Kind.Kind}

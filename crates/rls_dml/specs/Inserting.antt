@@ -1,4 +1,4 @@
--- INSERT .. VALUES (PostgreSQL manual, INSERT, and 5.9): names, then types, then how many rows, then the privileges, then
+-- INSERT .. VALUES (PostgreSQL manual, INSERT, and 5.8): names, then types, then how many rows, then the privileges, then
 -- the ranges; then the rows are judged: row security, then NOT NULL, then the primary key.
 use Rattle.std.specs.Prelude.{ℕ, suc, ◌+◌, List, [], ◌∷◌, ◌++◌, Option, Some, None, Bool, true, false, ◌&&◌, ◌||◌, nat_le, Result, Ok, Err, length, if◌then◌else◌, map}
 use Rattle.std.specs.List.{list_any, list_all}

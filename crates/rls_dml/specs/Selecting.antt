@@ -1,4 +1,4 @@
--- SELECT (PostgreSQL manual, SELECT, and 5.9): names, then types, then the privilege; then the rows that row security
+-- SELECT (PostgreSQL manual, SELECT, and 5.8): names, then types, then the privilege; then the rows that row security
 -- shows and that WHERE holds of.
 use Rattle.std.specs.Prelude.{ℕ, List, [], ◌∷◌, ◌++◌, None, false, ◌&&◌, ◌||◌, Result, Ok, map, unwrap_or}
 use Rattle.rls_value.specs.{declared.refusal.Refusal.Refusal, Giving.and_then, declared.verb.Privilege.Privilege}

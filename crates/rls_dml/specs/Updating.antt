@@ -1,4 +1,4 @@
--- UPDATE (PostgreSQL manual, UPDATE, and 5.9): names, then types, then the privileges; then the rows that row security
+-- UPDATE (PostgreSQL manual, UPDATE, and 5.8): names, then types, then the privileges; then the rows that row security
 -- lets change and that WHERE holds of get their new values: their ranges come before the new rows are judged.
 use Rattle.std.specs.Prelude.{ℕ, List, [], ◌∷◌, ◌++◌, Some, None, Bool, true, ◌&&◌, ◌||◌, Result, Ok, Err, length, map}
 use Rattle.std.specs.List.{list_any}

@@ -1,4 +1,4 @@
--- New rows (PostgreSQL manual, INSERT, UPDATE, and 5.5): the values that columns are given, and what new rows are refused
+-- New rows (PostgreSQL manual, INSERT, UPDATE, and 5.4): the values that columns are given, and what new rows are refused
 -- for: row security, then NOT NULL, then the primary key.
 use Rattle.std.specs.Prelude.{ℕ, suc, List, [], ◌∷◌, ◌++◌, Option, Some, None, Bool, true, false, not, ◌&&◌, ◌||◌, nat_eq, Result, Ok, Err, if◌then◌else◌, map, filter, take, drop, slice_get, slice_set}
 use Rattle.std.specs.List.{list_any}

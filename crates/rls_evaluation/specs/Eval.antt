@@ -1,4 +1,4 @@
--- The value of a placed term (PostgreSQL manual, 9.1, 9.2, 9.24 and 4.2.11): a comparison with null is null, AND, OR and
+-- The value of a placed term (PostgreSQL manual, 9.1, 9.2, 9.23, 9.24 and 4.2.11): a comparison with null is null, AND, OR and
 -- NOT are Kleene's, IN is the OR of equalities, a sum is a whole number without a range, and a subquery has one row more
 -- in scope. Each part is evaluated.
 use Rattle.std.specs.Prelude.{ℕ, List, [], ◌∷◌, Bool, true, false, ◌||◌, not, Option, Some, None, Ok}

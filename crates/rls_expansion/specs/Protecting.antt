@@ -1,4 +1,4 @@
--- What a statement's rows are protected by (PostgreSQL manual, 5.9, and CREATE POLICY): the policies of its table that count
+-- What a statement's rows are protected by (PostgreSQL manual, 5.8, and CREATE POLICY): the policies of its table that count
 -- for its type of command and, where it reads, for SELECT; and, through the subqueries of the statement and of policies, those
 -- for SELECT of every table that these lead to. A chain of policies that never ends is refused (42P17).
 use Rattle.std.specs.Prelude.{ℕ, List, [], ◌∷◌, ◌++◌, Bool, true, false, Option, Some, None, Result, Ok, Err, if◌then◌else◌}

@@ -1,4 +1,4 @@
--- What the policies that apply say of a row (PostgreSQL manual, 5.9, and CREATE POLICY).
+-- What the policies that apply say of a row (PostgreSQL manual, 5.8, and CREATE POLICY).
 use Rattle.std.specs.Prelude.{ℕ, List, [], ◌∷◌, false, Option, Some, None, Result, Ok, Err, map}
 use Rattle.rls_value.specs.{declared.refusal.Refusal.Refusal, declared.truth.Truth.Truth, declared.truth.Truth.TheVariants.Unknown, declared.value.Value.Value, declared.verb.Kind.Kind, Values.truth_in}
 use Rattle.rls_value.specs.declared.verb.Kind.TheVariants as k

@@ -1,5 +1,5 @@
--- A command on the rows of a table, and what it is refused for before a row is looked at (PostgreSQL manual, 5.8,
--- "Privileges", and 5.9, "Row Security Policies"): chains of policies that close, then privileges.
+-- A command on the rows of a table, and what it is refused for before a row is looked at (PostgreSQL manual, 5.7,
+-- "Privileges", and 5.8, "Row Security Policies"): chains of policies that close, then privileges.
 use Rattle.std.specs.Prelude.{ℕ, List, [], ◌∷◌, ◌++◌, Bool, Option, Some, None, Result, Ok, Err, map, if◌then◌else◌}
 use Rattle.rls_value.specs.{declared.refusal.Refusal.Refusal, declared.refusal.Refusal.TheVariants.Denied, declared.refusal.Refusal.TheVariants.Recursion, declared.verb.Kind.Kind, declared.verb.Privilege.Privilege, Giving.and_then}
 use Rattle.rls_value.specs.declared.refusal.Why.TheVariants as why

@@ -1,4 +1,4 @@
--- What new rows are refused for (PostgreSQL manual, 5.9, and 5.5, "Constraints"): row security, then NOT NULL, then the primary
+-- What new rows are refused for (PostgreSQL manual, 5.8, and 5.4, "Constraints"): row security, then NOT NULL, then the primary
 -- key.
 use Rattle.std.specs.Prelude.{ℕ, List, Bool, ◌||◌, not, Result}
 use Rattle.std.specs.List.{list_any}

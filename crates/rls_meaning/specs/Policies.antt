@@ -1,5 +1,5 @@
 -- CREATE POLICY, ALTER POLICY and DROP POLICY (PostgreSQL manual, CREATE POLICY, ALTER POLICY, DROP POLICY): names, then what
--- is wrong with the policy, and then that the role owns the table.
+-- is wrong with the policy, and then that the role has the privileges of the table's owner.
 use Rattle.std.specs.Prelude.{ℕ, List, [], ◌∷◌, Option, Some, None, Result, Ok}
 use Rattle.rls_value.specs.{declared.refusal.Refusal.Refusal, Giving.and_then}
 use Rattle.rls_expr.specs.declared.policy.Grantee.{Grantee}

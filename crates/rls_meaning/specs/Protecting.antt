@@ -1,4 +1,4 @@
--- What the expansion of a command's policies comes to, in the words of a state (PostgreSQL manual, 5.9, and CREATE POLICY,
+-- What the expansion of a command's policies comes to, in the words of a state (PostgreSQL manual, 5.8, and CREATE POLICY,
 -- "Policies Applied by Command Type").
 use Rattle.std.specs.Prelude.{◌≡◌, ℕ, List, [], Bool, Some, None, Result, Ok, Err, if◌then◌else◌}
 use Rattle.rls_value.specs.declared.refusal.Refusal.{Refusal}

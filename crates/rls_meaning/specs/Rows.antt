@@ -1,4 +1,4 @@
--- The rows that a command looks at, hits and puts (PostgreSQL manual, 5.9, "Row Security Policies", and CREATE POLICY, "Policies
+-- The rows that a command looks at, hits and puts (PostgreSQL manual, 5.8, "Row Security Policies", and CREATE POLICY, "Policies
 -- Applied by Command Type").
 use Rattle.std.specs.Prelude.{ℕ, List, [], ◌∷◌, Option, Some, None, Result, if◌then◌else◌}
 use Rattle.std.specs.List.{list_any}

@@ -1,4 +1,4 @@
--- CREATE TABLE and ALTER TABLE .. ROW LEVEL SECURITY (PostgreSQL manual, CREATE TABLE, ALTER TABLE, and 5.8 for who owns).
+-- CREATE TABLE and ALTER TABLE .. ROW LEVEL SECURITY (PostgreSQL manual, CREATE TABLE, ALTER TABLE, and 5.7 for who owns).
 use Rattle.std.specs.Prelude.{ℕ, List, [], ◌∷◌, not, Result, Ok, is_some}
 use Rattle.rls_value.specs.{declared.refusal.Refusal.Refusal, declared.refusal.Refusal.TheVariants.Denied, declared.refusal.Refusal.TheVariants.Duplicate, Giving.and_then}
 use Rattle.rls_value.specs.declared.refusal.DefinedKind.TheVariants as kind

@@ -13,7 +13,7 @@ use rls_value::Name;
 use std::alloc::{AllocError, Global};
 
 /// Whether row security doesn't apply to the role on the table; `has_owner` tells whether the role has the privileges of
-/// the table's owner (PostgreSQL manual, 5.9).
+/// the table's owner (PostgreSQL manual, 5.8).
 pub fn exempt(role: &RoleDef, table: &TableDef, has_owner: bool) -> bool
     ensures { result ≡ exempts role.now table.now has_owner }
 {

@@ -1,4 +1,4 @@
-//! Row security by worked examples (PostgreSQL manual, 5.9 and CREATE POLICY).
+//! Row security by worked examples (PostgreSQL manual, 5.8 and CREATE POLICY).
 
 use crate::states::{add_role, membership, put_members, says};
 use rls_catalog::{Catalog, PolicyList, Verdict};

@@ -1,4 +1,4 @@
-//! What a role may do by the contents of a state: privileges, grant options, policies that apply (PostgreSQL manual, 5.7, 5.9).
+//! What a role may do by the contents of a state: privileges, grant options, policies that apply (PostgreSQL manual, 5.7, 5.8).
 
 use crate::states::{add_role, membership, put, put_members, says};
 use rls_catalog::{Catalog, Change, Grant, PolicyList};

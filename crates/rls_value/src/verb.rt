@@ -5,7 +5,7 @@ ghost use Rattle.rls_value.specs.Words.{privilege_word, kind_word};
 
 use std::fmt;
 
-/// A privilege on a table (PostgreSQL manual, 5.8, "Privileges").
+/// A privilege on a table (PostgreSQL manual, 5.7, "Privileges").
 #[derive(Clone, Copy, PartialEq, Eq)]
 pub enum Privilege {
     Select,
