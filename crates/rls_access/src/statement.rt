@@ -24,7 +24,7 @@ use std::alloc::{AllocError, Global};
 const USUAL_READS: usize = 32;
 
 /// Runs the statement over the source: what it comes to, with its changes, which the source doesn't get; what it read;
-/// and the role afterwards. All that it depends on is in the footprint, and a source that is lent has made just these
+/// and the role afterwards. All that it depends on is in the footprint, and a source that is borrowed has made just these
 /// reads.
 pub fn run_statement<'c, S: RowSource<'c>>(
     alloc: Global,
@@ -87,16 +87,16 @@ fn role_after(role: &Name, effect: &Effect) -> Result<Name, AllocError>
 fn effect_of<'c, S: RowSource<'c>>(
     alloc: Global,
     source: &mut S,
-    notes: &mut Reads,
+    read_set: &mut Reads,
     ctx: &Ctx,
     statement: &Statement,
 ) -> Result<Effect, AllocError>
     ensures effect { IfOk result (λ effect. effect ≡ effect_in (S.state source.old) ctx.now statement.now) }
-    ensures noted { OnOk result (notes.new ≡ notes.old ++ ((step ctx.now statement.now).in_state (S.state source.old)).reads) }
+    ensures noted { OnOk result (read_set.new ≡ read_set.old ++ ((step ctx.now statement.now).in_state (S.state source.old)).reads) }
     ensures read { OnOk result (source.new ≡ S.after source.old ((step ctx.now statement.now).in_state (S.state source.old)).reads) }
     ensures state { S.state source.new ≡ S.state source.old }
 {
-    match run(alloc, source, notes, ctx, statement) {
+    match run(alloc, source, read_set, ctx, statement) {
         Ok(effect) => Ok(effect),
         Err(Refusal::NoMemory) => Err(AllocError),
         Err(refusal) => Ok(Effect::refused(alloc, refusal)),
@@ -106,42 +106,42 @@ fn effect_of<'c, S: RowSource<'c>>(
 fn run<'c, S: RowSource<'c>>(
     alloc: Global,
     source: &mut S,
-    notes: &mut Reads,
+    read_set: &mut Reads,
     ctx: &Ctx,
     statement: &Statement,
 ) -> Result<Effect, Refusal>
-    ensures { Answers S.state S.after (step ctx.now statement.now) source.old source.new notes.old notes.new result }
+    ensures { Answers S.state S.after (step ctx.now statement.now) source.old source.new read_set.old read_set.new result }
 {
     require_mode(ctx.mode, statement.tag())?;
-    done_by(alloc, source, notes, ctx, statement)
+    done_by(alloc, source, read_set, ctx, statement)
 }
 
 fn done_by<'c, S: RowSource<'c>>(
     alloc: Global,
     source: &mut S,
-    notes: &mut Reads,
+    read_set: &mut Reads,
     ctx: &Ctx,
     statement: &Statement,
 ) -> Result<Effect, Refusal>
-    ensures { Answers S.state S.after (spec.done_by ctx.now statement.now) source.old source.new notes.old notes.new result }
+    ensures { Answers S.state S.after (spec.done_by ctx.now statement.now) source.old source.new read_set.old read_set.new result }
 {
     match statement {
-        Statement::CreateRole(create) => run_create_role(alloc, source, notes, ctx, create),
-        Statement::AlterRole(alter) => run_alter_role(alloc, source, notes, ctx, alter),
-        Statement::CreateTable(create) => run_create_table(alloc, source, notes, ctx, create),
-        Statement::AlterTable(alter) => run_alter_table(alloc, source, notes, ctx, alter),
-        Statement::CreatePolicy(create) => run_create_policy(alloc, source, notes, ctx, create),
-        Statement::AlterPolicy(alter) => run_alter_policy(alloc, source, notes, ctx, alter),
-        Statement::DropPolicy(drop) => run_drop_policy(alloc, source, notes, ctx, drop),
-        Statement::Grant(grant) => run_grant(alloc, source, notes, ctx, grant),
-        Statement::GrantRoles(grant) => run_grant_roles(alloc, source, notes, ctx, grant),
-        Statement::Revoke(revoke) => run_revoke(alloc, source, notes, ctx, revoke),
-        Statement::RevokeRoles(revoke) => run_revoke_roles(alloc, source, notes, ctx, revoke),
-        Statement::SetRole(set) => run_set_role(alloc, source, notes, ctx, set),
-        Statement::Insert(insert) => run_insert(alloc, source, notes, ctx, insert),
-        Statement::Update(update) => run_update(alloc, source, notes, ctx, update),
-        Statement::Delete(delete) => run_delete(alloc, source, notes, ctx, delete),
-        Statement::Select(select) => run_select(alloc, source, notes, ctx, select),
+        Statement::CreateRole(create) => run_create_role(alloc, source, read_set, ctx, create),
+        Statement::AlterRole(alter) => run_alter_role(alloc, source, read_set, ctx, alter),
+        Statement::CreateTable(create) => run_create_table(alloc, source, read_set, ctx, create),
+        Statement::AlterTable(alter) => run_alter_table(alloc, source, read_set, ctx, alter),
+        Statement::CreatePolicy(create) => run_create_policy(alloc, source, read_set, ctx, create),
+        Statement::AlterPolicy(alter) => run_alter_policy(alloc, source, read_set, ctx, alter),
+        Statement::DropPolicy(drop) => run_drop_policy(alloc, source, read_set, ctx, drop),
+        Statement::Grant(grant) => run_grant(alloc, source, read_set, ctx, grant),
+        Statement::GrantRoles(grant) => run_grant_roles(alloc, source, read_set, ctx, grant),
+        Statement::Revoke(revoke) => run_revoke(alloc, source, read_set, ctx, revoke),
+        Statement::RevokeRoles(revoke) => run_revoke_roles(alloc, source, read_set, ctx, revoke),
+        Statement::SetRole(set) => run_set_role(alloc, source, read_set, ctx, set),
+        Statement::Insert(insert) => run_insert(alloc, source, read_set, ctx, insert),
+        Statement::Update(update) => run_update(alloc, source, read_set, ctx, update),
+        Statement::Delete(delete) => run_delete(alloc, source, read_set, ctx, delete),
+        Statement::Select(select) => run_select(alloc, source, read_set, ctx, select),
     }
 }
 

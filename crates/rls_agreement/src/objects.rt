@@ -4,7 +4,7 @@ ghost use Rattle.std.specs.Prelude.{◌≡◌, ◌↔◌, true, [], ◌∷◌, f
 ghost use Rattle.rls_catalog.specs.State.{AgreesAt, is_same_id};
 ghost use Rattle.rls_agreement.specs.LookedUp.{looked_up};
 
-use rls_catalog::Lent;
+use rls_catalog::BorrowedRow;
 use rls_equality::{are_both_same, are_same};
 use rls_source::RowSource;
 use rls_value::{Items, Name, Object, Row, RowId};
@@ -193,7 +193,7 @@ fn row_agrees<'c, A: RowSource<'c>, B: RowSource<'c>>(
 }
 
 /// Those rows that have the number; the others are let go.
-fn with_number<'c>(rows: Items<Lent<'c>>, id: RowId) -> Items<Lent<'c>>
+fn with_number<'c>(rows: Items<BorrowedRow<'c>>, id: RowId) -> Items<BorrowedRow<'c>>
     ensures { result ≡ filter (λ stored. is_same_id id stored.id) rows.entry }
 {
     let mut rows = rows.into_vec();
@@ -201,7 +201,7 @@ fn with_number<'c>(rows: Items<Lent<'c>>, id: RowId) -> Items<Lent<'c>>
     Items::from_vec(rows)
 }
 
-fn has_number<'c>(row: &Lent<'c>, id: RowId) -> bool
+fn has_number<'c>(row: &BorrowedRow<'c>, id: RowId) -> bool
     ensures { result ≡ is_same_id id row.now.id }
 {
     match id.cmp(&row.id()) {

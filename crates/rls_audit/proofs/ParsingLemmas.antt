@@ -9,11 +9,11 @@ use Rattle.rls_expr.specs.declared.policy.Policy.{Policy}
 use Rattle.rls_statement.specs.declared.statement.Statement.{Statement}
 use Rattle.rls_statement.specs.declared.statement.CreatePolicy.{CreatePolicy}
 use Rattle.rls_statement.specs.declared.statement.Statement.TheVariants as st
-use Rattle.rls_text.specs.{Answers.Answers, Answers.IsSpelled, Words.words_of, declared.token.Token.Token}
-use Rattle.rls_audit.specs.Reading.{Tells, IsStatementText, IsPolicyText, creates_on}
+use Rattle.rls_text.specs.{ParseResults.IsParseResult, ParseResults.IsSpelled, Words.words_of, declared.token.Token.Token}
+use Rattle.rls_audit.specs.Reading.{TellsWhether, IsStatementText, IsPolicyText, creates_on}
 
 -- a statement that is spelled within the limits is answered
-answered_with : (words : List Token) (r : Result Statement Refusal) (x : Statement) → Answers words r → IsSpelled words x → r ≡ Ok x
+answered_with : (words : List Token) (r : Result Statement Refusal) (x : Statement) → IsParseResult words r → IsSpelled words x → r ≡ Ok x
 answered_with words r x a h = a.spelled x h.words h.spelled ∙ h.within
 
 err_same : (x y : Refusal) → ◌≡◌ {A = Result Statement Refusal} (Err x) (Err y) → x ≡ y
@@ -23,14 +23,14 @@ clash : (refusal : Refusal) (x : Statement) → ◌≡◌ {A = Result Statement 
 clash refusal x h = cc
 
 -- a refusal that isn't of memory is what the grammar and the limits say
-pub refused : (text : List ℕ) (refusal : Refusal) → (¬ (◌≡◌ {A = Result Statement Refusal} (Err refusal) (Err NoMemory)) → Answers (words_of text) (Err refusal)) → ¬ (refusal ≡ NoMemory) → Answers (words_of text) (Err refusal)
+pub refused : (text : List ℕ) (refusal : Refusal) → (¬ (◌≡◌ {A = Result Statement Refusal} (Err refusal) (Err NoMemory)) → IsParseResult (words_of text) (Err refusal)) → ¬ (refusal ≡ NoMemory) → IsParseResult (words_of text) (Err refusal)
 refused text refusal a other = a (λ h. other (err_same refusal NoMemory h))
 
 -- so is a statement
-pub answered : (text : List ℕ) (x : Statement) → (¬ (◌≡◌ {A = Result Statement Refusal} (Ok x) (Err NoMemory)) → Answers (words_of text) (Ok x)) → Answers (words_of text) (Ok x)
+pub answered : (text : List ℕ) (x : Statement) → (¬ (◌≡◌ {A = Result Statement Refusal} (Ok x) (Err NoMemory)) → IsParseResult (words_of text) (Ok x)) → IsParseResult (words_of text) (Ok x)
 answered text x a = a (λ h. clash NoMemory x (sym h))
 
-pub no_statement : (text : List ℕ) (refusal : Refusal) → Answers (words_of text) (Err refusal) → IsStatementText text → ⊥
+pub no_statement : (text : List ℕ) (refusal : Refusal) → IsParseResult (words_of text) (Err refusal) → IsStatementText text → ⊥
 no_statement text refusal a h = clash refusal h.0 (answered_with (words_of text) (Err refusal) h.0 a h.1)
 
 same_bytes : (t : List ℕ) → bytes_eq t t ≡ true
@@ -39,7 +39,7 @@ same_bytes t = (bytes_eq-Decides t t).1 refl
 no_true : false ≡ true → ⊥
 no_true h = cc
 
-never_policy : (table text : List ℕ) (r : Result Statement Refusal) → Answers (words_of text) r → creates_on table r ≡ false → IsPolicyText table text → ⊥
+never_policy : (table text : List ℕ) (r : Result Statement Refusal) → IsParseResult (words_of text) r → creates_on table r ≡ false → IsPolicyText table text → ⊥
 never_policy table text r a off h =
     let e : r ≡ Ok (st.CreatePolicy record { table = table; policy = h.0 }) = answered_with (words_of text) r (st.CreatePolicy record { table = table; policy = h.0 }) a h.1 in
     no_true (sym off ∙ ap (creates_on table) e ∙ same_bytes table)
@@ -64,15 +64,15 @@ own_policy table text (Ok (st.Update x)) h e = absurd (no_true e)
 own_policy table text (Ok (st.Delete x)) h e = absurd (no_true e)
 own_policy table text (Ok (st.Select x)) h e = absurd (no_true e)
 
-pub policy_told : (table text : List ℕ) (r : Result Statement Refusal) → Answers (words_of text) r → IfOk r (λ x. IsSpelled (words_of text) x) → Tells (creates_on table r) (IsPolicyText table text)
+pub policy_told : (table text : List ℕ) (r : Result Statement Refusal) → IsParseResult (words_of text) r → IfOk r (λ x. IsSpelled (words_of text) x) → TellsWhether (creates_on table r) (IsPolicyText table text)
 policy_told table text r a h = go (creates_on table r) refl
   where
-    go : (b : Bool) → creates_on table r ≡ b → Tells b (IsPolicyText table text)
+    go : (b : Bool) → creates_on table r ≡ b → TellsWhether b (IsPolicyText table text)
     go true e = own_policy table text r h e
     go false e = never_policy table text r a e
 
 -- what tells the second of two facts tells both, where the first one holds
-pub both_told : {E : Type 0} (P Q : Type 0) (r : Result Bool E) → P → IfOk r (λ b. Tells b Q) → IfOk r (λ b. Tells b (P × Q))
+pub both_told : {E : Type 0} (P Q : Type 0) (r : Result Bool E) → P → IfOk r (λ b. TellsWhether b Q) → IfOk r (λ b. TellsWhether b (P × Q))
 both_told P Q (Ok true) p q = (p, q)
 both_told P Q (Ok false) p q = λ both. q both.1
 both_told P Q (Err e) p q = tt

@@ -13,7 +13,7 @@ use Rattle.rls_statement.specs.declared.statement.Statement.{Statement}
 use Rattle.rls_guard.specs.{declared.reply.Reply.Reply, declared.reply.Decision.Decision, declared.effect.Effect.Effect}
 use Rattle.rls_guard.specs.declared.effect.Effect.TheVariants as effect
 use Rattle.rls_guard.specs.Effects.{changes_of}
-use Rattle.rls_text.specs.{Answers.Answers, Answers.IsSpelled, Answers.first_limit, Grammar.Spells, declared.token.Token.Token}
+use Rattle.rls_text.specs.{ParseResults.IsParseResult, ParseResults.IsSpelled, ParseResults.first_limit, Grammar.Spells, declared.token.Token.Token}
 use Rattle.rls_core.specs.Posted.{Posted, without_decisions}
 use Rattle.rls_core.specs.Posts.{statement_of, effect_of}
 use Rattle.rls_core.specs.Records.{Record}
@@ -41,7 +41,7 @@ err_ok : (x : Refusal) (y : Statement) → ◌≡◌ {A = Result Statement Refus
 err_ok x y h = cc
 
 -- the limit that words pass is what they are answered with
-over_limit : (words : List Token) (limit : Limit) → first_limit words ≡ Some limit → Answers words (Err (refusal.Limit limit))
+over_limit : (words : List Token) (limit : Limit) → first_limit words ≡ Some limit → IsParseResult words (Err (refusal.Limit limit))
 over_limit words limit e = record {
   over = λ other k. ap (λ l. Err (refusal.Limit l)) (some_same limit other (sym e ∙ k));
   spelled = λ x k s. absurd (some_none limit (sym e ∙ k));
@@ -49,7 +49,7 @@ over_limit words limit e = record {
 }
 
 -- words that spell a statement, and are answered with it, spell it within the limits
-pub spelled_again : (words : List Token) (x : Statement) → ((tokens : List Token) → Spells tokens x → Spells words x) → ((tokens : List Token) (answer : Result Statement Refusal) → IsSpelled tokens x → Answers words answer → answer ≡ Ok x) → IsSpellable x → IsSpelled words x
+pub spelled_again : (words : List Token) (x : Statement) → ((tokens : List Token) → Spells tokens x → Spells words x) → ((tokens : List Token) (answer : Result Statement Refusal) → IsSpelled tokens x → IsParseResult words answer → answer ≡ Ok x) → IsSpellable x → IsSpelled words x
 spelled_again words x spells again h = record { spelled = spells h.0 h.1.spelled; words = go (first_limit words) refl; within = h.1.within }
   where
     go : (o : Option Limit) → first_limit words ≡ o → first_limit words ≡ None

@@ -8,7 +8,7 @@ use Rattle.rls_value.specs.declared.refusal.Refusal.TheVariants as r
 use Rattle.rls_expr.specs.declared.policy.Policy.{Policy}
 use Rattle.rls_statement.specs.declared.statement.Statement.{Statement}
 use Rattle.rls_statement.specs.declared.statement.Statement.TheVariants as st
-use Rattle.rls_text.specs.{Answers.IsSpelled, Words.words_of}
+use Rattle.rls_text.specs.{ParseResults.IsSpelled, Words.words_of}
 use Rattle.rls_audit.specs.declared.changes.Changed.{Changed}
 use Rattle.rls_audit.specs.declared.changes.Changed.TheVariants as c
 use Rattle.rls_audit.specs.declared.lines.Answered.{Answered}
@@ -21,9 +21,9 @@ abbrev pub line_found : Bool → List ℕ → Option Line
 line_found second text = option_and_then (line second).found (read text)
 
 -- it tells whether this is so
-abbrev pub Tells : Bool → Type 0 → Type 0
-Tells true P = P
-Tells false P = ¬ P
+abbrev pub TellsWhether : Bool → Type 0 → Type 0
+TellsWhether true P = P
+TellsWhether false P = ¬ P
 
 -- the text spells a statement within the limits
 abbrev pub IsStatementText : List ℕ → Type 0

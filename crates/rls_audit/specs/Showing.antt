@@ -11,7 +11,7 @@ use Rattle.rls_statement.specs.declared.statement.Statement.TheVariants.{CreateP
 use Rattle.rls_guard.specs.declared.effect.Effect.{Effect}
 use Rattle.rls_guard.specs.declared.effect.Effect.TheVariants as effect
 use Rattle.rls_guard.specs.Effects.{changes_of}
-use Rattle.rls_text.specs.{Answers.IsSpelled, declared.token.Token.Token}
+use Rattle.rls_text.specs.{ParseResults.IsSpelled, declared.token.Token.Token}
 use Rattle.rls_core.specs.Records.{Record}
 use Rattle.rls_audit.specs.RefusalCodecs.{IsAudited}
 use Rattle.rls_audit.specs.declared.showing.Unshown.{Unshown}

@@ -3,7 +3,7 @@ use Rattle.std.specs.Prelude.{◌≡◌, ℕ, List, Bool, Some, option_map, slic
 use Rattle.std.specs.List.{AllZip}
 use Rattle.rls_expr.specs.{declared.policy.Policy.Policy, declared.table.TableDef.TableDef, declared.table.Column.Column}
 use Rattle.rls_statement.specs.declared.statement.Statement.TheVariants.{CreatePolicy}
-use Rattle.rls_text.specs.{Answers.IsSpelled, Words.words_of}
+use Rattle.rls_text.specs.{ParseResults.IsSpelled, Words.words_of}
 use Rattle.rls_audit.specs.declared.contents.TableShape.{TableShape}
 use Rattle.rls_audit.specs.declared.changes.Changed.{Changed}
 use Rattle.rls_audit.specs.declared.changes.Changed.TheVariants as c

@@ -4,7 +4,7 @@ ghost use Rattle.std.specs.Prelude.{◌≡◌, true, Some, Ok, IfOk, string_byte
 ghost use Rattle.std.specs.List.{All};
 ghost use Rattle.rls_audit.specs.LineCodecs as codec;
 ghost use Rattle.rls_audit.specs.Reading as spec;
-ghost use Rattle.rls_audit.specs.Reading.{line_found, Tells, IsStatementText, IsPolicyText, HasStatement, HasPolicies, TextsParse, MeansLine, IsLineRead};
+ghost use Rattle.rls_audit.specs.Reading.{line_found, TellsWhether, IsStatementText, IsPolicyText, HasStatement, HasPolicies, TextsParse, MeansLine, IsLineRead};
 ghost use Rattle.serde_json.specs.Written.{compact_text};
 
 use crate::changes::Changed;
@@ -45,7 +45,7 @@ pub fn read_line<F: Format>(alloc: Global, number: u64, text: &str) -> Result<Li
 
 /// Whether each text of the line is a statement's or a policy's.
 fn texts_parse(alloc: Global, line: &Line) -> Result<bool, AllocError>
-    ensures { IfOk result (λ all. Tells all (TextsParse line.now)) }
+    ensures { IfOk result (λ all. TellsWhether all (TextsParse line.now)) }
 {
     match line {
         Line::Txn(shown) => {
@@ -60,7 +60,7 @@ fn texts_parse(alloc: Global, line: &Line) -> Result<bool, AllocError>
 }
 
 fn statements_parse(alloc: Global, statements: &[Answered]) -> Result<bool, AllocError>
-    ensures { IfOk result (λ all. Tells all (All HasStatement statements.now)) }
+    ensures { IfOk result (λ all. TellsWhether all (All HasStatement statements.now)) }
 {
     for answered in statements {
         if !is_statement(alloc, &answered.text)? {
@@ -71,7 +71,7 @@ fn statements_parse(alloc: Global, statements: &[Answered]) -> Result<bool, Allo
 }
 
 fn policies_parse(alloc: Global, changes: &[Changed]) -> Result<bool, AllocError>
-    ensures { IfOk result (λ all. Tells all (All HasPolicies changes.now)) }
+    ensures { IfOk result (λ all. TellsWhether all (All HasPolicies changes.now)) }
 {
     for changed in changes {
         if !has_policies(alloc, changed)? {
@@ -82,7 +82,7 @@ fn policies_parse(alloc: Global, changes: &[Changed]) -> Result<bool, AllocError
 }
 
 fn has_policies(alloc: Global, changed: &Changed) -> Result<bool, AllocError>
-    ensures { IfOk result (λ all. Tells all (HasPolicies changed.now)) }
+    ensures { IfOk result (λ all. TellsWhether all (HasPolicies changed.now)) }
 {
     match changed {
         Changed::Policies(table, texts) => are_policies(alloc, table, texts.as_slice()),
@@ -91,7 +91,7 @@ fn has_policies(alloc: Global, changed: &Changed) -> Result<bool, AllocError>
 }
 
 fn are_policies(alloc: Global, table: &Name, texts: &[Text]) -> Result<bool, AllocError>
-    ensures { IfOk result (λ all. Tells all (All (IsPolicyText table.now) texts.now)) }
+    ensures { IfOk result (λ all. TellsWhether all (All (IsPolicyText table.now) texts.now)) }
 {
     for text in texts {
         if !is_policy(alloc, table, text)? {
@@ -103,7 +103,7 @@ fn are_policies(alloc: Global, table: &Name, texts: &[Text]) -> Result<bool, All
 
 /// Whether the text is a statement's.
 fn is_statement(alloc: Global, text: &Text) -> Result<bool, AllocError>
-    ensures { IfOk result (λ is. Tells is (IsStatementText text.now)) }
+    ensures { IfOk result (λ is. TellsWhether is (IsStatementText text.now)) }
 {
     match parse(alloc, text.as_str()) {
         Ok(statement) => {
@@ -120,7 +120,7 @@ fn is_statement(alloc: Global, text: &Text) -> Result<bool, AllocError>
 
 /// Whether the text creates a policy of the table.
 fn is_policy(alloc: Global, table: &Name, text: &Text) -> Result<bool, AllocError>
-    ensures { IfOk result (λ is. Tells is (IsPolicyText table.now text.now)) }
+    ensures { IfOk result (λ is. TellsWhether is (IsPolicyText table.now text.now)) }
 {
     match parse(alloc, text.as_str()) {
         Ok(statement) => Ok(creates_on(table, &statement)),

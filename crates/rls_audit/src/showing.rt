@@ -8,7 +8,7 @@ ghost use Rattle.rls_audit.specs.Lines.{in_object_order, ordered_changes};
 ghost use Rattle.rls_audit.specs.Showing.{IsSpellable, IsPolicySpellable, AreTexts, HasKey, CanTell, CanShow, Gives};
 ghost use Rattle.rls_audit.specs.Shows.{NamesColumn, SpellsPolicy, ShowsTable, ShowsLine};
 ghost use Rattle.rls_audit.specs.ShownParts.{Adds, ShowsChange, ShowsPost, ShowsPolicy, line_of};
-ghost use Rattle.rls_text.specs.{Answers.IsSpelled, Words.words_of};
+ghost use Rattle.rls_text.specs.{ParseResults.IsSpelled, Words.words_of};
 
 use crate::changes::Changed;
 use crate::contents::TableShape;

@@ -399,7 +399,7 @@ other_privilege_stays = refl
 revoked_from_cid : without_grant Privilege.Select (Grantee.Role (codes "cid")) (codes "ben") circle ≡ given (codes "ann") (codes "ben") true ∷ given (codes "ben") (codes "ann") true ∷ []
 revoked_from_cid = refl
 
--- REVOKE GRANT OPTION FOR by ann from ben takes the mark alone
+-- REVOKE GRANT OPTION FOR by ann from ben takes the grant option alone
 mark_taken : without_option Privilege.Select (Grantee.Role (codes "ben")) (codes "ann") circle ≡ given (codes "ann") (codes "ben") false ∷ given (codes "ben") (codes "ann") true ∷ given (codes "ben") (codes "cid") false ∷ []
 mark_taken = refl
 

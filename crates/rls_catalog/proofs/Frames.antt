@@ -9,7 +9,7 @@ use Rattle.rls_value.specs.declared.object.Object.TheVariants as o
 use Rattle.rls_expr.specs.{declared.table.TableDef.TableDef, declared.policy.Grantee.Grantee, declared.policy.Policy.Policy, declared.policy.Grantee.TheVariants.Public, declared.policy.Grantee.TheVariants.Role}
 use Rattle.rls_catalog.specs.{declared.verdict.Side.Side, State.State, State.role_of, State.grants_of, State.policies_of, State.AgreesOn, Privileges.includes, Privileges.concerns, Privileges.is_same_privilege, Privileges.holds, Privileges.holds_reads}
 use Rattle.rls_catalog.proofs.{StateLaws.agrees-append, Inheriting.or_either, Inheriting.among_got, Inheriting.walk_keeps, Walks.bytes_same, Walks.left_all, Walks.walk_step, Walks.walk_end, Walks.walk_finished}
-use Rattle.rls_catalog.specs.Membership.{attributes_in, attributes_of, inherited_if, inherited_by, fresh, walk, granted_roles, reached_of, walk_reads, walked_by, has_privileges_of, reach_reads}
+use Rattle.rls_catalog.specs.Membership.{attributes_in, attributes_of, inherited_if, inherited_by, fresh, walk, granted_roles, reached_of, walk_reads, walked_by, has_privileges_of, effective_roles_reads}
 use Rattle.rls_catalog.specs.Verdict.{asked_of, is_asked, is_everyone, is_to, is_to_everyone, applying_of, applying_reads, is_exempt, exempt_reads}
 
 -- the two states let each of the names inherit the same
@@ -60,15 +60,15 @@ walked_if : (superuser : Bool) (s other : State) (role : List ℕ) → AgreesOn 
 walked_if true s other role agrees = refl
 walked_if false s other role agrees = reached_frame s other role agrees
 
-pub walked_frame : (s other : State) (role : List ℕ) → AgreesOn s other (reach_reads s role) → walked_by other role ≡ walked_by s role
+pub walked_frame : (s other : State) (role : List ℕ) → AgreesOn s other (effective_roles_reads s role) → walked_by other role ≡ walked_by s role
 walked_frame s other role agrees =
     ap (λ def. if def.superuser then [] else reached_of other role) (attributes_frame s other role agrees.0)
     ∙ walked_if (attributes_of s role).superuser s other role agrees.1
 
-pub reach_reads_frame : (s other : State) (role : List ℕ) → AgreesOn s other (reach_reads s role) → reach_reads other role ≡ reach_reads s role
-reach_reads_frame s other role agrees = ap (λ names. o.Role role ∷ walk_reads names) (walked_frame s other role agrees)
+pub effective_roles_reads_frame : (s other : State) (role : List ℕ) → AgreesOn s other (effective_roles_reads s role) → effective_roles_reads other role ≡ effective_roles_reads s role
+effective_roles_reads_frame s other role agrees = ap (λ names. o.Role role ∷ walk_reads names) (walked_frame s other role agrees)
 
-pub has_frame : (s other : State) (role name : List ℕ) → AgreesOn s other (reach_reads s role) → has_privileges_of other role name ≡ has_privileges_of s role name
+pub has_frame : (s other : State) (role name : List ℕ) → AgreesOn s other (effective_roles_reads s role) → has_privileges_of other role name ≡ has_privileges_of s role name
 has_frame s other role name agrees = λ i. (attributes_frame s other role agrees.0 i).superuser || one_of (walked_frame s other role agrees i) name
 
 -- privileges
@@ -81,29 +81,29 @@ holds_if false s other role privilege table agrees walked = λ i. list_any (λ g
 
 pub holds_frame : (s other : State) (role : List ℕ) (privilege : Privilege) (table : List ℕ) → AgreesOn s other (holds_reads s role table) → holds other role privilege table ≡ holds s role privilege table
 holds_frame s other role privilege table agrees =
-    let parts = agrees-append s other (reach_reads s role) (if (attributes_of s role).superuser then [] else (o.Grants table ∷ [])) agrees in
+    let parts = agrees-append s other (effective_roles_reads s role) (if (attributes_of s role).superuser then [] else (o.Grants table ∷ [])) agrees in
     (λ i. (attributes_frame s other role parts.0.0 i).superuser || list_any (λ grant. is_same_privilege grant.privilege privilege && includes (attributes_frame s other role parts.0.0 i).superuser (walked_by other role) grant.grantee) (grants_of other table))
     ∙ holds_if (attributes_of s role).superuser s other role privilege table parts.1 (walked_frame s other role parts.0)
 
 pub holds_reads_frame : (s other : State) (role table : List ℕ) → AgreesOn s other (holds_reads s role table) → holds_reads other role table ≡ holds_reads s role table
 holds_reads_frame s other role table agrees =
-    let parts = agrees-append s other (reach_reads s role) (if (attributes_of s role).superuser then [] else (o.Grants table ∷ [])) agrees in
-    λ i. reach_reads_frame s other role parts.0 i ++ (if (attributes_frame s other role parts.0.0 i).superuser then [] else (o.Grants table ∷ []))
+    let parts = agrees-append s other (effective_roles_reads s role) (if (attributes_of s role).superuser then [] else (o.Grants table ∷ [])) agrees in
+    λ i. effective_roles_reads_frame s other role parts.0 i ++ (if (attributes_frame s other role parts.0.0 i).superuser then [] else (o.Grants table ∷ []))
 
 -- policies
 asked_frame : (s other : State) (table : List ℕ) (kind : Kind) (which : Side) → policies_of s table ≡ policies_of other table → asked_of other table kind which ≡ asked_of s table kind which
 asked_frame s other table kind which agrees = ap (filter (is_asked kind which)) (sym agrees)
 
-everyone_if : (all : Bool) (s other : State) (role : List ℕ) → AgreesOn s other (if all then [] else reach_reads s role)
-    → (if all then [] else reach_reads other role) ≡ (if all then [] else reach_reads s role)
+everyone_if : (all : Bool) (s other : State) (role : List ℕ) → AgreesOn s other (if all then [] else effective_roles_reads s role)
+    → (if all then [] else effective_roles_reads other role) ≡ (if all then [] else effective_roles_reads s role)
 everyone_if true s other role agrees = refl
-everyone_if false s other role agrees = reach_reads_frame s other role agrees
+everyone_if false s other role agrees = effective_roles_reads_frame s other role agrees
 
 pub applying_reads_frame : (s other : State) (role table : List ℕ) (kind : Kind) (which : Side) → AgreesOn s other (applying_reads s role table kind which)
     → applying_reads other role table kind which ≡ applying_reads s role table kind which
 applying_reads_frame s other role table kind which agrees =
     let same : asked_of other table kind which ≡ asked_of s table kind which = asked_frame s other table kind which agrees.0 in
-    ap (λ asked. o.Policies table ∷ (if list_all is_to_everyone asked then [] else reach_reads other role)) same
+    ap (λ asked. o.Policies table ∷ (if list_all is_to_everyone asked then [] else effective_roles_reads other role)) same
     ∙ ap (λ reads. o.Policies table ∷ reads) (everyone_if (list_all is_to_everyone (asked_of s table kind which)) s other role agrees.1)
 
 or_true : (a b : Bool) → b ≡ true → (a || b) ≡ true
@@ -131,7 +131,7 @@ all_are_to s role (policy ∷ policies) is =
     kept (is_to s role policy) policy (filter (is_to s role) policies) policies (everyone_is s role policy.to parts.0) (all_are_to s role policies parts.1)
 
 applying_if : (all : Bool) (s other : State) (role : List ℕ) (asked : List Policy) → list_all is_to_everyone asked ≡ all
-    → AgreesOn s other (if all then [] else reach_reads s role) → filter (is_to other role) asked ≡ filter (is_to s role) asked
+    → AgreesOn s other (if all then [] else effective_roles_reads s role) → filter (is_to other role) asked ≡ filter (is_to s role) asked
 applying_if true s other role asked all agrees = all_are_to other role asked all ∙ sym (all_are_to s role asked all)
 applying_if false s other role asked all agrees = λ i. filter (λ policy. list_any (includes (attributes_frame s other role agrees.0 i).superuser (walked_frame s other role agrees i)) policy.to) asked
 
@@ -156,25 +156,25 @@ exempt_by false false true a b same = and_none a b
 exempt_by false false false a b same = ap (λ x. x && true) (same refl)
 
 exempt_if : (enabled : Bool) (s other : State) (role : List ℕ) (table : TableDef)
-    → AgreesOn s other (if enabled then (o.Role role ∷ (if (attributes_of s role).superuser || ((attributes_of s role).bypass_rls || table.forced) then [] else reach_reads s role)) else [])
+    → AgreesOn s other (if enabled then (o.Role role ∷ (if (attributes_of s role).superuser || ((attributes_of s role).bypass_rls || table.forced) then [] else effective_roles_reads s role)) else [])
     → (not enabled || ((attributes_of other role).superuser || ((attributes_of other role).bypass_rls || (has_privileges_of other role table.owner && not table.forced))))
     ≡ (not enabled || ((attributes_of s role).superuser || ((attributes_of s role).bypass_rls || (has_privileges_of s role table.owner && not table.forced))))
 exempt_if false s other role table agrees = refl
 exempt_if true s other role table agrees =
     (λ i. (attributes_frame s other role agrees.0 i).superuser || ((attributes_frame s other role agrees.0 i).bypass_rls || (has_privileges_of other role table.owner && not table.forced)))
     ∙ exempt_by (attributes_of s role).superuser (attributes_of s role).bypass_rls table.forced (has_privileges_of other role table.owner) (has_privileges_of s role table.owner)
-    (λ goes_on. has_frame s other role table.owner (subst (λ b. AgreesOn s other (if b then [] else reach_reads s role)) goes_on agrees.1))
+    (λ goes_on. has_frame s other role table.owner (subst (λ b. AgreesOn s other (if b then [] else effective_roles_reads s role)) goes_on agrees.1))
 
 pub exempt_frame : (s other : State) (role : List ℕ) (table : TableDef) → AgreesOn s other (exempt_reads s role table) → is_exempt other role table ≡ is_exempt s role table
 exempt_frame s other role table agrees = exempt_if table.enabled s other role table agrees
 
 reads_if : (enabled : Bool) (s other : State) (role : List ℕ) (table : TableDef)
-    → AgreesOn s other (if enabled then (o.Role role ∷ (if (attributes_of s role).superuser || ((attributes_of s role).bypass_rls || table.forced) then [] else reach_reads s role)) else [])
-    → (if enabled then (o.Role role ∷ (if (attributes_of other role).superuser || ((attributes_of other role).bypass_rls || table.forced) then [] else reach_reads other role)) else [])
-    ≡ (if enabled then (o.Role role ∷ (if (attributes_of s role).superuser || ((attributes_of s role).bypass_rls || table.forced) then [] else reach_reads s role)) else [])
+    → AgreesOn s other (if enabled then (o.Role role ∷ (if (attributes_of s role).superuser || ((attributes_of s role).bypass_rls || table.forced) then [] else effective_roles_reads s role)) else [])
+    → (if enabled then (o.Role role ∷ (if (attributes_of other role).superuser || ((attributes_of other role).bypass_rls || table.forced) then [] else effective_roles_reads other role)) else [])
+    ≡ (if enabled then (o.Role role ∷ (if (attributes_of s role).superuser || ((attributes_of s role).bypass_rls || table.forced) then [] else effective_roles_reads s role)) else [])
 reads_if false s other role table agrees = refl
 reads_if true s other role table agrees =
-    ap (λ def. o.Role role ∷ (if def.superuser || (def.bypass_rls || table.forced) then [] else reach_reads other role)) (attributes_frame s other role agrees.0)
+    ap (λ def. o.Role role ∷ (if def.superuser || (def.bypass_rls || table.forced) then [] else effective_roles_reads other role)) (attributes_frame s other role agrees.0)
     ∙ ap (λ reads. o.Role role ∷ reads) (everyone_if ((attributes_of s role).superuser || ((attributes_of s role).bypass_rls || table.forced)) s other role agrees.1)
 
 pub exempt_reads_frame : (s other : State) (role : List ℕ) (table : TableDef) → AgreesOn s other (exempt_reads s role table) → exempt_reads other role table ≡ exempt_reads s role table

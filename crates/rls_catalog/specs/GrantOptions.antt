@@ -24,8 +24,8 @@ abbrev pub is_grant_of : Privilege → Grantee → List ℕ → Grant → Bool
 is_grant_of privilege grantee grantor grant = is_same_privilege grant.privilege privilege && (is_same_grantee grant.grantee grantee && bytes_eq grant.grantor grantor)
 
 -- the grant without its grant option
-abbrev pub unmarked : Grant → Grant
-unmarked grant = record grant { option = false }
+abbrev pub not_grantable : Grant → Grant
+not_grantable grant = record grant { option = false }
 
 -- REVOKE takes away the grant of the chosen grantor
 abbrev pub without_grant : Privilege → Grantee → List ℕ → List Grant → List Grant
@@ -33,7 +33,7 @@ without_grant privilege grantee grantor grants = filter (λ grant. not (is_grant
 
 -- REVOKE GRANT OPTION FOR takes away its grant option alone
 abbrev pub without_option : Privilege → Grantee → List ℕ → List Grant → List Grant
-without_option privilege grantee grantor grants = map (λ grant. if is_grant_of privilege grantee grantor grant then unmarked grant else grant) grants
+without_option privilege grantee grantor grants = map (λ grant. if is_grant_of privilege grantee grantor grant then not_grantable grant else grant) grants
 
 -- ---- what is left then
 
@@ -79,7 +79,7 @@ grantor_of s role owner holders =
 
 -- the grants without the grant options of the grantee
 abbrev pub without_options_of : List ℕ → List Grant → List Grant
-without_options_of grantee grants = map (λ grant. if is_same_grantee grant.grantee (g.Role grantee) then unmarked grant else grant) grants
+without_options_of grantee grants = map (λ grant. if is_same_grantee grant.grantee (g.Role grantee) then not_grantable grant else grant) grants
 
 -- a grant with grant option goes back to its grantor: without the grantee's own grant options he wouldn't hold it
 abbrev pub GoesBack : List ℕ → List Grant → Privilege → List ℕ → List ℕ → Type 0

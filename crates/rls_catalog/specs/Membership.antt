@@ -85,5 +85,5 @@ abbrev pub has_privileges_of : State → List ℕ → List ℕ → Bool
 has_privileges_of s role other = (attributes_of s role).superuser || one_of (walked_by s role) other
 
 -- what it reads to tell whose privileges the role has
-abbrev pub reach_reads : State → List ℕ → List Object
-reach_reads s role = o.Role role ∷ walk_reads (walked_by s role)
+abbrev pub effective_roles_reads : State → List ℕ → List Object
+effective_roles_reads s role = o.Role role ∷ walk_reads (walked_by s role)

@@ -9,7 +9,7 @@ use Rattle.rls_catalog.specs.declared.grant.Grant.{Grant}
 use Rattle.rls_expr.specs.declared.policy.Grantee.{Grantee}
 use Rattle.rls_expr.specs.declared.policy.Grantee.TheVariants as g
 use Rattle.rls_catalog.specs.State.{State, grants_of}
-use Rattle.rls_catalog.specs.Membership.{attributes_of, walked_by, reach_reads}
+use Rattle.rls_catalog.specs.Membership.{attributes_of, walked_by, effective_roles_reads}
 
 -- what is for PUBLIC is for each role; what is for a role, for those that have its privileges: a superuser, and one
 -- that reaches it
@@ -36,7 +36,7 @@ holds s role privilege table =
 
 -- what it reads to tell whether a role holds a privilege
 abbrev pub holds_reads : State → List ℕ → List ℕ → List Object
-holds_reads s role table = reach_reads s role ++ (if (attributes_of s role).superuser then [] else (o.Grants table ∷ []))
+holds_reads s role table = effective_roles_reads s role ++ (if (attributes_of s role).superuser then [] else (o.Grants table ∷ []))
 
 -- a grant option is for a role: PUBLIC holds none
 abbrev pub roles_in : Grantee → List (List ℕ)

@@ -8,7 +8,7 @@ use Rattle.rls_value.specs.declared.verb.Kind.TheVariants as k
 use Rattle.rls_value.specs.declared.verb.PolicyKind.TheVariants as pk
 use Rattle.rls_value.specs.declared.object.Object.TheVariants as o
 use Rattle.rls_expr.specs.{declared.table.TableDef.TableDef, Terms.Term, declared.policy.Grantee.Grantee, declared.policy.Policy.Policy}
-use Rattle.rls_catalog.specs.{declared.role.RoleDef.RoleDef, declared.verdict.Side.Side, declared.verdict.Verdict.Verdict, State.State, State.policies_of, State.name_order, Membership.attributes_of, Membership.has_privileges_of, Membership.reach_reads, Privileges.includes, Privileges.concerns}
+use Rattle.rls_catalog.specs.{declared.role.RoleDef.RoleDef, declared.verdict.Side.Side, declared.verdict.Verdict.Verdict, State.State, State.policies_of, State.name_order, Membership.attributes_of, Membership.has_privileges_of, Membership.effective_roles_reads, Privileges.includes, Privileges.concerns}
 use Rattle.rls_expr.specs.declared.policy.Grantee.TheVariants as g
 use Rattle.rls_catalog.specs.declared.verdict.Side.TheVariants as side
 use Rattle.rls_catalog.specs.declared.verdict.Verdict.TheVariants as v
@@ -26,7 +26,7 @@ is_exempt s role table = exempts (attributes_of s role) table (has_privileges_of
 abbrev pub exempt_reads : State → List ℕ → TableDef → List Object
 exempt_reads s role table =
     if table.enabled
-    then (o.Role role ∷ (if (attributes_of s role).superuser || ((attributes_of s role).bypass_rls || table.forced) then [] else reach_reads s role))
+    then (o.Role role ∷ (if (attributes_of s role).superuser || ((attributes_of s role).bypass_rls || table.forced) then [] else effective_roles_reads s role))
     else []
 
 -- the same type of command
@@ -88,7 +88,7 @@ is_to_everyone policy = list_any is_everyone policy.to
 
 -- what it reads to tell which policies apply: a policy TO PUBLIC asks nobody's memberships
 abbrev pub applying_reads : State → List ℕ → List ℕ → Kind → Side → List Object
-applying_reads s role table kind which = o.Policies table ∷ (if list_all is_to_everyone (asked_of s table kind which) then [] else reach_reads s role)
+applying_reads s role table kind which = o.Policies table ∷ (if list_all is_to_everyone (asked_of s table kind which) then [] else effective_roles_reads s role)
 
 -- the policy is permissive or not, and its condition is true or not
 abbrev pub is_such : Bool → Bool → Policy × Truth → Bool

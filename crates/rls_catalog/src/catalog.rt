@@ -4,9 +4,9 @@ ghost use Rattle.std.specs.Prelude.{◌≡◌, IfOk, OnOk, OnErr};
 ghost use Rattle.std.specs.Option.{option_copied};
 ghost use Rattle.rls_catalog.specs.{State.role_of, State.members_of, State.table_of, State.grants_of, State.policies_of, State.rows_of, State.rows_with_key, Changed.opening, Changed.changed_all, InOrder.RowsInOrder, PolicyLists.InNameOrder};
 
+use crate::borrowed::BorrowedRow;
 use crate::change::{Change, Delta};
 use crate::grant::Grant;
-use crate::lent::Lent;
 use crate::policy_list::PolicyList;
 use crate::role::{Membership, RoleDef};
 use crate::table_rows::Rows;
@@ -117,7 +117,7 @@ impl Catalog {
 
     /// The rows of the table, in order of their numbers.
     #[tactic(auto, using(crate::proofs::InOrderLaws::none_in_order))]
-    pub fn rows(&self, alloc: Global, table: &Name) -> Result<Items<Lent<'_>>, AllocError>
+    pub fn rows(&self, alloc: Global, table: &Name) -> Result<Items<BorrowedRow<'_>>, AllocError>
         ensures rows { IfOk result (λ rows. rows ≡ rows_of self.now table.now) }
         ensures ordered { RowsInOrder self.now table.now }
     {
@@ -135,7 +135,7 @@ impl Catalog {
         alloc: Global,
         table: &Name,
         key: &Row,
-    ) -> Result<Items<Lent<'_>>, AllocError>
+    ) -> Result<Items<BorrowedRow<'_>>, AllocError>
         ensures rows { IfOk result (λ rows. rows ≡ rows_with_key self.now table.now key.now) }
         ensures ordered { RowsInOrder self.now table.now }
     {

@@ -1,11 +1,11 @@
 //! The catalogue and the rows: roles, memberships, tables, grants, policies; what changes them; whole states.
 #![tactic(auto)]
 
+mod borrowed;
 mod catalog;
 mod change;
 mod grant;
 mod index_key;
-mod lent;
 mod policy_list;
 mod putting;
 mod role;
@@ -15,10 +15,10 @@ mod table_index;
 mod table_rows;
 mod verdict;
 
+pub use borrowed::BorrowedRow;
 pub use catalog::Catalog;
 pub use change::{Change, Delta, RowChange};
 pub use grant::Grant;
-pub use lent::Lent;
 pub use policy_list::PolicyList;
 pub use role::{Membership, RoleDef};
 pub use same::is_same_row;

@@ -3,8 +3,8 @@
 ghost use Rattle.std.specs.Prelude.{◌≡◌, [], IfOk, OnOk, map};
 ghost use Rattle.rls_catalog.specs.{Changed.with_row, InOrder.Ascend, KeyIndex.ids_under, KeyIndex.picked, State.stored_of, State.with_key};
 
+use crate::borrowed::BorrowedRow;
 use crate::index_key::IndexKey;
-use crate::lent::Lent;
 use crate::same::is_same_row;
 use crate::stored::Keyed;
 use crate::table_index::{Index, is_empty, reindex};
@@ -93,13 +93,13 @@ impl Rows {
     }
 
     /// The rows, in order of their numbers.
-    pub(crate) fn lend(&self, alloc: Global) -> Result<Items<Lent<'_>>, AllocError>
+    pub(crate) fn lend(&self, alloc: Global) -> Result<Items<BorrowedRow<'_>>, AllocError>
         ensures rows { IfOk result (λ rows. rows ≡ map stored_of self.now) }
         ensures ordered { Ascend self.now }
     {
         let mut listed = Vec::with_capacity(alloc, self.rows.len())?;
         for (id, keyed) in self.rows.iter() {
-            listed.push(Lent::new(*id, keyed))?;
+            listed.push(BorrowedRow::new(*id, keyed))?;
         }
         Ok(Items::from_vec(listed))
     }
@@ -109,7 +109,7 @@ impl Rows {
         &self,
         alloc: Global,
         key: &Row,
-    ) -> Result<Items<Lent<'_>>, AllocError>
+    ) -> Result<Items<BorrowedRow<'_>>, AllocError>
         ensures rows { IfOk result (λ rows. rows ≡ with_key key.now (map stored_of self.now)) }
         ensures ordered { Ascend self.now }
     {
@@ -146,13 +146,13 @@ fn seek<'c>(
     alloc: Global,
     rows: Iter<'c, RowId, Keyed>,
     key: &Row,
-) -> Result<Items<Lent<'c>>, AllocError>
+) -> Result<Items<BorrowedRow<'c>>, AllocError>
     ensures { IfOk result (λ found. found ≡ with_key key.now (map stored_of rows.entry)) }
 {
     let mut found = Vec::new(alloc);
     for (id, keyed) in rows {
         if is_same_row(&keyed.key, key) {
-            found.push(Lent::new(*id, keyed))?;
+            found.push(BorrowedRow::new(*id, keyed))?;
         }
     }
     Ok(Items::from_vec(found))
@@ -160,11 +160,11 @@ fn seek<'c>(
 
 /// The rows that have the key, put into the list: those whose numbers stand under it in the entries of the index from the key on.
 fn pick<'c>(
-    mut found: Vec<Lent<'c>>,
+    mut found: Vec<BorrowedRow<'c>>,
     rows: &'c SharedMap<RowId, Keyed>,
     entries: Iter<'_, IndexKey, ()>,
     key: &Row,
-) -> Result<Items<Lent<'c>>, AllocError>
+) -> Result<Items<BorrowedRow<'c>>, AllocError>
     requires { found.items ≡ [] }
     ensures { IfOk result (λ picks. picks ≡ picked key.now rows.now (ids_under key.now entries.entry)) }
 {
@@ -174,7 +174,7 @@ fn pick<'c>(
         }
         if let Some(keyed) = rows.get(&entry.id) {
             if is_same_row(&keyed.key, key) {
-                found.push(Lent::new(entry.id, keyed))?;
+                found.push(BorrowedRow::new(entry.id, keyed))?;
             }
         }
     }

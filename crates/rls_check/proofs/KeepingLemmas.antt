@@ -17,7 +17,7 @@ use Rattle.rls_catalog.specs.declared.change.Change.{Change}
 use Rattle.rls_catalog.specs.declared.change.Change.TheVariants as c
 use Rattle.rls_statement.specs.declared.statement.Statement.{Statement}
 use Rattle.rls_statement.specs.declared.statement.Statement.TheVariants as st
-use Rattle.rls_text.specs.{Answers.Answers, Answers.IsSpelled, Words.words_of, declared.token.Token.Token}
+use Rattle.rls_text.specs.{ParseResults.IsParseResult, ParseResults.IsSpelled, Words.words_of, declared.token.Token.Token}
 use Rattle.rls_audit.specs.Reading.{IsStatementText, IsPolicyText}
 use Rattle.rls_audit.specs.Shows.{NamesColumn, SpellsPolicy, ShowsChanged}
 use Rattle.rls_audit.specs.Showing.{HasKey, CanTell}
@@ -72,13 +72,13 @@ is_memory : (refusal : Refusal) → (refusal ≡ NoMemory) ⊎ (refusal ≡ NoMe
 is_memory NoMemory = inl refl
 is_memory other = inr (λ h. cc)
 
-pub statement_made : (text : List ℕ) (r : Result Statement Refusal) → IsStatementText text → IfOk r (IsSpelled (words_of text)) → (¬ (r ≡ Err NoMemory) → Answers (words_of text) r) → IsMade (IsSpelled (words_of text)) r
+pub statement_made : (text : List ℕ) (r : Result Statement Refusal) → IsStatementText text → IfOk r (IsSpelled (words_of text)) → (¬ (r ≡ Err NoMemory) → IsParseResult (words_of text) r) → IsMade (IsSpelled (words_of text)) r
 statement_made text (Ok x) has ok answer = ok
 statement_made text (Err refusal) has ok answer =
     elim (is_memory refusal) [
       | inl memory ↦ memory
       | inr other ↦
-          (let a : Answers (words_of text) (Err refusal) = answer (λ h. other (err_same refusal NoMemory h)) in
+          (let a : IsParseResult (words_of text) (Err refusal) = answer (λ h. other (err_same refusal NoMemory h)) in
           absurd (clash refusal has.0 (a.spelled has.0 has.1.words has.1.spelled ∙ has.1.within)))
     ]
 
@@ -86,12 +86,12 @@ ok_same : (x y : Statement) → ◌≡◌ {A = Result Statement Refusal} (Ok x) 
 ok_same x y h = cc
 
 -- the answer is the one statement that the text spells
-pub statement_alone : (text : List ℕ) (x : Statement) → (¬ (◌≡◌ {A = Result Statement Refusal} (Ok x) (Err NoMemory)) → Answers (words_of text) (Ok x)) → (y : Statement) → IsSpelled (words_of text) y → y ≡ x
+pub statement_alone : (text : List ℕ) (x : Statement) → (¬ (◌≡◌ {A = Result Statement Refusal} (Ok x) (Err NoMemory)) → IsParseResult (words_of text) (Ok x)) → (y : Statement) → IsSpelled (words_of text) y → y ≡ x
 statement_alone text x answer y h =
-    let a : Answers (words_of text) (Ok x) = answer (λ e. clash NoMemory x (sym e)) in
+    let a : IsParseResult (words_of text) (Ok x) = answer (λ e. clash NoMemory x (sym e)) in
     ok_same y x (sym (a.spelled y h.words h.spelled ∙ h.within))
 
-pub statement_one : (text : List ℕ) (r : Result Statement Refusal) → (¬ (r ≡ Err NoMemory) → Answers (words_of text) r) → IfOk r (λ x. (y : Statement) → IsSpelled (words_of text) y → y ≡ x)
+pub statement_one : (text : List ℕ) (r : Result Statement Refusal) → (¬ (r ≡ Err NoMemory) → IsParseResult (words_of text) r) → IfOk r (λ x. (y : Statement) → IsSpelled (words_of text) y → y ≡ x)
 statement_one text (Ok x) answer = statement_alone text x answer
 statement_one text (Err refusal) answer = tt
 

@@ -11,9 +11,9 @@ use Rattle.rls_check.specs.declared.transaction.Transaction.{Transaction}
 use Rattle.rls_check.specs.contracts.transaction.Transaction as transaction
 use Rattle.rls_check.specs.Keeping.{Keeps}
 use Rattle.rls_check.specs.KeepingLaws.{kept_there}
-use Rattle.rls_check.specs.Stored.{IsLineOf, Tells, line_one}
+use Rattle.rls_check.specs.Stored.{IsLineOf, IsLineWith, line_one}
 
-module _ (second : Bool) (text : List ℕ) (txn snap : ℕ) (tells : Tells second text txn snap) where
+module _ (second : Bool) (text : List ℕ) (txn snap : ℕ) (tells : IsLineWith second text txn snap) where
   pub told_txn : txn ≡ tells.0.txn
   told_txn = ∥∥₁_elim tells.1 (Coded-set coded_ℕ txn tells.0.txn) (λ h. sym h.1)
 
@@ -28,7 +28,7 @@ some_txn : (x y : Shown) → ◌≡◌ {A = Option Line} (Some (Txn x)) (Some (T
 some_txn x y h = cc
 
 -- what the line shows is kept in it
-pub keeps_told : (second : Bool) (text : List ℕ) (txn snap : ℕ) (shown : Shown) → MeansLine second text (Txn shown) → (tells : Tells second text txn snap) → Keeps shown tells.0
+pub keeps_told : (second : Bool) (text : List ℕ) (txn snap : ℕ) (shown : Shown) → MeansLine second text (Txn shown) → (tells : IsLineWith second text txn snap) → Keeps shown tells.0
 keeps_told second text txn snap shown means tells =
     let there = kept_there shown means.1.0 means.1.1 in
     subst (Keeps shown) (told_one second text txn snap tells there.0 (record { shown = shown; means = means; keeps = there.1 })) there.1

@@ -9,7 +9,7 @@ use Rattle.rls_statement.specs.declared.statement.Statement.{Statement}
 use Rattle.rls_statement.specs.declared.statement.Statement.TheVariants as st
 use Rattle.rls_access.specs.Transactions.{Begin}
 use Rattle.rls_guard.specs.{declared.context.Mode.Mode, declared.reply.Reply.Reply, declared.reply.Decision.Decision}
-use Rattle.rls_text.specs.{Answers.IsSpelled, Words.words_of}
+use Rattle.rls_text.specs.{ParseResults.IsSpelled, Words.words_of}
 use Rattle.rls_text.proofs.Laws.{one_statement}
 use Rattle.rls_audit.specs.Reading.{HasStatement, HasPolicies, IsPolicyText}
 use Rattle.rls_audit.specs.Shows.{SpellsPolicy}

@@ -21,8 +21,8 @@ pub record IsLineOf (second : Bool) (text : List ℕ) (it : Transaction) : Type 
   pub keeps : Keeps shown it
 
 -- it is that of one transaction, with this number and this snapshot
-abbrev pub Tells : Bool → List ℕ → ℕ → ℕ → Type 0
-Tells second text txn snap = (it : Transaction) × ∥ (IsLineOf second text it × (it.txn ≡ txn) × (it.snap ≡ snap)) ∥₁
+abbrev pub IsLineWith : Bool → List ℕ → ℕ → ℕ → Type 0
+IsLineWith second text txn snap = (it : Transaction) × ∥ (IsLineOf second text it × (it.txn ≡ txn) × (it.snap ≡ snap)) ∥₁
 
 some_txn : (x y : Shown) → ◌≡◌ {A = Option Line} (Some (Txn x)) (Some (Txn y)) → x ≡ y
 some_txn x y h = cc
@@ -33,6 +33,6 @@ line_one second text x y h k =
     keeps_one k.shown x y (subst (λ (s : Shown). Keeps s x) (some_txn h.shown k.shown (sym h.means.0 ∙ k.means.0)) h.keeps) k.keeps
 
 -- so it tells one transaction
-pub tells_one : (second : Bool) (text : List ℕ) (txn snap : ℕ) → IsProp (Tells second text txn snap)
+pub tells_one : (second : Bool) (text : List ℕ) (txn snap : ℕ) → IsProp (IsLineWith second text txn snap)
 tells_one second text txn snap x y =
     Σ_prop_path (λ it. ∥∥₁_prop) (∥∥₁_elim x.1 (Coded-set transaction.the_row.coded x.0 y.0) (λ h. ∥∥₁_elim y.1 (Coded-set transaction.the_row.coded x.0 y.0) (λ k. line_one second text x.0 y.0 h.0 k.0)))

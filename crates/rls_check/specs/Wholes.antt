@@ -19,7 +19,7 @@ use Rattle.rls_check.specs.Keeping.{Keeps, AreKept, lines_read}
 
 -- ---- audits as texts
 
--- the transaction may stand behind these: it has a number that none of them has, the next commit, and began after no more commits
+-- the transaction may stand behind these: it has a number above 0 that none of them has, the next commit, and began after no more commits
 -- than they are
 pub record StandsBehind (front : List Shown) (one : Shown) : Type 0 where
   pub number : 0 < one.txn

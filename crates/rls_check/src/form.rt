@@ -1,7 +1,7 @@
 //! The form of an audit across its lines: which line may stand next.
 
 ghost use Rattle.std.specs.Prelude.{◌≡◌, ◌+◌, false, OnOk, IsUtf8};
-ghost use Rattle.rls_audit.specs.Reading.{MeansLine, Tells, IsLineRead};
+ghost use Rattle.rls_audit.specs.Reading.{MeansLine, TellsWhether, IsLineRead};
 ghost use Rattle.rls_audit.specs.declared.lines.Line.TheVariants.{Head};
 ghost use Rattle.rls_check.specs.Forms as spec;
 ghost use Rattle.rls_check.specs.Forms.{FollowsAll, Follows, IsNext, IsBehind, IsUnread, HeadOf, FollowerOf, IsFoundAmong, IsTakenAmong, IsEnded, used_behind};
@@ -108,7 +108,7 @@ impl Form {
 
     /// Whether the line may stand behind the head.
     fn follows(&self, line: &Line) -> bool
-        ensures { Tells result (Follows self.now.used line.now) }
+        ensures { TellsWhether result (Follows self.now.used line.now) }
     {
         match line {
             Line::Head => false,
@@ -119,7 +119,7 @@ impl Form {
 
     /// Whether the transaction may stand behind the others.
     fn follows_all(&self, shown: &Shown) -> bool
-        ensures { Tells result (FollowsAll self.now.used shown.now) }
+        ensures { TellsWhether result (FollowsAll self.now.used shown.now) }
     {
         let commits = self.used.len() as u64;
         shown.txn > 0
@@ -212,7 +212,7 @@ fn read_first_head(alloc: Global, number: u64, text: &str) -> Result<(Line, bool
 }
 
 fn is_head(line: &Line) -> bool
-    ensures { Tells result (line.now ≡ Head) }
+    ensures { TellsWhether result (line.now ≡ Head) }
 {
     match line {
         Line::Head => true,

@@ -3,7 +3,7 @@
 ghost use Rattle.std.specs.Prelude.{◌≡◌, map, IfOk};
 ghost use Rattle.std.specs.List.{All, AllZip};
 ghost use Rattle.rls_statement.specs.declared.statement.Statement.{Statement};
-ghost use Rattle.rls_text.specs.{Answers.IsSpelled, Words.words_of};
+ghost use Rattle.rls_text.specs.{ParseResults.IsSpelled, Words.words_of};
 ghost use Rattle.rls_audit.specs.Reading.{HasStatement, HasPolicies, IsStatementText, IsPolicyText};
 ghost use Rattle.rls_audit.specs.Shows.{SpellsPolicy};
 ghost use Rattle.rls_check.specs.Keeping as spec;

@@ -1,6 +1,6 @@
 //! A transaction of an audit, kept as the text of its line.
 
-ghost use Rattle.rls_check.specs.Stored.{Tells, tells_one};
+ghost use Rattle.rls_check.specs.Stored.{IsLineWith, tells_one};
 
 use crate::form::read_as;
 use crate::keeping::kept;
@@ -18,7 +18,7 @@ pub(crate) struct Stored {
     text: Text,
     txn: u64,
     snap: u64,
-    ghost tells: { Tells second text txn snap } by { tells_one second text txn snap },
+    ghost tells: { IsLineWith second text txn snap } by { tells_one second text txn snap },
 }
 
 impl Model for Stored {

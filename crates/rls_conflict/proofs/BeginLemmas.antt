@@ -12,7 +12,7 @@ use Rattle.rls_catalog.specs.Bases.{covers, covers_any}
 use Rattle.rls_source.specs.Footprints.{is_among}
 use Rattle.rls_siread.specs.Covering.{covered_of}
 use Rattle.rls_siread.specs.Locks.{Locks, marked, Notes, notes_at, objects_in, commit_in, noted_by, commit_of, has_notes, is_number_in, is_committed_by, arrived, without, HasNoted, HasForgotten, HasCommitted}
-use Rattle.rls_siread.specs.Index.{Held, held_at}
+use Rattle.rls_siread.specs.Index.{HolderList, held_at}
 use Rattle.rls_siread.specs.Promotion.{noted_with}
 use Rattle.rls_siread.proofs.LocksLaws.{same_number, number_itself, number_turned, number_arrived, number_without}
 use Rattle.rls_conflict.specs.declared.committed.Committed.{Committed}
@@ -34,7 +34,7 @@ new_apart (x ∷ xs) txn none zero it there =
     ap (λ (one : Committed). nat_eq txn one.transaction.number) (sym same) ∙ (or_parts (nat_eq txn x.transaction.number) (list_any (has_number txn) (all_committed xs)) none).0
 new_apart (x ∷ xs) txn none (suc place) it there = new_apart xs txn (or_parts (nat_eq txn x.transaction.number) (list_any (has_number txn) (all_committed xs)) none).1 place it there
 
-module _ (committed : List Committed) (running : List (ℕ × Begun)) (locks : Locks) (writers : List (Object × Held)) (floor txn : ℕ) (old : IsIndexed committed running locks writers floor)
+module _ (committed : List Committed) (running : List (ℕ × Begun)) (locks : Locks) (writers : List (Object × HolderList)) (floor txn : ℕ) (old : IsIndexed committed running locks writers floor)
     (apart : IsApart committed txn) (absent : at_number txn running ≡ None) where
   nowhere : (is_some (at_number txn running) ≡ true) ⊎ IsRecent committed floor txn → ⊥
   nowhere found = elim found [
@@ -49,7 +49,7 @@ module _ (committed : List Committed) (running : List (ℕ × Begun)) (locks : L
   pub new_unwritten : (object : Object) → is_number_in (held_at writers object) txn ≡ false
   new_unwritten object = false_from_ne_true (is_number_in (held_at writers object) txn) (λ is. nowhere (old.no_writer txn object is))
 
-pub begun_kept : (committed : List Committed) (len capacity len' capacity' : ℕ) (running running' : List (ℕ × Begun)) (locks locks' : Locks) (writers : List (Object × Held)) (floor txn snap : ℕ)
+pub begun_kept : (committed : List Committed) (len capacity len' capacity' : ℕ) (running running' : List (ℕ × Begun)) (locks locks' : Locks) (writers : List (Object × HolderList)) (floor txn snap : ℕ)
     → IsWhole committed len capacity running locks writers floor → IsApart committed txn → at_number txn running ≡ None → snap ≡ length committed
     → IsPutAt txn (Some (begun_at snap)) running running'
     → ((other : ℕ) → notes_at locks'.notes other ≡ (if nat_eq txn other then Some (record { commit = None; objects = [] }) else notes_at locks.notes other))

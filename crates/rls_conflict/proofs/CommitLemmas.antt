@@ -12,7 +12,7 @@ use Rattle.rls_catalog.specs.Bases.{covers, covers_any}
 use Rattle.rls_source.specs.Footprints.{is_among}
 use Rattle.rls_siread.specs.Covering.{covered_of}
 use Rattle.rls_siread.specs.Locks.{Locks, marked, Notes, notes_at, objects_in, commit_in, noted_by, commit_of, has_notes, is_number_in, is_committed_by, arrived, without, HasNoted, HasForgotten, HasCommitted}
-use Rattle.rls_siread.specs.Index.{Held, held_at}
+use Rattle.rls_siread.specs.Index.{HolderList, held_at}
 use Rattle.rls_siread.specs.Promotion.{noted_with}
 use Rattle.rls_siread.proofs.LocksLaws.{same_number, number_itself, number_turned, number_arrived, number_without}
 use Rattle.rls_conflict.specs.declared.committed.Committed.{Committed}
@@ -42,7 +42,7 @@ module _ (committed : List Committed) (running running' : List (ℕ × Begun)) (
   marks_next : HasCommitted txn (suc (length committed)) locks locks'
   marks_next = subst (λ n. HasCommitted txn n locks locks') next marks
 
-  pub closed_kept : (len capacity len' capacity' : ℕ) (writers : List (Object × Held)) (floor : ℕ) → IsWhole committed len capacity running locks writers floor → len' + length running' ≤ capacity'
+  pub closed_kept : (len capacity len' capacity' : ℕ) (writers : List (Object × HolderList)) (floor : ℕ) → IsWhole committed len capacity running locks writers floor → len' + length running' ≤ capacity'
       → IsWhole (committed ++ entry_of ready ∷ []) len' capacity' running' locks' writers floor
   closed_kept len capacity len' capacity' writers floor whole room =
       let it = some_there (at_number txn running) (sym (runs committed running locks txn) ∙ ran) in

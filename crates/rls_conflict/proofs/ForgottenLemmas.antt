@@ -8,14 +8,14 @@ use Rattle.std.proofs.lemmas.Option.{none-some}
 use Rattle.rls_value.specs.declared.object.Object.{Object}
 use Rattle.rls_source.specs.Footprints.{is_among}
 use Rattle.rls_siread.specs.Locks.{Locks, Notes, notes_at, objects_in, commit_in, commit_of, has_notes, is_number_in, is_committed_by, HasForgotten}
-use Rattle.rls_siread.specs.Index.{Held, held_at}
+use Rattle.rls_siread.specs.Index.{HolderList, held_at}
 use Rattle.rls_conflict.specs.declared.committed.Committed.{Committed}
 use Rattle.rls_conflict.specs.Begun.{Begun, at_number}
 use Rattle.rls_conflict.specs.Known.{has_number}
 use Rattle.rls_conflict.specs.Kept.{running_seen, IsRecent, IsIndexed, IsWhole, NumbersDiffer, IsReleased}
 use Rattle.rls_conflict.proofs.RunningLemmas.{as_transaction, found_running}
 
-module _ (committed : List Committed) (running : List (ℕ × Begun)) (locks locks' : Locks) (writers writers' : List (Object × Held)) (floor floor' : ℕ)
+module _ (committed : List Committed) (running : List (ℕ × Begun)) (locks locks' : Locks) (writers writers' : List (Object × HolderList)) (floor floor' : ℕ)
     (forgets : HasForgotten (λ txn. is_committed_by floor' (commit_of locks txn)) locks locks') (released : IsReleased committed floor floor' writers writers')
     (later : floor ≤ floor') (differ : NumbersDiffer committed running) (old : IsIndexed committed running locks writers floor) where
   left : Bool → Option Notes → Option Notes
@@ -74,7 +74,7 @@ module _ (committed : List Committed) (running : List (ℕ × Begun)) (locks loc
     no_writer = writer;
   }
 
-pub forgot_kept : (committed : List Committed) (len capacity : ℕ) (running : List (ℕ × Begun)) (locks locks' : Locks) (writers writers' : List (Object × Held)) (floor floor' : ℕ)
+pub forgot_kept : (committed : List Committed) (len capacity : ℕ) (running : List (ℕ × Begun)) (locks locks' : Locks) (writers writers' : List (Object × HolderList)) (floor floor' : ℕ)
     → IsWhole committed len capacity running locks writers floor → floor ≤ floor' → floor' ≤ length committed → ((txn : ℕ) (it : Begun) → at_number txn running ≡ Some it → floor' ≤ it.snap)
     → HasForgotten (λ txn. is_committed_by floor' (commit_of locks txn)) locks locks' → IsReleased committed floor floor' writers writers' → IsWhole committed len capacity running locks' writers' floor'
 forgot_kept committed len capacity running locks locks' writers writers' floor floor' whole later within begun forgets released = record {

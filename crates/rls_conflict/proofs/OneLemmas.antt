@@ -6,7 +6,7 @@ use Rattle.std.proofs.lemmas.Bool.{true≢false, false_from_ne_true}
 use Rattle.rls_value.specs.declared.object.Object.{Object}
 use Rattle.rls_catalog.specs.Bases.{covers_any}
 use Rattle.rls_siread.specs.Locks.{Locks, notes_at, objects_in, commit_in, commit_of, has_notes, is_number_in}
-use Rattle.rls_siread.specs.Index.{Held, held_at}
+use Rattle.rls_siread.specs.Index.{HolderList, held_at}
 use Rattle.rls_siread.proofs.LocksLaws.{same_number}
 use Rattle.rls_conflict.specs.declared.committed.Committed.{Committed}
 use Rattle.rls_conflict.specs.Begun.{Begun, at_number}
@@ -18,12 +18,12 @@ abbrev pub IsApart : List Committed → ℕ → Type 0
 IsApart committed txn = (place : ℕ) (it : Committed) → slice_get committed place ≡ Some it → nat_eq txn it.transaction.number ≡ false
 
 -- what the indexes know of others is as it was
-pub record OthersStay (txn : ℕ) (locks locks' : Locks) (writers writers' : List (Object × Held)) : Type 0 where
+pub record OthersStay (txn : ℕ) (locks locks' : Locks) (writers writers' : List (Object × HolderList)) : Type 0 where
   pub notes : (other : ℕ) → nat_eq txn other ≡ false → notes_at locks'.notes other ≡ notes_at locks.notes other
   pub written : (other : ℕ) (object : Object) → nat_eq txn other ≡ false → is_number_in (held_at writers' object) other ≡ is_number_in (held_at writers object) other
 
 -- what they know of one that runs
-pub record IsRunIn (locks : Locks) (writers : List (Object × Held)) (floor commits txn : ℕ) (it : Begun) : Type 0 where
+pub record IsRunIn (locks : Locks) (writers : List (Object × HolderList)) (floor commits txn : ℕ) (it : Begun) : Type 0 where
   pub noted : has_notes locks txn ≡ true
   pub unmarked : commit_of locks txn ≡ None
   pub written : (object : Object) → is_number_in (held_at writers object) txn ≡ covers_any object it.changes
@@ -31,11 +31,11 @@ pub record IsRunIn (locks : Locks) (writers : List (Object × Held)) (floor comm
   pub begun : it.snap ≤ commits
 
 -- what they know of nobody
-pub record IsGoneFrom (locks : Locks) (writers : List (Object × Held)) (txn : ℕ) : Type 0 where
+pub record IsGoneFrom (locks : Locks) (writers : List (Object × HolderList)) (txn : ℕ) : Type 0 where
   pub unnoted : has_notes locks txn ≡ false
   pub unwritten : (object : Object) → is_number_in (held_at writers object) txn ≡ false
 
-module _ (committed : List Committed) (running running' : List (ℕ × Begun)) (locks locks' : Locks) (writers writers' : List (Object × Held)) (floor txn : ℕ) (now : Option Begun)
+module _ (committed : List Committed) (running running' : List (ℕ × Begun)) (locks locks' : Locks) (writers writers' : List (Object × HolderList)) (floor txn : ℕ) (now : Option Begun)
     (puts : IsPutAt txn now running running') (stay : OthersStay txn locks locks' writers writers')
     (known : (it : Begun) → now ≡ Some it → IsRunIn locks' writers' floor (length committed) txn it) (gone : now ≡ None → IsGoneFrom locks' writers' txn) where
   -- another that runs did so before
@@ -109,7 +109,7 @@ running_apart committed running txn differ ran place it there =
     (λ same. true≢false (sym ran ∙ ap (λ n. is_some (at_number n running)) (same_number txn it.transaction.number same) ∙ ap is_some (differ.over place it there)))
 
 -- what the parts know is as it was, with room at least
-pub same_kept : (committed committed' : List Committed) (len len' capacity capacity' : ℕ) (running running' : List (ℕ × Begun)) (locks locks' : Locks) (writers writers' : List (Object × Held)) (floor : ℕ)
+pub same_kept : (committed committed' : List Committed) (len len' capacity capacity' : ℕ) (running running' : List (ℕ × Begun)) (locks locks' : Locks) (writers writers' : List (Object × HolderList)) (floor : ℕ)
     → IsWhole committed len capacity running locks writers floor → committed' ≡ committed → len' ≡ len → capacity ≤ capacity' → running' ≡ running
     → ((txn : ℕ) → notes_at locks'.notes txn ≡ notes_at locks.notes txn) → ((object : Object) → held_at writers' object ≡ held_at writers object)
     → IsWhole committed' len' capacity' running' locks' writers' floor

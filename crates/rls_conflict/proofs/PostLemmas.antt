@@ -10,7 +10,7 @@ use Rattle.rls_catalog.specs.declared.change.Change.{Change}
 use Rattle.rls_catalog.specs.Bases.{covers, covers_any}
 use Rattle.rls_source.specs.Footprints.{is_among}
 use Rattle.rls_siread.specs.Locks.{Locks, notes_at, objects_in, commit_in, noted_by, commit_of, is_number_in, arrived, HasNoted}
-use Rattle.rls_siread.specs.Index.{Held, held_at}
+use Rattle.rls_siread.specs.Index.{HolderList, held_at}
 use Rattle.rls_siread.specs.Promotion.{noted_with}
 use Rattle.rls_siread.proofs.LocksLaws.{number_itself, number_turned, number_arrived}
 use Rattle.rls_conflict.specs.declared.committed.Committed.{Committed}
@@ -35,7 +35,7 @@ held_case true false txns txn other is = number_arrived txns txn other ∙ ap (�
 held_case false true txns txn other is = refl
 held_case false false txns txn other is = refl
 
-module _ (writers writers' : List (Object × Held)) (txn : ℕ) (covered : List Object)
+module _ (writers writers' : List (Object × HolderList)) (txn : ℕ) (covered : List Object)
     (holds : (object : Object) → held_at writers' object ≡ (if is_among covered object then arrived (held_at writers object) txn else held_at writers object)) where
   pub held_other : (other : ℕ) (object : Object) → nat_eq txn other ≡ false → is_number_in (held_at writers' object) other ≡ is_number_in (held_at writers object) other
   held_other other object differs =
@@ -57,7 +57,7 @@ with_changes_none : (more : List Change) (found : Option Begun) → option_map (
 with_changes_none more None is there = true≢false (sym there)
 with_changes_none more (Some was) is there = let no : ⊥ = cc in no
 
-pub posted_kept : (committed : List Committed) (len capacity : ℕ) (running running' : List (ℕ × Begun)) (locks locks' : Locks) (writers writers' : List (Object × Held)) (floor txn : ℕ)
+pub posted_kept : (committed : List Committed) (len capacity : ℕ) (running running' : List (ℕ × Begun)) (locks locks' : Locks) (writers writers' : List (Object × HolderList)) (floor txn : ℕ)
     (more : List Change) (covered objects : List Object)
     → IsWhole committed len capacity running locks writers floor → is_some (at_number txn running) ≡ true → ((object : Object) → is_among covered object ≡ covers_any object more)
     → IsPutAt txn (option_map (with_changes more) (at_number txn running)) running running' → length running' ≡ length running → HasNoted txn objects locks locks'

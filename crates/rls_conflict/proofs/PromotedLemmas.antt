@@ -11,7 +11,7 @@ use Rattle.rls_value.specs.declared.object.Object.{Object}
 use Rattle.rls_source.specs.Footprints.{is_among}
 use Rattle.rls_siread.specs.Covering.{covered_of}
 use Rattle.rls_siread.specs.Locks.{Locks, Notes, notes_at, objects_in, commit_in, noted_by, commit_of, has_notes, is_number_in, promoted_notes, HasPromoted}
-use Rattle.rls_siread.specs.Index.{Held, held_at}
+use Rattle.rls_siread.specs.Index.{HolderList, held_at}
 use Rattle.rls_siread.specs.Promotion.{promoted}
 use Rattle.rls_siread.proofs.CoveringLaws.{among_covered_of, any_same}
 use Rattle.rls_catalog.specs.Bases.{covers_any}
@@ -177,7 +177,7 @@ entries_stand committed transactions entries told are of place it there = record
 
 -- ---- the record
 
-module _ (limit : ℕ) (committed committed' : List Committed) (running : List (ℕ × Begun)) (locks locks' : Locks) (writers : List (Object × Held)) (floor : ℕ)
+module _ (limit : ℕ) (committed committed' : List Committed) (running : List (ℕ × Begun)) (locks locks' : Locks) (writers : List (Object × HolderList)) (floor : ℕ)
     (are : all_committed committed' ≡ map (λ (it : Committed). with_promoted limit it.transaction) committed) (covers : map covered_in committed' ≡ map covered_in committed) (promotes : HasPromoted limit locks locks') where
   size : length committed' ≡ length committed
   size = sym (length-map committed' committed_seen) ∙ ap (λ (them : List Transaction). length them) are ∙ length-map committed (λ (it : Committed). with_promoted limit it.transaction)

@@ -10,7 +10,7 @@ use Rattle.rls_source.specs.Footprints.{is_among}
 use Rattle.rls_history.specs.History.{rw}
 use Rattle.rls_siread.specs.Covering.{covered_of}
 use Rattle.rls_siread.specs.Locks.{Notes, Locks, commit_in, commit_of, has_notes, held_by, noted_by, notes_at, is_number_in}
-use Rattle.rls_siread.specs.Index.{Held, held_at}
+use Rattle.rls_siread.specs.Index.{HolderList, held_at}
 use Rattle.rls_siread.proofs.CoveringLaws.{among_covered_of}
 use Rattle.rls_siread.proofs.LocksLaws.{same_number, number_itself}
 use Rattle.rls_conflict.specs.declared.committed.Committed.{Committed}
@@ -63,7 +63,7 @@ pub record StandsAt (committed : List Committed) (floor number place : ℕ) : Ty
   pub number_is : it.transaction.number ≡ number
   pub recent : floor ≤ place
 
-module _ (committed : List Committed) (running : List (ℕ × Begun)) (locks : Locks) (writers : List (Object × Held)) (floor : ℕ)
+module _ (committed : List Committed) (running : List (ℕ × Begun)) (locks : Locks) (writers : List (Object × HolderList)) (floor : ℕ)
     (entries : AreEntries committed) (indexed : IsIndexed committed running locks writers floor) where
   -- it doesn't run, since those that run didn't commit
   stands_at : (number place : ℕ) → (is_some (at_number number running) ≡ true) ⊎ IsRecent committed floor number → commit_of locks number ≡ Some (suc place) → StandsAt committed floor number place

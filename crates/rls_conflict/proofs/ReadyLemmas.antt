@@ -7,7 +7,7 @@ use Rattle.rls_catalog.specs.declared.change.Change.{Change}
 use Rattle.rls_source.specs.Footprints.{is_among}
 use Rattle.rls_siread.specs.Covering.{covered_of}
 use Rattle.rls_siread.specs.Locks.{Locks, held_by, noted_by, is_number_in}
-use Rattle.rls_siread.specs.Index.{Held}
+use Rattle.rls_siread.specs.Index.{HolderList}
 use Rattle.rls_conflict.specs.declared.committed.Committed.{Committed}
 use Rattle.rls_conflict.specs.declared.ready.Ready.{Ready}
 use Rattle.rls_conflict.specs.Transactions.{Transaction}
@@ -29,7 +29,7 @@ transaction_is locks txn it transaction snap noted changes is snap_is noted_is c
 size : (committed : List Committed) → length (all_committed committed) ≡ length committed
 size committed = length-map committed committed_seen
 
-pub is_ready : (committed : List Committed) (running : List (ℕ × Begun)) (locks : Locks) (writers : List (Object × Held)) (floor : ℕ) → AreEntries committed → IsIndexed committed running locks writers floor
+pub is_ready : (committed : List Committed) (running : List (ℕ × Begun)) (locks : Locks) (writers : List (Object × HolderList)) (floor : ℕ) → AreEntries committed → IsIndexed committed running locks writers floor
     → ((object : Object) (number : ℕ) → is_number_in (held_by locks object) number ≡ is_among (noted_by locks number) object)
     → (txn : ℕ) (it : Begun) → at_number txn running ≡ Some it → floor ≤ it.snap → (ready : Ready) → ready.transaction ≡ running_seen locks (txn, it) → ready.covered ≡ covered_of it.changes
     → (noted covered : List Object) → noted ≡ noted_by locks txn → covered ≡ covered_of it.changes

@@ -9,7 +9,7 @@ use Rattle.std.proofs.lemmas.Option.{same_Some}
 use Rattle.rls_value.specs.declared.object.Object.{Object}
 use Rattle.rls_source.specs.Footprints.{is_among}
 use Rattle.rls_siread.specs.Locks.{is_number_in, without}
-use Rattle.rls_siread.specs.Index.{Held, held_at}
+use Rattle.rls_siread.specs.Index.{HolderList, held_at}
 use Rattle.rls_siread.proofs.LocksLaws.{same_number, number_itself, number_without, without_twice}
 use Rattle.rls_conflict.specs.declared.committed.Committed.{Committed}
 use Rattle.rls_conflict.specs.Begun.{Begun, at_number, least_snap}
@@ -41,20 +41,20 @@ released_case true false txns number txn is = number_without txns number txn ∙
 released_case false true txns number txn is = refl
 released_case false false txns number txn is = refl
 
-pub released_one : (old new : List (Object × Held)) (covered : List Object) (number : ℕ)
+pub released_one : (old new : List (Object × HolderList)) (covered : List Object) (number : ℕ)
     → ((object : Object) → held_at new object ≡ (if is_among covered object then without (held_at old object) number else held_at old object))
     → (object : Object) (txn : ℕ) → is_number_in (held_at new object) txn ≡ (not (nat_eq txn number && is_among covered object) && is_number_in (held_at old object) txn)
 released_one old new covered number leaves object txn =
     ap (λ txns. is_number_in txns txn) (leaves object) ∙ released_case (is_among covered object) (nat_eq txn number) (held_at old object) number txn refl
 
-pub released_none : (committed : List Committed) (from : ℕ) (writers : List (Object × Held)) → IsReleased committed from from writers writers
+pub released_none : (committed : List Committed) (from : ℕ) (writers : List (Object × HolderList)) → IsReleased committed from from writers writers
 released_none committed from writers = record {
   gone = λ place it there above below. absurd (omega arith);
   kept = λ txn apart object. refl;
   fewer = λ txn object is. is;
 }
 
-pub released_next : (committed : List Committed) (from to : ℕ) (old now new : List (Object × Held)) (it : Committed) → slice_get committed to ≡ Some it → from ≤ to → IsReleased committed from to old now
+pub released_next : (committed : List Committed) (from to : ℕ) (old now new : List (Object × HolderList)) (it : Committed) → slice_get committed to ≡ Some it → from ≤ to → IsReleased committed from to old now
     → ((object : Object) (txn : ℕ) → is_number_in (held_at new object) txn ≡ (not (nat_eq txn it.transaction.number && is_among it.covered object) && is_number_in (held_at now object) txn))
     → IsReleased committed from (to + 1) old new
 released_next committed from to old now new it there within before leaves = record {
@@ -90,7 +90,7 @@ either_case true false held txn = refl
 either_case false true held txn = refl
 either_case false false held txn = refl
 
-pub parts_next : (now new : List (Object × Held)) (txn : ℕ) (part : List Object) (rest : List (List Object))
+pub parts_next : (now new : List (Object × HolderList)) (txn : ℕ) (part : List Object) (rest : List (List Object))
     → ((object : Object) → held_at new object ≡ (if is_among part object then without (held_at now object) txn else held_at now object))
     → (object : Object) → (if list_any (λ part. is_among part object) rest then without (held_at new object) txn else held_at new object)
     ≡ (if list_any (λ part. is_among part object) (part ∷ rest) then without (held_at now object) txn else held_at now object)

@@ -12,7 +12,7 @@ use Rattle.rls_catalog.specs.Bases.{covers, covers_any}
 use Rattle.rls_source.specs.Footprints.{is_among}
 use Rattle.rls_siread.specs.Covering.{covered_of}
 use Rattle.rls_siread.specs.Locks.{Locks, marked, Notes, notes_at, objects_in, commit_in, noted_by, commit_of, has_notes, is_number_in, is_committed_by, arrived, without, HasNoted, HasForgotten, HasCommitted}
-use Rattle.rls_siread.specs.Index.{Held, held_at}
+use Rattle.rls_siread.specs.Index.{HolderList, held_at}
 use Rattle.rls_siread.specs.Promotion.{noted_with}
 use Rattle.rls_siread.proofs.LocksLaws.{same_number, number_itself, number_turned, number_arrived, number_without}
 use Rattle.rls_conflict.specs.declared.committed.Committed.{Committed}
@@ -38,7 +38,7 @@ not_and_same : (a b : Bool) → b ≡ a → (not a && b) ≡ false
 not_and_same true b is = refl
 not_and_same false b is = is
 
-module _ (writers writers' : List (Object × Held)) (txn : ℕ) (parts : List (List Object))
+module _ (writers writers' : List (Object × HolderList)) (txn : ℕ) (parts : List (List Object))
     (leaves : (object : Object) → held_at writers' object ≡ (if list_any (λ part. is_among part object) parts then without (held_at writers object) txn else held_at writers object)) where
   pub left_other : (other : ℕ) (object : Object) → nat_eq txn other ≡ false → is_number_in (held_at writers' object) other ≡ is_number_in (held_at writers object) other
   left_other other object differs =
@@ -53,7 +53,7 @@ module _ (writers writers' : List (Object × Held)) (txn : ℕ) (parts : List (L
       ∙ ap (λ b. if b then not (list_any (λ part. is_among part object) parts) && is_number_in (held_at writers object) txn else is_number_in (held_at writers object) txn) (number_itself txn)
       ∙ not_and_same (list_any (λ part. is_among part object) parts) (is_number_in (held_at writers object) txn) is
 
-pub away_kept : (committed : List Committed) (len capacity : ℕ) (running running' : List (ℕ × Begun)) (locks locks' : Locks) (writers writers' : List (Object × Held)) (floor txn : ℕ) (it : Begun) (parts : List (List Object))
+pub away_kept : (committed : List Committed) (len capacity : ℕ) (running running' : List (ℕ × Begun)) (locks locks' : Locks) (writers writers' : List (Object × HolderList)) (floor txn : ℕ) (it : Begun) (parts : List (List Object))
     → IsWhole committed len capacity running locks writers floor → at_number txn running ≡ Some it → AreParts parts it.changes
     → IsPutAt txn None running running' → length running' ≤ length running → HasForgotten (nat_eq txn) locks locks'
     → ((object : Object) → held_at writers' object ≡ (if list_any (λ part. is_among part object) parts then without (held_at writers object) txn else held_at writers object))

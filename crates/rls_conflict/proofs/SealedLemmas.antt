@@ -10,7 +10,7 @@ use Rattle.rls_catalog.specs.Bases.{covers_any}
 use Rattle.rls_source.specs.Footprints.{is_among}
 use Rattle.rls_siread.specs.Covering.{covered_of}
 use Rattle.rls_siread.specs.Locks.{Locks, Notes, notes_at, objects_in, commit_in, noted_by, commit_of, has_notes, is_number_in, marked, HasCommitted}
-use Rattle.rls_siread.specs.Index.{Held, held_at}
+use Rattle.rls_siread.specs.Index.{HolderList, held_at}
 use Rattle.rls_siread.proofs.CoveringLaws.{among_covered_of}
 use Rattle.rls_siread.proofs.LocksLaws.{same_number, number_itself}
 use Rattle.rls_conflict.specs.declared.committed.Committed.{Committed}
@@ -32,7 +32,7 @@ marked_some : (commit : ℕ) (notes : Option Notes) → is_some (marked commit n
 marked_some commit (Some notes) = refl
 marked_some commit None = refl
 
-module _ (committed : List Committed) (new : Committed) (running running' : List (ℕ × Begun)) (locks locks' : Locks) (writers : List (Object × Held)) (floor txn : ℕ) (it : Begun)
+module _ (committed : List Committed) (new : Committed) (running running' : List (ℕ × Begun)) (locks locks' : Locks) (writers : List (Object × HolderList)) (floor txn : ℕ) (it : Begun)
     (ran : at_number txn running ≡ Some it) (puts : IsPutAt txn None running running') (marks : HasCommitted txn (suc (length committed)) locks locks')
     (is_it : new.transaction ≡ running_seen locks (txn, it)) (covered : new.covered ≡ covered_of new.transaction.changes) where
   number : new.transaction.number ≡ txn

@@ -23,7 +23,7 @@ use Rattle.rls_source.specs.Footprints.{is_object, is_among}
 use Rattle.rls_source.specs.FootprintLaws.{is_object_same, among_footprint}
 use Rattle.rls_siread.specs.Covering.{written_by_all, written_of, covered_of}
 use Rattle.rls_siread.specs.Locks.{Locks, commit_of, is_number_in}
-use Rattle.rls_siread.specs.Index.{Held, held_at}
+use Rattle.rls_siread.specs.Index.{HolderList, held_at}
 use Rattle.rls_siread.proofs.CoveringLaws.{among_covered_of}
 use Rattle.rls_siread.proofs.LocksLaws.{same_number, number_itself, number_at}
 use Rattle.rls_conflict.specs.declared.committed.Committed.{Committed}
@@ -37,7 +37,7 @@ use Rattle.rls_conflict.proofs.WritingLemmas.{any_from_in, in_from_any}
 use Rattle.rls_conflict.proofs.MemberLemmas.{number_in, any_number, in_drop, drop_in, entry_found, found_entry, some_is}
 
 -- where the first one wasn't written, and none of the rest, none was
-pub none_more : (first : Object) (rest : List Object) (writers : List (Object × Held)) (locks : Locks) (txn snap : ℕ)
+pub none_more : (first : Object) (rest : List Object) (writers : List (Object × HolderList)) (locks : Locks) (txn snap : ℕ)
     → has_writer (is_concurrent_by locks txn snap) writers first ≡ false → NoneWrote rest writers locks txn snap → NoneWrote (first ∷ rest) writers locks txn snap
 none_more first rest writers locks txn snap here none object is =
     elim (or_cases (is_object object first) (is_among rest object) is) [
@@ -170,7 +170,7 @@ module _ (committed : List Committed) (running : List (ℕ × Begun)) (locks : L
 
 -- ---- who wrote an object
 
-module _ (committed : List Committed) (running : List (ℕ × Begun)) (locks : Locks) (writers : List (Object × Held)) (floor : ℕ)
+module _ (committed : List Committed) (running : List (ℕ × Begun)) (locks : Locks) (writers : List (Object × HolderList)) (floor : ℕ)
     (entries : AreEntries committed) (indexed : IsIndexed committed running locks writers floor) (differ : NumbersDiffer committed running)
     (txn : ℕ) (it : Begun) (runs : at_number txn running ≡ Some it) (within : floor ≤ it.snap) where
   abbrev known : Known

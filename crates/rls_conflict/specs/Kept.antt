@@ -7,7 +7,7 @@ use Rattle.rls_catalog.specs.Bases.{covers_any}
 use Rattle.rls_source.specs.Footprints.{is_among}
 use Rattle.rls_siread.specs.Covering.{covered_of}
 use Rattle.rls_siread.specs.Locks.{Locks, noted_by, commit_of, has_notes, is_number_in}
-use Rattle.rls_siread.specs.Index.{Held, held_at}
+use Rattle.rls_siread.specs.Index.{HolderList, held_at}
 use Rattle.rls_conflict.specs.declared.committed.Committed.{Committed}
 use Rattle.rls_conflict.specs.Transactions.{Transaction}
 use Rattle.rls_conflict.specs.Begun.{Begun, at_number}
@@ -58,7 +58,7 @@ pub record NumbersDiffer (committed : List Committed) (running : List (ℕ × Be
 -- What the indexes know: of each that runs, that it didn't commit, and the objects that its changes cover; of each that committed at
 -- the floor or later its place, its notes, and the objects that its changes cover; and of nobody else anything. (What one that
 -- runs has noted is what the read locks say.)
-pub record IsIndexed (committed : List Committed) (running : List (ℕ × Begun)) (locks : Locks) (writers : List (Object × Held)) (floor : ℕ) : Type 0 where
+pub record IsIndexed (committed : List Committed) (running : List (ℕ × Begun)) (locks : Locks) (writers : List (Object × HolderList)) (floor : ℕ) : Type 0 where
   pub run : (txn : ℕ) (it : Begun) → at_number txn running ≡ Some it → (has_notes locks txn ≡ true) × (commit_of locks txn ≡ None)
   pub written : (txn : ℕ) (it : Begun) → at_number txn running ≡ Some it → (object : Object) → is_number_in (held_at writers object) txn ≡ covers_any object it.changes
   pub marked : (place : ℕ) (it : Committed) → slice_get committed place ≡ Some it → floor ≤ place → commit_of locks it.transaction.number ≡ Some (suc place)
@@ -69,7 +69,7 @@ pub record IsIndexed (committed : List Committed) (running : List (ℕ × Begun)
 
 -- what stands in the record: the entries, the beginnings of those that run at the floor or later, the indexes, and room for all
 -- commits
-pub record IsWhole (committed : List Committed) (len capacity : ℕ) (running : List (ℕ × Begun)) (locks : Locks) (writers : List (Object × Held)) (floor : ℕ) : Type 0 where
+pub record IsWhole (committed : List Committed) (len capacity : ℕ) (running : List (ℕ × Begun)) (locks : Locks) (writers : List (Object × HolderList)) (floor : ℕ) : Type 0 where
   pub entries : AreEntries committed
   pub differ : NumbersDiffer committed running
   pub snaps : (txn : ℕ) (it : Begun) → at_number txn running ≡ Some it → (floor ≤ it.snap) × (it.snap ≤ length committed)
@@ -79,7 +79,7 @@ pub record IsWhole (committed : List Committed) (len capacity : ℕ) (running : 
 
 -- those that committed at the places from the one up to the other hold no object that they covered; others hold what they held,
 -- and nobody holds more
-pub record IsReleased (committed : List Committed) (from to : ℕ) (old new : List (Object × Held)) : Type 0 where
+pub record IsReleased (committed : List Committed) (from to : ℕ) (old new : List (Object × HolderList)) : Type 0 where
   pub gone : (place : ℕ) (it : Committed) → slice_get committed place ≡ Some it → from ≤ place → place < to → (object : Object) → is_among it.covered object ≡ true → is_number_in (held_at new object) it.transaction.number ≡ false
   pub kept : (txn : ℕ) → ((place : ℕ) (it : Committed) → slice_get committed place ≡ Some it → from ≤ place → place < to → it.transaction.number ≡ txn → ⊥) → (object : Object) → is_number_in (held_at new object) txn ≡ is_number_in (held_at old object) txn
   pub fewer : (txn : ℕ) (object : Object) → is_number_in (held_at new object) txn ≡ true → is_number_in (held_at old object) txn ≡ true

@@ -4,10 +4,10 @@ use Rattle.rls_value.specs.{declared.refusal.Refusal.Refusal, declared.refusal.R
 use Rattle.rls_expr.specs.{declared.table.TableDef.TableDef, declared.policy.Policy.Policy, Scopes.InScope}
 use Rattle.rls_catalog.specs.{declared.change.Change.Change, declared.grant.Grant.Grant, declared.role.RoleDef.RoleDef, Membership.fresh, SoundRows.RowsAreSound, State.State, State.table_of, Changed.changed, Changed.changed_all, PolicyLists.with_policy, PolicyLists.without_policy}
 use Rattle.rls_source.specs.{Asked.asked_grants, Asked.asked_policies, Asked.asked_role, Askings.Asking, Askings.asked_if, Askings.followed_by, Askings.known, Named.grantees_or_undefined, Named.role_or_undefined, Named.roles_or_undefined, Named.table_or_undefined}
-use Rattle.rls_role.specs.{declared.holding.Held.Held, declared.reach.Reach.Reach, Reaching.reach_of}
+use Rattle.rls_role.specs.{declared.holding.HeldMembership.HeldMembership, declared.effective_roles.EffectiveRoles.EffectiveRoles, Reaching.effective_roles_of}
 use Rattle.rls_role.specs as members
 use Rattle.rls_grant.specs as privileges
-use Rattle.rls_guard.specs.{declared.context.Ctx.Ctx, declared.effect.Effect.Effect, Checks.superuser_or_denied, Effects.writes, Standings.ownership, Keeping.IfDone, Keeping.IsNoRow, Keeping.LeavesRows, Keeping.TablesStay, Naming.named, Naming.names_over}
+use Rattle.rls_guard.specs.{declared.context.Ctx.Ctx, declared.effect.Effect.Effect, Checks.superuser_or_denied, Effects.writes, RolePrivileges.ownership, Keeping.IfDone, Keeping.IsNoRow, Keeping.LeavesRows, Keeping.TablesStay, Naming.named, Naming.names_over}
 use Rattle.rls_statement.specs.{declared.statement.SetRole.SetRole, declared.statement.AlterPolicy.AlterPolicy, declared.statement.AlterRole.AlterRole, declared.statement.CreatePolicy.CreatePolicy, declared.statement.CreateRole.CreateRole, declared.statement.DropPolicy.DropPolicy, declared.statement.GrantPrivileges.GrantPrivileges, declared.statement.GrantRoles.GrantRoles, declared.statement.RevokePrivileges.RevokePrivileges, declared.statement.RevokeRoles.RevokeRoles}
 use Rattle.rls_ddl.specs.{AlteringPolicies.alter_policy, AlteringPolicies.alteration_made, AlteringPolicies.alteration_of, AlteringPolicies.alteration_over, AlteringPolicies.alteration_on, AlteringPolicies.conditions_or_refused, AlteringPolicies.with_altered, AlteringRoles.alter_role, AlteringRoles.role_altered, AlteringRoles.role_changed, Conditions.condition_names, NamedPolicies.policy_or_undefined, CreatingRoles.create_role, CreatingRoles.role_made, CreatingRoles.role_with, DroppingPolicies.drop_on, DroppingPolicies.drop_policy, DroppingPolicies.policy_dropped, CreatingPolicies.create_policy, CreatingPolicies.policy_added, CreatingPolicies.policy_made, CreatingPolicies.policy_on, CreatingPolicies.policy_or_refused, Granting.grant, Granting.grant_roles, Granting.revoke, Granting.revoke_roles, Granting.written, SettingRoles.asked_may_set, SettingRoles.role_set, SettingRoles.set_or_denied, SettingRoles.set_role, AlteringPolicies.roles_or_undefined as policy_roles_or_undefined}
 
@@ -210,42 +210,42 @@ written_if (Err refusal) beside = tt
 written_leaves : (changes : Asking (List Change)) → GivesBeside changes → LeavesRows (written changes)
 written_leaves changes beside = leaves (written changes) (λ s. written_if (changes.in_state s).gives (beside s))
 
-grants_made_beside : (reach : Reach) (role : List ℕ) (table : TableDef) (grants : List Grant) (asked : GrantPrivileges) → IfOk (privileges.Granting.grants_made reach role table grants asked) AreBeside
+grants_made_beside : (effective_roles : EffectiveRoles) (role : List ℕ) (table : TableDef) (grants : List Grant) (asked : GrantPrivileges) → IfOk (privileges.Granting.grants_made effective_roles role table grants asked) AreBeside
 unfolding privileges.Granting.grants_made privileges.Granting.granted
-grants_made_beside reach role table grants asked =
-    given_then AreBeside (privileges.Grantors.grantors reach role asked.table table grants asked.privileges) (λ by. privileges.Granting.granted table grants by asked) (λ by.
+grants_made_beside effective_roles role table grants asked =
+    given_then AreBeside (privileges.Grantors.grantors effective_roles role asked.table table grants asked.privileges) (λ by. privileges.Granting.granted table grants by asked) (λ by.
     given_then AreBeside (privileges.Granting.options_or_refused asked.with_option table.owner grants by asked.to) (λ _. Ok (privileges.Granting.grants_with grants by asked)) (λ _. (tt, tt)))
 
 grant_on_beside : (role : List ℕ) (table : TableDef) (asked : GrantPrivileges) → GivesBeside (privileges.Granting.grant_on role table asked)
 unfolding privileges.Granting.grant_on
 grant_on_beside role table asked =
-    given_any (asked_grants asked.table) (λ grants. followed_by (reach_of role) (λ reach. known (privileges.Granting.grants_made reach role table grants asked))) (λ grants.
-    given_any (reach_of role) (λ reach. known (privileges.Granting.grants_made reach role table grants asked)) (λ reach s. grants_made_beside reach role table grants asked))
+    given_any (asked_grants asked.table) (λ grants. followed_by (effective_roles_of role) (λ effective_roles. known (privileges.Granting.grants_made effective_roles role table grants asked))) (λ grants.
+    given_any (effective_roles_of role) (λ effective_roles. known (privileges.Granting.grants_made effective_roles role table grants asked)) (λ effective_roles s. grants_made_beside effective_roles role table grants asked))
 
 pub grant_leaves : (ctx : Ctx) (asked : GrantPrivileges) → LeavesRows (grant ctx asked)
 grant_leaves ctx asked = written_leaves (privileges.Granting.grant ctx.role asked) (
     given_any (table_or_undefined asked.table) (λ table. followed_by (grantees_or_undefined asked.to) (λ _. privileges.Granting.grant_on ctx.role table asked)) (λ table.
     given_any (grantees_or_undefined asked.to) (λ _. privileges.Granting.grant_on ctx.role table asked) (λ _. grant_on_beside ctx.role table asked)))
 
-grants_revoked_beside : (reach : Reach) (role : List ℕ) (table : TableDef) (grants : List Grant) (asked : RevokePrivileges) → IfOk (privileges.Revoking.grants_revoked reach role table grants asked) AreBeside
+grants_revoked_beside : (effective_roles : EffectiveRoles) (role : List ℕ) (table : TableDef) (grants : List Grant) (asked : RevokePrivileges) → IfOk (privileges.Revoking.grants_revoked effective_roles role table grants asked) AreBeside
 unfolding privileges.Revoking.grants_revoked privileges.Revoking.revoked
-grants_revoked_beside reach role table grants asked =
-    given_then AreBeside (privileges.Grantors.grantors reach role asked.table table grants asked.privileges) (λ by. privileges.Revoking.revoked table grants by asked) (λ by.
+grants_revoked_beside effective_roles role table grants asked =
+    given_then AreBeside (privileges.Grantors.grantors effective_roles role asked.table table grants asked.privileges) (λ by. privileges.Revoking.revoked table grants by asked) (λ by.
     given_then AreBeside (privileges.Revoking.left_after asked.cascade asked.table table.owner by (privileges.Revoking.without_taken asked.option_only by asked.from grants))
     (λ left. Ok (privileges.Granting.grants_written asked.table left)) (λ left. (tt, tt)))
 
 revoke_on_beside : (role : List ℕ) (table : TableDef) (asked : RevokePrivileges) → GivesBeside (privileges.Revoking.revoke_on role table asked)
 unfolding privileges.Revoking.revoke_on
 revoke_on_beside role table asked =
-    given_any (asked_grants asked.table) (λ grants. followed_by (reach_of role) (λ reach. known (privileges.Revoking.grants_revoked reach role table grants asked))) (λ grants.
-    given_any (reach_of role) (λ reach. known (privileges.Revoking.grants_revoked reach role table grants asked)) (λ reach s. grants_revoked_beside reach role table grants asked))
+    given_any (asked_grants asked.table) (λ grants. followed_by (effective_roles_of role) (λ effective_roles. known (privileges.Revoking.grants_revoked effective_roles role table grants asked))) (λ grants.
+    given_any (effective_roles_of role) (λ effective_roles. known (privileges.Revoking.grants_revoked effective_roles role table grants asked)) (λ effective_roles s. grants_revoked_beside effective_roles role table grants asked))
 
 pub revoke_leaves : (ctx : Ctx) (asked : RevokePrivileges) → LeavesRows (revoke ctx asked)
 revoke_leaves ctx asked = written_leaves (privileges.Revoking.revoke ctx.role asked) (
     given_any (table_or_undefined asked.table) (λ table. followed_by (grantees_or_undefined asked.from) (λ _. privileges.Revoking.revoke_on ctx.role table asked)) (λ table.
     given_any (grantees_or_undefined asked.from) (λ _. privileges.Revoking.revoke_on ctx.role table asked) (λ _. revoke_on_beside ctx.role table asked)))
 
-members_beside : (held : List Held) → AreBeside (members.Granting.members_written held)
+members_beside : (held : List HeldMembership) → AreBeside (members.Granting.members_written held)
 members_beside [] = tt
 members_beside (h ∷ held) = (tt, members_beside held)
 

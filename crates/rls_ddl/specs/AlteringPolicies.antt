@@ -4,11 +4,11 @@ use Rattle.std.specs.Prelude.{ℕ, List, [], ◌∷◌, Option, Some, None, Bool
 use Rattle.std.specs.Option.{option_or}
 use Rattle.rls_value.specs.{declared.refusal.Refusal.Refusal, declared.refusal.Refusal.TheVariants.Unsupported, declared.verb.PolicyKind.PolicyKind, Giving.and_then, declared.verb.PolicyKind.TheVariants.All, declared.verb.PolicyKind.TheVariants.Only}
 use Rattle.rls_value.specs.declared.verb.Kind.TheVariants as k
-use Rattle.rls_expr.specs.{declared.table.TableDef.TableDef, declared.policy.Grantee.Grantee, declared.policy.Policy.Policy, Placing.Names, Scopes.InScope}
+use Rattle.rls_expr.specs.{declared.table.TableDef.TableDef, declared.policy.Grantee.Grantee, declared.policy.Policy.Policy, Resolving.Names, Scopes.InScope}
 use Rattle.rls_catalog.specs.declared.change.Change.TheVariants as change
 use Rattle.rls_catalog.specs.PolicyLists.{is_named}
 use Rattle.rls_statement.specs.declared.statement.AlterPolicy.{AlterPolicy}
-use Rattle.rls_guard.specs.{declared.context.Ctx.Ctx, Standings.ownership, declared.effect.Effect.Effect, Effects.writes, Naming.named, Naming.names_over}
+use Rattle.rls_guard.specs.{declared.context.Ctx.Ctx, RolePrivileges.ownership, declared.effect.Effect.Effect, Effects.writes, Naming.named, Naming.names_over}
 use Rattle.rls_source.specs.{Askings.Asking, Askings.known, Askings.followed_by, Asked.asked_policies, Named.table_or_undefined, Named.grantees_or_undefined}
 use Rattle.rls_ddl.specs.{Conditions.condition_names, Conditions.condition_fits, Conditions.is_supported, Conditions.both_conditions, NamedPolicies.policy_or_undefined}
 
@@ -26,14 +26,14 @@ has_no_place_for (Only k.Update) alter = false
 has_no_place_for (Only k.Delete) alter = is_some alter.check
 
 -- not supported where the policy's type of command has no place for a written part
-abbrev pub placed_or_unsupported : PolicyKind → AlterPolicy → Result (Unit {0}) Refusal
-placed_or_unsupported kind alter = if has_no_place_for kind alter then Err Unsupported else Ok tt
+abbrev pub resolved_or_unsupported : PolicyKind → AlterPolicy → Result (Unit {0}) Refusal
+resolved_or_unsupported kind alter = if has_no_place_for kind alter then Err Unsupported else Ok tt
 
 -- the conditions that are written have to be right over the table, and for a policy of that kind
 abbrev pub conditions_or_refused : Names → PolicyKind → AlterPolicy → Result (Unit {0}) Refusal
 conditions_or_refused names kind alter =
     and_then (both_conditions (condition_fits names) alter.using alter.check) (λ _.
-    and_then (both_conditions (is_supported names) alter.using alter.check) (λ _. placed_or_unsupported kind alter))
+    and_then (both_conditions (is_supported names) alter.using alter.check) (λ _. resolved_or_unsupported kind alter))
 
 -- the policy with what is written
 abbrev pub altered : AlterPolicy → Policy → Policy

@@ -10,7 +10,7 @@ use Rattle.rls_guard.specs.declared.context.Ctx.{Ctx}
 use Rattle.rls_guard.specs.declared.effect.Effect.{Effect}
 use Rattle.rls_source.specs.Askings.{Asking, known, followed_by}
 use Rattle.rls_source.specs.Named.{table_or_undefined}
-use Rattle.rls_guard.specs.Standings.{ownership}
+use Rattle.rls_guard.specs.RolePrivileges.{ownership}
 use Rattle.rls_guard.specs.Effects.{writes}
 
 -- the table with its row security changed: whether it is on, or whether it binds the owner too

@@ -4,7 +4,7 @@ use Rattle.rls_value.specs.declared.refusal.Refusal.{Refusal}
 use Rattle.rls_value.specs.declared.refusal.Refusal.TheVariants.{TypeFault, Unsupported}
 use Rattle.rls_value.specs.Giving.{and_then}
 use Rattle.rls_expr.specs.Naming.{Step, names_all}
-use Rattle.rls_expr.specs.Placing.{Names, placed}
+use Rattle.rls_expr.specs.Resolving.{Names, resolved}
 use Rattle.rls_expr.specs.Terms.{Term, maybe_term}
 use Rattle.rls_expr.specs.Typing.{type_of, takes_boolean}
 use Rattle.rls_guard.specs.Checks.{is_unsupported}
@@ -16,12 +16,12 @@ condition_names using check = names_all (maybe_term using) ++ names_all (maybe_t
 -- it has to be a boolean, if there is one
 abbrev pub condition_fits : Names → Option Term → Result (Unit {0}) Refusal
 condition_fits names None = Ok tt
-condition_fits names (Some term) = if takes_boolean (type_of (placed term names)) then Ok tt else Err TypeFault
+condition_fits names (Some term) = if takes_boolean (type_of (resolved term names)) then Ok tt else Err TypeFault
 
 -- nothing may stand in it that isn't supported, if there is one
 abbrev pub is_supported : Names → Option Term → Result (Unit {0}) Refusal
 is_supported names None = Ok tt
-is_supported names (Some term) = if is_unsupported (placed term names) then Err Unsupported else Ok tt
+is_supported names (Some term) = if is_unsupported (resolved term names) then Err Unsupported else Ok tt
 
 -- USING, then WITH CHECK
 abbrev pub both_conditions : (Option Term → Result (Unit {0}) Refusal) → Option Term → Option Term → Result (Unit {0}) Refusal

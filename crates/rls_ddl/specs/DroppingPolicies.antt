@@ -4,7 +4,7 @@ use Rattle.rls_expr.specs.{declared.table.TableDef.TableDef, declared.policy.Pol
 use Rattle.rls_catalog.specs.declared.change.Change.TheVariants as change
 use Rattle.rls_catalog.specs.PolicyLists.{without_policy}
 use Rattle.rls_statement.specs.declared.statement.DropPolicy.{DropPolicy}
-use Rattle.rls_guard.specs.{declared.context.Ctx.Ctx, Standings.ownership, declared.effect.Effect.Effect, Effects.writes}
+use Rattle.rls_guard.specs.{declared.context.Ctx.Ctx, RolePrivileges.ownership, declared.effect.Effect.Effect, Effects.writes}
 use Rattle.rls_source.specs.Askings.{Asking, known, followed_by}
 use Rattle.rls_source.specs.{Asked.asked_policies, Named.table_or_undefined}
 use Rattle.rls_ddl.specs.NamedPolicies.{policy_or_undefined}

@@ -24,14 +24,14 @@ use std::alloc::{AllocError, Global};
 pub fn run_alter_policy<'c, S: RowSource<'c>>(
     alloc: Global,
     source: &mut S,
-    notes: &mut Reads,
+    read_set: &mut Reads,
     ctx: &Ctx,
     alter: &AlterPolicy,
 ) -> Result<Effect, Refusal>
-    ensures { Answers S.state S.after (alter_policy ctx.now alter.now) source.old source.new notes.old notes.new result }
+    ensures { Answers S.state S.after (alter_policy ctx.now alter.now) source.old source.new read_set.old read_set.new result }
 {
-    let table = table_named(alloc, source, notes, &alter.table)?;
-    alter_on(alloc, source, notes, &ctx.role, table, alter)
+    let table = table_named(alloc, source, read_set, &alter.table)?;
+    alter_on(alloc, source, read_set, &ctx.role, table, alter)
 }
 
 /// Alters the policy of that name, where the table has one.
@@ -39,16 +39,18 @@ pub fn run_alter_policy<'c, S: RowSource<'c>>(
 fn alter_on<'c, S: RowSource<'c>>(
     alloc: Global,
     source: &mut S,
-    notes: &mut Reads,
+    read_set: &mut Reads,
     role: &Name,
     table: &'c TableDef,
     alter: &AlterPolicy,
 ) -> Result<Effect, Refusal>
-    ensures { Answers S.state S.after (alteration_on role.now table.now alter.now) source.old source.new notes.old notes.new result }
+    ensures { Answers S.state S.after (alteration_on role.now table.now alter.now) source.old source.new read_set.old read_set.new result }
 {
-    let policies = noted_policies(alloc, source, notes, &alter.table)?;
+    let policies = noted_policies(alloc, source, read_set, &alter.table)?;
     let policy = policy_named(policies, &alter.name)?;
-    alter_named(alloc, source, notes, role, table, policies, policy, alter)
+    alter_named(
+        alloc, source, read_set, role, table, policies, policy, alter,
+    )
 }
 
 /// Alters the policy where the roles and names that are written are there.
@@ -56,7 +58,7 @@ fn alter_on<'c, S: RowSource<'c>>(
 fn alter_named<'c, S: RowSource<'c>>(
     alloc: Global,
     source: &mut S,
-    notes: &mut Reads,
+    read_set: &mut Reads,
     role: &Name,
     table: &'c TableDef,
     policies: &[Policy],
@@ -64,13 +66,13 @@ fn alter_named<'c, S: RowSource<'c>>(
     alter: &AlterPolicy,
 ) -> Result<Effect, Refusal>
     requires ordered { InNameOrder policies.now }
-    ensures { Answers S.state S.after (alteration_of role.now table.now policies.now policy.now alter.now) source.old source.new notes.old notes.new result }
+    ensures { Answers S.state S.after (alteration_of role.now table.now policies.now policy.now alter.now) source.old source.new read_set.old read_set.new result }
 {
-    require_roles(alloc, source, notes, &alter.to)?;
+    require_roles(alloc, source, read_set, &alter.to)?;
     let found = found_for(
         alloc,
         source,
-        notes,
+        read_set,
         &alter.using,
         &alter.check,
         &alter.table,
@@ -79,7 +81,7 @@ fn alter_named<'c, S: RowSource<'c>>(
     let effect = alter_over(
         alloc,
         source,
-        notes,
+        read_set,
         role,
         table,
         found.as_slice(),
@@ -96,7 +98,7 @@ fn alter_named<'c, S: RowSource<'c>>(
 fn alter_over<'c, 'x, S: RowSource<'c>>(
     alloc: Global,
     source: &mut S,
-    notes: &mut Reads,
+    read_set: &mut Reads,
     role: &Name,
     table: &'x TableDef,
     known: &'x [NamedTable<'x>],
@@ -105,10 +107,10 @@ fn alter_over<'c, 'x, S: RowSource<'c>>(
     alter: &AlterPolicy,
 ) -> Result<Effect, Refusal>
     requires ordered { InNameOrder policies.now }
-    ensures { Answers S.state S.after (alteration_over role.now table.now known.now policies.now policy.now alter.now) source.old source.new notes.old notes.new result }
+    ensures { Answers S.state S.after (alteration_over role.now table.now known.now policies.now policy.now alter.now) source.old source.new read_set.old read_set.new result }
 {
     require_conditions(alloc, table, known, policy.kind, alter)?;
-    make_alteration(alloc, source, notes, role, table, policies, alter)
+    make_alteration(alloc, source, read_set, role, table, policies, alter)
 }
 
 /// Alters the policy where the role has the privileges of the table's owner.
@@ -116,16 +118,16 @@ fn alter_over<'c, 'x, S: RowSource<'c>>(
 fn make_alteration<'c, S: RowSource<'c>>(
     alloc: Global,
     source: &mut S,
-    notes: &mut Reads,
+    read_set: &mut Reads,
     role: &Name,
     table: &TableDef,
     policies: &[Policy],
     alter: &AlterPolicy,
 ) -> Result<Effect, Refusal>
     requires ordered { InNameOrder policies.now }
-    ensures { Answers S.state S.after (alteration_made role.now table.now policies.now alter.now) source.old source.new notes.old notes.new result }
+    ensures { Answers S.state S.after (alteration_made role.now table.now policies.now alter.now) source.old source.new read_set.old read_set.new result }
 {
-    require_ownership(alloc, source, notes, role, &alter.table, table)?;
+    require_ownership(alloc, source, read_set, role, &alter.table, table)?;
     Ok(policies_changed(alloc, policies, alter)?)
 }
 
@@ -133,13 +135,13 @@ fn make_alteration<'c, S: RowSource<'c>>(
 fn require_roles<'c, S: RowSource<'c>>(
     alloc: Global,
     source: &mut S,
-    notes: &mut Reads,
+    read_set: &mut Reads,
     to: &Option<Items<Grantee>>,
 ) -> Result<(), Refusal>
-    ensures { Answers S.state S.after (roles_or_undefined to.now) source.old source.new notes.old notes.new result }
+    ensures { Answers S.state S.after (roles_or_undefined to.now) source.old source.new read_set.old read_set.new result }
 {
     match to {
-        Some(to) => require_grantees(alloc, source, notes, to.as_slice()),
+        Some(to) => require_grantees(alloc, source, read_set, to.as_slice()),
         None => Ok(()),
     }
 }

@@ -16,28 +16,28 @@ use std::alloc::{AllocError, Global};
 pub fn run_alter_role<'c, S: RowSource<'c>>(
     alloc: Global,
     source: &mut S,
-    notes: &mut Reads,
+    read_set: &mut Reads,
     ctx: &Ctx,
     alter: &AlterRole,
 ) -> Result<Effect, Refusal>
-    ensures { Answers S.state S.after (alter_role ctx.now alter.now) source.old source.new notes.old notes.new result }
+    ensures { Answers S.state S.after (alter_role ctx.now alter.now) source.old source.new read_set.old read_set.new result }
 {
-    let role = role_named(alloc, source, notes, &alter.name)?;
-    change_role(alloc, source, notes, &ctx.role, alter, role)
+    let role = role_named(alloc, source, read_set, &alter.name)?;
+    change_role(alloc, source, read_set, &ctx.role, alter, role)
 }
 
 #[tactic(auto, unfolding(crate::specs::AlteringRoles::role_changed))]
 fn change_role<'c, S: RowSource<'c>>(
     alloc: Global,
     source: &mut S,
-    notes: &mut Reads,
+    read_set: &mut Reads,
     role: &Name,
     alter: &AlterRole,
     def: &RoleDef,
 ) -> Result<Effect, Refusal>
-    ensures { Answers S.state S.after (role_changed role.now alter.now def.now) source.old source.new notes.old notes.new result }
+    ensures { Answers S.state S.after (role_changed role.now alter.now def.now) source.old source.new read_set.old read_set.new result }
 {
-    require_superuser(alloc, source, notes, role, &alter.name)?;
+    require_superuser(alloc, source, read_set, role, &alter.name)?;
     Ok(altered(alloc, alter, def)?)
 }
 

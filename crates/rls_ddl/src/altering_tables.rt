@@ -18,14 +18,14 @@ use std::alloc::{AllocError, Global};
 pub fn run_alter_table<'c, S: RowSource<'c>>(
     alloc: Global,
     source: &mut S,
-    notes: &mut Reads,
+    read_set: &mut Reads,
     ctx: &Ctx,
     alter: &AlterTable,
 ) -> Result<Effect, Refusal>
-    ensures { Answers S.state S.after (alter_table ctx.now alter.now) source.old source.new notes.old notes.new result }
+    ensures { Answers S.state S.after (alter_table ctx.now alter.now) source.old source.new read_set.old read_set.new result }
 {
-    let table = table_named(alloc, source, notes, &alter.table)?;
-    require_ownership(alloc, source, notes, &ctx.role, &alter.table, table)?;
+    let table = table_named(alloc, source, read_set, &alter.table)?;
+    require_ownership(alloc, source, read_set, &ctx.role, &alter.table, table)?;
     Ok(table_changed(alloc, alter, table)?)
 }
 

@@ -2,14 +2,15 @@
 
 ghost use Rattle.std.specs.Prelude.{◌≡◌, [], ◌∷◌, Some, map, IfOk};
 ghost use Rattle.rls_value.specs.Giving.{Gives};
-ghost use Rattle.rls_expr.specs.{Naming.step_of, Placing.names_in};
+ghost use Rattle.rls_expr.specs.{Naming.step_of, Resolving.names_in};
 ghost use Rattle.rls_source.specs.Answering.{Answers};
 ghost use Rattle.rls_guard.specs.Naming.{named, names_over};
 ghost use Rattle.rls_ddl.specs.Conditions as spec;
 ghost use Rattle.rls_ddl.specs.Conditions.{both_conditions, condition_fits, condition_names};
 
 use rls_expr::{
-    Expr, NameStep, NamedTable, Scope, TableDef, is_boolean, place_columns, put_names_if, typing_of,
+    Expr, NameStep, NamedTable, Scope, TableDef, is_boolean, put_names_if, resolve_columns,
+    typing_of,
 };
 use rls_guard::{Found, is_unsupported, named_over};
 use rls_source::{Reads, RowSource};
@@ -20,16 +21,16 @@ use std::alloc::{AllocError, Global};
 pub fn found_for<'c, S: RowSource<'c>>(
     alloc: Global,
     source: &mut S,
-    notes: &mut Reads,
+    read_set: &mut Reads,
     using: &Option<Expr>,
     check: &Option<Expr>,
     name: &Name,
     table: &'c TableDef,
 ) -> Result<Found<'c>, Refusal>
-    ensures { Answers S.state S.after (named (condition_names «using».now check.now) ((name.now, table.now) ∷ []) []) source.old source.new notes.old notes.new result }
+    ensures { Answers S.state S.after (named (condition_names «using».now check.now) ((name.now, table.now) ∷ []) []) source.old source.new read_set.old read_set.new result }
 {
     let steps = names_of(alloc, using, check)?;
-    let found = named_over(alloc, source, notes, &steps, name, table);
+    let found = named_over(alloc, source, read_set, &steps, name, table);
     drop(steps);
     found
 }
@@ -79,9 +80,9 @@ fn require_boolean(alloc: Global, condition: &Option<Expr>, scope: &Scope) -> Re
 fn require_boolean_expr(alloc: Global, expr: &Expr, scope: &Scope) -> Result<(), Refusal>
     ensures { Gives result (condition_fits (names_in scope.now) (Some expr.now)) }
 {
-    let placed = place_columns(alloc, expr, scope)?;
-    let fits = is_boolean(typing_of(&placed));
-    drop(placed);
+    let resolved = resolve_columns(alloc, expr, scope)?;
+    let fits = is_boolean(typing_of(&resolved));
+    drop(resolved);
     if fits {
         Ok(())
     } else {
@@ -125,9 +126,9 @@ fn require_one_supported(
 fn require_supported_expr(alloc: Global, expr: &Expr, scope: &Scope) -> Result<(), Refusal>
     ensures { Gives result (spec.is_supported (names_in scope.now) (Some expr.now)) }
 {
-    let placed = place_columns(alloc, expr, scope)?;
-    let unsupported = is_unsupported(&placed);
-    drop(placed);
+    let resolved = resolve_columns(alloc, expr, scope)?;
+    let unsupported = is_unsupported(&resolved);
+    drop(resolved);
     if unsupported {
         Err(Refusal::Unsupported)
     } else {

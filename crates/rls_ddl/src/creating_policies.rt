@@ -26,17 +26,17 @@ const MAX_POLICIES: usize = 64;
 pub fn run_create_policy<'c, S: RowSource<'c>>(
     alloc: Global,
     source: &mut S,
-    notes: &mut Reads,
+    read_set: &mut Reads,
     ctx: &Ctx,
     create: &CreatePolicy,
 ) -> Result<Effect, Refusal>
-    ensures { Answers S.state S.after (create_policy ctx.now create.now) source.old source.new notes.old notes.new result }
+    ensures { Answers S.state S.after (create_policy ctx.now create.now) source.old source.new read_set.old read_set.new result }
 {
-    let table = table_named(alloc, source, notes, &create.table)?;
+    let table = table_named(alloc, source, read_set, &create.table)?;
     policy_on(
         alloc,
         source,
-        notes,
+        read_set,
         &ctx.role,
         &create.table,
         table,
@@ -49,19 +49,19 @@ pub fn run_create_policy<'c, S: RowSource<'c>>(
 fn policy_on<'c, S: RowSource<'c>>(
     alloc: Global,
     source: &mut S,
-    notes: &mut Reads,
+    read_set: &mut Reads,
     role: &Name,
     name: &Name,
     table: &'c TableDef,
     policy: &Policy,
 ) -> Result<Effect, Refusal>
-    ensures { Answers S.state S.after (spec.policy_on role.now name.now table.now policy.now) source.old source.new notes.old notes.new result }
+    ensures { Answers S.state S.after (spec.policy_on role.now name.now table.now policy.now) source.old source.new read_set.old read_set.new result }
 {
-    require_grantees(alloc, source, notes, policy.to.as_slice())?;
+    require_grantees(alloc, source, read_set, policy.to.as_slice())?;
     let found = found_for(
         alloc,
         source,
-        notes,
+        read_set,
         &policy.using,
         &policy.check,
         name,
@@ -70,7 +70,7 @@ fn policy_on<'c, S: RowSource<'c>>(
     let effect = add_policy(
         alloc,
         source,
-        notes,
+        read_set,
         role,
         name,
         table,
@@ -86,18 +86,18 @@ fn policy_on<'c, S: RowSource<'c>>(
 fn add_policy<'c, 'x, S: RowSource<'c>>(
     alloc: Global,
     source: &mut S,
-    notes: &mut Reads,
+    read_set: &mut Reads,
     role: &Name,
     name: &Name,
     table: &'x TableDef,
     known: &'x [NamedTable<'x>],
     policy: &Policy,
 ) -> Result<Effect, Refusal>
-    ensures { Answers S.state S.after (policy_added role.now name.now table.now known.now policy.now) source.old source.new notes.old notes.new result }
+    ensures { Answers S.state S.after (policy_added role.now name.now table.now known.now policy.now) source.old source.new read_set.old read_set.new result }
 {
-    let policies = noted_policies(alloc, source, notes, name)?;
+    let policies = noted_policies(alloc, source, read_set, name)?;
     require_policy(alloc, policies, name, table, known, policy)?;
-    make_policy(alloc, source, notes, role, name, table, policies, policy)
+    make_policy(alloc, source, read_set, role, name, table, policies, policy)
 }
 
 /// Adds the policy where the role has the privileges of the table's owner.
@@ -105,7 +105,7 @@ fn add_policy<'c, 'x, S: RowSource<'c>>(
 fn make_policy<'c, S: RowSource<'c>>(
     alloc: Global,
     source: &mut S,
-    notes: &mut Reads,
+    read_set: &mut Reads,
     role: &Name,
     name: &Name,
     table: &TableDef,
@@ -114,9 +114,9 @@ fn make_policy<'c, S: RowSource<'c>>(
 ) -> Result<Effect, Refusal>
     requires ordered { InNameOrder policies.now }
     requires new { has_policy policies.now policy.now.name ≡ false }
-    ensures { Answers S.state S.after (policy_made role.now name.now table.now policies.now policy.now) source.old source.new notes.old notes.new result }
+    ensures { Answers S.state S.after (policy_made role.now name.now table.now policies.now policy.now) source.old source.new read_set.old read_set.new result }
 {
-    require_ownership(alloc, source, notes, role, name, table)?;
+    require_ownership(alloc, source, read_set, role, name, table)?;
     Ok(policies_changed(alloc, name, policies, policy)?)
 }
 

@@ -16,29 +16,29 @@ use std::alloc::{AllocError, Global};
 pub fn run_create_role<'c, S: RowSource<'c>>(
     alloc: Global,
     source: &mut S,
-    notes: &mut Reads,
+    read_set: &mut Reads,
     ctx: &Ctx,
     create: &CreateRole,
 ) -> Result<Effect, Refusal>
-    ensures { Answers S.state S.after (create_role ctx.now create.now) source.old source.new notes.old notes.new result }
+    ensures { Answers S.state S.after (create_role ctx.now create.now) source.old source.new read_set.old read_set.new result }
 {
-    if noted_role(alloc, source, notes, &create.name)?.is_some() {
+    if noted_role(alloc, source, read_set, &create.name)?.is_some() {
         return Err(Refusal::Duplicate(DefinedKind::Role, create.name.copy()?));
     }
-    make_role(alloc, source, notes, &ctx.role, create)
+    make_role(alloc, source, read_set, &ctx.role, create)
 }
 
 #[tactic(auto, unfolding(crate::specs::CreatingRoles::role_made))]
 fn make_role<'c, S: RowSource<'c>>(
     alloc: Global,
     source: &mut S,
-    notes: &mut Reads,
+    read_set: &mut Reads,
     role: &Name,
     create: &CreateRole,
 ) -> Result<Effect, Refusal>
-    ensures { Answers S.state S.after (role_made role.now create.now) source.old source.new notes.old notes.new result }
+    ensures { Answers S.state S.after (role_made role.now create.now) source.old source.new read_set.old read_set.new result }
 {
-    require_superuser(alloc, source, notes, role, &create.name)?;
+    require_superuser(alloc, source, read_set, role, &create.name)?;
     Ok(made(alloc, create)?)
 }
 

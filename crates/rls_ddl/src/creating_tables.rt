@@ -21,14 +21,14 @@ use std::alloc::{AllocError, Global};
 pub fn run_create_table<'c, S: RowSource<'c>>(
     alloc: Global,
     source: &mut S,
-    notes: &mut Reads,
+    read_set: &mut Reads,
     ctx: &Ctx,
     create: &CreateTable,
 ) -> Result<Effect, Refusal>
-    ensures { Answers S.state S.after (spec.create_table ctx.now create.now) source.old source.new notes.old notes.new result }
+    ensures { Answers S.state S.after (spec.create_table ctx.now create.now) source.old source.new read_set.old read_set.new result }
 {
     let key = key_places(alloc, create)?;
-    let effect = make_unless_taken(alloc, source, notes, ctx, create, key.as_slice());
+    let effect = make_unless_taken(alloc, source, read_set, ctx, create, key.as_slice());
     drop(key);
     effect
 }
@@ -37,31 +37,31 @@ pub fn run_create_table<'c, S: RowSource<'c>>(
 fn make_unless_taken<'c, S: RowSource<'c>>(
     alloc: Global,
     source: &mut S,
-    notes: &mut Reads,
+    read_set: &mut Reads,
     ctx: &Ctx,
     create: &CreateTable,
     key: &[usize],
 ) -> Result<Effect, Refusal>
-    ensures { Answers S.state S.after (spec.table_unless_taken ctx.now create.now key.now) source.old source.new notes.old notes.new result }
+    ensures { Answers S.state S.after (spec.table_unless_taken ctx.now create.now key.now) source.old source.new read_set.old read_set.new result }
 {
-    if noted_table(alloc, source, notes, &create.name)?.is_some() {
+    if noted_table(alloc, source, read_set, &create.name)?.is_some() {
         return Err(Refusal::Duplicate(DefinedKind::Relation, create.name.copy()?));
     }
-    make_table(alloc, source, notes, ctx, create, key)
+    make_table(alloc, source, read_set, ctx, create, key)
 }
 
 #[tactic(auto, unfolding(crate::specs::CreatingTables::table_made))]
 fn make_table<'c, S: RowSource<'c>>(
     alloc: Global,
     source: &mut S,
-    notes: &mut Reads,
+    read_set: &mut Reads,
     ctx: &Ctx,
     create: &CreateTable,
     key: &[usize],
 ) -> Result<Effect, Refusal>
-    ensures { Answers S.state S.after (spec.table_made ctx.now create.now key.now) source.old source.new notes.old notes.new result }
+    ensures { Answers S.state S.after (spec.table_made ctx.now create.now key.now) source.old source.new read_set.old read_set.new result }
 {
-    let grants = noted_grants(alloc, source, notes, &create.name)?;
+    let grants = noted_grants(alloc, source, read_set, &create.name)?;
     Ok(made(alloc, &ctx.role, create, key, grants)?)
 }
 

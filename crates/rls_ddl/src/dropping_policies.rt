@@ -21,14 +21,14 @@ use std::alloc::{AllocError, Global};
 pub fn run_drop_policy<'c, S: RowSource<'c>>(
     alloc: Global,
     source: &mut S,
-    notes: &mut Reads,
+    read_set: &mut Reads,
     ctx: &Ctx,
     drop: &DropPolicy,
 ) -> Result<Effect, Refusal>
-    ensures { Answers S.state S.after (drop_policy ctx.now drop.now) source.old source.new notes.old notes.new result }
+    ensures { Answers S.state S.after (drop_policy ctx.now drop.now) source.old source.new read_set.old read_set.new result }
 {
-    let table = table_named(alloc, source, notes, &drop.table)?;
-    drop_on(alloc, source, notes, &ctx.role, table, drop)
+    let table = table_named(alloc, source, read_set, &drop.table)?;
+    drop_on(alloc, source, read_set, &ctx.role, table, drop)
 }
 
 /// Takes the policy of that name away, where the table has one.
@@ -36,16 +36,16 @@ pub fn run_drop_policy<'c, S: RowSource<'c>>(
 fn drop_on<'c, S: RowSource<'c>>(
     alloc: Global,
     source: &mut S,
-    notes: &mut Reads,
+    read_set: &mut Reads,
     role: &Name,
     table: &TableDef,
     drop: &DropPolicy,
 ) -> Result<Effect, Refusal>
-    ensures { Answers S.state S.after (spec.drop_on role.now table.now drop.now) source.old source.new notes.old notes.new result }
+    ensures { Answers S.state S.after (spec.drop_on role.now table.now drop.now) source.old source.new read_set.old read_set.new result }
 {
-    let policies = noted_policies(alloc, source, notes, &drop.table)?;
+    let policies = noted_policies(alloc, source, read_set, &drop.table)?;
     policy_named(policies, &drop.name)?;
-    drop_named(alloc, source, notes, role, table, policies, drop)
+    drop_named(alloc, source, read_set, role, table, policies, drop)
 }
 
 /// Takes the policy away where the role has the privileges of the table's owner.
@@ -53,16 +53,16 @@ fn drop_on<'c, S: RowSource<'c>>(
 fn drop_named<'c, S: RowSource<'c>>(
     alloc: Global,
     source: &mut S,
-    notes: &mut Reads,
+    read_set: &mut Reads,
     role: &Name,
     table: &TableDef,
     policies: &[Policy],
     drop: &DropPolicy,
 ) -> Result<Effect, Refusal>
     requires ordered { InNameOrder policies.now }
-    ensures { Answers S.state S.after (policy_dropped role.now table.now policies.now drop.now) source.old source.new notes.old notes.new result }
+    ensures { Answers S.state S.after (policy_dropped role.now table.now policies.now drop.now) source.old source.new read_set.old read_set.new result }
 {
-    require_ownership(alloc, source, notes, role, &drop.table, table)?;
+    require_ownership(alloc, source, read_set, role, &drop.table, table)?;
     Ok(policies_changed(alloc, policies, drop)?)
 }
 

@@ -15,13 +15,13 @@ use std::alloc::Global;
 pub fn run_grant<'c, S: RowSource<'c>>(
     alloc: Global,
     source: &mut S,
-    notes: &mut Reads,
+    read_set: &mut Reads,
     ctx: &Ctx,
     privileges: &GrantPrivileges,
 ) -> Result<Effect, Refusal>
-    ensures { Answers S.state S.after (spec.grant ctx.now privileges.now) source.old source.new notes.old notes.new result }
+    ensures { Answers S.state S.after (spec.grant ctx.now privileges.now) source.old source.new read_set.old read_set.new result }
 {
-    let delta = grant(alloc, source, notes, &ctx.role, privileges)?;
+    let delta = grant(alloc, source, read_set, &ctx.role, privileges)?;
     Ok(Effect::done(alloc, delta))
 }
 
@@ -29,13 +29,13 @@ pub fn run_grant<'c, S: RowSource<'c>>(
 pub fn run_revoke<'c, S: RowSource<'c>>(
     alloc: Global,
     source: &mut S,
-    notes: &mut Reads,
+    read_set: &mut Reads,
     ctx: &Ctx,
     privileges: &RevokePrivileges,
 ) -> Result<Effect, Refusal>
-    ensures { Answers S.state S.after (spec.revoke ctx.now privileges.now) source.old source.new notes.old notes.new result }
+    ensures { Answers S.state S.after (spec.revoke ctx.now privileges.now) source.old source.new read_set.old read_set.new result }
 {
-    let delta = revoke(alloc, source, notes, &ctx.role, privileges)?;
+    let delta = revoke(alloc, source, read_set, &ctx.role, privileges)?;
     Ok(Effect::done(alloc, delta))
 }
 
@@ -43,13 +43,13 @@ pub fn run_revoke<'c, S: RowSource<'c>>(
 pub fn run_grant_roles<'c, S: RowSource<'c>>(
     alloc: Global,
     source: &mut S,
-    notes: &mut Reads,
+    read_set: &mut Reads,
     ctx: &Ctx,
     roles: &GrantRoles,
 ) -> Result<Effect, Refusal>
-    ensures { Answers S.state S.after (spec.grant_roles ctx.now roles.now) source.old source.new notes.old notes.new result }
+    ensures { Answers S.state S.after (spec.grant_roles ctx.now roles.now) source.old source.new read_set.old read_set.new result }
 {
-    let delta = grant_member(alloc, source, notes, &ctx.role, roles)?;
+    let delta = grant_member(alloc, source, read_set, &ctx.role, roles)?;
     Ok(Effect::done(alloc, delta))
 }
 
@@ -57,12 +57,12 @@ pub fn run_grant_roles<'c, S: RowSource<'c>>(
 pub fn run_revoke_roles<'c, S: RowSource<'c>>(
     alloc: Global,
     source: &mut S,
-    notes: &mut Reads,
+    read_set: &mut Reads,
     ctx: &Ctx,
     roles: &RevokeRoles,
 ) -> Result<Effect, Refusal>
-    ensures { Answers S.state S.after (spec.revoke_roles ctx.now roles.now) source.old source.new notes.old notes.new result }
+    ensures { Answers S.state S.after (spec.revoke_roles ctx.now roles.now) source.old source.new read_set.old read_set.new result }
 {
-    let delta = revoke_member(alloc, source, notes, &ctx.role, roles)?;
+    let delta = revoke_member(alloc, source, read_set, &ctx.role, roles)?;
     Ok(Effect::done(alloc, delta))
 }

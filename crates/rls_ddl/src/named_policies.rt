@@ -3,7 +3,7 @@
 ghost use Rattle.std.specs.Prelude.{◌≡◌};
 ghost use Rattle.std.specs.List.{find};
 ghost use Rattle.std.specs.Option.{option_copied};
-ghost use Rattle.rls_value.specs.Giving.{Gives, lent_now};
+ghost use Rattle.rls_value.specs.Giving.{Gives, borrowed_now};
 ghost use Rattle.rls_catalog.specs.PolicyLists.{is_named, has_policy};
 ghost use Rattle.rls_ddl.specs.NamedPolicies.{policy_or_undefined};
 
@@ -12,7 +12,7 @@ use rls_value::{Name, NameKind, Refusal};
 
 /// The policy of that name; undefined where there is none.
 pub fn policy_named<'x>(policies: &'x [Policy], name: &Name) -> Result<&'x Policy, Refusal>
-    ensures { Gives (lent_now result) (policy_or_undefined policies.now name.now) }
+    ensures { Gives (borrowed_now result) (policy_or_undefined policies.now name.now) }
 {
     match find_policy(policies, name) {
         Some(policy) => Ok(policy),

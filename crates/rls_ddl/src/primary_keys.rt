@@ -9,7 +9,7 @@ ghost use Rattle.rls_ddl.specs.CreatingTables.{key_or_undefined, place_or_undefi
 
 use rls_expr::Column;
 use rls_statement::{CreateTable, MarkedColumn};
-use rls_value::{Items, Loan, Name, NameKind, Refusal};
+use rls_value::{Items, Name, NameKind, Reference, Refusal};
 use std::alloc::{AllocError, Global};
 
 /// The places of the key's columns, in the key's order. The first that isn't defined is undefined.
@@ -35,7 +35,7 @@ pub fn columns_of(alloc: Global, create: &CreateTable) -> Result<Items<Column>, 
 fn columns_with(
     alloc: Global,
     marked: &[MarkedColumn],
-    key: &[Loan<'_, Name>],
+    key: &[Reference<'_, Name>],
 ) -> Result<Items<Column>, AllocError>
     ensures { IfOk result (λ columns. columns ≡ map (spec.column_in key.now) marked.now) }
 {
@@ -46,7 +46,7 @@ fn columns_with(
     Ok(Items::from_vec(columns))
 }
 
-fn column_with(marked: &MarkedColumn, key: &[Loan<'_, Name>]) -> Result<Column, AllocError>
+fn column_with(marked: &MarkedColumn, key: &[Reference<'_, Name>]) -> Result<Column, AllocError>
     ensures { IfOk result (λ column. column ≡ spec.column_in key.now marked.now) }
 {
     let column = &marked.column;
@@ -57,7 +57,7 @@ fn column_with(marked: &MarkedColumn, key: &[Loan<'_, Name>]) -> Result<Column, 
     })
 }
 
-fn is_one_of(mut names: &[Loan<'_, Name>], name: &Name) -> bool
+fn is_one_of(mut names: &[Reference<'_, Name>], name: &Name) -> bool
     ensures { result ≡ one_of names.entry.now name.now }
 {
     while let [first, rest @ ..] = names {
@@ -72,35 +72,35 @@ fn is_one_of(mut names: &[Loan<'_, Name>], name: &Name) -> bool
 fn key_names<'x>(
     alloc: Global,
     create: &'x CreateTable,
-) -> Result<Items<Loan<'x, Name>>, AllocError>
+) -> Result<Items<Reference<'x, Name>>, AllocError>
     ensures { IfOk result (λ names. names ≡ spec.key_names create.now) }
 {
     match &create.key {
-        Some(names) => lent(alloc, names.as_slice()),
+        Some(names) => borrowed(alloc, names.as_slice()),
         None => marked_names(alloc, create.columns.as_slice()),
     }
 }
 
-fn lent<'x>(alloc: Global, names: &'x [Name]) -> Result<Items<Loan<'x, Name>>, AllocError>
-    ensures { IfOk result (λ lent. lent ≡ names.now) }
+fn borrowed<'x>(alloc: Global, names: &'x [Name]) -> Result<Items<Reference<'x, Name>>, AllocError>
+    ensures { IfOk result (λ borrowed. borrowed ≡ names.now) }
 {
-    let mut lent = Vec::with_capacity(alloc, names.len())?;
+    let mut borrowed = Vec::with_capacity(alloc, names.len())?;
     for name in names {
-        lent.push(Loan::new(name))?;
+        borrowed.push(Reference::new(name))?;
     }
-    Ok(Items::from_vec(lent))
+    Ok(Items::from_vec(borrowed))
 }
 
 fn marked_names<'x>(
     alloc: Global,
     columns: &'x [MarkedColumn],
-) -> Result<Items<Loan<'x, Name>>, AllocError>
+) -> Result<Items<Reference<'x, Name>>, AllocError>
     ensures { IfOk result (λ names. names ≡ spec.marked_names columns.now) }
 {
     let mut names = Items::new(alloc);
     for marked in columns {
         if marked.is_key {
-            names.push(Loan::new(&marked.column.name))?;
+            names.push(Reference::new(&marked.column.name))?;
         }
     }
     Ok(names)
@@ -109,7 +109,7 @@ fn marked_names<'x>(
 fn places_of(
     alloc: Global,
     columns: &[MarkedColumn],
-    names: &[Loan<'_, Name>],
+    names: &[Reference<'_, Name>],
 ) -> Result<Items<usize>, Refusal>
     ensures { Gives result (each_of (place_or_undefined columns.now) names.now) }
 {

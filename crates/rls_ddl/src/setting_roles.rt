@@ -7,7 +7,7 @@ ghost use Rattle.rls_ddl.specs.SettingRoles.{asked_may_set, role_set, sets};
 
 use rls_catalog::Delta;
 use rls_guard::{Ctx, Effect, Reply};
-use rls_role::{Step, note_reach, reach_by};
+use rls_role::{Step, effective_roles_by, note_effective_roles};
 use rls_source::{Reads, RowSource, role_named};
 use rls_statement::SetRole;
 use rls_value::{Items, Name, Refusal, Why};
@@ -17,16 +17,16 @@ use std::alloc::{AllocError, Global};
 pub fn run_set_role<'c, S: RowSource<'c>>(
     alloc: Global,
     source: &mut S,
-    notes: &mut Reads,
+    read_set: &mut Reads,
     ctx: &Ctx,
     set: &SetRole,
 ) -> Result<Effect, Refusal>
-    ensures { Answers S.state S.after (spec.set_role ctx.now set.now) source.old source.new notes.old notes.new result }
+    ensures { Answers S.state S.after (spec.set_role ctx.now set.now) source.old source.new read_set.old read_set.new result }
 {
     match set {
         SetRole::To(role) => {
-            role_named(alloc, source, notes, role)?;
-            set_role(alloc, source, notes, &ctx.login, role)
+            role_named(alloc, source, read_set, role)?;
+            set_role(alloc, source, read_set, &ctx.login, role)
         }
         SetRole::None | SetRole::Reset => Ok(role_to(alloc, &ctx.login)?),
     }
@@ -37,13 +37,13 @@ pub fn run_set_role<'c, S: RowSource<'c>>(
 fn set_role<'c, S: RowSource<'c>>(
     alloc: Global,
     source: &mut S,
-    notes: &mut Reads,
+    read_set: &mut Reads,
     login: &Name,
     role: &Name,
 ) -> Result<Effect, Refusal>
-    ensures { Answers S.state S.after (role_set login.now role.now) source.old source.new notes.old notes.new result }
+    ensures { Answers S.state S.after (role_set login.now role.now) source.old source.new read_set.old read_set.new result }
 {
-    if may_set(alloc, source, notes, login, role)? {
+    if may_set(alloc, source, read_set, login, role)? {
         Ok(role_to(alloc, role)?)
     } else {
         Err(Refusal::Denied(Why::SetRole(role.copy()?)))
@@ -55,16 +55,16 @@ fn set_role<'c, S: RowSource<'c>>(
 fn may_set<'c, S: RowSource<'c>>(
     alloc: Global,
     source: &mut S,
-    notes: &mut Reads,
+    read_set: &mut Reads,
     login: &Name,
     role: &Name,
 ) -> Result<bool, AllocError>
-    ensures { Tells S.state S.after (asked_may_set login.now role.now) source.old source.new notes.old notes.new result }
+    ensures { Tells S.state S.after (asked_may_set login.now role.now) source.old source.new read_set.old read_set.new result }
 {
-    let reach = reach_by(alloc, source, login, Step::Set)?;
-    let may = reach.has(role);
-    let noted = note_reach(notes, login, reach.names.as_slice());
-    drop(reach);
+    let effective_roles = effective_roles_by(alloc, source, login, Step::Set)?;
+    let may = effective_roles.has(role);
+    let noted = note_effective_roles(read_set, login, effective_roles.names.as_slice());
+    drop(effective_roles);
     noted?;
     Ok(may)
 }

@@ -3,12 +3,12 @@ use Rattle.std.specs.Prelude.{◌≡◌, refl, ℕ, List, [], ◌∷◌, Bool, t
 use Rattle.std.specs.List.{flat_map}
 use Rattle.std.proofs.Common.{ap}
 use Rattle.rls_value.specs.{declared.value.Value.Value, declared.truth.Truth.Truth, Names.one_of, Values.value_of_truth, Values.truth_in, Values.is_null, declared.value.Value.TheVariants.Null, declared.value.Value.TheVariants.Bool as Flag, declared.truth.Truth.TheVariants.True, declared.truth.Truth.TheVariants.False, Truths.negation_of, Truths.is_true}
-use Rattle.rls_expr.specs.{declared.expr.Sign.Sign, declared.policy.Policy.Policy, Naming.names_of, Naming.query_names, Naming.names_all, Terms.Term, Terms.Terms, Terms.Query, Terms.Literal, Terms.Column, Terms.Place, Terms.CurrentUser, Terms.Compare, Terms.And, Terms.Or, Terms.Not, Terms.IsNull, Terms.IsNotNull, Terms.Among, Terms.NotAmong, Terms.Exists, Terms.Within as InQuery, Terms.NotWithin, Terms.Scalar, Terms.Sum, Terms.End, Terms.More, Terms.Select}
+use Rattle.rls_expr.specs.{declared.expr.Sign.Sign, declared.policy.Policy.Policy, Naming.names_of, Naming.query_names, Naming.names_all, Terms.Term, Terms.Terms, Terms.Query, Terms.Literal, Terms.Column, Terms.Var, Terms.CurrentUser, Terms.Compare, Terms.And, Terms.Or, Terms.Not, Terms.IsNull, Terms.IsNotNull, Terms.InList, Terms.NotInList, Terms.Exists, Terms.InSubquery, Terms.NotInSubquery, Terms.Scalar, Terms.Sum, Terms.End, Terms.More, Terms.Select}
 use Rattle.rls_catalog.specs.{State.State, Verdict.verdict_of, Membership.Within}
 use Rattle.rls_source.specs.{Readings.Reading, Readings.unread, Readings.read_then, Askings.Asking, Askings.followed_by}
-use Rattle.rls_evaluation.specs.{declared.fence.Guard.Guard, Keys.key_of, declared.fence.Guard.TheVariants.Exempt, declared.fence.Guard.TheVariants.Policies, Gathering.gathered, Gathering.with_row, Environments.Environment, Environments.inside, Environments.over, Environments.compared, Environments.joined, Environments.number_or_null, Showing.asked_for, Showing.with_judgement, Showing.judgements_on, Showing.allows, Showing.is_allowed, Showing.shown, Showing.verdict_on, Eval.Shows, Eval.and_value, Eval.or_value, Eval.or_equal, Eval.or_item, Eval.item_or, Eval.item_if, Eval.value_of, Eval.together, Eval.sum_of, Eval.sum_from, Eval.has_row, Eval.meets, Eval.among_items, Eval.first_item, Eval.item_of}
+use Rattle.rls_evaluation.specs.{declared.relation.SecurityQuals.SecurityQuals, Keys.key_of, declared.relation.SecurityQuals.TheVariants.Exempt, declared.relation.SecurityQuals.TheVariants.Policies, Gathering.gathered, Gathering.with_row, Environments.Environment, Environments.inside, Environments.over, Environments.compared, Environments.joined, Environments.number_or_null, Showing.asked_for, Showing.with_judgement, Showing.judgements_on, Showing.allows, Showing.is_allowed, Showing.shown, Showing.verdict_on, Eval.Shows, Eval.and_value, Eval.or_value, Eval.or_equal, Eval.or_item, Eval.item_or, Eval.item_if, Eval.value_of, Eval.together, Eval.sum_of, Eval.sum_from, Eval.has_row, Eval.meets, Eval.among_items, Eval.first_item, Eval.item_of}
 use Rattle.rls_expansion.specs.Used.{entered}
-use Rattle.rls_depth.specs.Leading.{condition_tables, guard_tables}
+use Rattle.rls_depth.specs.Leading.{condition_tables, quals_tables}
 use Rattle.rls_depth.proofs.Tables.{first_part, last_part, query_table, query_items, query_condition, within_first, within_last}
 
 -- both show the same of these tables in the state
@@ -50,7 +50,7 @@ mutual
   pub value_same : (t : Term) (a b : Shows) (tables : List (List ℕ)) (env : Environment) (s : State) → Agree s tables a b → Within (entered (names_of t)) tables → (value_of t a env).in_state s ≡ (value_of t b env).in_state s
   value_same (Literal v) a b tables env s same is = refl
   value_same (Column name) a b tables env s same is = refl
-  value_same (Place at) a b tables env s same is = refl
+  value_same (Var at) a b tables env s same is = refl
   value_same CurrentUser a b tables env s same is = refl
   value_same (Compare how x y) a b tables env s same is =
       λ i. read_then (value_same x a b tables env s same (first_part (names_of x) (names_of y) tables is) i) (λ v. read_then (value_same y a b tables env s same (last_part (names_of x) (names_of y) tables is) i) (λ w. unread (Ok (value_of_truth (compared how v w)))))
@@ -59,14 +59,14 @@ mutual
   value_same (Not t) a b tables env s same is = λ i. read_then (value_same t a b tables env s same is i) (λ x. unread (Ok (value_of_truth (negation_of (truth_in x)))))
   value_same (IsNull t) a b tables env s same is = λ i. read_then (value_same t a b tables env s same is i) (λ x. unread (Ok (Flag (is_null x))))
   value_same (IsNotNull t) a b tables env s same is = λ i. read_then (value_same t a b tables env s same is i) (λ x. unread (Ok (Flag (not (is_null x)))))
-  value_same (Among t ts) a b tables env s same is =
+  value_same (InList t ts) a b tables env s same is =
       λ i. read_then (value_same t a b tables env s same (first_part (names_of t) (names_all ts) tables is) i) (λ x. read_then (together_same (or_equal x) False ts a b tables env s same (last_part (names_of t) (names_all ts) tables is) i) (λ truth. unread (Ok (value_of_truth truth))))
-  value_same (NotAmong t ts) a b tables env s same is =
+  value_same (NotInList t ts) a b tables env s same is =
       λ i. read_then (value_same t a b tables env s same (first_part (names_of t) (names_all ts) tables is) i) (λ x. read_then (together_same (or_equal x) False ts a b tables env s same (last_part (names_of t) (names_all ts) tables is) i) (λ truth. unread (Ok (value_of_truth (negation_of truth)))))
   value_same (Exists q) a b tables env s same is = λ i. read_then (has_row_same q a b tables env s same is i) (λ is. unread (Ok (Flag is)))
-  value_same (InQuery t q) a b tables env s same is =
+  value_same (InSubquery t q) a b tables env s same is =
       λ i. read_then (value_same t a b tables env s same (first_part (names_of t) (query_names q) tables is) i) (λ x. read_then (among_same x q a b tables env s same (last_part (names_of t) (query_names q) tables is) i) (λ truth. unread (Ok (value_of_truth truth))))
-  value_same (NotWithin t q) a b tables env s same is =
+  value_same (NotInSubquery t q) a b tables env s same is =
       λ i. read_then (value_same t a b tables env s same (first_part (names_of t) (query_names q) tables is) i) (λ x. read_then (among_same x q a b tables env s same (last_part (names_of t) (query_names q) tables is) i) (λ truth. unread (Ok (value_of_truth (negation_of truth)))))
   value_same (Scalar q) a b tables env s same is = first_same q a b tables env s same is
   value_same (Sum signs ts) a b tables env s same is = sum_same signs ts a b tables env s same is
@@ -125,7 +125,7 @@ mutual
   item_same End a b tables env s same is = refl
   item_same (More t ts) a b tables env s same is = value_same t a b tables env s same (first_part (names_of t) (names_all ts) tables is)
 
--- ---- guards
+-- ---- quals
 
 judgements_same : (conditions : List (Policy × Term)) (a b : Shows) (tables : List (List ℕ)) (user : List ℕ) (row : List Value) (s : State) → Agree s tables a b → Within (flat_map condition_tables conditions) tables
     → (judgements_on conditions a user row).in_state s ≡ (judgements_on conditions b user row).in_state s
@@ -135,17 +135,17 @@ judgements_same (condition ∷ conditions) a b tables user row s same is =
     (λ v. read_then (judgements_same conditions a b tables user row s same (within_last (condition_tables condition) (flat_map condition_tables conditions) tables is) i) (λ rest. unread (Ok (with_judgement condition v rest))))
 
 -- the same is said of each row
-pub verdict_same : (guard : Guard) (a b : Shows) (tables : List (List ℕ)) (user : List ℕ) (row : List Value) (s : State) → Agree s tables a b → Within (guard_tables guard) tables
-    → (verdict_on guard a user row).in_state s ≡ (verdict_on guard b user row).in_state s
+pub verdict_same : (quals : SecurityQuals) (a b : Shows) (tables : List (List ℕ)) (user : List ℕ) (row : List Value) (s : State) → Agree s tables a b → Within (quals_tables quals) tables
+    → (verdict_on quals a user row).in_state s ≡ (verdict_on quals b user row).in_state s
 verdict_same Exempt a b tables user row s same is = refl
 verdict_same (Policies conditions) a b tables user row s same is = λ i. read_then (judgements_same conditions a b tables user row s same is i) (λ judgements. unread (Ok (verdict_of judgements)))
 
-pub allowed_same : (guard : Guard) (a b : Shows) (tables : List (List ℕ)) (user : List ℕ) (row : List Value) (s : State) → Agree s tables a b → Within (guard_tables guard) tables
-    → (is_allowed guard a user row).in_state s ≡ (is_allowed guard b user row).in_state s
-allowed_same guard a b tables user row s same is = λ i. read_then (verdict_same guard a b tables user row s same is i) (λ verdict. unread (Ok (allows verdict)))
+pub allowed_same : (quals : SecurityQuals) (a b : Shows) (tables : List (List ℕ)) (user : List ℕ) (row : List Value) (s : State) → Agree s tables a b → Within (quals_tables quals) tables
+    → (is_allowed quals a user row).in_state s ≡ (is_allowed quals b user row).in_state s
+allowed_same quals a b tables user row s same is = λ i. read_then (verdict_same quals a b tables user row s same is i) (λ verdict. unread (Ok (allows verdict)))
 
 -- the same rows are shown
-pub shown_same : (guard : Guard) (a b : Shows) (tables : List (List ℕ)) (user table : List ℕ) (key : Option (List Value)) (s : State) → Agree s tables a b → Within (guard_tables guard) tables
-    → (shown guard a user table key).in_state s ≡ (shown guard b user table key).in_state s
-shown_same guard a b tables user table key s same is =
-    ranged_same with_row [] (asked_for table key) (asked_for table key) (is_allowed guard a user) (is_allowed guard b user) s refl (λ row. allowed_same guard a b tables user row s same is)
+pub shown_same : (quals : SecurityQuals) (a b : Shows) (tables : List (List ℕ)) (user table : List ℕ) (key : Option (List Value)) (s : State) → Agree s tables a b → Within (quals_tables quals) tables
+    → (shown quals a user table key).in_state s ≡ (shown quals b user table key).in_state s
+shown_same quals a b tables user table key s same is =
+    ranged_same with_row [] (asked_for table key) (asked_for table key) (is_allowed quals a user) (is_allowed quals b user) s refl (λ row. allowed_same quals a b tables user row s same is)

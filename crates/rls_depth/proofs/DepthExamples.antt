@@ -3,15 +3,15 @@
 use Rattle.std.specs.Prelude.{◌≡◌, refl, ℕ, pos, List, [], ◌∷◌, true, false, Option, Some, None, Result, Ok, codes, if◌then◌else◌}
 use Rattle.std.specs.Str.{bytes_eq}
 use Rattle.rls_value.specs.{declared.refusal.Refusal.Refusal, declared.value.Value.Value, declared.value.Value.TheVariants.Int, declared.value.Value.TheVariants.Text, declared.value.ColType.ColType, declared.verb.Kind.Kind, declared.verb.PolicyKind.PolicyKind}
-use Rattle.rls_expr.specs.{declared.expr.Category.Category, declared.expr.Comparison.TheVariants.Equal, declared.policy.Policy.Policy, declared.table.TableDef.TableDef, Terms.Column, Terms.Place, Terms.CurrentUser, Terms.Compare, Terms.Within, Terms.End, Terms.More, Terms.Select, declared.expr.Selects.Selects}
+use Rattle.rls_expr.specs.{declared.expr.Category.Category, declared.expr.Comparison.TheVariants.Equal, declared.policy.Policy.Policy, declared.table.TableDef.TableDef, Terms.Column, Terms.Var, Terms.CurrentUser, Terms.Compare, Terms.InSubquery, Terms.End, Terms.More, Terms.Select, declared.expr.Selects.Selects}
 use Rattle.rls_expr.specs.declared.policy.Grantee.TheVariants as g
 use Rattle.rls_catalog.specs.declared.verdict.Side.TheVariants as side
 use Rattle.rls_catalog.specs.{Membership.nobody, State.State}
 use Rattle.rls_source.specs.Asked.{policies_at, rows_at, table_at}
-use Rattle.rls_evaluation.specs.{declared.fence.Guard.Guard, Showing.shows, declared.fence.Guard.TheVariants.Exempt, declared.fence.Guard.TheVariants.Policies}
-use Rattle.rls_guard.specs.declared.standing.Standing.{Standing}
-use Rattle.rls_expansion.specs.{Policies.policies_for, Protecting.past_policies, Protecting.protection_of, Rooms.room_in as room_there, Rooms.room_of, Rooms.rooms_of}
-use Rattle.rls_depth.specs.Deep.{shows_deep, state_guard}
+use Rattle.rls_evaluation.specs.{declared.relation.SecurityQuals.SecurityQuals, Showing.shows, declared.relation.SecurityQuals.TheVariants.Exempt, declared.relation.SecurityQuals.TheVariants.Policies}
+use Rattle.rls_guard.specs.declared.role_privileges.RolePrivileges.{RolePrivileges}
+use Rattle.rls_expansion.specs.{Policies.policies_for, Expanding.past_policies, Expanding.expansion_of, Dependencies.dependency_in as dependency_there, Dependencies.dependency_of, Dependencies.dependencies_of}
+use Rattle.rls_depth.specs.Deep.{shows_deep, state_quals}
 
 -- papers, each of a team
 abbrev papers : TableDef
@@ -40,7 +40,7 @@ on_papers = record {
   permissive = true;
   kind = PolicyKind.All;
   to = g.Public ∷ [];
-  using = Some (Within (Column (record { qualifier = None; name = codes "team" }))
+  using = Some (InSubquery (Column (record { qualifier = None; name = codes "team" }))
       (Select (record { table = codes "teams"; alias = None }) [] Selects.Items (More (Column (record { qualifier = None; name = codes "id" })) End) End));
   check = None;
 }
@@ -69,23 +69,23 @@ now = record {
 }
 
 -- a team is shown to its lead: lead = CURRENT_USER
-abbrev of_team : Guard
-of_team = Policies ((on_teams, Compare Equal (Place (record { out = 0; column = 1; kind = Category.Text })) CurrentUser) ∷ [])
+abbrev of_team : SecurityQuals
+of_team = Policies ((on_teams, Compare Equal (Var (record { level = 0; column = 1; kind = Category.Text })) CurrentUser) ∷ [])
 
 -- a paper is shown if its team is: team IN (SELECT id FROM teams)
-abbrev of_paper : Guard
+abbrev of_paper : SecurityQuals
 of_paper = Policies ((
   on_papers,
-  Within (Place (record { out = 0; column = 1; kind = Category.Number }))
-      (Select (record { table = codes "teams"; alias = None }) [] Selects.Items (More (Place (record { out = 0; column = 0; kind = Category.Number })) End) End),
+  InSubquery (Var (record { level = 0; column = 1; kind = Category.Number }))
+      (Select (record { table = codes "teams"; alias = None }) [] Selects.Items (More (Var (record { level = 0; column = 0; kind = Category.Number })) End) End),
 ) ∷ [])
 
-abbrev guards : List ℕ → Option Guard
-guards table = if bytes_eq table (codes "papers") then Some of_paper else (if bytes_eq table (codes "teams") then Some of_team else None)
+abbrev quals_for : List ℕ → Option SecurityQuals
+quals_for table = if bytes_eq table (codes "papers") then Some of_paper else (if bytes_eq table (codes "teams") then Some of_team else None)
 
--- the papers that so many policies show to alice, and those that the fences of both tables show
+-- the papers that so many policies show to alice, and those that the relations of both tables show
 abbrev papers_deep : ℕ → Result (List (List Value)) Refusal
-papers_deep n = ((shows_deep n guards (codes "alice") (codes "papers") None).in_state now).gives
+papers_deep n = ((shows_deep n quals_for (codes "alice") (codes "papers") None).in_state now).gives
 
 -- alice leads the first team alone, and so sees its paper alone
 of_her_team : papers_deep 2 ≡ Ok ((Int (pos 1) ∷ Int (pos 10) ∷ []) ∷ [])
@@ -103,52 +103,52 @@ unfolding rows_at
 too_shallow = refl
 
 -- a table that isn't there shows nothing
-nothing_there : ((shows_deep 2 guards (codes "alice") (codes "offices") None).in_state now).gives ≡ Ok []
+nothing_there : ((shows_deep 2 quals_for (codes "alice") (codes "offices") None).in_state now).gives ≡ Ok []
 unfolding rows_at
 nothing_there = refl
 
--- the fences show the same, that of teams standing behind that of papers
-by_fences : ((shows (record { table = codes "papers"; guard = of_paper } ∷ record { table = codes "teams"; guard = of_team } ∷ []) (codes "alice") (codes "papers") None).in_state now).gives ≡ papers_deep 2
+-- the relations show the same, that of teams standing behind that of papers
+by_relations : ((shows (record { table = codes "papers"; quals = of_paper } ∷ record { table = codes "teams"; quals = of_team } ∷ []) (codes "alice") (codes "papers") None).in_state now).gives ≡ papers_deep 2
 unfolding rows_at
-by_fences = refl
+by_relations = refl
 
 -- ---- by the state
 
 -- who has the privileges of one role, and no attribute
-abbrev only : List ℕ → Standing
-only role = record { attributes = nobody; reach = record { superuser = false; names = role ∷ [] } }
+abbrev only : List ℕ → RolePrivileges
+only role = record { attributes = nobody; effective_roles = record { superuser = false; names = role ∷ [] } }
 
--- the state gives these guards, the columns being by their places
-stated : state_guard now (only (codes "alice")) (codes "papers") ≡ Some of_paper
+-- the state gives these quals, their columns resolved
+stated : state_quals now (only (codes "alice")) (codes "papers") ≡ Some of_paper
 stated = refl
 
-stated_next : state_guard now (only (codes "alice")) (codes "teams") ≡ Some of_team
+stated_next : state_quals now (only (codes "alice")) (codes "teams") ≡ Some of_team
 stated_next = refl
 
 -- the owner is exempt
-of_owner : state_guard now (only (codes "olga")) (codes "papers") ≡ Some Exempt
+of_owner : state_quals now (only (codes "olga")) (codes "papers") ≡ Some Exempt
 of_owner = refl
 
-none_stated : state_guard now (only (codes "alice")) (codes "offices") ≡ None
+none_stated : state_quals now (only (codes "alice")) (codes "offices") ≡ None
 none_stated = refl
 
 -- so the state says that alice sees the paper of her team alone, and olga sees both
-by_state : ((shows_deep 2 (state_guard now (only (codes "alice"))) (codes "alice") (codes "papers") None).in_state now).gives ≡ papers_deep 2
+by_state : ((shows_deep 2 (state_quals now (only (codes "alice"))) (codes "alice") (codes "papers") None).in_state now).gives ≡ papers_deep 2
 unfolding rows_at
 by_state = refl
 
-all_shown : ((shows_deep 1 (state_guard now (only (codes "olga"))) (codes "olga") (codes "papers") None).in_state now).gives
+all_shown : ((shows_deep 1 (state_quals now (only (codes "olga"))) (codes "olga") (codes "papers") None).in_state now).gives
     ≡ Ok ((Int (pos 1) ∷ Int (pos 10) ∷ []) ∷ (Int (pos 2) ∷ Int (pos 20) ∷ []) ∷ [])
 unfolding rows_at
 all_shown = refl
 
--- what protects alice's SELECT from papers: the one watch of the policy, and the fence of the one table that it leads to
-protects : ((protection_of (only (codes "alice")) (codes "papers") papers Kind.Select false []).in_state now).gives
+-- the expansion of alice's SELECT from papers: the one row check of the policy, and the relation of the one table that it leads to
+protects : ((expansion_of (only (codes "alice")) (codes "papers") papers Kind.Select false []).in_state now).gives
     ≡ Ok (record {
-      old = record { kind = Kind.Select; side = side.Old; guard = of_paper } ∷ [];
+      old = record { kind = Kind.Select; side = side.Old; quals = of_paper } ∷ [];
       new = [];
-      fences = record { table = codes "teams"; guard = of_team } ∷ [];
-      asked = codes "teams" ∷ [];
+      relations = record { table = codes "teams"; quals = of_team } ∷ [];
+      permission_checks = codes "teams" ∷ [];
     })
-unfolding protection_of policies_for past_policies rooms_of room_of room_there table_at policies_at
+unfolding expansion_of policies_for past_policies dependencies_of dependency_of dependency_there table_at policies_at
 protects = refl

@@ -2,10 +2,10 @@ pub mod Tables
 pub mod Agreeing
 pub mod Using
 pub mod Deepening
-pub mod RoomLaws
+pub mod DependencyLaws
 pub mod Walking
-pub mod Placing
+pub mod Resolving
 pub mod Reaching
 pub mod Stating
-pub mod ProtectionLaws
+pub mod ExpansionLaws
 pub mod DepthExamples

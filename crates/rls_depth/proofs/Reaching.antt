@@ -7,8 +7,8 @@ use Rattle.std.proofs.lemmas.Bool.{true≢false, or_left}
 use Rattle.rls_value.specs.{declared.refusal.Refusal.Refusal, Names.one_of}
 use Rattle.rls_catalog.proofs.Walks.{bytes_own}
 use Rattle.rls_catalog.specs.Membership.{Within}
-use Rattle.rls_recursion.specs.{declared.room.Room.Room, declared.progress.Progress.Progress, declared.searching.Reached.Reached}
-use Rattle.rls_recursion.specs.Searching.{inner_of, next_of, nothing_yet, put_listed, put_done, Found, Fits, Loops, Deep, found_then, visit_all, visit, searched, told_by, ordered_by}
+use Rattle.rls_recursion.specs.{declared.dependency.PolicyDependency.PolicyDependency, declared.progress.Progress.Progress, declared.searching.Reached.Reached}
+use Rattle.rls_recursion.specs.Searching.{has_subquery_of, subquery_tables_of, nothing_yet, put_listed, put_done, Found, Fits, Loops, Deep, found_then, visit_all, visit, searched, told_by, ordered_by}
 use Rattle.rls_depth.proofs.Tables.{within_nothing, within_rest}
 use Rattle.rls_depth.proofs.Walking.{within_cons}
 
@@ -35,37 +35,37 @@ stays_all visit all each (t ∷ ts) progress within done =
     (each progress t done (within t (or_left (bytes_eq t t) (one_of ts t) (bytes_own t))))
     (λ more there. stays_all visit all each ts more (within_rest t ts all within) there)
 
-visit_stays : (n : ℕ) (rooms : List Room) (chain all : List (List ℕ)) → ((t : List ℕ) → Within (next_of rooms t) all) → (progress : Progress) (t : List ℕ) → Within progress.done all → one_of all t ≡ true
-    → Stays all (visit n rooms chain progress t)
-visit_stays zero rooms chain all closed progress t done is = tt
-visit_stays (suc n) rooms chain all closed progress t done is =
-    let walk : Found = visit_all (visit n rooms (t ∷ chain)) (put_listed progress t) (next_of rooms t) in
+visit_stays : (n : ℕ) (dependencies : List PolicyDependency) (chain all : List (List ℕ)) → ((t : List ℕ) → Within (subquery_tables_of dependencies t) all) → (progress : Progress) (t : List ℕ) → Within progress.done all → one_of all t ≡ true
+    → Stays all (visit n dependencies chain progress t)
+visit_stays zero dependencies chain all closed progress t done is = tt
+visit_stays (suc n) dependencies chain all closed progress t done is =
+    let walk : Found = visit_all (visit n dependencies (t ∷ chain)) (put_listed progress t) (subquery_tables_of dependencies t) in
     let walked : Found = found_then walk (λ more. Fits (put_done more t)) in
     let chained : Found = if one_of chain t then Loops t else walked in
-    stays_if (one_of progress.done t) all (Fits progress) (if inner_of rooms t then chained else Fits (put_done (put_listed progress t) t)) done
-    (stays_if (inner_of rooms t) all chained (Fits (put_done (put_listed progress t) t))
+    stays_if (one_of progress.done t) all (Fits progress) (if has_subquery_of dependencies t then chained else Fits (put_done (put_listed progress t) t)) done
+    (stays_if (has_subquery_of dependencies t) all chained (Fits (put_done (put_listed progress t) t))
     (stays_if (one_of chain t) all (Loops t) walked tt
     (stays_then walk all (λ more. Fits (put_done more t))
-    (stays_all (visit n rooms (t ∷ chain)) all (visit_stays n rooms (t ∷ chain) all closed) (next_of rooms t) (put_listed progress t) (closed t) done)
+    (stays_all (visit n dependencies (t ∷ chain)) all (visit_stays n dependencies (t ∷ chain) all closed) (subquery_tables_of dependencies t) (put_listed progress t) (closed t) done)
     (λ more there. within_cons t more.done all is there)))
     (within_cons t progress.done all is done))
 
-abbrev fenced_or : List (List ℕ) → Result Reached Refusal → List (List ℕ)
-fenced_or other (Ok reached) = reached.fenced
-fenced_or other (Err refusal) = other
+abbrev secured_or : List (List ℕ) → Result Reached Refusal → List (List ℕ)
+secured_or other (Ok reached) = reached.secured
+secured_or other (Err refusal) = other
 
-told_stays : (queries : List (List ℕ)) (found : Found) (all : List (List ℕ)) (reached : Reached) → Stays all found → told_by queries found ≡ Ok reached → Within reached.fenced all
-told_stays queries (Fits progress) all reached stays is = subst (λ names. Within names all) (ap (fenced_or []) is) stays
+told_stays : (queries : List (List ℕ)) (found : Found) (all : List (List ℕ)) (reached : Reached) → Stays all found → told_by queries found ≡ Ok reached → Within reached.secured all
+told_stays queries (Fits progress) all reached stays is = subst (λ names. Within names all) (ap (secured_or []) is) stays
 told_stays queries (Loops t) all reached stays is = absurd (true≢false (sym (ap is_ok is)))
-told_stays queries Deep all reached stays is = subst (λ names. Within names all) (ap (fenced_or []) is) (within_nothing all)
+told_stays queries Deep all reached stays is = subst (λ names. Within names all) (ap (secured_or []) is) (within_nothing all)
 
 -- the tables that are reached are among any that hold those of the statement and lead to none but themselves
-pub reached_within : (rooms : List Room) (target : List ℕ) (own queries all : List (List ℕ)) (reached : Reached) → ((t : List ℕ) → Within (next_of rooms t) all) → Within own all → Within queries all
-    → ordered_by rooms target own queries ≡ Ok reached → Within reached.fenced all
-reached_within rooms target own queries all reached closed first second is =
-    let n : ℕ = suc (length rooms) in
-    told_stays queries (searched rooms target own queries) all reached
-    (stays_then (visit_all (visit n rooms (target ∷ [])) nothing_yet own) all (λ more. visit_all (visit n rooms []) more queries)
-    (stays_all (visit n rooms (target ∷ [])) all (visit_stays n rooms (target ∷ []) all closed) own nothing_yet first (within_nothing all))
-    (λ more there. stays_all (visit n rooms []) all (visit_stays n rooms [] all closed) queries more second there))
+pub reached_within : (dependencies : List PolicyDependency) (target : List ℕ) (own queries all : List (List ℕ)) (reached : Reached) → ((t : List ℕ) → Within (subquery_tables_of dependencies t) all) → Within own all → Within queries all
+    → ordered_by dependencies target own queries ≡ Ok reached → Within reached.secured all
+reached_within dependencies target own queries all reached closed first second is =
+    let n : ℕ = suc (length dependencies) in
+    told_stays queries (searched dependencies target own queries) all reached
+    (stays_then (visit_all (visit n dependencies (target ∷ [])) nothing_yet own) all (λ more. visit_all (visit n dependencies []) more queries)
+    (stays_all (visit n dependencies (target ∷ [])) all (visit_stays n dependencies (target ∷ []) all closed) own nothing_yet first (within_nothing all))
+    (λ more there. stays_all (visit n dependencies []) all (visit_stays n dependencies [] all closed) queries more second there))
     is

@@ -1,11 +1,11 @@
--- The tables of subqueries: those of a part are among those of the whole, and placing brings in none.
+-- The tables of subqueries: those of a part are among those of the whole, and resolving brings in none.
 use Rattle.std.specs.Prelude.{◌≡◌, refl, ℕ, suc, List, [], ◌∷◌, ◌++◌, Bool, true, false, ◌||◌, Option, Some, None, Result, Ok, Err}
 use Rattle.std.specs.Str.{bytes_eq}
 use Rattle.std.proofs.Common.{ap, sym, ◌∙◌}
 use Rattle.std.proofs.lemmas.Bool.{true≢false, or_left, or_right}
 use Rattle.std.proofs.lemmas.Slice.Eq.{bytes_eq-Decides}
 use Rattle.rls_value.specs.Names.{one_of}
-use Rattle.rls_expr.specs.{declared.column_name.ColumnName.ColumnName, declared.expr.FromItem.FromItem, declared.expr.Place.Place as ColumnPlace, declared.expr.Selects.Selects, declared.table.Column.Column as ColumnOf, declared.table.TableDef.TableDef, Naming.Step, Naming.Leave, Naming.names_of, Naming.query_names, Naming.names_all, Scopes.Unknown, Scopes.place_in, Placing.Names, Placing.inside, Placing.column_placed, Placing.columns_from, Placing.items_of, Placing.definition_of, Placing.placed, Placing.query_over, Placing.placed_all, Terms.Term, Terms.Terms, Terms.Query, Terms.Literal, Terms.Column, Terms.Place, Terms.CurrentUser, Terms.Compare, Terms.And, Terms.Or, Terms.Not, Terms.IsNull, Terms.IsNotNull, Terms.Among, Terms.NotAmong, Terms.Exists, Terms.Within as InQuery, Terms.NotWithin, Terms.Scalar, Terms.Sum, Terms.End, Terms.More, Terms.Select, Terms.qualifier_of, Terms.terms_of}
+use Rattle.rls_expr.specs.{declared.column_name.ColumnName.ColumnName, declared.expr.FromItem.FromItem, declared.expr.Var.Var as VarOf, declared.expr.Selects.Selects, declared.table.Column.Column as ColumnOf, declared.table.TableDef.TableDef, Naming.Step, Naming.Leave, Naming.names_of, Naming.query_names, Naming.names_all, Scopes.Unknown, Scopes.var_in, Resolving.Names, Resolving.inside, Resolving.column_resolved, Resolving.columns_from, Resolving.items_of, Resolving.definition_of, Resolving.resolved, Resolving.query_over, Resolving.resolved_all, Terms.Term, Terms.Terms, Terms.Query, Terms.Literal, Terms.Column, Terms.Var, Terms.CurrentUser, Terms.Compare, Terms.And, Terms.Or, Terms.Not, Terms.IsNull, Terms.IsNotNull, Terms.InList, Terms.NotInList, Terms.Exists, Terms.InSubquery, Terms.NotInSubquery, Terms.Scalar, Terms.Sum, Terms.End, Terms.More, Terms.Select, Terms.qualifier_of, Terms.terms_of}
 use Rattle.rls_expr.specs.declared.expr.Selects.TheVariants as s
 use Rattle.rls_catalog.proofs.Walks.{one_of-append}
 use Rattle.rls_catalog.specs.Membership.{Within}
@@ -91,12 +91,12 @@ query_condition from key selects items condition all within =
     first_part (names_all condition) (Leave ∷ []) all
     (last_part (names_all items) (names_all condition ++ Leave ∷ []) all (within_rest from.table (entered (names_all items ++ (names_all condition ++ Leave ∷ []))) all within))
 
--- ---- placing
+-- ---- resolving
 
 same_within : (xs : List (List ℕ)) → Within xs xs
 same_within xs name is = is
 
-column_tables : (name : ColumnName) (found : Result ColumnPlace Unknown) → Within (tables_of (column_placed name found)) []
+column_tables : (name : ColumnName) (found : Result VarOf Unknown) → Within (tables_of (column_resolved name found)) []
 column_tables name (Ok place) = within_nothing []
 column_tables name (Err unknown) = within_nothing []
 
@@ -110,38 +110,38 @@ items_tables s.Count table items all within = within
 items_tables s.Items table items all within = within
 
 mutual
-  -- placing brings in no table
-  pub placed_tables : (t : Term) (names : Names) → Within (entered (names_of (placed t names))) (entered (names_of t))
-  placed_tables (Literal v) names = within_nothing []
-  placed_tables (Column name) names = column_tables name (place_in names.tables name)
-  placed_tables (Place at) names = within_nothing []
-  placed_tables CurrentUser names = within_nothing []
-  placed_tables (Compare how a b) names = steps_both (names_of (placed a names)) (names_of (placed b names)) (names_of a) (names_of b) (placed_tables a names) (placed_tables b names)
-  placed_tables (And ts) names = all_placed ts names
-  placed_tables (Or ts) names = all_placed ts names
-  placed_tables (Not t) names = placed_tables t names
-  placed_tables (IsNull t) names = placed_tables t names
-  placed_tables (IsNotNull t) names = placed_tables t names
-  placed_tables (Among t ts) names = steps_both (names_of (placed t names)) (names_all (placed_all ts names)) (names_of t) (names_all ts) (placed_tables t names) (all_placed ts names)
-  placed_tables (NotAmong t ts) names = steps_both (names_of (placed t names)) (names_all (placed_all ts names)) (names_of t) (names_all ts) (placed_tables t names) (all_placed ts names)
-  placed_tables (Exists q) names = query_tables q names (definition_of q names)
-  placed_tables (InQuery t q) names =
-      steps_both (names_of (placed t names)) (query_names (query_over q names (definition_of q names))) (names_of t) (query_names q) (placed_tables t names) (query_tables q names (definition_of q names))
-  placed_tables (NotWithin t q) names =
-      steps_both (names_of (placed t names)) (query_names (query_over q names (definition_of q names))) (names_of t) (query_names q) (placed_tables t names) (query_tables q names (definition_of q names))
-  placed_tables (Scalar q) names = query_tables q names (definition_of q names)
-  placed_tables (Sum signs ts) names = all_placed ts names
+  -- resolving brings in no table
+  pub resolved_tables : (t : Term) (names : Names) → Within (entered (names_of (resolved t names))) (entered (names_of t))
+  resolved_tables (Literal v) names = within_nothing []
+  resolved_tables (Column name) names = column_tables name (var_in names.tables name)
+  resolved_tables (Var at) names = within_nothing []
+  resolved_tables CurrentUser names = within_nothing []
+  resolved_tables (Compare how a b) names = steps_both (names_of (resolved a names)) (names_of (resolved b names)) (names_of a) (names_of b) (resolved_tables a names) (resolved_tables b names)
+  resolved_tables (And ts) names = all_resolved ts names
+  resolved_tables (Or ts) names = all_resolved ts names
+  resolved_tables (Not t) names = resolved_tables t names
+  resolved_tables (IsNull t) names = resolved_tables t names
+  resolved_tables (IsNotNull t) names = resolved_tables t names
+  resolved_tables (InList t ts) names = steps_both (names_of (resolved t names)) (names_all (resolved_all ts names)) (names_of t) (names_all ts) (resolved_tables t names) (all_resolved ts names)
+  resolved_tables (NotInList t ts) names = steps_both (names_of (resolved t names)) (names_all (resolved_all ts names)) (names_of t) (names_all ts) (resolved_tables t names) (all_resolved ts names)
+  resolved_tables (Exists q) names = query_tables q names (definition_of q names)
+  resolved_tables (InSubquery t q) names =
+      steps_both (names_of (resolved t names)) (query_names (query_over q names (definition_of q names))) (names_of t) (query_names q) (resolved_tables t names) (query_tables q names (definition_of q names))
+  resolved_tables (NotInSubquery t q) names =
+      steps_both (names_of (resolved t names)) (query_names (query_over q names (definition_of q names))) (names_of t) (query_names q) (resolved_tables t names) (query_tables q names (definition_of q names))
+  resolved_tables (Scalar q) names = query_tables q names (definition_of q names)
+  resolved_tables (Sum signs ts) names = all_resolved ts names
 
   query_tables : (q : Query) (names : Names) (found : Option TableDef) → Within (entered (query_names (query_over q names found))) (entered (query_names q))
   query_tables (Select from key selects items condition) names None = same_within (entered (query_names (Select from key selects items condition)))
   query_tables (Select from key selects items condition) names (Some table) =
       let inner : Names = inside (qualifier_of from, table) names in
-      let given : Terms = items_of selects table (placed_all items inner) in
-      within_both_more from.table (entered (names_all given ++ (names_all (placed_all condition inner) ++ Leave ∷ []))) (entered (names_all items ++ (names_all condition ++ Leave ∷ [])))
-      (steps_both (names_all given) (names_all (placed_all condition inner) ++ Leave ∷ []) (names_all items) (names_all condition ++ Leave ∷ [])
-      (items_tables selects table (placed_all items inner) (entered (names_all items)) (all_placed items inner))
-      (steps_both (names_all (placed_all condition inner)) (Leave ∷ []) (names_all condition) (Leave ∷ []) (all_placed condition inner) (within_nothing [])))
+      let given : Terms = items_of selects table (resolved_all items inner) in
+      within_both_more from.table (entered (names_all given ++ (names_all (resolved_all condition inner) ++ Leave ∷ []))) (entered (names_all items ++ (names_all condition ++ Leave ∷ [])))
+      (steps_both (names_all given) (names_all (resolved_all condition inner) ++ Leave ∷ []) (names_all items) (names_all condition ++ Leave ∷ [])
+      (items_tables selects table (resolved_all items inner) (entered (names_all items)) (all_resolved items inner))
+      (steps_both (names_all (resolved_all condition inner)) (Leave ∷ []) (names_all condition) (Leave ∷ []) (all_resolved condition inner) (within_nothing [])))
 
-  all_placed : (ts : Terms) (names : Names) → Within (entered (names_all (placed_all ts names))) (entered (names_all ts))
-  all_placed End names = within_nothing []
-  all_placed (More t ts) names = steps_both (names_of (placed t names)) (names_all (placed_all ts names)) (names_of t) (names_all ts) (placed_tables t names) (all_placed ts names)
+  all_resolved : (ts : Terms) (names : Names) → Within (entered (names_all (resolved_all ts names))) (entered (names_all ts))
+  all_resolved End names = within_nothing []
+  all_resolved (More t ts) names = steps_both (names_of (resolved t names)) (names_all (resolved_all ts names)) (names_of t) (names_all ts) (resolved_tables t names) (all_resolved ts names)

@@ -1,4 +1,4 @@
--- The rooms that are read: each is what the state tells of its table, and the tables that they lead to have rooms too.
+-- The dependencies that are read: each is what the state tells of its table, and the tables that they lead to have some too.
 use Rattle.std.specs.Prelude.{◌≡◌, refl, ℕ, zero, suc, ◌+◌, ◌≤◌, List, [], ◌∷◌, ◌++◌, Bool, true, false, ◌||◌, Option, Some, None, Result, Ok, Err, length, slice_get, take, if◌then◌else◌}
 use Rattle.std.specs.{List.AllByRecursion, Result.is_ok, Str.bytes_eq}
 use Rattle.std.proofs.{Common.arith, Common.ap, Common.sym, Common.◌∙◌, Common.subst, Common.append-nil, Common.append_assoc, lemmas.Bool.true≢false, lemmas.List.length-append, lemmas.Option.slice_get_past, lemmas.Option.slice_get_within}
@@ -7,57 +7,57 @@ use Rattle.rls_expr.specs.{declared.policy.Policy.Policy, declared.table.TableDe
 use Rattle.rls_catalog.specs.{Membership.fresh, Membership.Within, Verdict.exempts, State.State, State.table_of, State.policies_of}
 use Rattle.rls_catalog.proofs.Walks.{left, left_all, fresh_few, one_of_last, among_first, bytes_same, reads_all}
 use Rattle.rls_source.specs.{Asked.asked_policies, Asked.policies_at, Asked.table_at, Askings.asked_if, Askings.followed_by, Askings.known}
-use Rattle.rls_guard.specs.{declared.standing.Standing.Standing, Standings.has_owner}
-use Rattle.rls_recursion.specs.{declared.room.Room.Room, Searching.next_in, Searching.next_of, Searching.room_in, Searching.tables_in}
-use Rattle.rls_expansion.specs.{Enough.collect, Enough.collect_end, Enough.collect_step, Enough.visits, Fences.known_in, Fences.with_known, Leading.named, Policies.policies_for, Rooms.absent, Rooms.room_by, Rooms.room_in as room_there, Rooms.room_if, Rooms.room_of, Rooms.rooms_lead, Rooms.rooms_of}
+use Rattle.rls_guard.specs.{declared.role_privileges.RolePrivileges.RolePrivileges, RolePrivileges.has_owner}
+use Rattle.rls_recursion.specs.{declared.dependency.PolicyDependency.PolicyDependency, Searching.subquery_tables_in, Searching.subquery_tables_of, Searching.dependency_in, Searching.tables_in}
+use Rattle.rls_expansion.specs.{Enough.collect, Enough.collect_end, Enough.collect_step, Enough.visits, Relations.known_in, Relations.with_known, Leading.named, Policies.policies_for, Dependencies.absent, Dependencies.dependency_by, Dependencies.dependency_in as dependency_there, Dependencies.dependency_if, Dependencies.dependency_of, Dependencies.dependencies_lead, Dependencies.dependencies_of}
 use Rattle.rls_depth.{specs.Deep.policies_in, proofs.Tables.within_nothing, proofs.Tables.or_either}
 
 -- ---- what is told
 
--- the room of a table, as the state has it
-abbrev pub room_for : State → Standing → List ℕ → Option TableDef → Room
-room_for s standing name (Some def) = room_by standing name def (policies_in s standing name def)
-room_for s standing name None = absent name
+-- the dependency of a table, as the state has it
+abbrev pub dependency_for : State → RolePrivileges → List ℕ → Option TableDef → PolicyDependency
+dependency_for s role_privileges name (Some def) = dependency_by role_privileges name def (policies_in s role_privileges name def)
+dependency_for s role_privileges name None = absent name
 
-abbrev pub room_at : State → Standing → List ℕ → Room
-room_at s standing name = room_for s standing name (table_of s name)
+abbrev pub dependency_at : State → RolePrivileges → List ℕ → PolicyDependency
+dependency_at s role_privileges name = dependency_for s role_privileges name (table_of s name)
 
-exempt_told : (exempt : Bool) (standing : Standing) (s : State) (name : List ℕ) (def : TableDef)
-    → ((followed_by (asked_if exempt (known (Ok None)) (followed_by (asked_policies name) (λ policies. known (Ok (Some policies))))) (λ policies. known (Ok (room_by standing name def policies)))).in_state s).gives
-    ≡ Ok (room_by standing name def (if exempt then None else Some (policies_of s name)))
+exempt_told : (exempt : Bool) (role_privileges : RolePrivileges) (s : State) (name : List ℕ) (def : TableDef)
+    → ((followed_by (asked_if exempt (known (Ok None)) (followed_by (asked_policies name) (λ policies. known (Ok (Some policies))))) (λ policies. known (Ok (dependency_by role_privileges name def policies)))).in_state s).gives
+    ≡ Ok (dependency_by role_privileges name def (if exempt then None else Some (policies_of s name)))
 unfolding policies_at
-exempt_told true standing s name def = refl
-exempt_told false standing s name def = refl
+exempt_told true role_privileges s name def = refl
+exempt_told false role_privileges s name def = refl
 
-found_told : (found : Option TableDef) (standing : Standing) (s : State) (name : List ℕ) → ((room_if standing name found).in_state s).gives ≡ Ok (room_for s standing name found)
-unfolding room_there policies_for
-found_told None standing s name = refl
-found_told (Some def) standing s name = exempt_told (exempts standing.attributes def (has_owner standing def)) standing s name def
+found_told : (found : Option TableDef) (role_privileges : RolePrivileges) (s : State) (name : List ℕ) → ((dependency_if role_privileges name found).in_state s).gives ≡ Ok (dependency_for s role_privileges name found)
+unfolding dependency_there policies_for
+found_told None role_privileges s name = refl
+found_told (Some def) role_privileges s name = exempt_told (exempts role_privileges.attributes def (has_owner role_privileges def)) role_privileges s name def
 
-pub room_told : (standing : Standing) (s : State) (name : List ℕ) → ((room_of standing name).in_state s).gives ≡ Ok (room_at s standing name)
-unfolding room_of table_at
-room_told standing s name = found_told (table_of s name) standing s name
+pub dependency_told : (role_privileges : RolePrivileges) (s : State) (name : List ℕ) → ((dependency_of role_privileges name).in_state s).gives ≡ Ok (dependency_at s role_privileges name)
+unfolding dependency_of table_at
+dependency_told role_privileges s name = found_told (table_of s name) role_privileges s name
 
--- a room is of its table, which it knows where it is there
+-- a dependency is of its table, which it knows where it is there
 abbrev pub known_as : List ℕ → Option TableDef → Option InScope
 known_as name (Some def) = Some (name, def)
 known_as name None = None
 
-by_table : (standing : Standing) (name : List ℕ) (def : TableDef) (policies : Option (List Policy)) → (room_by standing name def policies).table ≡ name
-by_table standing name def None = refl
-by_table standing name def (Some policies) = refl
+by_table : (role_privileges : RolePrivileges) (name : List ℕ) (def : TableDef) (policies : Option (List Policy)) → (dependency_by role_privileges name def policies).table ≡ name
+by_table role_privileges name def None = refl
+by_table role_privileges name def (Some policies) = refl
 
-by_known : (standing : Standing) (name : List ℕ) (def : TableDef) (policies : Option (List Policy)) → (room_by standing name def policies).known ≡ Some (name, def)
-by_known standing name def None = refl
-by_known standing name def (Some policies) = refl
+by_known : (role_privileges : RolePrivileges) (name : List ℕ) (def : TableDef) (policies : Option (List Policy)) → (dependency_by role_privileges name def policies).known ≡ Some (name, def)
+by_known role_privileges name def None = refl
+by_known role_privileges name def (Some policies) = refl
 
-for_table : (s : State) (standing : Standing) (name : List ℕ) (found : Option TableDef) → (room_for s standing name found).table ≡ name
-for_table s standing name (Some def) = by_table standing name def (policies_in s standing name def)
-for_table s standing name None = refl
+for_table : (s : State) (role_privileges : RolePrivileges) (name : List ℕ) (found : Option TableDef) → (dependency_for s role_privileges name found).table ≡ name
+for_table s role_privileges name (Some def) = by_table role_privileges name def (policies_in s role_privileges name def)
+for_table s role_privileges name None = refl
 
-for_known : (s : State) (standing : Standing) (name : List ℕ) (found : Option TableDef) → (room_for s standing name found).known ≡ known_as name found
-for_known s standing name (Some def) = by_known standing name def (policies_in s standing name def)
-for_known s standing name None = refl
+for_known : (s : State) (role_privileges : RolePrivileges) (name : List ℕ) (found : Option TableDef) → (dependency_for s role_privileges name found).known ≡ known_as name found
+for_known s role_privileges name (Some def) = by_known role_privileges name def (policies_in s role_privileges name def)
+for_known s role_privileges name None = refl
 
 -- ---- results
 
@@ -106,74 +106,74 @@ take_next (x ∷ xs) more (suc i) name found = ap (λ rest. x ∷ rest) (take_ne
 
 -- ---- the walk
 
--- the room is as the state has it
-abbrev pub IsTold : State → Standing → Room → Type 0
-IsTold s standing room = room ≡ room_at s standing room.table
+-- the dependency is as the state has it
+abbrev pub IsTold : State → RolePrivileges → PolicyDependency → Type 0
+IsTold s role_privileges dependency = dependency ≡ dependency_at s role_privileges dependency.table
 
 -- what a walk over the names gives from the index on: those before it are visited
-record Walked (s : State) (standing : Standing) (names : List (List ℕ)) (i : ℕ) (rooms : List Room) : Type 0 where
-  pub told : AllByRecursion (IsTold s standing) rooms
-  pub all : Within names (take i names ++ tables_in rooms)
-  pub next : AllByRecursion (λ room. Within room.next (take i names ++ tables_in rooms)) rooms
+record Walked (s : State) (role_privileges : RolePrivileges) (names : List (List ℕ)) (i : ℕ) (dependencies : List PolicyDependency) : Type 0 where
+  pub told : AllByRecursion (IsTold s role_privileges) dependencies
+  pub all : Within names (take i names ++ tables_in dependencies)
+  pub next : AllByRecursion (λ dependency. Within dependency.subquery_tables (take i names ++ tables_in dependencies)) dependencies
 
-walked_end : (s : State) (standing : Standing) (names : List (List ℕ)) (i : ℕ) → slice_get names i ≡ None → Walked s standing names i []
-walked_end s standing names i past = record {
+walked_end : (s : State) (role_privileges : RolePrivileges) (names : List (List ℕ)) (i : ℕ) → slice_get names i ≡ None → Walked s role_privileges names i []
+walked_end s role_privileges names i past = record {
   told = tt;
   all = λ name is. ap (λ all. one_of all name) (append-nil (take i names) ∙ reads_all names i past) ∙ is;
   next = tt;
 }
 
-walked_more : (s : State) (standing : Standing) (names : List (List ℕ)) (i : ℕ) (name : List ℕ) (room : Room) (rest : List Room) → slice_get names i ≡ Some name → room ≡ room_at s standing name
-    → Walked s standing (names ++ fresh names room.next) (suc i) rest → Walked s standing names i (room ∷ rest)
-walked_more s standing names i name room rest found is walked =
-    let grown : List (List ℕ) = names ++ fresh names room.next in
-    let table_is : room.table ≡ name = ap (λ r. r.table) is ∙ for_table s standing name (table_of s name) in
-    let same : take (suc i) grown ++ tables_in rest ≡ take i names ++ tables_in (room ∷ rest) =
-    ap (λ first. first ++ tables_in rest) (take_next names (fresh names room.next) i name found) ∙ append_assoc (take i names) (name ∷ []) (tables_in rest) ∙ ap (λ n. take i names ++ n ∷ tables_in rest) (sym table_is) in
-    let all : Within grown (take i names ++ tables_in (room ∷ rest)) = subst (λ all. Within grown all) same walked.all in
+walked_more : (s : State) (role_privileges : RolePrivileges) (names : List (List ℕ)) (i : ℕ) (name : List ℕ) (dependency : PolicyDependency) (rest : List PolicyDependency) → slice_get names i ≡ Some name → dependency ≡ dependency_at s role_privileges name
+    → Walked s role_privileges (names ++ fresh names dependency.subquery_tables) (suc i) rest → Walked s role_privileges names i (dependency ∷ rest)
+walked_more s role_privileges names i name dependency rest found is walked =
+    let grown : List (List ℕ) = names ++ fresh names dependency.subquery_tables in
+    let table_is : dependency.table ≡ name = ap (λ r. r.table) is ∙ for_table s role_privileges name (table_of s name) in
+    let same : take (suc i) grown ++ tables_in rest ≡ take i names ++ tables_in (dependency ∷ rest) =
+    ap (λ first. first ++ tables_in rest) (take_next names (fresh names dependency.subquery_tables) i name found) ∙ append_assoc (take i names) (name ∷ []) (tables_in rest) ∙ ap (λ n. take i names ++ n ∷ tables_in rest) (sym table_is) in
+    let all : Within grown (take i names ++ tables_in (dependency ∷ rest)) = subst (λ all. Within grown all) same walked.all in
     record {
-      told = (is ∙ ap (room_at s standing) (sym table_is), walked.told);
-      all = λ n among. all n (among_first names (fresh names room.next) n among);
-      next = (λ n among. all n (fresh_all names room.next n among), subst (λ all. AllByRecursion (λ room. Within room.next all) rest) same walked.next);
+      told = (is ∙ ap (dependency_at s role_privileges) (sym table_is), walked.told);
+      all = λ n among. all n (among_first names (fresh names dependency.subquery_tables) n among);
+      next = (λ n among. all n (fresh_all names dependency.subquery_tables n among), subst (λ all. AllByRecursion (λ dependency. Within dependency.subquery_tables all) rest) same walked.next);
     }
 
-walked_if : (found : Option (List ℕ)) (standing : Standing) (s : State) (n : ℕ) (names : List (List ℕ)) (i : ℕ) (rooms : List Room) → slice_get names i ≡ found → length names + left (named s) names ≤ i + suc n
-    → ((grown : List (List ℕ)) (rs : List Room) → length grown + left (named s) grown ≤ suc i + n → ((collect (room_of standing) (λ room. room.next) n grown (suc i)).in_state s).gives ≡ Ok rs → Walked s standing grown (suc i) rs)
-    → ((collect (room_of standing) (λ room. room.next) (suc n) names i).in_state s).gives ≡ Ok rooms → Walked s standing names i rooms
-walked_if None standing s n names i rooms past few further is =
-    subst (Walked s standing names i) (ok_same [] rooms (sym (ap (λ r. r.gives) (collect_end (room_of standing) (λ room. room.next) (suc n) s names i past)) ∙ is)) (walked_end s standing names i past)
-walked_if (Some name) standing s n names i rooms found few further is =
-    let visit = and_then_ok ((room_of standing name).in_state s).gives
-    (λ x. and_then ((collect (room_of standing) (λ room. room.next) n (names ++ fresh names x.next) (suc i)).in_state s).gives (λ rest. Ok (x ∷ rest))) rooms
-    (sym (ap (λ r. r.gives) (collect_step (room_of standing) (λ room. room.next) n s names i name found)) ∙ is) in
-    let room : Room = visit.0 in
-    let grown : List (List ℕ) = names ++ fresh names room.next in
-    let further_on = and_then_ok ((collect (room_of standing) (λ room. room.next) n grown (suc i)).in_state s).gives (λ rest. Ok (room ∷ rest)) rooms visit.1.1 in
-    let room_is : room ≡ room_at s standing name = ok_same room (room_at s standing name) (sym visit.1.0 ∙ room_told standing s name) in
-    subst (Walked s standing names i) {x = room ∷ further_on.0} (ok_same (room ∷ further_on.0) rooms further_on.1.1)
-    (walked_more s standing names i name room further_on.0 found room_is
+walked_if : (found : Option (List ℕ)) (role_privileges : RolePrivileges) (s : State) (n : ℕ) (names : List (List ℕ)) (i : ℕ) (dependencies : List PolicyDependency) → slice_get names i ≡ found → length names + left (named s) names ≤ i + suc n
+    → ((grown : List (List ℕ)) (rs : List PolicyDependency) → length grown + left (named s) grown ≤ suc i + n → ((collect (dependency_of role_privileges) (λ dependency. dependency.subquery_tables) n grown (suc i)).in_state s).gives ≡ Ok rs → Walked s role_privileges grown (suc i) rs)
+    → ((collect (dependency_of role_privileges) (λ dependency. dependency.subquery_tables) (suc n) names i).in_state s).gives ≡ Ok dependencies → Walked s role_privileges names i dependencies
+walked_if None role_privileges s n names i dependencies past few further is =
+    subst (Walked s role_privileges names i) (ok_same [] dependencies (sym (ap (λ r. r.gives) (collect_end (dependency_of role_privileges) (λ dependency. dependency.subquery_tables) (suc n) s names i past)) ∙ is)) (walked_end s role_privileges names i past)
+walked_if (Some name) role_privileges s n names i dependencies found few further is =
+    let visit = and_then_ok ((dependency_of role_privileges name).in_state s).gives
+    (λ x. and_then ((collect (dependency_of role_privileges) (λ dependency. dependency.subquery_tables) n (names ++ fresh names x.subquery_tables) (suc i)).in_state s).gives (λ rest. Ok (x ∷ rest))) dependencies
+    (sym (ap (λ r. r.gives) (collect_step (dependency_of role_privileges) (λ dependency. dependency.subquery_tables) n s names i name found)) ∙ is) in
+    let dependency : PolicyDependency = visit.0 in
+    let grown : List (List ℕ) = names ++ fresh names dependency.subquery_tables in
+    let further_on = and_then_ok ((collect (dependency_of role_privileges) (λ dependency. dependency.subquery_tables) n grown (suc i)).in_state s).gives (λ rest. Ok (dependency ∷ rest)) dependencies visit.1.1 in
+    let dependency_is : dependency ≡ dependency_at s role_privileges name = ok_same dependency (dependency_at s role_privileges name) (sym visit.1.0 ∙ dependency_told role_privileges s name) in
+    subst (Walked s role_privileges names i) {x = dependency ∷ further_on.0} (ok_same (dependency ∷ further_on.0) dependencies further_on.1.1)
+    (walked_more s role_privileges names i name dependency further_on.0 found dependency_is
     (further grown further_on.0
-    (omega (arith, few, length-append names (fresh names room.next), fresh_few (named s) names room.next (rooms_lead standing s name room visit.1.0)))
+    (omega (arith, few, length-append names (fresh names dependency.subquery_tables), fresh_few (named s) names dependency.subquery_tables (dependencies_lead role_privileges s name dependency visit.1.0)))
     further_on.1.0))
 
-walked : (standing : Standing) (s : State) (n : ℕ) (names : List (List ℕ)) (i : ℕ) (rooms : List Room) → length names + left (named s) names ≤ i + n
-    → ((collect (room_of standing) (λ room. room.next) n names i).in_state s).gives ≡ Ok rooms → Walked s standing names i rooms
-walked standing s zero names i rooms few is =
-    subst (Walked s standing names i) (ok_same [] rooms is) (walked_end s standing names i (slice_get_past names i (omega (arith, few))))
-walked standing s (suc n) names i rooms few is =
-    walked_if (slice_get names i) standing s n names i rooms refl few (λ grown rs fewer given. walked standing s n grown (suc i) rs fewer given) is
+walked : (role_privileges : RolePrivileges) (s : State) (n : ℕ) (names : List (List ℕ)) (i : ℕ) (dependencies : List PolicyDependency) → length names + left (named s) names ≤ i + n
+    → ((collect (dependency_of role_privileges) (λ dependency. dependency.subquery_tables) n names i).in_state s).gives ≡ Ok dependencies → Walked s role_privileges names i dependencies
+walked role_privileges s zero names i dependencies few is =
+    subst (Walked s role_privileges names i) (ok_same [] dependencies is) (walked_end s role_privileges names i (slice_get_past names i (omega (arith, few))))
+walked role_privileges s (suc n) names i dependencies few is =
+    walked_if (slice_get names i) role_privileges s n names i dependencies refl few (λ grown rs fewer given. walked role_privileges s n grown (suc i) rs fewer given) is
 
--- the rooms of a state: each as it tells, one for each table that is asked for, and for each that a room leads to
-pub record AreRead (s : State) (standing : Standing) (tables : List (List ℕ)) (rooms : List Room) : Type 0 where
-  pub told : AllByRecursion (IsTold s standing) rooms
-  pub asked : Within tables (tables_in rooms)
-  pub next : AllByRecursion (λ room. Within room.next (tables_in rooms)) rooms
+-- the dependencies of a state: each as it tells, one for each table that is asked for, and for each that a dependency leads to
+pub record AreRead (s : State) (role_privileges : RolePrivileges) (tables : List (List ℕ)) (dependencies : List PolicyDependency) : Type 0 where
+  pub told : AllByRecursion (IsTold s role_privileges) dependencies
+  pub asked : Within tables (tables_in dependencies)
+  pub next : AllByRecursion (λ dependency. Within dependency.subquery_tables (tables_in dependencies)) dependencies
 
-pub are_read : (standing : Standing) (s : State) (tables : List (List ℕ)) (rooms : List Room) → ((rooms_of standing tables).in_state s).gives ≡ Ok rooms → AreRead s standing tables rooms
-unfolding rooms_of
-are_read standing s tables rooms is =
+pub are_read : (role_privileges : RolePrivileges) (s : State) (tables : List (List ℕ)) (dependencies : List PolicyDependency) → ((dependencies_of role_privileges tables).in_state s).gives ≡ Ok dependencies → AreRead s role_privileges tables dependencies
+unfolding dependencies_of
+are_read role_privileges s tables dependencies is =
     let start : List (List ℕ) = fresh [] tables in
-    let all : Walked s standing start 0 rooms = walked standing s (visits named start s) start 0 rooms (omega (arith, left_all (named s) start)) is in
+    let all : Walked s role_privileges start 0 dependencies = walked role_privileges s (visits named start s) start 0 dependencies (omega (arith, left_all (named s) start)) is in
     record {
       told = all.told;
       asked = λ name among. all.all name (fresh_all [] tables name among);
@@ -182,21 +182,21 @@ are_read standing s tables rooms is =
 
 -- ---- by names
 
-found_if : (b : Bool) (s : State) (standing : Standing) (name : List ℕ) (room : Room) (rest : Option Room) → bytes_eq room.table name ≡ b → IsTold s standing room
-    → (b ≡ false → rest ≡ Some (room_at s standing name)) → (if b then Some room else rest) ≡ Some (room_at s standing name)
-found_if true s standing name room rest here told further = ap Some (told ∙ ap (room_at s standing) (bytes_same room.table name here))
-found_if false s standing name room rest here told further = further refl
+found_if : (b : Bool) (s : State) (role_privileges : RolePrivileges) (name : List ℕ) (dependency : PolicyDependency) (rest : Option PolicyDependency) → bytes_eq dependency.table name ≡ b → IsTold s role_privileges dependency
+    → (b ≡ false → rest ≡ Some (dependency_at s role_privileges name)) → (if b then Some dependency else rest) ≡ Some (dependency_at s role_privileges name)
+found_if true s role_privileges name dependency rest here told further = ap Some (told ∙ ap (dependency_at s role_privileges) (bytes_same dependency.table name here))
+found_if false s role_privileges name dependency rest here told further = further refl
 
 or_further : (a b : Bool) → a ≡ false → (a || b) ≡ true → b ≡ true
 or_further true b off is = absurd (true≢false off)
 or_further false b off is = is
 
--- the room of a table is what the state tells of it
-pub room_found : (s : State) (standing : Standing) (rooms : List Room) (name : List ℕ) → AllByRecursion (IsTold s standing) rooms → one_of (tables_in rooms) name ≡ true → room_in rooms name ≡ Some (room_at s standing name)
-room_found s standing [] name told is = absurd (true≢false (sym is))
-room_found s standing (room ∷ rooms) name told is =
-    found_if (bytes_eq room.table name) s standing name room (room_in rooms name) refl told.0
-    (λ other. room_found s standing rooms name told.1 (or_further (bytes_eq room.table name) (one_of (tables_in rooms) name) other is))
+-- the dependency of a table is what the state tells of it
+pub dependency_found : (s : State) (role_privileges : RolePrivileges) (dependencies : List PolicyDependency) (name : List ℕ) → AllByRecursion (IsTold s role_privileges) dependencies → one_of (tables_in dependencies) name ≡ true → dependency_in dependencies name ≡ Some (dependency_at s role_privileges name)
+dependency_found s role_privileges [] name told is = absurd (true≢false (sym is))
+dependency_found s role_privileges (dependency ∷ dependencies) name told is =
+    found_if (bytes_eq dependency.table name) s role_privileges name dependency (dependency_in dependencies name) refl told.0
+    (λ other. dependency_found s role_privileges dependencies name told.1 (or_further (bytes_eq dependency.table name) (one_of (tables_in dependencies) name) other is))
 
 table_either : (c : Bool) (found : Option TableDef) → None ≡ found → (if c then found else None) ≡ found
 table_either true found none = refl
@@ -209,22 +209,22 @@ known_if true c name table None there rest here same further = further ∙ table
 known_if false c name table (Some def) there rest here same further = ap (λ b. if b then Some def else known_table rest name) here ∙ further
 known_if false c name table None there rest here same further = further
 
--- the tables of the rooms are those of the state
-known_found : (s : State) (standing : Standing) (rooms : List Room) (name : List ℕ) → AllByRecursion (IsTold s standing) rooms → known_table (known_in rooms) name ≡ (if one_of (tables_in rooms) name then table_of s name else None)
-known_found s standing [] name told = refl
-known_found s standing (room ∷ rooms) name told =
-    ap (λ known. known_table (with_known known (known_in rooms)) name) (ap (λ r. r.known) told.0 ∙ for_known s standing room.table (table_of s room.table))
-    ∙ known_if (bytes_eq room.table name) (one_of (tables_in rooms) name) name room.table (table_of s room.table) (table_of s name) (known_in rooms) refl
-    (λ here. ap (table_of s) (bytes_same room.table name here)) (known_found s standing rooms name told.1)
+-- the tables of the dependencies are those of the state
+known_found : (s : State) (role_privileges : RolePrivileges) (dependencies : List PolicyDependency) (name : List ℕ) → AllByRecursion (IsTold s role_privileges) dependencies → known_table (known_in dependencies) name ≡ (if one_of (tables_in dependencies) name then table_of s name else None)
+known_found s role_privileges [] name told = refl
+known_found s role_privileges (dependency ∷ dependencies) name told =
+    ap (λ known. known_table (with_known known (known_in dependencies)) name) (ap (λ r. r.known) told.0 ∙ for_known s role_privileges dependency.table (table_of s dependency.table))
+    ∙ known_if (bytes_eq dependency.table name) (one_of (tables_in dependencies) name) name dependency.table (table_of s dependency.table) (table_of s name) (known_in dependencies) refl
+    (λ here. ap (table_of s) (bytes_same dependency.table name here)) (known_found s role_privileges dependencies name told.1)
 
-pub table_found : (s : State) (standing : Standing) (rooms : List Room) (name : List ℕ) → AllByRecursion (IsTold s standing) rooms → one_of (tables_in rooms) name ≡ true → known_table (known_in rooms) name ≡ table_of s name
-table_found s standing rooms name told is = known_found s standing rooms name told ∙ ap (λ b. if b then table_of s name else None) is
+pub table_found : (s : State) (role_privileges : RolePrivileges) (dependencies : List PolicyDependency) (name : List ℕ) → AllByRecursion (IsTold s role_privileges) dependencies → one_of (tables_in dependencies) name ≡ true → known_table (known_in dependencies) name ≡ table_of s name
+table_found s role_privileges dependencies name told is = known_found s role_privileges dependencies name told ∙ ap (λ b. if b then table_of s name else None) is
 
-next_if : (b : Bool) (room : Room) (rest : Option Room) (all : List (List ℕ)) → Within room.next all → Within (next_in rest) all → Within (next_in (if b then Some room else rest)) all
-next_if true room rest all here further = here
-next_if false room rest all here further = further
+subquery_tables_if : (b : Bool) (dependency : PolicyDependency) (rest : Option PolicyDependency) (all : List (List ℕ)) → Within dependency.subquery_tables all → Within (subquery_tables_in rest) all → Within (subquery_tables_in (if b then Some dependency else rest)) all
+subquery_tables_if true dependency rest all here further = here
+subquery_tables_if false dependency rest all here further = further
 
--- what a table leads to is among what all rooms lead to
-pub next_within : (rooms : List Room) (all : List (List ℕ)) (name : List ℕ) → AllByRecursion (λ room. Within room.next all) rooms → Within (next_of rooms name) all
-next_within [] all name next = within_nothing all
-next_within (room ∷ rooms) all name next = next_if (bytes_eq room.table name) room (room_in rooms name) all next.0 (next_within rooms all name next.1)
+-- what a table leads to is among what all dependencies lead to
+pub subquery_tables_within : (dependencies : List PolicyDependency) (all : List (List ℕ)) (name : List ℕ) → AllByRecursion (λ dependency. Within dependency.subquery_tables all) dependencies → Within (subquery_tables_of dependencies name) all
+subquery_tables_within [] all name next = within_nothing all
+subquery_tables_within (dependency ∷ dependencies) all name next = subquery_tables_if (bytes_eq dependency.table name) dependency (dependency_in dependencies name) all next.0 (subquery_tables_within dependencies all name next.1)

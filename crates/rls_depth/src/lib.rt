@@ -1,6 +1,6 @@
-//! What tables show, told by depth, and that the fences of a statement show it.
+//! What tables show, told by depth, and that the relations of a statement show it.
 #![tactic(auto)]
 
 mod laws;
 
-pub use laws::{protection_means, role_means, rooms_lead, shows_means, state_means};
+pub use laws::{dependencies_lead, policy_expansion_means, role_means, shows_means, state_means};

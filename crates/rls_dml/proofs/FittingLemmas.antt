@@ -1,17 +1,17 @@
 -- The changes of INSERT, UPDATE and DELETE name as before what the earlier ones leave at their places, and they are at
--- the numbers of the rows that are hit, or at new ones.
+-- the numbers of the qualifying rows, or at new ones.
 use lib.ListN.{length-map}
 use Rattle.std.{specs.Prelude.◌≡◌, specs.Prelude.refl, specs.Prelude.ℕ, specs.Prelude.zero, specs.Prelude.suc, specs.Prelude.◌≤◌, specs.Prelude.◌<◌, specs.Prelude.List, specs.Prelude.[], specs.Prelude.◌∷◌, specs.Prelude.◌++◌, specs.Prelude.Option, specs.Prelude.Some, specs.Prelude.None, specs.Prelude.Bool, specs.Prelude.true, specs.Prelude.false, specs.Prelude.cond, specs.Prelude.Result, specs.Prelude.Ok, specs.Prelude.Err, specs.Prelude.IfOk, specs.Prelude.if◌then◌else◌, specs.Prelude.length, specs.Prelude.map, specs.Prelude.take, specs.Prelude.drop, specs.Prelude.filter, specs.BTreeMap.is_at, specs.BTreeMap.insert_entry, specs.List.AllByRecursion, specs.List.list_any, specs.List.Sorted.IsStrictlySortedBy, specs.declared.cmp.Ordering.Ordering, specs.Cmp.IsTotalOrder, specs.Map.lookup, specs.Map.remove_entry, specs.Map.keys_of, specs.Ordering.is_eq, specs.Ordering.match_ordering, specs.Ordering.ordering_reverse, specs.declared.cmp.Ordering.TheVariants.Less, specs.declared.cmp.Ordering.TheVariants.Equal, specs.declared.cmp.Ordering.TheVariants.Greater, proofs.Common.ap, proofs.Common.sym, proofs.Common.◌∙◌, proofs.Common.subst, proofs.lemmas.Cmp.tied_itself, proofs.lemmas.Cmp.on_total, proofs.lemmas.Cmp.then_total, proofs.lemmas.Cmp.nat_cmp_total, proofs.Math.Nat.suc-ne-zero, proofs.Math.Nat.suc_inj, proofs.Math.Nat.le-suc, proofs.Math.Nat.le_of_suc-le, proofs.Math.Nat.not-suc-le_self, proofs.Math.Nat.le_trans, proofs.Math.Nat.le_refl}
 use Rattle.rls_value.specs.{declared.refusal.Refusal.Refusal, declared.row.RowId.RowId, declared.value.Value.Value, Giving.and_then, Values.is_null, declared.verb.Privilege.Privilege, declared.verb.Kind.Kind}
 use Rattle.rls_expr.specs.{declared.table.TableDef.TableDef, Terms.Term, Terms.maybe_term}
 use Rattle.rls_catalog.{specs.declared.change.Change.Change, specs.declared.change.RowChange.RowChange, specs.declared.stored.Keyed.Keyed, specs.declared.stored.Stored.Stored, specs.Bases.Row, specs.Bases.FitsAll, specs.Bases.row_at, specs.Changed.changed, specs.Changed.with_row, specs.InOrder.Ascend, specs.InOrder.RowsInOrder, specs.State.State, specs.State.id_order, specs.State.is_same_id, specs.State.is_same_row, specs.State.stored_of, specs.State.rows_of, specs.State.entries_of, proofs.ContentsLaws.is_name, proofs.RowsChanged.entries_of_changed, proofs.RowsChanged.same_id, proofs.RowsChanged.equal_if}
 use Rattle.rls_statement.specs.{declared.statement.Insert.Insert, declared.statement.Selected.Selected, declared.changing.Update.Update, declared.changing.Delete.Delete}
-use Rattle.rls_guard.specs.{declared.context.Ctx.Ctx, declared.standing.Standing.Standing, declared.guard.Watch.Watch, declared.reply.Decision.Decision, declared.effect.Effect.Effect, Standings.standing_of}
-use Rattle.rls_evaluation.specs.{declared.fence.Fence.Fence, Gathering.gathered, Showing.shows}
-use Rattle.rls_expansion.specs.{declared.protection.Protection.Protection, Protecting.protection_of, Used.tables_if}
+use Rattle.rls_guard.specs.{declared.context.Ctx.Ctx, declared.role_privileges.RolePrivileges.RolePrivileges, declared.quals.RowCheck.RowCheck, declared.reply.Decision.Decision, declared.effect.Effect.Effect, RolePrivileges.role_privileges_of}
+use Rattle.rls_evaluation.specs.{declared.relation.SecuredRelation.SecuredRelation, Gathering.gathered, Showing.shows}
+use Rattle.rls_expansion.specs.{declared.expansion.PolicyExpansion.PolicyExpansion, Expanding.expansion_of, Used.tables_if}
 use Rattle.rls_source.specs.{Asked.rows_at, Asked.keyed_at, Asked.asked_key, Askings.Asking, Askings.known, Askings.followed_by, Named.table_or_undefined}
-use Rattle.rls_dml.specs.{declared.addition.Addition.Addition, declared.revision.Revision.Revision, declared.deleting.Removal.Removal, Checking.names_over_none, Checking.returning_reads, Fitting.IfDone, Fitting.NumbersFree, Fitting.numbers_from, Fitting.Overwrite, Writing.privileges_or_denied, Writing.order_of, Writing.rows_or_refused, Writing.each_with, Writing.each_taking, Writing.first_of, Writing.behind_first, Inserting.places_of, Inserting.tuple_placed, Inserting.addition_named, Inserting.addition_placed, Inserting.addition_in, Inserting.addition_or_refused, Inserting.addition_for, Inserting.row_of_tuple, Inserting.numbered, Inserting.new_rows, Inserting.inserted_row, Inserting.inserted, Inserting.insert_judged, Inserting.insert_rows, Inserting.insert_made, Inserting.insert_values, Inserting.tuples_tables, Inserting.insert_guarded, Inserting.insert_as, Inserting.insert_into, Inserting.insert, Updating.revision_for, Updating.revision_reads, Updating.places_set, Updating.updated_row, Updating.updated_rows, Updating.changed_rows, Updating.updated, Updating.update_judged, Updating.update_rows, Updating.update_made, Updating.update_values, Updating.update_hits, Updating.revision_tables, Updating.update_guarded, Updating.update_as, Updating.update_in, Updating.update, Deleting.removal_for, Deleting.removal_reads, Deleting.deleted_row, Deleting.deleted, Deleting.delete_hits, Deleting.delete_guarded, Deleting.delete_as, Deleting.delete_from, Deleting.delete}
-use Rattle.rls_judging.specs.{Judging.hit_row, Judging.hits_of, Judging.judged_all, Judging.judged_old, Judging.with_judged, Judging.decisions_of, Valuing.settings_of, Valuing.tuples_of, Candidates.pinned_key, Candidates.candidates_with, Candidates.candidates}
+use Rattle.rls_dml.specs.{declared.analysed_insert.AnalysedInsert.AnalysedInsert, declared.analysed_update.AnalysedUpdate.AnalysedUpdate, declared.deleting.AnalysedDelete.AnalysedDelete, Checking.names_over_none, Checking.returning_reads, Fitting.IfDone, Fitting.NumbersFree, Fitting.numbers_from, Fitting.Overwrite, Writing.privileges_or_denied, Writing.order_of, Writing.rows_or_refused, Writing.each_with, Writing.each_taking, Writing.first_of, Writing.behind_first, Inserting.places_of, Inserting.tuple_resolved, Inserting.analysed_insert_named, Inserting.analysed_insert_resolved, Inserting.analysed_insert_in, Inserting.analysed_insert_or_refused, Inserting.analysed_insert_for, Inserting.row_of_tuple, Inserting.numbered, Inserting.new_rows, Inserting.inserted_row, Inserting.inserted, Inserting.insert_judged, Inserting.insert_rows, Inserting.insert_made, Inserting.insert_values, Inserting.tuples_tables, Inserting.insert_with_quals, Inserting.insert_as, Inserting.insert_into, Inserting.insert, Updating.analysed_update_for, Updating.analysed_update_reads, Updating.places_set, Updating.updated_row, Updating.updated_rows, Updating.changed_rows, Updating.updated, Updating.update_judged, Updating.update_rows, Updating.update_made, Updating.update_values, Updating.update_qualifying_rows, Updating.analysed_update_tables, Updating.update_with_quals, Updating.update_as, Updating.update_in, Updating.update, Deleting.analysed_delete_for, Deleting.analysed_delete_reads, Deleting.deleted_row, Deleting.deleted, Deleting.delete_qualifying_rows, Deleting.delete_with_quals, Deleting.delete_as, Deleting.delete_from, Deleting.delete}
+use Rattle.rls_judging.specs.{Judging.row_if_qualifying, Judging.qualifying_rows_of, Judging.judged_all, Judging.judged_old, Judging.with_judged, Judging.decisions_of, Valuing.assignments_of, Valuing.tuples_of, ScannedRows.pinned_key, ScannedRows.scanned_rows_with, ScannedRows.scanned_rows}
 
 -- ---- numbers
 
@@ -182,7 +182,7 @@ filter_stand s table test rows stand = record {
   have = all_filter (λ stored. row_at s table stored.id ≡ content_of stored) test rows stand.have;
 }
 
--- ---- the candidates
+-- ---- the scanned rows
 
 all_stand : (s : State) (name : List ℕ) → RowsInOrder s name → StandIn s name (rows_at s name)
 unfolding rows_at
@@ -197,14 +197,14 @@ key_stand : (b : Bool) (s : State) (name : List ℕ) (key : List Value) → Rows
 key_stand true s name key ordered = record { apart = tt; have = tt }
 key_stand false s name key ordered = keyed_stand s name key ordered
 
-with_stand : (s : State) (name : List ℕ) (pinned : Option (List Value)) → RowsInOrder s name → IfOk ((candidates_with name pinned).in_state s).gives (StandIn s name)
+with_stand : (s : State) (name : List ℕ) (pinned : Option (List Value)) → RowsInOrder s name → IfOk ((scanned_rows_with name pinned).in_state s).gives (StandIn s name)
 with_stand s name None ordered = all_stand s name ordered
 with_stand s name (Some key) ordered = key_stand (list_any is_null key) s name key ordered
 
--- the candidates stand in the table
-pub candidates_stand : (s : State) (user name : List ℕ) (table : TableDef) (condition : Option Term) → RowsInOrder s name
-    → IfOk ((candidates user name table condition).in_state s).gives (StandIn s name)
-candidates_stand s user name table condition ordered = with_stand s name (pinned_key user table.key condition) ordered
+-- the scanned rows stand in the table
+pub scanned_rows_stand : (s : State) (user name : List ℕ) (table : TableDef) (condition : Option Term) → RowsInOrder s name
+    → IfOk ((scanned_rows user name table condition).in_state s).gives (StandIn s name)
+scanned_rows_stand s user name table condition ordered = with_stand s name (pinned_key user table.key condition) ordered
 
 -- ---- one step after another
 
@@ -246,7 +246,7 @@ each_taking_length {B = B} many give (x ∷ xs) values =
     given_then (λ ys. length ys ≡ suc (length xs)) (give x (take many values)) (λ y. and_then (each_taking many give xs (drop many values)) (λ ys. Ok (y ∷ ys))) (λ y.
     given_after (λ ys. length ys ≡ length xs) (λ ys. length ys ≡ suc (length xs)) (each_taking many give xs (drop many values)) (λ ys. Ok (y ∷ ys)) (each_taking_length many give xs (drop many values)) (λ ys same. ap suc same))
 
--- ---- the rows that are hit
+-- ---- the qualifying rows
 
 -- it holds of what is gathered, whatever is told on the way
 gathered_all : {A B R : Type 0} (P : List A → R → Type 0) (s : State) (put : A → B → R → R) (none : R) (ask : A → Asking B) → P [] none → ((x : A) (xs : List A) (y : B) (rest : R) → P xs rest → P (x ∷ xs) (put x y rest))
@@ -262,7 +262,7 @@ record Picked (s : State) (name : List ℕ) (rows picked : List Stored) : Type 0
   apart : Apart rows → Apart picked
   have : AllByRecursion (λ stored. row_at s name stored.id ≡ content_of stored) rows → AllByRecursion (λ stored. row_at s name stored.id ≡ content_of stored) picked
 
-picked_more : (s : State) (name : List ℕ) (is : Bool) (stored : Stored) (rows picked : List Stored) → Picked s name rows picked → Picked s name (stored ∷ rows) (hit_row is stored ++ picked)
+picked_more : (s : State) (name : List ℕ) (is : Bool) (stored : Stored) (rows picked : List Stored) → Picked s name rows picked → Picked s name (stored ∷ rows) (row_if_qualifying is stored ++ picked)
 picked_more s name true stored rows picked so = record {
   others = λ id other. (other.0, so.others id other.1);
   apart = λ apart. (so.others stored.id apart.0, so.apart apart.1);
@@ -270,12 +270,12 @@ picked_more s name true stored rows picked so = record {
 }
 picked_more s name false stored rows picked so = record { others = λ id other. so.others id other.1; apart = λ apart. so.apart apart.1; have = λ have. so.have have.1 }
 
--- the rows that are hit stand in the table, where those that are looked at do
-pub hits_stand : (s : State) (name : List ℕ) (watches : List Watch) (fences : List Fence) (user : List ℕ) (condition : Option Term) (rows : List Stored) → StandIn s name rows
-    → IfOk ((hits_of watches fences user condition rows).in_state s).gives (λ judged. StandIn s name judged.1)
-hits_stand s name watches fences user condition rows stand =
-    if_ok_all ((judged_all watches fences user condition rows).in_state s).gives (λ judged. Picked s name rows judged.1) (λ judged. StandIn s name judged.1)
-    (gathered_all (λ rows judged. Picked s name rows judged.1) s with_judged ([], []) (judged_old watches (maybe_term condition) (shows fences user) user)
+-- the qualifying rows stand in the table, where those that are looked at do
+pub qualifying_rows_stand : (s : State) (name : List ℕ) (row_checks : List RowCheck) (relations : List SecuredRelation) (user : List ℕ) (condition : Option Term) (rows : List Stored) → StandIn s name rows
+    → IfOk ((qualifying_rows_of row_checks relations user condition rows).in_state s).gives (λ judged. StandIn s name judged.1)
+qualifying_rows_stand s name row_checks relations user condition rows stand =
+    if_ok_all ((judged_all row_checks relations user condition rows).in_state s).gives (λ judged. Picked s name rows judged.1) (λ judged. StandIn s name judged.1)
+    (gathered_all (λ rows judged. Picked s name rows judged.1) s with_judged ([], []) (judged_old row_checks (maybe_term condition) (shows relations user) user)
     (record { others = λ id other. tt; apart = λ apart. tt; have = λ have. tt }) (λ stored rows judged rest so. picked_more s name judged.1 stored rows rest.1 so) rows)
     (λ judged so. record { apart = so.apart stand.apart; have = so.have stand.have })
 
@@ -285,50 +285,50 @@ deleted_at : (name : List ℕ) (rows : List Stored) → Overwrite name (map (λ 
 deleted_at name [] = refl
 deleted_at name (stored ∷ rows) = ap (λ places. Row name stored.id ∷ places) (deleted_at name rows)
 
--- a DELETE overwrites the rows that are hit
-pub delete_overwrites : (name : List ℕ) (removal : Removal) (role : List ℕ) (judged : List Decision × List Stored)
-    → IfDone (Ok (deleted name removal role judged)) (Overwrite name (map (λ stored. stored.id) judged.1))
-delete_overwrites name removal role judged = deleted_at name judged.1
+-- a DELETE overwrites the qualifying rows
+pub delete_overwrites : (name : List ℕ) (analysed_delete : AnalysedDelete) (role : List ℕ) (judged : List Decision × List Stored)
+    → IfDone (Ok (deleted name analysed_delete role judged)) (Overwrite name (map (λ stored. stored.id) judged.1))
+delete_overwrites name analysed_delete role judged = deleted_at name judged.1
 
-delete_hits_fit : (s : State) (role name : List ℕ) (protection : Protection) (removal : Removal) (rows : List Stored) → StandIn s name rows
-    → IfDone ((delete_hits role name protection removal rows).in_state s).gives (FitsAll s)
-unfolding delete_hits
-delete_hits_fit s role name protection removal rows stand =
-    done_after (λ judged. StandIn s name judged.1) (FitsAll s) ((hits_of protection.old protection.fences role removal.condition rows).in_state s).gives (λ judged. Ok (deleted name removal role judged))
-    (hits_stand s name protection.old protection.fences role removal.condition rows stand) (λ judged gone. deleted_fit s name judged.1 gone.apart gone.have)
+delete_qualifying_rows_fit : (s : State) (role name : List ℕ) (expansion : PolicyExpansion) (analysed_delete : AnalysedDelete) (rows : List Stored) → StandIn s name rows
+    → IfDone ((delete_qualifying_rows role name expansion analysed_delete rows).in_state s).gives (FitsAll s)
+unfolding delete_qualifying_rows
+delete_qualifying_rows_fit s role name expansion analysed_delete rows stand =
+    done_after (λ judged. StandIn s name judged.1) (FitsAll s) ((qualifying_rows_of expansion.old expansion.relations role analysed_delete.condition rows).in_state s).gives (λ judged. Ok (deleted name analysed_delete role judged))
+    (qualifying_rows_stand s name expansion.old expansion.relations role analysed_delete.condition rows stand) (λ judged gone. deleted_fit s name judged.1 gone.apart gone.have)
 
-delete_guarded_fit : (s : State) (standing : Standing) (protection : Protection) (removal : Removal) (role name : List ℕ) (table : TableDef) → RowsInOrder s name
-    → IfDone ((delete_guarded standing protection removal role name table).in_state s).gives (FitsAll s)
-unfolding delete_guarded
-delete_guarded_fit s standing protection removal role name table ordered =
-    done_then (FitsAll s) ((privileges_or_denied standing Privilege.Delete (removal_reads removal) name protection.asked).in_state s).gives
-    (λ _. ((followed_by (candidates role name table removal.condition) (λ rows. delete_hits role name protection removal rows)).in_state s).gives) (λ _.
-    done_after (StandIn s name) (FitsAll s) ((candidates role name table removal.condition).in_state s).gives
-    (λ rows. ((delete_hits role name protection removal rows).in_state s).gives)
-    (candidates_stand s role name table removal.condition ordered) (λ rows stand. delete_hits_fit s role name protection removal rows stand))
+delete_with_quals_fit : (s : State) (role_privileges : RolePrivileges) (expansion : PolicyExpansion) (analysed_delete : AnalysedDelete) (role name : List ℕ) (table : TableDef) → RowsInOrder s name
+    → IfDone ((delete_with_quals role_privileges expansion analysed_delete role name table).in_state s).gives (FitsAll s)
+unfolding delete_with_quals
+delete_with_quals_fit s role_privileges expansion analysed_delete role name table ordered =
+    done_then (FitsAll s) ((privileges_or_denied role_privileges Privilege.Delete (analysed_delete_reads analysed_delete) name expansion.permission_checks).in_state s).gives
+    (λ _. ((followed_by (scanned_rows role name table analysed_delete.condition) (λ rows. delete_qualifying_rows role name expansion analysed_delete rows)).in_state s).gives) (λ _.
+    done_after (StandIn s name) (FitsAll s) ((scanned_rows role name table analysed_delete.condition).in_state s).gives
+    (λ rows. ((delete_qualifying_rows role name expansion analysed_delete rows).in_state s).gives)
+    (scanned_rows_stand s role name table analysed_delete.condition ordered) (λ rows stand. delete_qualifying_rows_fit s role name expansion analysed_delete rows stand))
 
-delete_as_fit : (s : State) (standing : Standing) (role name : List ℕ) (table : TableDef) (removal : Removal) → RowsInOrder s name
-    → IfDone ((delete_as standing role name table removal).in_state s).gives (FitsAll s)
+delete_as_fit : (s : State) (role_privileges : RolePrivileges) (role name : List ℕ) (table : TableDef) (analysed_delete : AnalysedDelete) → RowsInOrder s name
+    → IfDone ((delete_as role_privileges role name table analysed_delete).in_state s).gives (FitsAll s)
 unfolding delete_as
-delete_as_fit s standing role name table removal ordered =
-    done_then (FitsAll s) ((protection_of standing name table Kind.Delete (removal_reads removal) (tables_if removal.condition)).in_state s).gives
-    (λ protection. ((delete_guarded standing protection removal role name table).in_state s).gives) (λ protection.
-    delete_guarded_fit s standing protection removal role name table ordered)
+delete_as_fit s role_privileges role name table analysed_delete ordered =
+    done_then (FitsAll s) ((expansion_of role_privileges name table Kind.Delete (analysed_delete_reads analysed_delete) (tables_if analysed_delete.condition)).in_state s).gives
+    (λ expansion. ((delete_with_quals role_privileges expansion analysed_delete role name table).in_state s).gives) (λ expansion.
+    delete_with_quals_fit s role_privileges expansion analysed_delete role name table ordered)
 
-delete_from_fit : (s : State) (role name : List ℕ) (table : TableDef) (removal : Removal) → RowsInOrder s name
-    → IfDone ((delete_from role name table removal).in_state s).gives (FitsAll s)
+delete_from_fit : (s : State) (role name : List ℕ) (table : TableDef) (analysed_delete : AnalysedDelete) → RowsInOrder s name
+    → IfDone ((delete_from role name table analysed_delete).in_state s).gives (FitsAll s)
 unfolding delete_from
-delete_from_fit s role name table removal ordered =
-    done_then (FitsAll s) ((standing_of role).in_state s).gives (λ standing. ((delete_as standing role name table removal).in_state s).gives) (λ standing.
-    delete_as_fit s standing role name table removal ordered)
+delete_from_fit s role name table analysed_delete ordered =
+    done_then (FitsAll s) ((role_privileges_of role).in_state s).gives (λ role_privileges. ((delete_as role_privileges role name table analysed_delete).in_state s).gives) (λ role_privileges.
+    delete_as_fit s role_privileges role name table analysed_delete ordered)
 
 -- the changes of a DELETE fit the state
 pub delete_fits : (s : State) (ctx : Ctx) (asked : Delete) → RowsInOrder s asked.table → IfDone ((delete ctx asked).in_state s).gives (FitsAll s)
 delete_fits s ctx asked ordered =
     done_then (FitsAll s) ((table_or_undefined asked.table).in_state s).gives
-    (λ table. ((followed_by (removal_for asked table) (λ removal. delete_from ctx.role asked.table table removal)).in_state s).gives) (λ table.
-    done_then (FitsAll s) ((removal_for asked table).in_state s).gives (λ removal. ((delete_from ctx.role asked.table table removal).in_state s).gives) (λ removal.
-    delete_from_fit s ctx.role asked.table table removal ordered))
+    (λ table. ((followed_by (analysed_delete_for asked table) (λ analysed_delete. delete_from ctx.role asked.table table analysed_delete)).in_state s).gives) (λ table.
+    done_then (FitsAll s) ((analysed_delete_for asked table).in_state s).gives (λ analysed_delete. ((delete_from ctx.role asked.table table analysed_delete).in_state s).gives) (λ analysed_delete.
+    delete_from_fit s ctx.role asked.table table analysed_delete ordered))
 
 -- ---- UPDATE
 
@@ -338,78 +338,78 @@ changed_at name (stored ∷ old) [] same = absurd (suc-ne-zero (length old) (sym
 changed_at name [] (stored ∷ new) same = absurd (suc-ne-zero (length new) same)
 changed_at name (stored ∷ old) (changed ∷ new) same = ap (λ places. Row name stored.id ∷ places) (changed_at name old new (suc_inj same))
 
-updated_done : (fact : List Change → Type 0) (name : List ℕ) (revision : Revision) (role : List ℕ) (decisions : List Decision) (old new : List Stored) (settled : Result (Unit {0}) Refusal)
-    → fact (changed_rows name old new) → IfDone (Ok (updated name revision role decisions old new settled)) fact
-updated_done fact name revision role decisions old new (Ok _) is = is
-updated_done fact name revision role decisions old new (Err refusal) is = tt
+updated_done : (fact : List Change → Type 0) (name : List ℕ) (analysed_update : AnalysedUpdate) (role : List ℕ) (decisions : List Decision) (old new : List Stored) (settled : Result (Unit {0}) Refusal)
+    → fact (changed_rows name old new) → IfDone (Ok (updated name analysed_update role decisions old new settled)) fact
+updated_done fact name analysed_update role decisions old new (Ok _) is = is
+updated_done fact name analysed_update role decisions old new (Err refusal) is = tt
 
-update_rows_done : (fact : List Change → Type 0) (s : State) (role name : List ℕ) (table : TableDef) (protection : Protection) (revision : Revision) (before : List Decision) (old new : List Stored)
-    → fact (changed_rows name old new) → IfDone ((update_rows role name table protection revision before old new).in_state s).gives fact
+update_rows_done : (fact : List Change → Type 0) (s : State) (role name : List ℕ) (table : TableDef) (expansion : PolicyExpansion) (analysed_update : AnalysedUpdate) (before : List Decision) (old new : List Stored)
+    → fact (changed_rows name old new) → IfDone ((update_rows role name table expansion analysed_update before old new).in_state s).gives fact
 unfolding update_rows update_judged
-update_rows_done fact s role name table protection revision before old new is =
-    done_then fact ((decisions_of protection.new protection.fences role new).in_state s).gives
-    (λ after. Ok (updated name revision role (before ++ after) old new ((rows_or_refused name table.columns (order_of (places_set revision.settings) table.columns) after old new).in_state s).gives)) (λ after.
-    updated_done fact name revision role (before ++ after) old new
-    ((rows_or_refused name table.columns (order_of (places_set revision.settings) table.columns) after old new).in_state s).gives is)
+update_rows_done fact s role name table expansion analysed_update before old new is =
+    done_then fact ((decisions_of expansion.new expansion.relations role new).in_state s).gives
+    (λ after. Ok (updated name analysed_update role (before ++ after) old new ((rows_or_refused name table.columns (order_of (places_set analysed_update.assignments) table.columns) after old new).in_state s).gives)) (λ after.
+    updated_done fact name analysed_update role (before ++ after) old new
+    ((rows_or_refused name table.columns (order_of (places_set analysed_update.assignments) table.columns) after old new).in_state s).gives is)
 
-update_values_done : (fact : List Change → Type 0) (s : State) (role name : List ℕ) (table : TableDef) (protection : Protection) (revision : Revision) (before : List Decision) (old : List Stored)
-    → ((new : List Stored) → length new ≡ length old → fact (changed_rows name old new)) → IfDone ((update_values role name table protection revision before old).in_state s).gives fact
+update_values_done : (fact : List Change → Type 0) (s : State) (role name : List ℕ) (table : TableDef) (expansion : PolicyExpansion) (analysed_update : AnalysedUpdate) (before : List Decision) (old : List Stored)
+    → ((new : List Stored) → length new ≡ length old → fact (changed_rows name old new)) → IfDone ((update_values role name table expansion analysed_update before old).in_state s).gives fact
 unfolding update_values update_made
-update_values_done fact s role name table protection revision before old all =
-    done_then fact ((settings_of protection.fences role revision.settings old).in_state s).gives
-    (λ values. ((followed_by (known (updated_rows table (places_set revision.settings) old values)) (λ new. update_rows role name table protection revision before old new)).in_state s).gives) (λ values.
-    done_after (λ new. length new ≡ length old) fact (updated_rows table (places_set revision.settings) old values)
-    (λ new. ((update_rows role name table protection revision before old new).in_state s).gives)
-    (each_taking_length (length (places_set revision.settings)) (updated_row table (places_set revision.settings)) old values) (λ new same.
-    update_rows_done fact s role name table protection revision before old new (all new same)))
+update_values_done fact s role name table expansion analysed_update before old all =
+    done_then fact ((assignments_of expansion.relations role analysed_update.assignments old).in_state s).gives
+    (λ values. ((followed_by (known (updated_rows table (places_set analysed_update.assignments) old values)) (λ new. update_rows role name table expansion analysed_update before old new)).in_state s).gives) (λ values.
+    done_after (λ new. length new ≡ length old) fact (updated_rows table (places_set analysed_update.assignments) old values)
+    (λ new. ((update_rows role name table expansion analysed_update before old new).in_state s).gives)
+    (each_taking_length (length (places_set analysed_update.assignments)) (updated_row table (places_set analysed_update.assignments)) old values) (λ new same.
+    update_rows_done fact s role name table expansion analysed_update before old new (all new same)))
 
--- an UPDATE overwrites the rows that are hit
-pub update_overwrites : (s : State) (role name : List ℕ) (table : TableDef) (protection : Protection) (revision : Revision) (before : List Decision) (old : List Stored)
-    → IfDone ((update_values role name table protection revision before old).in_state s).gives (Overwrite name (map (λ stored. stored.id) old))
-update_overwrites s role name table protection revision before old =
-    update_values_done (Overwrite name (map (λ stored. stored.id) old)) s role name table protection revision before old (changed_at name old)
+-- an UPDATE overwrites the qualifying rows
+pub update_overwrites : (s : State) (role name : List ℕ) (table : TableDef) (expansion : PolicyExpansion) (analysed_update : AnalysedUpdate) (before : List Decision) (old : List Stored)
+    → IfDone ((update_values role name table expansion analysed_update before old).in_state s).gives (Overwrite name (map (λ stored. stored.id) old))
+update_overwrites s role name table expansion analysed_update before old =
+    update_values_done (Overwrite name (map (λ stored. stored.id) old)) s role name table expansion analysed_update before old (changed_at name old)
 
-update_hits_fit : (s : State) (role name : List ℕ) (table : TableDef) (protection : Protection) (revision : Revision) (rows : List Stored) → StandIn s name rows
-    → IfDone ((update_hits role name table protection revision rows).in_state s).gives (FitsAll s)
-unfolding update_hits
-update_hits_fit s role name table protection revision rows stand =
-    done_after (λ judged. StandIn s name judged.1) (FitsAll s) ((hits_of protection.old protection.fences role revision.condition rows).in_state s).gives
-    (λ judged. ((update_values role name table protection revision judged.0 judged.1).in_state s).gives)
-    (hits_stand s name protection.old protection.fences role revision.condition rows stand) (λ judged old.
-    update_values_done (FitsAll s) s role name table protection revision judged.0 judged.1 (λ new _. changed_fit s name judged.1 new old.apart old.have))
+update_qualifying_rows_fit : (s : State) (role name : List ℕ) (table : TableDef) (expansion : PolicyExpansion) (analysed_update : AnalysedUpdate) (rows : List Stored) → StandIn s name rows
+    → IfDone ((update_qualifying_rows role name table expansion analysed_update rows).in_state s).gives (FitsAll s)
+unfolding update_qualifying_rows
+update_qualifying_rows_fit s role name table expansion analysed_update rows stand =
+    done_after (λ judged. StandIn s name judged.1) (FitsAll s) ((qualifying_rows_of expansion.old expansion.relations role analysed_update.condition rows).in_state s).gives
+    (λ judged. ((update_values role name table expansion analysed_update judged.0 judged.1).in_state s).gives)
+    (qualifying_rows_stand s name expansion.old expansion.relations role analysed_update.condition rows stand) (λ judged old.
+    update_values_done (FitsAll s) s role name table expansion analysed_update judged.0 judged.1 (λ new _. changed_fit s name judged.1 new old.apart old.have))
 
-update_guarded_fit : (s : State) (standing : Standing) (protection : Protection) (revision : Revision) (role name : List ℕ) (table : TableDef) → RowsInOrder s name
-    → IfDone ((update_guarded standing protection revision role name table).in_state s).gives (FitsAll s)
-unfolding update_guarded
-update_guarded_fit s standing protection revision role name table ordered =
-    done_then (FitsAll s) ((privileges_or_denied standing Privilege.Update (revision_reads revision) name protection.asked).in_state s).gives
-    (λ _. ((followed_by (candidates role name table revision.condition) (λ rows. update_hits role name table protection revision rows)).in_state s).gives) (λ _.
-    done_after (StandIn s name) (FitsAll s) ((candidates role name table revision.condition).in_state s).gives
-    (λ rows. ((update_hits role name table protection revision rows).in_state s).gives)
-    (candidates_stand s role name table revision.condition ordered) (λ rows stand. update_hits_fit s role name table protection revision rows stand))
+update_with_quals_fit : (s : State) (role_privileges : RolePrivileges) (expansion : PolicyExpansion) (analysed_update : AnalysedUpdate) (role name : List ℕ) (table : TableDef) → RowsInOrder s name
+    → IfDone ((update_with_quals role_privileges expansion analysed_update role name table).in_state s).gives (FitsAll s)
+unfolding update_with_quals
+update_with_quals_fit s role_privileges expansion analysed_update role name table ordered =
+    done_then (FitsAll s) ((privileges_or_denied role_privileges Privilege.Update (analysed_update_reads analysed_update) name expansion.permission_checks).in_state s).gives
+    (λ _. ((followed_by (scanned_rows role name table analysed_update.condition) (λ rows. update_qualifying_rows role name table expansion analysed_update rows)).in_state s).gives) (λ _.
+    done_after (StandIn s name) (FitsAll s) ((scanned_rows role name table analysed_update.condition).in_state s).gives
+    (λ rows. ((update_qualifying_rows role name table expansion analysed_update rows).in_state s).gives)
+    (scanned_rows_stand s role name table analysed_update.condition ordered) (λ rows stand. update_qualifying_rows_fit s role name table expansion analysed_update rows stand))
 
-update_as_fit : (s : State) (standing : Standing) (role name : List ℕ) (table : TableDef) (revision : Revision) → RowsInOrder s name
-    → IfDone ((update_as standing role name table revision).in_state s).gives (FitsAll s)
+update_as_fit : (s : State) (role_privileges : RolePrivileges) (role name : List ℕ) (table : TableDef) (analysed_update : AnalysedUpdate) → RowsInOrder s name
+    → IfDone ((update_as role_privileges role name table analysed_update).in_state s).gives (FitsAll s)
 unfolding update_as
-update_as_fit s standing role name table revision ordered =
-    done_then (FitsAll s) ((protection_of standing name table Kind.Update (revision_reads revision) (revision_tables revision)).in_state s).gives
-    (λ protection. ((update_guarded standing protection revision role name table).in_state s).gives) (λ protection.
-    update_guarded_fit s standing protection revision role name table ordered)
+update_as_fit s role_privileges role name table analysed_update ordered =
+    done_then (FitsAll s) ((expansion_of role_privileges name table Kind.Update (analysed_update_reads analysed_update) (analysed_update_tables analysed_update)).in_state s).gives
+    (λ expansion. ((update_with_quals role_privileges expansion analysed_update role name table).in_state s).gives) (λ expansion.
+    update_with_quals_fit s role_privileges expansion analysed_update role name table ordered)
 
-update_in_fit : (s : State) (role name : List ℕ) (table : TableDef) (revision : Revision) → RowsInOrder s name
-    → IfDone ((update_in role name table revision).in_state s).gives (FitsAll s)
+update_in_fit : (s : State) (role name : List ℕ) (table : TableDef) (analysed_update : AnalysedUpdate) → RowsInOrder s name
+    → IfDone ((update_in role name table analysed_update).in_state s).gives (FitsAll s)
 unfolding update_in
-update_in_fit s role name table revision ordered =
-    done_then (FitsAll s) ((standing_of role).in_state s).gives (λ standing. ((update_as standing role name table revision).in_state s).gives) (λ standing.
-    update_as_fit s standing role name table revision ordered)
+update_in_fit s role name table analysed_update ordered =
+    done_then (FitsAll s) ((role_privileges_of role).in_state s).gives (λ role_privileges. ((update_as role_privileges role name table analysed_update).in_state s).gives) (λ role_privileges.
+    update_as_fit s role_privileges role name table analysed_update ordered)
 
 -- the changes of an UPDATE fit the state
 pub update_fits : (s : State) (ctx : Ctx) (asked : Update) → RowsInOrder s asked.table → IfDone ((update ctx asked).in_state s).gives (FitsAll s)
 update_fits s ctx asked ordered =
     done_then (FitsAll s) ((table_or_undefined asked.table).in_state s).gives
-    (λ table. ((followed_by (revision_for asked table) (λ revision. update_in ctx.role asked.table table revision)).in_state s).gives) (λ table.
-    done_then (FitsAll s) ((revision_for asked table).in_state s).gives (λ revision. ((update_in ctx.role asked.table table revision).in_state s).gives) (λ revision.
-    update_in_fit s ctx.role asked.table table revision ordered))
+    (λ table. ((followed_by (analysed_update_for asked table) (λ analysed_update. update_in ctx.role asked.table table analysed_update)).in_state s).gives) (λ table.
+    done_then (FitsAll s) ((analysed_update_for asked table).in_state s).gives (λ analysed_update. ((update_in ctx.role asked.table table analysed_update).in_state s).gives) (λ analysed_update.
+    update_in_fit s ctx.role asked.table table analysed_update ordered))
 
 -- ---- INSERT
 
@@ -453,72 +453,72 @@ inserted_done : (fact : List Change → Type 0) (name : List ℕ) (returning : O
 inserted_done fact name returning role decisions rows (Ok _) is = is
 inserted_done fact name returning role decisions rows (Err refusal) is = tt
 
-insert_rows_done : (fact : List Change → Type 0) (s : State) (role name : List ℕ) (table : TableDef) (protection : Protection) (addition : Addition) (rows : List Stored) → fact (map (inserted_row name) rows)
-    → IfDone ((insert_rows role name table protection addition rows).in_state s).gives fact
+insert_rows_done : (fact : List Change → Type 0) (s : State) (role name : List ℕ) (table : TableDef) (expansion : PolicyExpansion) (analysed_insert : AnalysedInsert) (rows : List Stored) → fact (map (inserted_row name) rows)
+    → IfDone ((insert_rows role name table expansion analysed_insert rows).in_state s).gives fact
 unfolding insert_rows insert_judged
-insert_rows_done fact s role name table protection addition rows is =
-    done_then fact ((decisions_of protection.new protection.fences role rows).in_state s).gives
-    (λ decisions. Ok (inserted name addition.returning role decisions rows ((rows_or_refused name table.columns (order_of addition.places table.columns) decisions [] rows).in_state s).gives)) (λ decisions.
-    inserted_done fact name addition.returning role decisions rows
-    ((rows_or_refused name table.columns (order_of addition.places table.columns) decisions [] rows).in_state s).gives is)
+insert_rows_done fact s role name table expansion analysed_insert rows is =
+    done_then fact ((decisions_of expansion.new expansion.relations role rows).in_state s).gives
+    (λ decisions. Ok (inserted name analysed_insert.returning role decisions rows ((rows_or_refused name table.columns (order_of analysed_insert.places table.columns) decisions [] rows).in_state s).gives)) (λ decisions.
+    inserted_done fact name analysed_insert.returning role decisions rows
+    ((rows_or_refused name table.columns (order_of analysed_insert.places table.columns) decisions [] rows).in_state s).gives is)
 
-new_rows_hold : (fact : List Change → Type 0) (ctx : Ctx) (name : List ℕ) (table : TableDef) (addition : Addition) (values : List (List Value)) → HoldsOf fact ctx name (length addition.tuples)
-    → IfOk (new_rows ctx table addition values) (λ rows. fact (map (inserted_row name) rows))
-new_rows_hold fact ctx name table addition values all =
-    given_after (λ rows. length rows ≡ length addition.tuples) (λ rows. fact (map (inserted_row name) rows)) (each_with (row_of_tuple table addition.places) addition.tuples values)
-    (λ rows. Ok (numbered table.key ctx.txn ctx.next rows)) (each_with_length (row_of_tuple table addition.places) addition.tuples values) (all table.key)
+new_rows_hold : (fact : List Change → Type 0) (ctx : Ctx) (name : List ℕ) (table : TableDef) (analysed_insert : AnalysedInsert) (values : List (List Value)) → HoldsOf fact ctx name (length analysed_insert.tuples)
+    → IfOk (new_rows ctx table analysed_insert values) (λ rows. fact (map (inserted_row name) rows))
+new_rows_hold fact ctx name table analysed_insert values all =
+    given_after (λ rows. length rows ≡ length analysed_insert.tuples) (λ rows. fact (map (inserted_row name) rows)) (each_with (row_of_tuple table analysed_insert.places) analysed_insert.tuples values)
+    (λ rows. Ok (numbered table.key ctx.txn ctx.next rows)) (each_with_length (row_of_tuple table analysed_insert.places) analysed_insert.tuples values) (all table.key)
 
-insert_values_done : (fact : List Change → Type 0) (s : State) (ctx : Ctx) (name : List ℕ) (table : TableDef) (protection : Protection) (addition : Addition)
-    → HoldsOf fact ctx name (length addition.tuples) → IfDone ((insert_values ctx name table protection addition).in_state s).gives fact
+insert_values_done : (fact : List Change → Type 0) (s : State) (ctx : Ctx) (name : List ℕ) (table : TableDef) (expansion : PolicyExpansion) (analysed_insert : AnalysedInsert)
+    → HoldsOf fact ctx name (length analysed_insert.tuples) → IfDone ((insert_values ctx name table expansion analysed_insert).in_state s).gives fact
 unfolding insert_values insert_made
-insert_values_done fact s ctx name table protection addition all =
-    done_then fact ((tuples_of protection.fences ctx.role addition.tuples).in_state s).gives
-    (λ values. ((followed_by (known (new_rows ctx table addition values)) (λ rows. insert_rows ctx.role name table protection addition rows)).in_state s).gives) (λ values.
-    done_after (λ rows. fact (map (inserted_row name) rows)) fact (new_rows ctx table addition values)
-    (λ rows. ((insert_rows ctx.role name table protection addition rows).in_state s).gives)
-    (new_rows_hold fact ctx name table addition values all) (λ rows is.
-    insert_rows_done fact s ctx.role name table protection addition rows is))
+insert_values_done fact s ctx name table expansion analysed_insert all =
+    done_then fact ((tuples_of expansion.relations ctx.role analysed_insert.tuples).in_state s).gives
+    (λ values. ((followed_by (known (new_rows ctx table analysed_insert values)) (λ rows. insert_rows ctx.role name table expansion analysed_insert rows)).in_state s).gives) (λ values.
+    done_after (λ rows. fact (map (inserted_row name) rows)) fact (new_rows ctx table analysed_insert values)
+    (λ rows. ((insert_rows ctx.role name table expansion analysed_insert rows).in_state s).gives)
+    (new_rows_hold fact ctx name table analysed_insert values all) (λ rows is.
+    insert_rows_done fact s ctx.role name table expansion analysed_insert rows is))
 
-insert_guarded_done : (fact : List Change → Type 0) (s : State) (ctx : Ctx) (name : List ℕ) (table : TableDef) (standing : Standing) (protection : Protection) (addition : Addition)
-    → HoldsOf fact ctx name (length addition.tuples) → IfDone ((insert_guarded ctx name table standing protection addition).in_state s).gives fact
-unfolding insert_guarded
-insert_guarded_done fact s ctx name table standing protection addition all =
-    done_then fact ((privileges_or_denied standing Privilege.Insert (returning_reads addition.returning) name protection.asked).in_state s).gives
-    (λ _. ((insert_values ctx name table protection addition).in_state s).gives) (λ _.
-    insert_values_done fact s ctx name table protection addition all)
+insert_with_quals_done : (fact : List Change → Type 0) (s : State) (ctx : Ctx) (name : List ℕ) (table : TableDef) (role_privileges : RolePrivileges) (expansion : PolicyExpansion) (analysed_insert : AnalysedInsert)
+    → HoldsOf fact ctx name (length analysed_insert.tuples) → IfDone ((insert_with_quals ctx name table role_privileges expansion analysed_insert).in_state s).gives fact
+unfolding insert_with_quals
+insert_with_quals_done fact s ctx name table role_privileges expansion analysed_insert all =
+    done_then fact ((privileges_or_denied role_privileges Privilege.Insert (returning_reads analysed_insert.returning) name expansion.permission_checks).in_state s).gives
+    (λ _. ((insert_values ctx name table expansion analysed_insert).in_state s).gives) (λ _.
+    insert_values_done fact s ctx name table expansion analysed_insert all)
 
-insert_as_done : (fact : List Change → Type 0) (s : State) (ctx : Ctx) (name : List ℕ) (table : TableDef) (standing : Standing) (addition : Addition)
-    → HoldsOf fact ctx name (length addition.tuples) → IfDone ((insert_as ctx name table standing addition).in_state s).gives fact
+insert_as_done : (fact : List Change → Type 0) (s : State) (ctx : Ctx) (name : List ℕ) (table : TableDef) (role_privileges : RolePrivileges) (analysed_insert : AnalysedInsert)
+    → HoldsOf fact ctx name (length analysed_insert.tuples) → IfDone ((insert_as ctx name table role_privileges analysed_insert).in_state s).gives fact
 unfolding insert_as
-insert_as_done fact s ctx name table standing addition all =
-    done_then fact ((protection_of standing name table Kind.Insert (returning_reads addition.returning) (tuples_tables addition.tuples)).in_state s).gives
-    (λ protection. ((insert_guarded ctx name table standing protection addition).in_state s).gives) (λ protection.
-    insert_guarded_done fact s ctx name table standing protection addition all)
+insert_as_done fact s ctx name table role_privileges analysed_insert all =
+    done_then fact ((expansion_of role_privileges name table Kind.Insert (returning_reads analysed_insert.returning) (tuples_tables analysed_insert.tuples)).in_state s).gives
+    (λ expansion. ((insert_with_quals ctx name table role_privileges expansion analysed_insert).in_state s).gives) (λ expansion.
+    insert_with_quals_done fact s ctx name table role_privileges expansion analysed_insert all)
 
-pub insert_into_done : (fact : List Change → Type 0) (s : State) (ctx : Ctx) (name : List ℕ) (table : TableDef) (addition : Addition)
-    → HoldsOf fact ctx name (length addition.tuples) → IfDone ((insert_into ctx name table addition).in_state s).gives fact
+pub insert_into_done : (fact : List Change → Type 0) (s : State) (ctx : Ctx) (name : List ℕ) (table : TableDef) (analysed_insert : AnalysedInsert)
+    → HoldsOf fact ctx name (length analysed_insert.tuples) → IfDone ((insert_into ctx name table analysed_insert).in_state s).gives fact
 unfolding insert_into
-insert_into_done fact s ctx name table addition all =
-    done_then fact ((standing_of ctx.role).in_state s).gives (λ standing. ((insert_as ctx name table standing addition).in_state s).gives) (λ standing.
-    insert_as_done fact s ctx name table standing addition all)
+insert_into_done fact s ctx name table analysed_insert all =
+    done_then fact ((role_privileges_of ctx.role).in_state s).gives (λ role_privileges. ((insert_as ctx name table role_privileges analysed_insert).in_state s).gives) (λ role_privileges.
+    insert_as_done fact s ctx name table role_privileges analysed_insert all)
 
 -- there are as many tuples as the statement has
-tuples_length : (s : State) (ctx : Ctx) (asked : Insert) (table : TableDef) → IfOk ((addition_for ctx asked table).in_state s).gives (λ addition. length addition.tuples ≡ length asked.tuples)
+tuples_length : (s : State) (ctx : Ctx) (asked : Insert) (table : TableDef) → IfOk ((analysed_insert_for ctx asked table).in_state s).gives (λ analysed_insert. length analysed_insert.tuples ≡ length asked.tuples)
 tuples_length s ctx asked table =
-    given_then (λ addition. length addition.tuples ≡ length asked.tuples) (places_of table.columns asked.columns)
-    (λ places. ((followed_by (addition_named asked (asked.table, table)) (λ found. known (addition_in ctx.next asked (asked.table, table) places found))).in_state s).gives) (λ places.
-    given_then (λ addition. length addition.tuples ≡ length asked.tuples) ((addition_named asked (asked.table, table)).in_state s).gives
-    (λ found. addition_in ctx.next asked (asked.table, table) places found) (λ found.
-    given_then (λ addition. length addition.tuples ≡ length asked.tuples) (addition_or_refused ctx.next table.columns (addition_placed asked (asked.table, table) places found))
-    (λ _. Ok (addition_placed asked (asked.table, table) places found)) (λ _. length-map asked.tuples (tuple_placed (names_over_none found)))))
+    given_then (λ analysed_insert. length analysed_insert.tuples ≡ length asked.tuples) (places_of table.columns asked.columns)
+    (λ places. ((followed_by (analysed_insert_named asked (asked.table, table)) (λ found. known (analysed_insert_in ctx.next asked (asked.table, table) places found))).in_state s).gives) (λ places.
+    given_then (λ analysed_insert. length analysed_insert.tuples ≡ length asked.tuples) ((analysed_insert_named asked (asked.table, table)).in_state s).gives
+    (λ found. analysed_insert_in ctx.next asked (asked.table, table) places found) (λ found.
+    given_then (λ analysed_insert. length analysed_insert.tuples ≡ length asked.tuples) (analysed_insert_or_refused ctx.next table.columns (analysed_insert_resolved asked (asked.table, table) places found))
+    (λ _. Ok (analysed_insert_resolved asked (asked.table, table) places found)) (λ _. length-map asked.tuples (tuple_resolved (names_over_none found)))))
 
 pub insert_done : (fact : List Change → Type 0) (s : State) (ctx : Ctx) (asked : Insert) → HoldsOf fact ctx asked.table (length asked.tuples) → IfDone ((insert ctx asked).in_state s).gives fact
 insert_done fact s ctx asked all =
     done_then fact ((table_or_undefined asked.table).in_state s).gives
-    (λ table. ((followed_by (addition_for ctx asked table) (λ addition. insert_into ctx asked.table table addition)).in_state s).gives) (λ table.
-    done_after (λ addition. length addition.tuples ≡ length asked.tuples) fact ((addition_for ctx asked table).in_state s).gives
-    (λ addition. ((insert_into ctx asked.table table addition).in_state s).gives) (tuples_length s ctx asked table) (λ addition same.
-    insert_into_done fact s ctx asked.table table addition (λ places rows count. all places rows (count ∙ same))))
+    (λ table. ((followed_by (analysed_insert_for ctx asked table) (λ analysed_insert. insert_into ctx asked.table table analysed_insert)).in_state s).gives) (λ table.
+    done_after (λ analysed_insert. length analysed_insert.tuples ≡ length asked.tuples) fact ((analysed_insert_for ctx asked table).in_state s).gives
+    (λ analysed_insert. ((insert_into ctx asked.table table analysed_insert).in_state s).gives) (tuples_length s ctx asked table) (λ analysed_insert same.
+    insert_into_done fact s ctx asked.table table analysed_insert (λ places rows count. all places rows (count ∙ same))))
 
 -- the changes of an INSERT fit the state
 pub insert_fits : (s : State) (ctx : Ctx) (asked : Insert) → NumbersFree s asked.table ctx.txn ctx.next → IfDone ((insert ctx asked).in_state s).gives (FitsAll s)

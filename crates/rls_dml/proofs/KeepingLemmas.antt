@@ -7,10 +7,10 @@ use Rattle.rls_expr.specs.declared.table.TableDef.{TableDef}
 use Rattle.rls_catalog.specs.{declared.change.Change.Change, declared.stored.Stored.Stored, Changed.changed, Changed.changed_all, InOrder.RowsInOrder, State.State, State.is_same_id, State.table_of, State.entries_of, SoundRows.AreSound, SoundRows.RowsAreSound}
 use Rattle.rls_statement.specs.{declared.changing.Delete.Delete, declared.changing.Update.Update, declared.statement.Insert.Insert, declared.statement.Select.Select, declared.statement.Selected.Selected}
 use Rattle.rls_source.specs.{Asked.table_at, Askings.known, Askings.followed_by, Named.found_or, Named.table_or_undefined}
-use Rattle.rls_guard.specs.{declared.context.Ctx.Ctx, declared.reply.Decision.Decision, declared.standing.Standing.Standing, Standings.standing_of, Keeping.IfDone, Keeping.IsNoRow, Keeping.KeepsRowsSound, Keeping.KeepsTables, Keeping.LeavesRows, Keeping.TablesStay}
-use Rattle.rls_expansion.specs.{declared.protection.Protection.Protection, Protecting.protection_of, Used.tables_if}
-use Rattle.rls_judging.specs.{Candidates.candidates, Judging.decisions_of, Judging.hits_of, Valuing.settings_of, Valuing.tuples_of}
-use Rattle.rls_dml.{specs.declared.addition.Addition.Addition, specs.declared.deleting.Removal.Removal, specs.declared.revision.Revision.Revision, specs.declared.selecting.Query.Query, specs.Checking.returning_reads, specs.NextRows.NumberOn, specs.Numbers.has_number, specs.Selecting.listed_by, specs.Selecting.listed_for, specs.Selecting.listed_from, specs.Selecting.qualifier_of, specs.Selecting.query_for, specs.Selecting.select, specs.Selecting.select_as, specs.Selecting.select_from, specs.Writing.assigned, specs.Writing.each_with, specs.Writing.key_at, specs.Writing.order_of, specs.Writing.privileges_or_denied, specs.Writing.rows_or_refused, specs.Deleting.delete, specs.Deleting.delete_as, specs.Deleting.delete_from, specs.Deleting.delete_guarded, specs.Deleting.delete_hits, specs.Deleting.deleted, specs.Deleting.deleted_row, specs.Deleting.removal_for, specs.Deleting.removal_reads, specs.Inserting.addition_for, specs.Inserting.insert, specs.Inserting.insert_as, specs.Inserting.insert_guarded, specs.Inserting.insert_into, specs.Inserting.insert_judged, specs.Inserting.insert_made, specs.Inserting.insert_rows, specs.Inserting.insert_values, specs.Inserting.inserted, specs.Inserting.inserted_row, specs.Inserting.new_rows, specs.Inserting.numbered, specs.Inserting.row_of_tuple, specs.Inserting.tuples_tables, specs.Updating.changed_row, specs.Updating.changed_rows, specs.Updating.places_set, specs.Updating.revision_for, specs.Updating.revision_reads, specs.Updating.revision_tables, specs.Updating.update, specs.Updating.update_as, specs.Updating.update_guarded, specs.Updating.update_hits, specs.Updating.update_in, specs.Updating.update_judged, specs.Updating.update_rows, specs.Updating.update_made, specs.Updating.update_values, specs.Updating.updated, specs.Updating.updated_row, specs.Updating.updated_rows, proofs.FittingLemmas.Apart, proofs.FittingLemmas.OtherThan, proofs.FittingLemmas.StandIn, proofs.FittingLemmas.candidates_stand, proofs.FittingLemmas.done_after, proofs.FittingLemmas.done_then, proofs.FittingLemmas.given_after, proofs.FittingLemmas.given_then, proofs.FittingLemmas.hits_stand, proofs.FittingLemmas.insert_done, proofs.FittingLemmas.numbered_apart, proofs.PassingLemmas.KeysAreMade, proofs.PassingLemmas.Pass, proofs.PassingLemmas.each_free, proofs.PassingLemmas.rows_carry, proofs.PassingLemmas.rows_passed, proofs.SoundLemmas.AreRenewed, proofs.SoundLemmas.changed_leave, proofs.SoundLemmas.deleted_leave, proofs.SoundLemmas.inserted_leave, proofs.SoundLemmas.left_rows_sound, proofs.SoundLemmas.sound_in, proofs.WrittenLemmas.MayStand, proofs.WrittenLemmas.keyed_of, proofs.WrittenLemmas.left_sound, proofs.WrittenLemmas.with_rows, proofs.WrittenLemmas.without_rows, proofs.WrittenLemmas.written_sound}
+use Rattle.rls_guard.specs.{declared.context.Ctx.Ctx, declared.reply.Decision.Decision, declared.role_privileges.RolePrivileges.RolePrivileges, RolePrivileges.role_privileges_of, Keeping.IfDone, Keeping.IsNoRow, Keeping.KeepsRowsSound, Keeping.KeepsTables, Keeping.LeavesRows, Keeping.TablesStay}
+use Rattle.rls_expansion.specs.{declared.expansion.PolicyExpansion.PolicyExpansion, Expanding.expansion_of, Used.tables_if}
+use Rattle.rls_judging.specs.{ScannedRows.scanned_rows, Judging.decisions_of, Judging.qualifying_rows_of, Valuing.assignments_of, Valuing.tuples_of}
+use Rattle.rls_dml.{specs.declared.analysed_insert.AnalysedInsert.AnalysedInsert, specs.declared.deleting.AnalysedDelete.AnalysedDelete, specs.declared.analysed_update.AnalysedUpdate.AnalysedUpdate, specs.declared.selecting.AnalysedSelect.AnalysedSelect, specs.Checking.returning_reads, specs.NextRows.NumberOn, specs.Numbers.has_number, specs.Selecting.listed_by, specs.Selecting.listed_for, specs.Selecting.listed_from, specs.Selecting.qualifier_of, specs.Selecting.analysed_select_for, specs.Selecting.select, specs.Selecting.select_as, specs.Selecting.select_from, specs.Writing.assigned, specs.Writing.each_with, specs.Writing.key_at, specs.Writing.order_of, specs.Writing.privileges_or_denied, specs.Writing.rows_or_refused, specs.Deleting.delete, specs.Deleting.delete_as, specs.Deleting.delete_from, specs.Deleting.delete_with_quals, specs.Deleting.delete_qualifying_rows, specs.Deleting.deleted, specs.Deleting.deleted_row, specs.Deleting.analysed_delete_for, specs.Deleting.analysed_delete_reads, specs.Inserting.analysed_insert_for, specs.Inserting.insert, specs.Inserting.insert_as, specs.Inserting.insert_with_quals, specs.Inserting.insert_into, specs.Inserting.insert_judged, specs.Inserting.insert_made, specs.Inserting.insert_rows, specs.Inserting.insert_values, specs.Inserting.inserted, specs.Inserting.inserted_row, specs.Inserting.new_rows, specs.Inserting.numbered, specs.Inserting.row_of_tuple, specs.Inserting.tuples_tables, specs.Updating.changed_row, specs.Updating.changed_rows, specs.Updating.places_set, specs.Updating.analysed_update_for, specs.Updating.analysed_update_reads, specs.Updating.analysed_update_tables, specs.Updating.update, specs.Updating.update_as, specs.Updating.update_with_quals, specs.Updating.update_qualifying_rows, specs.Updating.update_in, specs.Updating.update_judged, specs.Updating.update_rows, specs.Updating.update_made, specs.Updating.update_values, specs.Updating.updated, specs.Updating.updated_row, specs.Updating.updated_rows, proofs.FittingLemmas.Apart, proofs.FittingLemmas.OtherThan, proofs.FittingLemmas.StandIn, proofs.FittingLemmas.scanned_rows_stand, proofs.FittingLemmas.done_after, proofs.FittingLemmas.done_then, proofs.FittingLemmas.given_after, proofs.FittingLemmas.given_then, proofs.FittingLemmas.qualifying_rows_stand, proofs.FittingLemmas.insert_done, proofs.FittingLemmas.numbered_apart, proofs.PassingLemmas.KeysAreMade, proofs.PassingLemmas.Pass, proofs.PassingLemmas.each_free, proofs.PassingLemmas.rows_carry, proofs.PassingLemmas.rows_passed, proofs.SoundLemmas.AreRenewed, proofs.SoundLemmas.changed_leave, proofs.SoundLemmas.deleted_leave, proofs.SoundLemmas.inserted_leave, proofs.SoundLemmas.left_rows_sound, proofs.SoundLemmas.sound_in, proofs.WrittenLemmas.MayStand, proofs.WrittenLemmas.keyed_of, proofs.WrittenLemmas.left_sound, proofs.WrittenLemmas.with_rows, proofs.WrittenLemmas.without_rows, proofs.WrittenLemmas.written_sound}
 
 -- tables that are the same stay
 same_stay : (s : State) (changes : List Change) → ((name : List ℕ) → table_of (changed_all s changes) name ≡ table_of s name) → TablesStay s changes
@@ -60,9 +60,9 @@ numbered_made : (places : List ℕ) (txn next : ℕ) (rows : List (List Value)) 
 numbered_made places txn next [] = tt
 numbered_made places txn next (row ∷ rows) = (refl, numbered_made places txn (suc next) rows)
 
-new_rows_made : (ctx : Ctx) (table : TableDef) (addition : Addition) (values : List (List Value)) → IfOk (new_rows ctx table addition values) (AreMade table)
-new_rows_made ctx table addition values =
-    given_then (AreMade table) (each_with (row_of_tuple table addition.places) addition.tuples values) (λ rows. Ok (numbered table.key ctx.txn ctx.next rows)) (λ rows.
+new_rows_made : (ctx : Ctx) (table : TableDef) (analysed_insert : AnalysedInsert) (values : List (List Value)) → IfOk (new_rows ctx table analysed_insert values) (AreMade table)
+new_rows_made ctx table analysed_insert values =
+    given_then (AreMade table) (each_with (row_of_tuple table analysed_insert.places) analysed_insert.tuples values) (λ rows. Ok (numbered table.key ctx.txn ctx.next rows)) (λ rows.
     record { apart = numbered_apart table.key ctx.txn ctx.next rows; keys = numbered_made table.key ctx.txn ctx.next rows })
 
 inserted_kept : (s : State) (name : List ℕ) (table : TableDef) (places : List ℕ) (rows : List Stored) → RowsAreSound s → table_of s name ≡ Some table → AreMade table rows
@@ -77,54 +77,54 @@ inserted_if : (fact : List Change → Type 0) (name : List ℕ) (returning : Opt
 inserted_if fact name returning role decisions rows (Ok _) is = is refl
 inserted_if fact name returning role decisions rows (Err refusal) is = tt
 
-insert_rows_keep : (s : State) (role name : List ℕ) (table : TableDef) (protection : Protection) (addition : Addition) (rows : List Stored) → RowsAreSound s → table_of s name ≡ Some table
-    → AreMade table rows → IfDone ((insert_rows role name table protection addition rows).in_state s).gives (Keeps s)
+insert_rows_keep : (s : State) (role name : List ℕ) (table : TableDef) (expansion : PolicyExpansion) (analysed_insert : AnalysedInsert) (rows : List Stored) → RowsAreSound s → table_of s name ≡ Some table
+    → AreMade table rows → IfDone ((insert_rows role name table expansion analysed_insert rows).in_state s).gives (Keeps s)
 unfolding insert_rows insert_judged
-insert_rows_keep s role name table protection addition rows sound there made =
-    let order : List ℕ = order_of addition.places table.columns in
-    done_then (Keeps s) ((decisions_of protection.new protection.fences role rows).in_state s).gives
-    (λ decisions. Ok (inserted name addition.returning role decisions rows ((rows_or_refused name table.columns order decisions [] rows).in_state s).gives)) (λ decisions.
-    inserted_if (Keeps s) name addition.returning role decisions rows ((rows_or_refused name table.columns order decisions [] rows).in_state s).gives (λ passed.
-    inserted_kept s name table addition.places rows sound there made (rows_passed s name table.columns order decisions [] rows passed)))
+insert_rows_keep s role name table expansion analysed_insert rows sound there made =
+    let order : List ℕ = order_of analysed_insert.places table.columns in
+    done_then (Keeps s) ((decisions_of expansion.new expansion.relations role rows).in_state s).gives
+    (λ decisions. Ok (inserted name analysed_insert.returning role decisions rows ((rows_or_refused name table.columns order decisions [] rows).in_state s).gives)) (λ decisions.
+    inserted_if (Keeps s) name analysed_insert.returning role decisions rows ((rows_or_refused name table.columns order decisions [] rows).in_state s).gives (λ passed.
+    inserted_kept s name table analysed_insert.places rows sound there made (rows_passed s name table.columns order decisions [] rows passed)))
 
-insert_values_keep : (s : State) (ctx : Ctx) (name : List ℕ) (table : TableDef) (protection : Protection) (addition : Addition) → RowsAreSound s → table_of s name ≡ Some table
-    → IfDone ((insert_values ctx name table protection addition).in_state s).gives (Keeps s)
+insert_values_keep : (s : State) (ctx : Ctx) (name : List ℕ) (table : TableDef) (expansion : PolicyExpansion) (analysed_insert : AnalysedInsert) → RowsAreSound s → table_of s name ≡ Some table
+    → IfDone ((insert_values ctx name table expansion analysed_insert).in_state s).gives (Keeps s)
 unfolding insert_values insert_made
-insert_values_keep s ctx name table protection addition sound there =
-    done_then (Keeps s) ((tuples_of protection.fences ctx.role addition.tuples).in_state s).gives
-    (λ values. ((followed_by (known (new_rows ctx table addition values)) (λ rows. insert_rows ctx.role name table protection addition rows)).in_state s).gives) (λ values.
-    done_after (AreMade table) (Keeps s) (new_rows ctx table addition values) (λ rows. ((insert_rows ctx.role name table protection addition rows).in_state s).gives)
-    (new_rows_made ctx table addition values) (λ rows made. insert_rows_keep s ctx.role name table protection addition rows sound there made))
+insert_values_keep s ctx name table expansion analysed_insert sound there =
+    done_then (Keeps s) ((tuples_of expansion.relations ctx.role analysed_insert.tuples).in_state s).gives
+    (λ values. ((followed_by (known (new_rows ctx table analysed_insert values)) (λ rows. insert_rows ctx.role name table expansion analysed_insert rows)).in_state s).gives) (λ values.
+    done_after (AreMade table) (Keeps s) (new_rows ctx table analysed_insert values) (λ rows. ((insert_rows ctx.role name table expansion analysed_insert rows).in_state s).gives)
+    (new_rows_made ctx table analysed_insert values) (λ rows made. insert_rows_keep s ctx.role name table expansion analysed_insert rows sound there made))
 
-insert_guarded_keep : (s : State) (ctx : Ctx) (name : List ℕ) (table : TableDef) (standing : Standing) (protection : Protection) (addition : Addition) → RowsAreSound s → table_of s name ≡ Some table
-    → IfDone ((insert_guarded ctx name table standing protection addition).in_state s).gives (Keeps s)
-unfolding insert_guarded
-insert_guarded_keep s ctx name table standing protection addition sound there =
-    done_then (Keeps s) ((privileges_or_denied standing Privilege.Insert (returning_reads addition.returning) name protection.asked).in_state s).gives
-    (λ _. ((insert_values ctx name table protection addition).in_state s).gives) (λ _. insert_values_keep s ctx name table protection addition sound there)
+insert_with_quals_keep : (s : State) (ctx : Ctx) (name : List ℕ) (table : TableDef) (role_privileges : RolePrivileges) (expansion : PolicyExpansion) (analysed_insert : AnalysedInsert) → RowsAreSound s → table_of s name ≡ Some table
+    → IfDone ((insert_with_quals ctx name table role_privileges expansion analysed_insert).in_state s).gives (Keeps s)
+unfolding insert_with_quals
+insert_with_quals_keep s ctx name table role_privileges expansion analysed_insert sound there =
+    done_then (Keeps s) ((privileges_or_denied role_privileges Privilege.Insert (returning_reads analysed_insert.returning) name expansion.permission_checks).in_state s).gives
+    (λ _. ((insert_values ctx name table expansion analysed_insert).in_state s).gives) (λ _. insert_values_keep s ctx name table expansion analysed_insert sound there)
 
-insert_as_keep : (s : State) (ctx : Ctx) (name : List ℕ) (table : TableDef) (standing : Standing) (addition : Addition) → RowsAreSound s → table_of s name ≡ Some table
-    → IfDone ((insert_as ctx name table standing addition).in_state s).gives (Keeps s)
+insert_as_keep : (s : State) (ctx : Ctx) (name : List ℕ) (table : TableDef) (role_privileges : RolePrivileges) (analysed_insert : AnalysedInsert) → RowsAreSound s → table_of s name ≡ Some table
+    → IfDone ((insert_as ctx name table role_privileges analysed_insert).in_state s).gives (Keeps s)
 unfolding insert_as
-insert_as_keep s ctx name table standing addition sound there =
-    done_then (Keeps s) ((protection_of standing name table Kind.Insert (returning_reads addition.returning) (tuples_tables addition.tuples)).in_state s).gives
-    (λ protection. ((insert_guarded ctx name table standing protection addition).in_state s).gives) (λ protection.
-    insert_guarded_keep s ctx name table standing protection addition sound there)
+insert_as_keep s ctx name table role_privileges analysed_insert sound there =
+    done_then (Keeps s) ((expansion_of role_privileges name table Kind.Insert (returning_reads analysed_insert.returning) (tuples_tables analysed_insert.tuples)).in_state s).gives
+    (λ expansion. ((insert_with_quals ctx name table role_privileges expansion analysed_insert).in_state s).gives) (λ expansion.
+    insert_with_quals_keep s ctx name table role_privileges expansion analysed_insert sound there)
 
-insert_into_keep : (s : State) (ctx : Ctx) (name : List ℕ) (table : TableDef) (addition : Addition) → RowsAreSound s → table_of s name ≡ Some table
-    → IfDone ((insert_into ctx name table addition).in_state s).gives (Keeps s)
+insert_into_keep : (s : State) (ctx : Ctx) (name : List ℕ) (table : TableDef) (analysed_insert : AnalysedInsert) → RowsAreSound s → table_of s name ≡ Some table
+    → IfDone ((insert_into ctx name table analysed_insert).in_state s).gives (Keeps s)
 unfolding insert_into
-insert_into_keep s ctx name table addition sound there =
-    done_then (Keeps s) ((standing_of ctx.role).in_state s).gives (λ standing. ((insert_as ctx name table standing addition).in_state s).gives) (λ standing.
-    insert_as_keep s ctx name table standing addition sound there)
+insert_into_keep s ctx name table analysed_insert sound there =
+    done_then (Keeps s) ((role_privileges_of ctx.role).in_state s).gives (λ role_privileges. ((insert_as ctx name table role_privileges analysed_insert).in_state s).gives) (λ role_privileges.
+    insert_as_keep s ctx name table role_privileges analysed_insert sound there)
 
 -- an INSERT keeps them sound
 pub insert_keeps : (ctx : Ctx) (asked : Insert) → KeepsRowsSound (insert ctx asked)
 insert_keeps ctx asked = λ s sound.
     done_after (λ table. table_of s asked.table ≡ Some table) (Keeps s) ((table_or_undefined asked.table).in_state s).gives
-    (λ table. ((followed_by (addition_for ctx asked table) (λ addition. insert_into ctx asked.table table addition)).in_state s).gives) (table_there s asked.table) (λ table there.
-    done_then (Keeps s) ((addition_for ctx asked table).in_state s).gives (λ addition. ((insert_into ctx asked.table table addition).in_state s).gives) (λ addition.
-    insert_into_keep s ctx asked.table table addition sound there))
+    (λ table. ((followed_by (analysed_insert_for ctx asked table) (λ analysed_insert. insert_into ctx asked.table table analysed_insert)).in_state s).gives) (table_there s asked.table) (λ table there.
+    done_then (Keeps s) ((analysed_insert_for ctx asked table).in_state s).gives (λ analysed_insert. ((insert_into ctx asked.table table analysed_insert).in_state s).gives) (λ analysed_insert.
+    insert_into_keep s ctx asked.table table analysed_insert sound there))
 
 inserted_number_on : (name places : List ℕ) (txn next : ℕ) (rows : List (List Value)) → NumberOn txn next (map (inserted_row name) (numbered places txn next rows))
 inserted_number_on name places txn next [] = tt
@@ -188,9 +188,9 @@ pub record Renews (s : State) (name : List ℕ) (old new : List Stored) : Type 0
 
 renewed_kept : (s : State) (name : List ℕ) (old new : List Stored) → RowsAreSound s → Renews s name old new → Keeps s (changed_rows name old new)
 renewed_kept s name old new sound by =
-    let standing : AreSound by.table (entries_of s name) = sound_in s name by.table sound by.there in
+    let role_privileges : AreSound by.table (entries_of s name) = sound_in s name by.table sound by.there in
     left_rows_sound s name by.table (changed_rows name old new) (with_rows new (entries_of s name)) sound by.there (changed_leave s name old new by.made.renewed)
-    (written_sound by.table old new (entries_of s name) standing
+    (written_sound by.table old new (entries_of s name) role_privileges
     (may_stand s name by.table by.places old new sound by.there (record { apart = apart_renewed old new by.made.renewed by.apart; keys = by.made.keys })
     (λ id has. sym (number_renewed id old new by.made.renewed) ∙ has) by.pass))
 
@@ -198,72 +198,72 @@ renewed_kept s name old new sound by =
 abbrev pub HoldsOfRenewed : (List Change → Type 0) → State → List ℕ → Type 0
 HoldsOfRenewed fact s name = (old new : List Stored) → Renews s name old new → fact (changed_rows name old new)
 
-updated_if : (fact : List Change → Type 0) (name : List ℕ) (revision : Revision) (role : List ℕ) (decisions : List Decision) (old new : List Stored) (settled : Result (Unit {0}) Refusal)
-    → (settled ≡ Ok tt → fact (changed_rows name old new)) → IfDone (Ok (updated name revision role decisions old new settled)) fact
-updated_if fact name revision role decisions old new (Ok _) is = is refl
-updated_if fact name revision role decisions old new (Err refusal) is = tt
+updated_if : (fact : List Change → Type 0) (name : List ℕ) (analysed_update : AnalysedUpdate) (role : List ℕ) (decisions : List Decision) (old new : List Stored) (settled : Result (Unit {0}) Refusal)
+    → (settled ≡ Ok tt → fact (changed_rows name old new)) → IfDone (Ok (updated name analysed_update role decisions old new settled)) fact
+updated_if fact name analysed_update role decisions old new (Ok _) is = is refl
+updated_if fact name analysed_update role decisions old new (Err refusal) is = tt
 
-update_rows_hold : (fact : List Change → Type 0) (s : State) (role name : List ℕ) (table : TableDef) (protection : Protection) (revision : Revision) (before : List Decision) (old new : List Stored)
-    → HoldsOfRenewed fact s name → table_of s name ≡ Some table → Apart old → AreUpdated table old new → IfDone ((update_rows role name table protection revision before old new).in_state s).gives fact
+update_rows_hold : (fact : List Change → Type 0) (s : State) (role name : List ℕ) (table : TableDef) (expansion : PolicyExpansion) (analysed_update : AnalysedUpdate) (before : List Decision) (old new : List Stored)
+    → HoldsOfRenewed fact s name → table_of s name ≡ Some table → Apart old → AreUpdated table old new → IfDone ((update_rows role name table expansion analysed_update before old new).in_state s).gives fact
 unfolding update_rows update_judged
-update_rows_hold fact s role name table protection revision before old new all there apart made =
-    let order : List ℕ = order_of (places_set revision.settings) table.columns in
-    done_then fact ((decisions_of protection.new protection.fences role new).in_state s).gives
-    (λ after. Ok (updated name revision role (before ++ after) old new ((rows_or_refused name table.columns order after old new).in_state s).gives)) (λ after.
-    updated_if fact name revision role (before ++ after) old new ((rows_or_refused name table.columns order after old new).in_state s).gives (λ passed.
-    all old new (record { table = table; places = places_set revision.settings; there = there; apart = apart; made = made; pass = rows_passed s name table.columns order after old new passed })))
+update_rows_hold fact s role name table expansion analysed_update before old new all there apart made =
+    let order : List ℕ = order_of (places_set analysed_update.assignments) table.columns in
+    done_then fact ((decisions_of expansion.new expansion.relations role new).in_state s).gives
+    (λ after. Ok (updated name analysed_update role (before ++ after) old new ((rows_or_refused name table.columns order after old new).in_state s).gives)) (λ after.
+    updated_if fact name analysed_update role (before ++ after) old new ((rows_or_refused name table.columns order after old new).in_state s).gives (λ passed.
+    all old new (record { table = table; places = places_set analysed_update.assignments; there = there; apart = apart; made = made; pass = rows_passed s name table.columns order after old new passed })))
 
-update_values_hold : (fact : List Change → Type 0) (s : State) (role name : List ℕ) (table : TableDef) (protection : Protection) (revision : Revision) (before : List Decision) (old : List Stored) → HoldsOfRenewed fact s name
-    → table_of s name ≡ Some table → Apart old → IfDone ((update_values role name table protection revision before old).in_state s).gives fact
+update_values_hold : (fact : List Change → Type 0) (s : State) (role name : List ℕ) (table : TableDef) (expansion : PolicyExpansion) (analysed_update : AnalysedUpdate) (before : List Decision) (old : List Stored) → HoldsOfRenewed fact s name
+    → table_of s name ≡ Some table → Apart old → IfDone ((update_values role name table expansion analysed_update before old).in_state s).gives fact
 unfolding update_values update_made
-update_values_hold fact s role name table protection revision before old all there apart =
-    done_then fact ((settings_of protection.fences role revision.settings old).in_state s).gives
-    (λ values. ((followed_by (known (updated_rows table (places_set revision.settings) old values)) (λ new. update_rows role name table protection revision before old new)).in_state s).gives) (λ values.
-    done_after (AreUpdated table old) fact (updated_rows table (places_set revision.settings) old values)
-    (λ new. ((update_rows role name table protection revision before old new).in_state s).gives) (updated_made table (places_set revision.settings) old values) (λ new made.
-    update_rows_hold fact s role name table protection revision before old new all there apart made))
+update_values_hold fact s role name table expansion analysed_update before old all there apart =
+    done_then fact ((assignments_of expansion.relations role analysed_update.assignments old).in_state s).gives
+    (λ values. ((followed_by (known (updated_rows table (places_set analysed_update.assignments) old values)) (λ new. update_rows role name table expansion analysed_update before old new)).in_state s).gives) (λ values.
+    done_after (AreUpdated table old) fact (updated_rows table (places_set analysed_update.assignments) old values)
+    (λ new. ((update_rows role name table expansion analysed_update before old new).in_state s).gives) (updated_made table (places_set analysed_update.assignments) old values) (λ new made.
+    update_rows_hold fact s role name table expansion analysed_update before old new all there apart made))
 
-update_hits_hold : (fact : List Change → Type 0) (s : State) (role name : List ℕ) (table : TableDef) (protection : Protection) (revision : Revision) (rows : List Stored) → HoldsOfRenewed fact s name
-    → table_of s name ≡ Some table → StandIn s name rows → IfDone ((update_hits role name table protection revision rows).in_state s).gives fact
-unfolding update_hits
-update_hits_hold fact s role name table protection revision rows all there stand =
-    done_after (λ judged. StandIn s name judged.1) fact ((hits_of protection.old protection.fences role revision.condition rows).in_state s).gives
-    (λ judged. ((update_values role name table protection revision judged.0 judged.1).in_state s).gives)
-    (hits_stand s name protection.old protection.fences role revision.condition rows stand) (λ judged old.
-    update_values_hold fact s role name table protection revision judged.0 judged.1 all there old.apart)
+update_qualifying_rows_hold : (fact : List Change → Type 0) (s : State) (role name : List ℕ) (table : TableDef) (expansion : PolicyExpansion) (analysed_update : AnalysedUpdate) (rows : List Stored) → HoldsOfRenewed fact s name
+    → table_of s name ≡ Some table → StandIn s name rows → IfDone ((update_qualifying_rows role name table expansion analysed_update rows).in_state s).gives fact
+unfolding update_qualifying_rows
+update_qualifying_rows_hold fact s role name table expansion analysed_update rows all there stand =
+    done_after (λ judged. StandIn s name judged.1) fact ((qualifying_rows_of expansion.old expansion.relations role analysed_update.condition rows).in_state s).gives
+    (λ judged. ((update_values role name table expansion analysed_update judged.0 judged.1).in_state s).gives)
+    (qualifying_rows_stand s name expansion.old expansion.relations role analysed_update.condition rows stand) (λ judged old.
+    update_values_hold fact s role name table expansion analysed_update judged.0 judged.1 all there old.apart)
 
-update_guarded_hold : (fact : List Change → Type 0) (s : State) (standing : Standing) (protection : Protection) (revision : Revision) (role name : List ℕ) (table : TableDef) → HoldsOfRenewed fact s name
-    → RowsAreSound s → table_of s name ≡ Some table → IfDone ((update_guarded standing protection revision role name table).in_state s).gives fact
-unfolding update_guarded
-update_guarded_hold fact s standing protection revision role name table all sound there =
-    done_then fact ((privileges_or_denied standing Privilege.Update (revision_reads revision) name protection.asked).in_state s).gives
-    (λ _. ((followed_by (candidates role name table revision.condition) (λ rows. update_hits role name table protection revision rows)).in_state s).gives) (λ _.
-    done_after (StandIn s name) fact ((candidates role name table revision.condition).in_state s).gives
-    (λ rows. ((update_hits role name table protection revision rows).in_state s).gives)
-    (candidates_stand s role name table revision.condition (in_order s name table sound there)) (λ rows stand.
-    update_hits_hold fact s role name table protection revision rows all there stand))
+update_with_quals_hold : (fact : List Change → Type 0) (s : State) (role_privileges : RolePrivileges) (expansion : PolicyExpansion) (analysed_update : AnalysedUpdate) (role name : List ℕ) (table : TableDef) → HoldsOfRenewed fact s name
+    → RowsAreSound s → table_of s name ≡ Some table → IfDone ((update_with_quals role_privileges expansion analysed_update role name table).in_state s).gives fact
+unfolding update_with_quals
+update_with_quals_hold fact s role_privileges expansion analysed_update role name table all sound there =
+    done_then fact ((privileges_or_denied role_privileges Privilege.Update (analysed_update_reads analysed_update) name expansion.permission_checks).in_state s).gives
+    (λ _. ((followed_by (scanned_rows role name table analysed_update.condition) (λ rows. update_qualifying_rows role name table expansion analysed_update rows)).in_state s).gives) (λ _.
+    done_after (StandIn s name) fact ((scanned_rows role name table analysed_update.condition).in_state s).gives
+    (λ rows. ((update_qualifying_rows role name table expansion analysed_update rows).in_state s).gives)
+    (scanned_rows_stand s role name table analysed_update.condition (in_order s name table sound there)) (λ rows stand.
+    update_qualifying_rows_hold fact s role name table expansion analysed_update rows all there stand))
 
-update_as_hold : (fact : List Change → Type 0) (s : State) (standing : Standing) (role name : List ℕ) (table : TableDef) (revision : Revision) → HoldsOfRenewed fact s name → RowsAreSound s
-    → table_of s name ≡ Some table → IfDone ((update_as standing role name table revision).in_state s).gives fact
+update_as_hold : (fact : List Change → Type 0) (s : State) (role_privileges : RolePrivileges) (role name : List ℕ) (table : TableDef) (analysed_update : AnalysedUpdate) → HoldsOfRenewed fact s name → RowsAreSound s
+    → table_of s name ≡ Some table → IfDone ((update_as role_privileges role name table analysed_update).in_state s).gives fact
 unfolding update_as
-update_as_hold fact s standing role name table revision all sound there =
-    done_then fact ((protection_of standing name table Kind.Update (revision_reads revision) (revision_tables revision)).in_state s).gives
-    (λ protection. ((update_guarded standing protection revision role name table).in_state s).gives) (λ protection.
-    update_guarded_hold fact s standing protection revision role name table all sound there)
+update_as_hold fact s role_privileges role name table analysed_update all sound there =
+    done_then fact ((expansion_of role_privileges name table Kind.Update (analysed_update_reads analysed_update) (analysed_update_tables analysed_update)).in_state s).gives
+    (λ expansion. ((update_with_quals role_privileges expansion analysed_update role name table).in_state s).gives) (λ expansion.
+    update_with_quals_hold fact s role_privileges expansion analysed_update role name table all sound there)
 
-update_in_hold : (fact : List Change → Type 0) (s : State) (role name : List ℕ) (table : TableDef) (revision : Revision) → HoldsOfRenewed fact s name → RowsAreSound s → table_of s name ≡ Some table
-    → IfDone ((update_in role name table revision).in_state s).gives fact
+update_in_hold : (fact : List Change → Type 0) (s : State) (role name : List ℕ) (table : TableDef) (analysed_update : AnalysedUpdate) → HoldsOfRenewed fact s name → RowsAreSound s → table_of s name ≡ Some table
+    → IfDone ((update_in role name table analysed_update).in_state s).gives fact
 unfolding update_in
-update_in_hold fact s role name table revision all sound there =
-    done_then fact ((standing_of role).in_state s).gives (λ standing. ((update_as standing role name table revision).in_state s).gives) (λ standing.
-    update_as_hold fact s standing role name table revision all sound there)
+update_in_hold fact s role name table analysed_update all sound there =
+    done_then fact ((role_privileges_of role).in_state s).gives (λ role_privileges. ((update_as role_privileges role name table analysed_update).in_state s).gives) (λ role_privileges.
+    update_as_hold fact s role_privileges role name table analysed_update all sound there)
 
 pub update_holds : (fact : List Change → Type 0) (s : State) (ctx : Ctx) (asked : Update) → HoldsOfRenewed fact s asked.table → RowsAreSound s → IfDone ((update ctx asked).in_state s).gives fact
 update_holds fact s ctx asked all sound =
     done_after (λ table. table_of s asked.table ≡ Some table) fact ((table_or_undefined asked.table).in_state s).gives
-    (λ table. ((followed_by (revision_for asked table) (λ revision. update_in ctx.role asked.table table revision)).in_state s).gives) (table_there s asked.table) (λ table there.
-    done_then fact ((revision_for asked table).in_state s).gives (λ revision. ((update_in ctx.role asked.table table revision).in_state s).gives) (λ revision.
-    update_in_hold fact s ctx.role asked.table table revision all sound there))
+    (λ table. ((followed_by (analysed_update_for asked table) (λ analysed_update. update_in ctx.role asked.table table analysed_update)).in_state s).gives) (table_there s asked.table) (λ table there.
+    done_then fact ((analysed_update_for asked table).in_state s).gives (λ analysed_update. ((update_in ctx.role asked.table table analysed_update).in_state s).gives) (λ analysed_update.
+    update_in_hold fact s ctx.role asked.table table analysed_update all sound there))
 
 -- an UPDATE keeps them sound
 pub update_keeps : (ctx : Ctx) (asked : Update) → KeepsRowsSound (update ctx asked)
@@ -289,42 +289,42 @@ deleted_kept s name table rows sound there =
 abbrev pub HoldsOfGone : (List Change → Type 0) → State → List ℕ → Type 0
 HoldsOfGone fact s name = (table : TableDef) (rows : List Stored) → table_of s name ≡ Some table → fact (map (deleted_row name) rows)
 
-delete_hits_hold : (fact : List Change → Type 0) (s : State) (role name : List ℕ) (table : TableDef) (protection : Protection) (removal : Removal) (rows : List Stored) → HoldsOfGone fact s name
-    → table_of s name ≡ Some table → IfDone ((delete_hits role name protection removal rows).in_state s).gives fact
-unfolding delete_hits
-delete_hits_hold fact s role name table protection removal rows all there =
-    done_then fact ((hits_of protection.old protection.fences role removal.condition rows).in_state s).gives (λ judged. Ok (deleted name removal role judged)) (λ judged. all table judged.1 there)
+delete_qualifying_rows_hold : (fact : List Change → Type 0) (s : State) (role name : List ℕ) (table : TableDef) (expansion : PolicyExpansion) (analysed_delete : AnalysedDelete) (rows : List Stored) → HoldsOfGone fact s name
+    → table_of s name ≡ Some table → IfDone ((delete_qualifying_rows role name expansion analysed_delete rows).in_state s).gives fact
+unfolding delete_qualifying_rows
+delete_qualifying_rows_hold fact s role name table expansion analysed_delete rows all there =
+    done_then fact ((qualifying_rows_of expansion.old expansion.relations role analysed_delete.condition rows).in_state s).gives (λ judged. Ok (deleted name analysed_delete role judged)) (λ judged. all table judged.1 there)
 
-delete_guarded_hold : (fact : List Change → Type 0) (s : State) (standing : Standing) (protection : Protection) (removal : Removal) (role name : List ℕ) (table : TableDef) → HoldsOfGone fact s name
-    → table_of s name ≡ Some table → IfDone ((delete_guarded standing protection removal role name table).in_state s).gives fact
-unfolding delete_guarded
-delete_guarded_hold fact s standing protection removal role name table all there =
-    done_then fact ((privileges_or_denied standing Privilege.Delete (removal_reads removal) name protection.asked).in_state s).gives
-    (λ _. ((followed_by (candidates role name table removal.condition) (λ rows. delete_hits role name protection removal rows)).in_state s).gives) (λ _.
-    done_then fact ((candidates role name table removal.condition).in_state s).gives (λ rows. ((delete_hits role name protection removal rows).in_state s).gives) (λ rows.
-    delete_hits_hold fact s role name table protection removal rows all there))
+delete_with_quals_hold : (fact : List Change → Type 0) (s : State) (role_privileges : RolePrivileges) (expansion : PolicyExpansion) (analysed_delete : AnalysedDelete) (role name : List ℕ) (table : TableDef) → HoldsOfGone fact s name
+    → table_of s name ≡ Some table → IfDone ((delete_with_quals role_privileges expansion analysed_delete role name table).in_state s).gives fact
+unfolding delete_with_quals
+delete_with_quals_hold fact s role_privileges expansion analysed_delete role name table all there =
+    done_then fact ((privileges_or_denied role_privileges Privilege.Delete (analysed_delete_reads analysed_delete) name expansion.permission_checks).in_state s).gives
+    (λ _. ((followed_by (scanned_rows role name table analysed_delete.condition) (λ rows. delete_qualifying_rows role name expansion analysed_delete rows)).in_state s).gives) (λ _.
+    done_then fact ((scanned_rows role name table analysed_delete.condition).in_state s).gives (λ rows. ((delete_qualifying_rows role name expansion analysed_delete rows).in_state s).gives) (λ rows.
+    delete_qualifying_rows_hold fact s role name table expansion analysed_delete rows all there))
 
-delete_as_hold : (fact : List Change → Type 0) (s : State) (standing : Standing) (role name : List ℕ) (table : TableDef) (removal : Removal) → HoldsOfGone fact s name → table_of s name ≡ Some table
-    → IfDone ((delete_as standing role name table removal).in_state s).gives fact
+delete_as_hold : (fact : List Change → Type 0) (s : State) (role_privileges : RolePrivileges) (role name : List ℕ) (table : TableDef) (analysed_delete : AnalysedDelete) → HoldsOfGone fact s name → table_of s name ≡ Some table
+    → IfDone ((delete_as role_privileges role name table analysed_delete).in_state s).gives fact
 unfolding delete_as
-delete_as_hold fact s standing role name table removal all there =
-    done_then fact ((protection_of standing name table Kind.Delete (removal_reads removal) (tables_if removal.condition)).in_state s).gives
-    (λ protection. ((delete_guarded standing protection removal role name table).in_state s).gives) (λ protection.
-    delete_guarded_hold fact s standing protection removal role name table all there)
+delete_as_hold fact s role_privileges role name table analysed_delete all there =
+    done_then fact ((expansion_of role_privileges name table Kind.Delete (analysed_delete_reads analysed_delete) (tables_if analysed_delete.condition)).in_state s).gives
+    (λ expansion. ((delete_with_quals role_privileges expansion analysed_delete role name table).in_state s).gives) (λ expansion.
+    delete_with_quals_hold fact s role_privileges expansion analysed_delete role name table all there)
 
-delete_from_hold : (fact : List Change → Type 0) (s : State) (role name : List ℕ) (table : TableDef) (removal : Removal) → HoldsOfGone fact s name → table_of s name ≡ Some table
-    → IfDone ((delete_from role name table removal).in_state s).gives fact
+delete_from_hold : (fact : List Change → Type 0) (s : State) (role name : List ℕ) (table : TableDef) (analysed_delete : AnalysedDelete) → HoldsOfGone fact s name → table_of s name ≡ Some table
+    → IfDone ((delete_from role name table analysed_delete).in_state s).gives fact
 unfolding delete_from
-delete_from_hold fact s role name table removal all there =
-    done_then fact ((standing_of role).in_state s).gives (λ standing. ((delete_as standing role name table removal).in_state s).gives) (λ standing.
-    delete_as_hold fact s standing role name table removal all there)
+delete_from_hold fact s role name table analysed_delete all there =
+    done_then fact ((role_privileges_of role).in_state s).gives (λ role_privileges. ((delete_as role_privileges role name table analysed_delete).in_state s).gives) (λ role_privileges.
+    delete_as_hold fact s role_privileges role name table analysed_delete all there)
 
 pub delete_holds : (fact : List Change → Type 0) (s : State) (ctx : Ctx) (asked : Delete) → HoldsOfGone fact s asked.table → IfDone ((delete ctx asked).in_state s).gives fact
 delete_holds fact s ctx asked all =
     done_after (λ table. table_of s asked.table ≡ Some table) fact ((table_or_undefined asked.table).in_state s).gives
-    (λ table. ((followed_by (removal_for asked table) (λ removal. delete_from ctx.role asked.table table removal)).in_state s).gives) (table_there s asked.table) (λ table there.
-    done_then fact ((removal_for asked table).in_state s).gives (λ removal. ((delete_from ctx.role asked.table table removal).in_state s).gives) (λ removal.
-    delete_from_hold fact s ctx.role asked.table table removal all there))
+    (λ table. ((followed_by (analysed_delete_for asked table) (λ analysed_delete. delete_from ctx.role asked.table table analysed_delete)).in_state s).gives) (table_there s asked.table) (λ table there.
+    done_then fact ((analysed_delete_for asked table).in_state s).gives (λ analysed_delete. ((delete_from ctx.role asked.table table analysed_delete).in_state s).gives) (λ analysed_delete.
+    delete_from_hold fact s ctx.role asked.table table analysed_delete all there))
 
 -- a DELETE keeps them sound
 pub delete_keeps : (ctx : Ctx) (asked : Delete) → KeepsRowsSound (delete ctx asked)
@@ -340,40 +340,40 @@ delete_numbers_on s ctx asked = delete_holds (NumberOn ctx.txn ctx.next) s ctx a
 
 -- ---- SELECT
 
-listed_from_hold : (fact : List Change → Type 0) (s : State) (role : List ℕ) (protection : Protection) (query : Query) (rows : List Stored) → fact [] → IfDone ((listed_from role protection query rows).in_state s).gives fact
+listed_from_hold : (fact : List Change → Type 0) (s : State) (role : List ℕ) (expansion : PolicyExpansion) (analysed_select : AnalysedSelect) (rows : List Stored) → fact [] → IfDone ((listed_from role expansion analysed_select rows).in_state s).gives fact
 unfolding listed_from
-listed_from_hold fact s role protection query rows none =
-    done_then fact ((hits_of protection.old protection.fences role query.condition rows).in_state s).gives (λ judged. Ok (listed_by query role judged)) (λ _. none)
+listed_from_hold fact s role expansion analysed_select rows none =
+    done_then fact ((qualifying_rows_of expansion.old expansion.relations role analysed_select.condition rows).in_state s).gives (λ judged. Ok (listed_by analysed_select role judged)) (λ _. none)
 
-listed_for_hold : (fact : List Change → Type 0) (s : State) (standing : Standing) (protection : Protection) (query : Query) (role name : List ℕ) (table : TableDef) → fact []
-    → IfDone ((listed_for standing protection query role name table).in_state s).gives fact
+listed_for_hold : (fact : List Change → Type 0) (s : State) (role_privileges : RolePrivileges) (expansion : PolicyExpansion) (analysed_select : AnalysedSelect) (role name : List ℕ) (table : TableDef) → fact []
+    → IfDone ((listed_for role_privileges expansion analysed_select role name table).in_state s).gives fact
 unfolding listed_for
-listed_for_hold fact s standing protection query role name table none =
-    done_then fact ((privileges_or_denied standing Privilege.Select false name protection.asked).in_state s).gives
-    (λ _. ((followed_by (candidates role name table query.condition) (λ rows. listed_from role protection query rows)).in_state s).gives) (λ _.
-    done_then fact ((candidates role name table query.condition).in_state s).gives (λ rows. ((listed_from role protection query rows).in_state s).gives) (λ rows.
-    listed_from_hold fact s role protection query rows none))
+listed_for_hold fact s role_privileges expansion analysed_select role name table none =
+    done_then fact ((privileges_or_denied role_privileges Privilege.Select false name expansion.permission_checks).in_state s).gives
+    (λ _. ((followed_by (scanned_rows role name table analysed_select.condition) (λ rows. listed_from role expansion analysed_select rows)).in_state s).gives) (λ _.
+    done_then fact ((scanned_rows role name table analysed_select.condition).in_state s).gives (λ rows. ((listed_from role expansion analysed_select rows).in_state s).gives) (λ rows.
+    listed_from_hold fact s role expansion analysed_select rows none))
 
-select_as_hold : (fact : List Change → Type 0) (s : State) (standing : Standing) (role name : List ℕ) (table : TableDef) (query : Query) → fact []
-    → IfDone ((select_as standing role name table query).in_state s).gives fact
+select_as_hold : (fact : List Change → Type 0) (s : State) (role_privileges : RolePrivileges) (role name : List ℕ) (table : TableDef) (analysed_select : AnalysedSelect) → fact []
+    → IfDone ((select_as role_privileges role name table analysed_select).in_state s).gives fact
 unfolding select_as
-select_as_hold fact s standing role name table query none =
-    done_then fact ((protection_of standing name table Kind.Select false (tables_if query.condition)).in_state s).gives
-    (λ protection. ((listed_for standing protection query role name table).in_state s).gives) (λ protection.
-    listed_for_hold fact s standing protection query role name table none)
+select_as_hold fact s role_privileges role name table analysed_select none =
+    done_then fact ((expansion_of role_privileges name table Kind.Select false (tables_if analysed_select.condition)).in_state s).gives
+    (λ expansion. ((listed_for role_privileges expansion analysed_select role name table).in_state s).gives) (λ expansion.
+    listed_for_hold fact s role_privileges expansion analysed_select role name table none)
 
-select_from_hold : (fact : List Change → Type 0) (s : State) (role name : List ℕ) (table : TableDef) (query : Query) → fact [] → IfDone ((select_from role name table query).in_state s).gives fact
+select_from_hold : (fact : List Change → Type 0) (s : State) (role name : List ℕ) (table : TableDef) (analysed_select : AnalysedSelect) → fact [] → IfDone ((select_from role name table analysed_select).in_state s).gives fact
 unfolding select_from
-select_from_hold fact s role name table query none =
-    done_then fact ((standing_of role).in_state s).gives (λ standing. ((select_as standing role name table query).in_state s).gives) (λ standing.
-    select_as_hold fact s standing role name table query none)
+select_from_hold fact s role name table analysed_select none =
+    done_then fact ((role_privileges_of role).in_state s).gives (λ role_privileges. ((select_as role_privileges role name table analysed_select).in_state s).gives) (λ role_privileges.
+    select_as_hold fact s role_privileges role name table analysed_select none)
 
 select_holds : (fact : List Change → Type 0) (s : State) (ctx : Ctx) (asked : Select) → fact [] → IfDone ((select ctx asked).in_state s).gives fact
 select_holds fact s ctx asked none =
     done_then fact ((table_or_undefined asked.table).in_state s).gives
-    (λ table. ((followed_by (query_for asked (qualifier_of asked, table)) (λ query. select_from ctx.role asked.table table query)).in_state s).gives) (λ table.
-    done_then fact ((query_for asked (qualifier_of asked, table)).in_state s).gives (λ query. ((select_from ctx.role asked.table table query).in_state s).gives) (λ query.
-    select_from_hold fact s ctx.role asked.table table query none))
+    (λ table. ((followed_by (analysed_select_for asked (qualifier_of asked, table)) (λ analysed_select. select_from ctx.role asked.table table analysed_select)).in_state s).gives) (λ table.
+    done_then fact ((analysed_select_for asked (qualifier_of asked, table)).in_state s).gives (λ analysed_select. ((select_from ctx.role asked.table table analysed_select).in_state s).gives) (λ analysed_select.
+    select_from_hold fact s ctx.role asked.table table analysed_select none))
 
 -- a SELECT changes nothing
 pub select_leaves : (ctx : Ctx) (asked : Select) → LeavesRows (select ctx asked)

@@ -3,13 +3,13 @@ use Rattle.std.specs.Prelude.{◌≡◌, refl, ℕ, zero, suc, List, [], ◌∷�
 use Rattle.std.specs.{List.All, List.AllByRecursion, List.list_any}
 use Rattle.std.proofs.{Common.ap, Common.sym, Common.subst, Common.◌∙◌, lemmas.Bool.true≢false, lemmas.Bool.and_parts, lemmas.Bool.eqb-true, lemmas.Bool.or_left, lemmas.Bool.or_right, lemmas.Bool.Decides.Decides-int_eq, lemmas.List.Elements.All-head, lemmas.List.Elements.All-tail, lemmas.Option.none-some, lemmas.Option.same_Some}
 use Rattle.rls_value.specs.{declared.refusal.Refusal.Refusal, declared.row.RowId.RowId, Giving.and_then, declared.truth.Truth.Truth, declared.value.Value.Value, declared.truth.Truth.TheVariants.True, declared.truth.Truth.TheVariants.False, declared.truth.Truth.TheVariants.Unknown, Truths.is_true, Truths.truth_of, Truths.conjunction_of, Values.equal_values, Values.is_null, Values.same_flag, Values.truth_in, Values.value_at, Values.value_of_truth}
-use Rattle.rls_expr.specs.{declared.expr.Comparison.Comparison, declared.table.TableDef.TableDef, Terms.Term, Terms.Terms, Terms.Literal, Terms.Place, Terms.CurrentUser, Terms.Compare, Terms.And, Terms.End, Terms.More, Terms.maybe_term}
+use Rattle.rls_expr.specs.{declared.expr.Comparison.Comparison, declared.table.TableDef.TableDef, Terms.Term, Terms.Terms, Terms.Literal, Terms.Var, Terms.CurrentUser, Terms.Compare, Terms.And, Terms.End, Terms.More, Terms.maybe_term}
 use Rattle.rls_catalog.specs.{declared.stored.Stored.Stored, State.State, State.is_same_id, State.is_same_row, State.is_same_value, State.rows_of}
 use Rattle.rls_catalog.proofs.Walks.{bytes_own, bytes_same}
 use Rattle.rls_source.specs.{Asked.rows_at, Asked.keyed_at, Asked.asked_key, Askings.asked_if, Askings.known, Askings.followed_by}
 use Rattle.rls_evaluation.specs.Keys.{is_column, known_value, or_else, outer_value, pin_among, pin_by, pin_in, pin_of, pinned, with_pin}
 use Rattle.rls_evaluation.specs.{Environments.alone, Environments.over, Environments.row_at, Eval.Shows, Eval.and_value, Eval.meets, Eval.together, Eval.value_of}
-use Rattle.rls_judging.specs.Candidates.{candidates, candidates_with, pinned_key}
+use Rattle.rls_judging.specs.ScannedRows.{scanned_rows, scanned_rows_with, pinned_key}
 use Rattle.rls_dml.specs.{Keys.CarryKeys, Numbers.has_number, Writing.key_at}
 use Rattle.rls_dml.proofs.FittingLemmas.{own_number}
 
@@ -106,22 +106,22 @@ abbrev IsWorth : State → Shows → List ℕ → List Value → Term → Value 
 IsWorth s sees user row t v = ((value_of t sees (over user row)).in_state s).gives ≡ Ok v
 
 -- a column further out is none
-outer_alone : (user : List ℕ) (row : List Value) (out column : ℕ) (x y : Value) → outer_value out column (alone user) ≡ Some y → value_at (row_at (row ∷ []) out) column ≡ x → x ≡ y
+outer_alone : (user : List ℕ) (row : List Value) (level column : ℕ) (x y : Value) → outer_value level column (alone user) ≡ Some y → value_at (row_at (row ∷ []) level) column ≡ x → x ≡ y
 outer_alone user row zero column x y is worth = never y is
-outer_alone user row (suc out) column x y is worth = sym worth ∙ same_Some (value_at (row_at [] out) column) y is
+outer_alone user row (suc level) column x y is worth = sym worth ∙ same_Some (value_at (row_at [] level) column) y is
 
 -- what is known without a row is the same over each
 known_alone : (s : State) (sees : Shows) (user : List ℕ) (row : List Value) (t : Term) (x y : Value) → known_value t (alone user) ≡ Some y → IsWorth s sees user row t x → x ≡ y
 known_alone s sees user row (Literal value) x y is worth = sym (same_given value x worth) ∙ same_Some value y is
-known_alone s sees user row (Place at) x y is worth = outer_alone user row at.out at.column x y is (same_given (value_at (row_at (row ∷ []) at.out) at.column) x worth)
+known_alone s sees user row (Var at) x y is worth = outer_alone user row at.level at.column x y is (same_given (value_at (row_at (row ∷ []) at.level) at.column) x worth)
 known_alone s sees user row CurrentUser x y is worth = sym (same_given (Value.Text user) x worth) ∙ same_Some (Value.Text user) y is
 known_alone s sees user row t x y is worth = never y is
 
 -- the column's value is the row's at its place
 column_value : (s : State) (sees : Shows) (user : List ℕ) (row : List Value) (place : ℕ) (t : Term) (x : Value) → is_column place t ≡ true → IsWorth s sees user row t x → x ≡ value_at row place
-column_value s sees user row place (Place at) x is worth =
+column_value s sees user row place (Var at) x is worth =
     let parts = and_parts _ _ is in
-    sym (same_given (value_at (row_at (row ∷ []) at.out) at.column) x worth) ∙ (λ i. value_at (row_at (row ∷ []) (eqb-true at.out 0 parts.0 i)) (eqb-true at.column place parts.1 i))
+    sym (same_given (value_at (row_at (row ∷ []) at.level) at.column) x worth) ∙ (λ i. value_at (row_at (row ∷ []) (eqb-true at.level 0 parts.0 i)) (eqb-true at.column place parts.1 i))
 column_value s sees user row place t x is worth = no is
 
 -- what is there under a test
@@ -297,7 +297,7 @@ keyed_rows s sees user name places condition rows key false pinned null carry gi
 -- by the key, or all of them
 rows_with : (s : State) (sees : Shows) (user name places : List ℕ) (condition : Option Term) (rows : List Stored) (key : Option (List Value))
     → pinned_key user places condition ≡ key → CarryKeys places (rows_of s name)
-    → ((candidates_with name key).in_state s).gives ≡ Ok rows → AllByRecursion (IsLooked s sees user condition rows) (rows_of s name)
+    → ((scanned_rows_with name key).in_state s).gives ≡ Ok rows → AllByRecursion (IsLooked s sees user condition rows) (rows_of s name)
 unfolding rows_at
 rows_with s sees user name places condition rows None pinned carry given =
     all_weaker (λ stored. has_number (rows_of s name) stored.id ≡ true) (IsLooked s sees user condition rows)
@@ -307,5 +307,5 @@ rows_with s sees user name places condition rows (Some key) pinned carry given =
 
 -- each row that meets the condition is among those that are looked at
 pub pinned_rows : (s : State) (sees : Shows) (user name : List ℕ) (table : TableDef) (condition : Option Term) (rows : List Stored) → CarryKeys table.key (rows_of s name)
-    → ((candidates user name table condition).in_state s).gives ≡ Ok rows → AllByRecursion (IsLooked s sees user condition rows) (rows_of s name)
+    → ((scanned_rows user name table condition).in_state s).gives ≡ Ok rows → AllByRecursion (IsLooked s sees user condition rows) (rows_of s name)
 pinned_rows s sees user name table condition rows carry given = rows_with s sees user name table.key condition rows (pinned_key user table.key condition) refl carry given

@@ -9,7 +9,7 @@ use Rattle.rls_catalog.specs.{declared.change.Change.Change, declared.stored.Sto
 use Rattle.rls_statement.specs.{declared.changing.Delete.Delete, declared.changing.Update.Update, declared.statement.Insert.Insert}
 use Rattle.rls_source.specs.{Askings.known, Askings.followed_by, Named.table_or_undefined}
 use Rattle.rls_guard.specs.{declared.context.Ctx.Ctx, Checks.is_unsupported, Keeping.IfDone}
-use Rattle.rls_dml.specs.{declared.addition.Addition.Addition, Deleting.delete, Deleting.deleted_row, NextRows.InRange, NextRows.new_rows, Updating.changed_rows, Updating.update, Checking.fitting_or_fault, Checking.supported_or_refused, Checking.returning_fits, Checking.returning_unsupported, Inserting.addition_for, Inserting.addition_in, Inserting.addition_named, Inserting.addition_or_refused, Inserting.addition_placed, Inserting.insert, Inserting.insert_into, Inserting.inserted_row, Inserting.numbered, Inserting.places_of, Inserting.room_or_limit, Inserting.tuple_fits}
+use Rattle.rls_dml.specs.{declared.analysed_insert.AnalysedInsert.AnalysedInsert, Deleting.delete, Deleting.deleted_row, NextRows.InRange, NextRows.new_rows, Updating.changed_rows, Updating.update, Checking.fitting_or_fault, Checking.supported_or_refused, Checking.returning_fits, Checking.returning_unsupported, Inserting.analysed_insert_for, Inserting.analysed_insert_in, Inserting.analysed_insert_named, Inserting.analysed_insert_or_refused, Inserting.analysed_insert_resolved, Inserting.insert, Inserting.insert_into, Inserting.inserted_row, Inserting.numbered, Inserting.places_of, Inserting.room_or_limit, Inserting.tuple_fits}
 use Rattle.rls_dml.proofs.{FittingLemmas.done_after, FittingLemmas.done_then, FittingLemmas.given_after, FittingLemmas.given_then, FittingLemmas.insert_into_done, KeepingLemmas.delete_holds, KeepingLemmas.update_holds}
 
 -- ---- INSERT
@@ -28,33 +28,33 @@ room_if true next count is = leb-true (next + count) 4294967295 is
 room_if false next count is = tt
 
 -- there are numbers left for the tuples
-numbers_left : (next : ℕ) (columns : List Column) (addition : Addition) → IfOk (addition_or_refused next columns addition) (λ _. next + length addition.tuples ≤ 4294967295)
-numbers_left next columns addition =
-    let unsupported : Bool = list_any (list_any is_unsupported) addition.tuples || returning_unsupported addition.returning in
-    given_then (λ _. next + length addition.tuples ≤ 4294967295)
-    (fitting_or_fault (list_all (tuple_fits columns addition.places) addition.tuples && returning_fits addition.returning))
-    (λ _. and_then (supported_or_refused unsupported) (λ _. room_or_limit next (length addition.tuples))) (λ _.
-    given_then (λ _. next + length addition.tuples ≤ 4294967295) (supported_or_refused unsupported) (λ _. room_or_limit next (length addition.tuples)) (λ _.
-    room_if (nat_le (next + length addition.tuples) 4294967295) next (length addition.tuples) refl))
+numbers_left : (next : ℕ) (columns : List Column) (analysed_insert : AnalysedInsert) → IfOk (analysed_insert_or_refused next columns analysed_insert) (λ _. next + length analysed_insert.tuples ≤ 4294967295)
+numbers_left next columns analysed_insert =
+    let unsupported : Bool = list_any (list_any is_unsupported) analysed_insert.tuples || returning_unsupported analysed_insert.returning in
+    given_then (λ _. next + length analysed_insert.tuples ≤ 4294967295)
+    (fitting_or_fault (list_all (tuple_fits columns analysed_insert.places) analysed_insert.tuples && returning_fits analysed_insert.returning))
+    (λ _. and_then (supported_or_refused unsupported) (λ _. room_or_limit next (length analysed_insert.tuples))) (λ _.
+    given_then (λ _. next + length analysed_insert.tuples ≤ 4294967295) (supported_or_refused unsupported) (λ _. room_or_limit next (length analysed_insert.tuples)) (λ _.
+    room_if (nat_le (next + length analysed_insert.tuples) 4294967295) next (length analysed_insert.tuples) refl))
 
-addition_in_range : (s : State) (ctx : Ctx) (asked : Insert) (table : TableDef) → IfOk ((addition_for ctx asked table).in_state s).gives (λ addition. ctx.next + length addition.tuples ≤ 4294967295)
-addition_in_range s ctx asked table =
-    given_then (λ addition. ctx.next + length addition.tuples ≤ 4294967295) (places_of table.columns asked.columns)
-    (λ places. ((followed_by (addition_named asked (asked.table, table)) (λ found. known (addition_in ctx.next asked (asked.table, table) places found))).in_state s).gives) (λ places.
-    given_then (λ addition. ctx.next + length addition.tuples ≤ 4294967295) ((addition_named asked (asked.table, table)).in_state s).gives
-    (λ found. addition_in ctx.next asked (asked.table, table) places found) (λ found.
-    let addition : Addition = addition_placed asked (asked.table, table) places found in
-    given_after (λ _. ctx.next + length addition.tuples ≤ 4294967295) (λ other. ctx.next + length other.tuples ≤ 4294967295) (addition_or_refused ctx.next table.columns addition) (λ _. Ok addition)
-    (numbers_left ctx.next table.columns addition) (λ _ left. left)))
+analysed_insert_in_range : (s : State) (ctx : Ctx) (asked : Insert) (table : TableDef) → IfOk ((analysed_insert_for ctx asked table).in_state s).gives (λ analysed_insert. ctx.next + length analysed_insert.tuples ≤ 4294967295)
+analysed_insert_in_range s ctx asked table =
+    given_then (λ analysed_insert. ctx.next + length analysed_insert.tuples ≤ 4294967295) (places_of table.columns asked.columns)
+    (λ places. ((followed_by (analysed_insert_named asked (asked.table, table)) (λ found. known (analysed_insert_in ctx.next asked (asked.table, table) places found))).in_state s).gives) (λ places.
+    given_then (λ analysed_insert. ctx.next + length analysed_insert.tuples ≤ 4294967295) ((analysed_insert_named asked (asked.table, table)).in_state s).gives
+    (λ found. analysed_insert_in ctx.next asked (asked.table, table) places found) (λ found.
+    let analysed_insert : AnalysedInsert = analysed_insert_resolved asked (asked.table, table) places found in
+    given_after (λ _. ctx.next + length analysed_insert.tuples ≤ 4294967295) (λ other. ctx.next + length other.tuples ≤ 4294967295) (analysed_insert_or_refused ctx.next table.columns analysed_insert) (λ _. Ok analysed_insert)
+    (numbers_left ctx.next table.columns analysed_insert) (λ _ left. left)))
 
 -- an INSERT leaves the next number in its range
 pub insert_in_range : (s : State) (ctx : Ctx) (asked : Insert) → IfDone ((insert ctx asked).in_state s).gives (InRange ctx.next)
 insert_in_range s ctx asked =
     done_then (InRange ctx.next) ((table_or_undefined asked.table).in_state s).gives
-    (λ table. ((followed_by (addition_for ctx asked table) (λ addition. insert_into ctx asked.table table addition)).in_state s).gives) (λ table.
-    done_after (λ addition. ctx.next + length addition.tuples ≤ 4294967295) (InRange ctx.next) ((addition_for ctx asked table).in_state s).gives
-    (λ addition. ((insert_into ctx asked.table table addition).in_state s).gives) (addition_in_range s ctx asked table) (λ addition left.
-    insert_into_done (InRange ctx.next) s ctx asked.table table addition (λ places rows count _. omega (arith, left, count, all_new asked.table places ctx.txn ctx.next rows))))
+    (λ table. ((followed_by (analysed_insert_for ctx asked table) (λ analysed_insert. insert_into ctx asked.table table analysed_insert)).in_state s).gives) (λ table.
+    done_after (λ analysed_insert. ctx.next + length analysed_insert.tuples ≤ 4294967295) (InRange ctx.next) ((analysed_insert_for ctx asked table).in_state s).gives
+    (λ analysed_insert. ((insert_into ctx asked.table table analysed_insert).in_state s).gives) (analysed_insert_in_range s ctx asked table) (λ analysed_insert left.
+    insert_into_done (InRange ctx.next) s ctx asked.table table analysed_insert (λ places rows count _. omega (arith, left, count, all_new asked.table places ctx.txn ctx.next rows))))
 
 -- ---- UPDATE and DELETE
 

@@ -97,16 +97,16 @@ left_rows_sound s table def changes rows sound there leave left = λ name. left_
 
 -- ---- rows as a list
 
-each_own : (table : TableDef) (standing : List (RowId × Keyed)) (rows : List Stored) → AreSound table standing → AllByRecursion (λ stored. StandsAt standing stored.id (keyed_of stored)) rows → CarryKeys table.key rows
-each_own table standing [] sound stand = All-nil (λ stored. stored.key ≡ key_at table.key stored.row)
-each_own table standing (stored ∷ rows) sound stand =
-    All-cons (λ row. row.key ≡ key_at table.key row.row) stored rows (sound.carried stored.id (keyed_of stored) stand.0).own (each_own table standing rows sound stand.1)
+each_own : (table : TableDef) (role_privileges : List (RowId × Keyed)) (rows : List Stored) → AreSound table role_privileges → AllByRecursion (λ stored. StandsAt role_privileges stored.id (keyed_of stored)) rows → CarryKeys table.key rows
+each_own table role_privileges [] sound stand = All-nil (λ stored. stored.key ≡ key_at table.key stored.row)
+each_own table role_privileges (stored ∷ rows) sound stand =
+    All-cons (λ row. row.key ≡ key_at table.key row.row) stored rows (sound.carried stored.id (keyed_of stored) stand.0).own (each_own table role_privileges rows sound stand.1)
 
 -- each row of a table carries its key
 pub sound_carry : (s : State) (name : List ℕ) (table : TableDef) → RowsAreSound s → table_of s name ≡ Some table → CarryKeys table.key (rows_of s name)
 sound_carry s name table sound there =
-    let standing : AreSound table (entries_of s name) = sound_in s name table sound there in
-    each_own table (entries_of s name) (rows_of s name) standing (rows_stand s name standing.ordered).have
+    let role_privileges : AreSound table (entries_of s name) = sound_in s name table sound there in
+    each_own table (entries_of s name) (rows_of s name) role_privileges (rows_stand s name role_privileges.ordered).have
 
 in_order_if : (found : Option TableDef) (rows : List (RowId × Keyed)) → AreSoundIn found rows → Ascend rows
 in_order_if (Some table) rows sound = sound.ordered

@@ -25,14 +25,14 @@ entries rows = map (λ stored. (stored.id, keyed_of stored)) rows
 
 -- rows of a table with others put in, one after another
 abbrev pub with_rows : List Stored → List (RowId × Keyed) → List (RowId × Keyed)
-with_rows [] standing = standing
-with_rows (stored ∷ rows) standing = with_rows rows (insert_entry id_order standing stored.id (keyed_of stored))
+with_rows [] role_privileges = role_privileges
+with_rows (stored ∷ rows) role_privileges = with_rows rows (insert_entry id_order role_privileges stored.id (keyed_of stored))
 
 -- they stay in order
-pub with_rows_ascend : (rows : List Stored) (standing : List (RowId × Keyed)) → Ascend standing → Ascend (with_rows rows standing)
-with_rows_ascend [] standing ascend = ascend
-with_rows_ascend (stored ∷ rows) standing ascend =
-    with_rows_ascend rows (insert_entry id_order standing stored.id (keyed_of stored)) (put_ascends stored.id (keyed_of stored) standing ascend)
+pub with_rows_ascend : (rows : List Stored) (role_privileges : List (RowId × Keyed)) → Ascend role_privileges → Ascend (with_rows rows role_privileges)
+with_rows_ascend [] role_privileges ascend = ascend
+with_rows_ascend (stored ∷ rows) role_privileges ascend =
+    with_rows_ascend rows (insert_entry id_order role_privileges stored.id (keyed_of stored)) (put_ascends stored.id (keyed_of stored) role_privileges ascend)
 
 -- none of the rows has the number
 abbrev pub OtherThan : RowId → List Stored → Type 0
@@ -61,13 +61,13 @@ first_or true id stored rows stood is other =
 first_or false id stored rows stood is other = refl
 
 -- one of the rows, or what stood there
-pub found_with : (id : RowId) (rows : List Stored) (standing : List (RowId × Keyed)) → Apart rows
-    → found id (with_rows rows standing) ≡ option_or (found id (entries rows)) (found id standing)
-found_with id [] standing apart = refl
-found_with id (stored ∷ rows) standing apart =
-    found_with id rows (insert_entry id_order standing stored.id (keyed_of stored)) apart.1
-    ∙ ap (option_or (found id (entries rows))) (found_put id stored.id (keyed_of stored) standing)
-    ∙ first_or (is_same_id id stored.id) id stored rows (found id standing) refl apart.0
+pub found_with : (id : RowId) (rows : List Stored) (role_privileges : List (RowId × Keyed)) → Apart rows
+    → found id (with_rows rows role_privileges) ≡ option_or (found id (entries rows)) (found id role_privileges)
+found_with id [] role_privileges apart = refl
+found_with id (stored ∷ rows) role_privileges apart =
+    found_with id rows (insert_entry id_order role_privileges stored.id (keyed_of stored)) apart.1
+    ∙ ap (option_or (found id (entries rows))) (found_put id stored.id (keyed_of stored) role_privileges)
+    ∙ first_or (is_same_id id stored.id) id stored rows (found id role_privileges) refl apart.0
 
 all_found_if : (P : Keyed → Type 0) (b : Bool) (stored : Stored) (rest : Option Keyed) (keyed : Keyed) → P (keyed_of stored) → (rest ≡ Some keyed → P keyed)
     → cond b (Some (keyed_of stored)) rest ≡ Some keyed → P keyed
@@ -165,35 +165,35 @@ own_row : (row : List Value) → is_same_row row row ≡ true
 own_row [] = refl
 own_row (value ∷ row) = λ i. own_value value i && own_row row i
 
-replaced_if : (b c : Bool) (id : RowId) (key : List Value) (replaced : List Stored) (entry : RowId × Keyed) (standing : List (RowId × Keyed)) (keyed : Keyed) → is_same_id id entry.0 ≡ b
-    → is_same_row entry.1.key key ≡ c → keyed.key ≡ key → cond b (Some entry.1) (found id standing) ≡ Some keyed
-    → stays_any replaced (cond c (stored_of entry ∷ with_key key (map stored_of standing)) (with_key key (map stored_of standing))) ≡ false
-    → (StandsAt standing id keyed → stays_any replaced (with_key key (map stored_of standing)) ≡ false → has_number replaced id ≡ true) → has_number replaced id ≡ true
-replaced_if true true id key replaced entry standing keyed here same is stands stays further =
+replaced_if : (b c : Bool) (id : RowId) (key : List Value) (replaced : List Stored) (entry : RowId × Keyed) (role_privileges : List (RowId × Keyed)) (keyed : Keyed) → is_same_id id entry.0 ≡ b
+    → is_same_row entry.1.key key ≡ c → keyed.key ≡ key → cond b (Some entry.1) (found id role_privileges) ≡ Some keyed
+    → stays_any replaced (cond c (stored_of entry ∷ with_key key (map stored_of role_privileges)) (with_key key (map stored_of role_privileges))) ≡ false
+    → (StandsAt role_privileges id keyed → stays_any replaced (with_key key (map stored_of role_privileges)) ≡ false → has_number replaced id ≡ true) → has_number replaced id ≡ true
+replaced_if true true id key replaced entry role_privileges keyed here same is stands stays further =
     ap (has_number replaced) (one_number id entry.0 here)
-    ∙ not-false (has_number replaced entry.0) (either_false (not (has_number replaced entry.0)) (stays_any replaced (with_key key (map stored_of standing))) stays).0
-replaced_if true false id key replaced entry standing keyed here same is stands stays further =
+    ∙ not-false (has_number replaced entry.0) (either_false (not (has_number replaced entry.0)) (stays_any replaced (with_key key (map stored_of role_privileges))) stays).0
+replaced_if true false id key replaced entry role_privileges keyed here same is stands stays further =
     absurd (true≢false (sym (own_row key) ∙ ap (λ k. is_same_row k key) (sym is ∙ sym (ap (λ k. k.key) (same_Some entry.1 keyed stands))) ∙ same))
-replaced_if false true id key replaced entry standing keyed here same is stands stays further =
-    further stands (either_false (not (has_number replaced entry.0)) (stays_any replaced (with_key key (map stored_of standing))) stays).1
-replaced_if false false id key replaced entry standing keyed here same is stands stays further = further stands stays
+replaced_if false true id key replaced entry role_privileges keyed here same is stands stays further =
+    further stands (either_false (not (has_number replaced entry.0)) (stays_any replaced (with_key key (map stored_of role_privileges))) stays).1
+replaced_if false false id key replaced entry role_privileges keyed here same is stands stays further = further stands stays
 
 -- where no row that stays has the key, a row that has it is replaced
-is_replaced : (id : RowId) (key : List Value) (replaced : List Stored) (standing : List (RowId × Keyed)) (keyed : Keyed) → keyed.key ≡ key → StandsAt standing id keyed
-    → stays_any replaced (with_key key (map stored_of standing)) ≡ false → has_number replaced id ≡ true
+is_replaced : (id : RowId) (key : List Value) (replaced : List Stored) (role_privileges : List (RowId × Keyed)) (keyed : Keyed) → keyed.key ≡ key → StandsAt role_privileges id keyed
+    → stays_any replaced (with_key key (map stored_of role_privileges)) ≡ false → has_number replaced id ≡ true
 is_replaced id key replaced [] keyed is stands stays = absurd (none-some keyed stands)
-is_replaced id key replaced (entry ∷ standing) keyed is stands stays =
-    replaced_if (is_same_id id entry.0) (is_same_row entry.1.key key) id key replaced entry standing keyed refl refl is stands stays
-    (λ there none. is_replaced id key replaced standing keyed is there none)
+is_replaced id key replaced (entry ∷ role_privileges) keyed is stands stays =
+    replaced_if (is_same_id id entry.0) (is_same_row entry.1.key key) id key replaced entry role_privileges keyed refl refl is stands stays
+    (λ there none. is_replaced id key replaced role_privileges keyed is there none)
 
 -- ---- a table
 
 -- rows that may be written into a table, in place of others: as what they are refused for says
-pub record MayStand (table : TableDef) (replaced rows : List Stored) (standing : List (RowId × Keyed)) : Type 0 where
+pub record MayStand (table : TableDef) (replaced rows : List Stored) (role_privileges : List (RowId × Keyed)) : Type 0 where
   pub apart : Apart rows
   pub carried : AllByRecursion (λ stored. CarriesKey table (keyed_of stored)) rows
   pub once : has_doubles (keys_of rows) ≡ false
-  pub free : AllByRecursion (λ stored. is_whole stored.key ≡ true → stays_any replaced (with_key stored.key (map stored_of standing)) ≡ false) rows
+  pub free : AllByRecursion (λ stored. is_whole stored.key ≡ true → stays_any replaced (with_key stored.key (map stored_of role_privileges)) ≡ false) rows
   pub replaces : (id : RowId) → has_number replaced id ≡ true → has_number rows id ≡ true
 
 -- a key without a null is whole
@@ -210,72 +210,72 @@ whole_key : (table : TableDef) (keyed : Keyed) → ¬ (table.key ≡ []) → Car
 whole_key table keyed has carries = whole_if keyed.key (λ none. has (no_places (value_at keyed.row) table.key (sym carries.own ∙ none))) carries.no_null
 
 -- one of the rows was put in, or it stood, and none was put in its place
-data Came (rows : List Stored) (standing : List (RowId × Keyed)) (id : RowId) (keyed : Keyed) : Type 0 where
-  Put : StandsAt (entries rows) id keyed → Came rows standing id keyed
-  Stood : StandsAt standing id keyed → has_number rows id ≡ false → Came rows standing id keyed
+data Came (rows : List Stored) (role_privileges : List (RowId × Keyed)) (id : RowId) (keyed : Keyed) : Type 0 where
+  Put : StandsAt (entries rows) id keyed → Came rows role_privileges id keyed
+  Stood : StandsAt role_privileges id keyed → has_number rows id ≡ false → Came rows role_privileges id keyed
 
-came_if : (new : Option Keyed) (rows : List Stored) (standing : List (RowId × Keyed)) (id : RowId) (keyed : Keyed) → found id (entries rows) ≡ new → option_or new (found id standing) ≡ Some keyed → Came rows standing id keyed
-came_if (Some first) rows standing id keyed is stands = Put (is ∙ stands)
-came_if None rows standing id keyed is stands = Stood stands (none_has id rows is)
+came_if : (new : Option Keyed) (rows : List Stored) (role_privileges : List (RowId × Keyed)) (id : RowId) (keyed : Keyed) → found id (entries rows) ≡ new → option_or new (found id role_privileges) ≡ Some keyed → Came rows role_privileges id keyed
+came_if (Some first) rows role_privileges id keyed is stands = Put (is ∙ stands)
+came_if None rows role_privileges id keyed is stands = Stood stands (none_has id rows is)
 
 -- each row is there by one of the two
-came : (rows : List Stored) (standing : List (RowId × Keyed)) (id : RowId) (keyed : Keyed) → Apart rows → StandsAt (with_rows rows standing) id keyed → Came rows standing id keyed
-came rows standing id keyed apart stands = came_if (found id (entries rows)) rows standing id keyed refl (sym (found_with id rows standing apart) ∙ stands)
+came : (rows : List Stored) (role_privileges : List (RowId × Keyed)) (id : RowId) (keyed : Keyed) → Apart rows → StandsAt (with_rows rows role_privileges) id keyed → Came rows role_privileges id keyed
+came rows role_privileges id keyed apart stands = came_if (found id (entries rows)) rows role_privileges id keyed refl (sym (found_with id rows role_privileges apart) ∙ stands)
 
-came_carries : (table : TableDef) (replaced rows : List Stored) (standing : List (RowId × Keyed)) (id : RowId) (keyed : Keyed) → AreSound table standing → MayStand table replaced rows standing
-    → Came rows standing id keyed → CarriesKey table keyed
-came_carries table replaced rows standing id keyed sound may (Put stands) = all_found (CarriesKey table) id rows keyed may.carried stands
-came_carries table replaced rows standing id keyed sound may (Stood stands none) = sound.carried id keyed stands
+came_carries : (table : TableDef) (replaced rows : List Stored) (role_privileges : List (RowId × Keyed)) (id : RowId) (keyed : Keyed) → AreSound table role_privileges → MayStand table replaced rows role_privileges
+    → Came rows role_privileges id keyed → CarriesKey table keyed
+came_carries table replaced rows role_privileges id keyed sound may (Put stands) = all_found (CarriesKey table) id rows keyed may.carried stands
+came_carries table replaced rows role_privileges id keyed sound may (Stood stands none) = sound.carried id keyed stands
 
 -- a row that was put in, and one that stood: their keys differ
-not_beside : (table : TableDef) (replaced rows : List Stored) (standing : List (RowId × Keyed)) (id other : RowId) (keyed same : Keyed) → MayStand table replaced rows standing → ¬ (table.key ≡ [])
-    → StandsAt (entries rows) id keyed → StandsAt standing other same → has_number rows other ≡ false → keyed.key ≡ same.key → ⊥
-not_beside table replaced rows standing id other keyed same may has put stood none is =
+not_beside : (table : TableDef) (replaced rows : List Stored) (role_privileges : List (RowId × Keyed)) (id other : RowId) (keyed same : Keyed) → MayStand table replaced rows role_privileges → ¬ (table.key ≡ [])
+    → StandsAt (entries rows) id keyed → StandsAt role_privileges other same → has_number rows other ≡ false → keyed.key ≡ same.key → ⊥
+not_beside table replaced rows role_privileges id other keyed same may has put stood none is =
     let whole : is_whole keyed.key ≡ true = whole_key table keyed has (all_found (CarriesKey table) id rows keyed may.carried put) in
-    let free : stays_any replaced (with_key keyed.key (map stored_of standing)) ≡ false =
-    all_found (λ k. is_whole k.key ≡ true → stays_any replaced (with_key k.key (map stored_of standing)) ≡ false) id rows keyed may.free put whole in
-    true≢false (sym (may.replaces other (is_replaced other keyed.key replaced standing same (sym is) stood free)) ∙ none)
+    let free : stays_any replaced (with_key keyed.key (map stored_of role_privileges)) ≡ false =
+    all_found (λ k. is_whole k.key ≡ true → stays_any replaced (with_key k.key (map stored_of role_privileges)) ≡ false) id rows keyed may.free put whole in
+    true≢false (sym (may.replaces other (is_replaced other keyed.key replaced role_privileges same (sym is) stood free)) ∙ none)
 
-came_unique : (table : TableDef) (replaced rows : List Stored) (standing : List (RowId × Keyed)) (id other : RowId) (keyed same : Keyed) → AreSound table standing → MayStand table replaced rows standing
-    → ¬ (table.key ≡ []) → Came rows standing id keyed → Came rows standing other same → keyed.key ≡ same.key → id ≡ other
-came_unique table replaced rows standing id other keyed same sound may has (Put first) (Put second) is =
+came_unique : (table : TableDef) (replaced rows : List Stored) (role_privileges : List (RowId × Keyed)) (id other : RowId) (keyed same : Keyed) → AreSound table role_privileges → MayStand table replaced rows role_privileges
+    → ¬ (table.key ≡ []) → Came rows role_privileges id keyed → Came rows role_privileges other same → keyed.key ≡ same.key → id ≡ other
+came_unique table replaced rows role_privileges id other keyed same sound may has (Put first) (Put second) is =
     one_new id other rows keyed same may.once first second is (whole_key table keyed has (all_found (CarriesKey table) id rows keyed may.carried first))
-came_unique table replaced rows standing id other keyed same sound may has (Put first) (Stood second none) is = absurd (not_beside table replaced rows standing id other keyed same may has first second none is)
-came_unique table replaced rows standing id other keyed same sound may has (Stood first none) (Put second) is = absurd (not_beside table replaced rows standing other id same keyed may has second first none (sym is))
-came_unique table replaced rows standing id other keyed same sound may has (Stood first _) (Stood second _) is = sound.unique has id other keyed same first second is
+came_unique table replaced rows role_privileges id other keyed same sound may has (Put first) (Stood second none) is = absurd (not_beside table replaced rows role_privileges id other keyed same may has first second none is)
+came_unique table replaced rows role_privileges id other keyed same sound may has (Stood first none) (Put second) is = absurd (not_beside table replaced rows role_privileges other id same keyed may has second first none (sym is))
+came_unique table replaced rows role_privileges id other keyed same sound may has (Stood first _) (Stood second _) is = sound.unique has id other keyed same first second is
 
 -- the rows of a table are sound with them
-pub written_sound : (table : TableDef) (replaced rows : List Stored) (standing : List (RowId × Keyed)) → AreSound table standing → MayStand table replaced rows standing → AreSound table (with_rows rows standing)
-written_sound table replaced rows standing sound may = record {
+pub written_sound : (table : TableDef) (replaced rows : List Stored) (role_privileges : List (RowId × Keyed)) → AreSound table role_privileges → MayStand table replaced rows role_privileges → AreSound table (with_rows rows role_privileges)
+written_sound table replaced rows role_privileges sound may = record {
   key = sound.key;
-  ordered = with_rows_ascend rows standing sound.ordered;
-  carried = λ id keyed stands. came_carries table replaced rows standing id keyed sound may (came rows standing id keyed may.apart stands);
-  unique = λ has id other keyed same first second is. came_unique table replaced rows standing id other keyed same sound may has
-      (came rows standing id keyed may.apart first) (came rows standing other same may.apart second) is;
+  ordered = with_rows_ascend rows role_privileges sound.ordered;
+  carried = λ id keyed stands. came_carries table replaced rows role_privileges id keyed sound may (came rows role_privileges id keyed may.apart stands);
+  unique = λ has id other keyed same first second is. came_unique table replaced rows role_privileges id other keyed same sound may has
+      (came rows role_privileges id keyed may.apart first) (came rows role_privileges other same may.apart second) is;
 }
 
 -- ---- rows that go
 
 -- rows of a table with others taken out, one after another
 abbrev pub without_rows : List Stored → List (RowId × Keyed) → List (RowId × Keyed)
-without_rows [] standing = standing
-without_rows (stored ∷ rows) standing = without_rows rows (remove_entry (is_at (id_order stored.id)) standing)
+without_rows [] role_privileges = role_privileges
+without_rows (stored ∷ rows) role_privileges = without_rows rows (remove_entry (is_at (id_order stored.id)) role_privileges)
 
-without_ascend : (rows : List Stored) (standing : List (RowId × Keyed)) → Ascend standing → Ascend (without_rows rows standing)
-without_ascend [] standing ascend = ascend
-without_ascend (stored ∷ rows) standing ascend = without_ascend rows (remove_entry (is_at (id_order stored.id)) standing) (gone_ascends stored.id standing ascend)
+without_ascend : (rows : List Stored) (role_privileges : List (RowId × Keyed)) → Ascend role_privileges → Ascend (without_rows rows role_privileges)
+without_ascend [] role_privileges ascend = ascend
+without_ascend (stored ∷ rows) role_privileges ascend = without_ascend rows (remove_entry (is_at (id_order stored.id)) role_privileges) (gone_ascends stored.id role_privileges ascend)
 
 -- what is left stood before
-left_stood : (id : RowId) (keyed : Keyed) (rows : List Stored) (standing : List (RowId × Keyed)) → Ascend standing → StandsAt (without_rows rows standing) id keyed → StandsAt standing id keyed
-left_stood id keyed [] standing ascend stands = stands
-left_stood id keyed (stored ∷ rows) standing ascend stands =
-    found_gone id stored.id keyed standing ascend (left_stood id keyed rows (remove_entry (is_at (id_order stored.id)) standing) (gone_ascends stored.id standing ascend) stands)
+left_stood : (id : RowId) (keyed : Keyed) (rows : List Stored) (role_privileges : List (RowId × Keyed)) → Ascend role_privileges → StandsAt (without_rows rows role_privileges) id keyed → StandsAt role_privileges id keyed
+left_stood id keyed [] role_privileges ascend stands = stands
+left_stood id keyed (stored ∷ rows) role_privileges ascend stands =
+    found_gone id stored.id keyed role_privileges ascend (left_stood id keyed rows (remove_entry (is_at (id_order stored.id)) role_privileges) (gone_ascends stored.id role_privileges ascend) stands)
 
 -- the rows of a table are sound without them
-pub left_sound : (table : TableDef) (rows : List Stored) (standing : List (RowId × Keyed)) → AreSound table standing → AreSound table (without_rows rows standing)
-left_sound table rows standing sound = record {
+pub left_sound : (table : TableDef) (rows : List Stored) (role_privileges : List (RowId × Keyed)) → AreSound table role_privileges → AreSound table (without_rows rows role_privileges)
+left_sound table rows role_privileges sound = record {
   key = sound.key;
-  ordered = without_ascend rows standing sound.ordered;
-  carried = λ id keyed stands. sound.carried id keyed (left_stood id keyed rows standing sound.ordered stands);
-  unique = λ has id other keyed same first second is. sound.unique has id other keyed same (left_stood id keyed rows standing sound.ordered first) (left_stood other same rows standing sound.ordered second) is;
+  ordered = without_ascend rows role_privileges sound.ordered;
+  carried = λ id keyed stands. sound.carried id keyed (left_stood id keyed rows role_privileges sound.ordered stands);
+  unique = λ has id other keyed same first second is. sound.unique has id other keyed same (left_stood id keyed rows role_privileges sound.ordered first) (left_stood other same rows role_privileges sound.ordered second) is;
 }

@@ -7,7 +7,7 @@ use Rattle.rls_value.specs.{declared.refusal.Refusal.Refusal, declared.refusal.R
 use Rattle.rls_value.specs.declared.refusal.NameKind.TheVariants as kind
 use Rattle.rls_expr.specs.{declared.table.Column.Column, declared.typing.Typing.Typing, Scopes.InScope, Tables.column_named, Parts.mentions}
 use Rattle.rls_expr.specs.Terms.{Term, maybe_term, terms_of}
-use Rattle.rls_expr.specs.{Naming.Step, Naming.names_all, Placing.Names, Placing.placed}
+use Rattle.rls_expr.specs.{Naming.Step, Naming.names_all, Resolving.Names, Resolving.resolved}
 use Rattle.rls_expr.specs.Typing.{type_of, is_typed, takes_boolean, goes_into}
 use Rattle.rls_statement.specs.declared.statement.Selected.{Selected}
 use Rattle.rls_statement.specs.declared.statement.Selected.TheVariants as selected
@@ -30,29 +30,29 @@ returning_names (Some items) = selection_names items
 abbrev pub where_names : Option Term → List Step
 where_names condition = names_all (maybe_term condition)
 
--- ---- columns by their places
+-- ---- resolved columns
 
 -- names over no table
 abbrev pub names_over_none : List InScope → Names
 names_over_none found = record { tables = []; known = found }
 
--- the term with its columns by their places
-abbrev pub place_in : Names → Term → Term
-place_in names term = placed term names
+-- the term with its columns resolved
+abbrev pub resolved_in : Names → Term → Term
+resolved_in names term = resolved term names
 
 -- the condition, if there is one
-abbrev pub where_placed : Names → Option Term → Option Term
-where_placed names condition = option_map (place_in names) condition
+abbrev pub where_resolved : Names → Option Term → Option Term
+where_resolved names condition = option_map (resolved_in names) condition
 
 -- `*` and `count(*)` have no columns
-abbrev pub selection_placed : Names → Selected → Selected
-selection_placed names selected.All = selected.All
-selection_placed names (selected.Items items) = selected.Items (map (place_in names) items)
-selection_placed names selected.Count = selected.Count
+abbrev pub selection_resolved : Names → Selected → Selected
+selection_resolved names selected.All = selected.All
+selection_resolved names (selected.Items items) = selected.Items (map (resolved_in names) items)
+selection_resolved names selected.Count = selected.Count
 
 -- RETURNING, if it is there
-abbrev pub returning_placed : Names → Option Selected → Option Selected
-returning_placed names items = option_map (selection_placed names) items
+abbrev pub returning_resolved : Names → Option Selected → Option Selected
+returning_resolved names items = option_map (selection_resolved names) items
 
 -- the place, which has to be there
 abbrev pub found_or_undefined : List ℕ → Option ℕ → Result ℕ Refusal

@@ -4,13 +4,13 @@ use Rattle.std.specs.Prelude.{ℕ, suc, ◌+◌, List, [], ◌∷◌, ◌++◌, 
 use Rattle.std.specs.List.{list_any, list_all}
 use Rattle.rls_value.specs.{declared.value.Value.Value, declared.value.Value.TheVariants.Null, declared.refusal.Refusal.Refusal, declared.refusal.Refusal.TheVariants.Limit, Giving.and_then, declared.verb.Privilege.Privilege, declared.verb.Kind.Kind}
 use Rattle.rls_value.specs.declared.refusal.Limit.TheVariants as limit
-use Rattle.rls_expr.specs.{declared.table.Column.Column, declared.table.TableDef.TableDef, Scopes.InScope, Placing.Names, Terms.Term, Terms.terms_of, Naming.Step, Naming.names_all}
+use Rattle.rls_expr.specs.{declared.table.Column.Column, declared.table.TableDef.TableDef, Scopes.InScope, Resolving.Names, Terms.Term, Terms.terms_of, Naming.Step, Naming.names_all}
 use Rattle.rls_catalog.specs.{declared.change.Change.Change, declared.stored.Stored.Stored}
 use Rattle.rls_statement.specs.{declared.statement.Insert.Insert, declared.statement.Selected.Selected}
-use Rattle.rls_guard.specs.{declared.context.Ctx.Ctx, declared.standing.Standing.Standing, declared.reply.Decision.Decision, declared.effect.Effect.Effect, Checks.is_unsupported, Standings.standing_of, Naming.named, Naming.names_over}
-use Rattle.rls_expansion.specs.{declared.protection.Protection.Protection, Used.all_tables, Protecting.protection_of}
+use Rattle.rls_guard.specs.{declared.context.Ctx.Ctx, declared.role_privileges.RolePrivileges.RolePrivileges, declared.reply.Decision.Decision, declared.effect.Effect.Effect, Checks.is_unsupported, RolePrivileges.role_privileges_of, Naming.named, Naming.names_over}
+use Rattle.rls_expansion.specs.{declared.expansion.PolicyExpansion.PolicyExpansion, Used.all_tables, Expanding.expansion_of}
 use Rattle.rls_source.specs.{Askings.Asking, Askings.known, Askings.followed_by, Askings.settled, Sequences.each_of, Named.table_or_undefined}
-use Rattle.rls_dml.specs.{declared.addition.Addition.Addition, Listings.reply_of, Writing.privileges_or_denied, Writing.assigned, Writing.each_with, Writing.key_at, Writing.order_of, Writing.rows_or_refused, Checking.names_over_none, Checking.returning_names, Checking.place_in, Checking.returning_placed, Checking.place_or_undefined, Checking.value_fits, Checking.returning_fits, Checking.fitting_or_fault, Checking.returning_unsupported, Checking.supported_or_refused, Checking.returning_reads}
+use Rattle.rls_dml.specs.{declared.analysed_insert.AnalysedInsert.AnalysedInsert, Listings.reply_of, Writing.privileges_or_denied, Writing.assigned, Writing.each_with, Writing.key_at, Writing.order_of, Writing.rows_or_refused, Checking.names_over_none, Checking.returning_names, Checking.resolved_in, Checking.returning_resolved, Checking.place_or_undefined, Checking.value_fits, Checking.returning_fits, Checking.fitting_or_fault, Checking.returning_unsupported, Checking.supported_or_refused, Checking.returning_reads}
 use Rattle.rls_judging.specs.{Judging.decisions_of, Valuing.tuples_of}
 
 -- ---- its parts
@@ -31,8 +31,8 @@ tuples_names [] = []
 tuples_names (tuple ∷ tuples) = names_all (terms_of tuple) ++ tuples_names tuples
 
 -- a tuple's terms, which have no columns
-abbrev pub tuple_placed : Names → List Term → List Term
-tuple_placed names tuple = map (place_in names) tuple
+abbrev pub tuple_resolved : Names → List Term → List Term
+tuple_resolved names tuple = map (resolved_in names) tuple
 
 -- each term goes into its column, and there are no more terms than places
 abbrev pub tuple_fits : List Column → List ℕ → List Term → Bool
@@ -45,29 +45,29 @@ abbrev pub room_or_limit : ℕ → ℕ → Result (Unit {0}) Refusal
 room_or_limit next count = if nat_le (next + count) 4294967295 then Ok tt else Err (Limit limit.Inserts)
 
 -- the names of the tuples, which have no table in scope, and of RETURNING
-abbrev pub addition_named : Insert → InScope → Asking (List InScope)
-addition_named insert from = followed_by (named (tuples_names insert.tuples) [] []) (λ found. named (returning_names insert.returning) (from ∷ []) found)
+abbrev pub analysed_insert_named : Insert → InScope → Asking (List InScope)
+analysed_insert_named insert from = followed_by (named (tuples_names insert.tuples) [] []) (λ found. named (returning_names insert.returning) (from ∷ []) found)
 
--- the parts, with columns by their places
-abbrev pub addition_placed : Insert → InScope → List ℕ → List InScope → Addition
-addition_placed insert from places found =
-    record { places = places; tuples = map (tuple_placed (names_over_none found)) insert.tuples; returning = returning_placed (names_over from found) insert.returning }
+-- the parts, with resolved columns
+abbrev pub analysed_insert_resolved : Insert → InScope → List ℕ → List InScope → AnalysedInsert
+analysed_insert_resolved insert from places found =
+    record { places = places; tuples = map (tuple_resolved (names_over_none found)) insert.tuples; returning = returning_resolved (names_over from found) insert.returning }
 
 -- their types, then that nothing in them isn't supported, then how many rows
-abbrev pub addition_or_refused : ℕ → List Column → Addition → Result (Unit {0}) Refusal
-addition_or_refused next columns addition =
-    and_then (fitting_or_fault (list_all (tuple_fits columns addition.places) addition.tuples && returning_fits addition.returning)) (λ _.
-    and_then (supported_or_refused (list_any (list_any is_unsupported) addition.tuples || returning_unsupported addition.returning)) (λ _.
-    room_or_limit next (length addition.tuples)))
+abbrev pub analysed_insert_or_refused : ℕ → List Column → AnalysedInsert → Result (Unit {0}) Refusal
+analysed_insert_or_refused next columns analysed_insert =
+    and_then (fitting_or_fault (list_all (tuple_fits columns analysed_insert.places) analysed_insert.tuples && returning_fits analysed_insert.returning)) (λ _.
+    and_then (supported_or_refused (list_any (list_any is_unsupported) analysed_insert.tuples || returning_unsupported analysed_insert.returning)) (λ _.
+    room_or_limit next (length analysed_insert.tuples)))
 
 -- the parts, where those places are written and those tables were found for subqueries
-abbrev pub addition_in : ℕ → Insert → InScope → List ℕ → List InScope → Result Addition Refusal
-addition_in next insert from places found = and_then (addition_or_refused next from.1.columns (addition_placed insert from places found)) (λ _. Ok (addition_placed insert from places found))
+abbrev pub analysed_insert_in : ℕ → Insert → InScope → List ℕ → List InScope → Result AnalysedInsert Refusal
+analysed_insert_in next insert from places found = and_then (analysed_insert_or_refused next from.1.columns (analysed_insert_resolved insert from places found)) (λ _. Ok (analysed_insert_resolved insert from places found))
 
 -- the parts of the statement, names before all else, those of the list first; the table's name qualifies its columns
-abbrev pub addition_for : Ctx → Insert → TableDef → Asking Addition
-addition_for ctx insert table = followed_by (known (places_of table.columns insert.columns)) (λ places.
-    followed_by (addition_named insert (insert.table, table)) (λ found. known (addition_in ctx.next insert (insert.table, table) places found)))
+abbrev pub analysed_insert_for : Ctx → Insert → TableDef → Asking AnalysedInsert
+analysed_insert_for ctx insert table = followed_by (known (places_of table.columns insert.columns)) (λ places.
+    followed_by (analysed_insert_named insert (insert.table, table)) (λ found. known (analysed_insert_in ctx.next insert (insert.table, table) places found)))
 
 -- ---- its rows
 
@@ -85,8 +85,8 @@ numbered places txn next [] = []
 numbered places txn next (row ∷ rows) = record { id = record { txn = txn; n = next }; key = key_at places row; row = row } ∷ numbered places txn (suc next) rows
 
 -- the rows of the tuples, whose values are in range, with their numbers
-abbrev pub new_rows : Ctx → TableDef → Addition → List (List Value) → Result (List Stored) Refusal
-new_rows ctx table addition values = and_then (each_with (row_of_tuple table addition.places) addition.tuples values) (λ rows. Ok (numbered table.key ctx.txn ctx.next rows))
+abbrev pub new_rows : Ctx → TableDef → AnalysedInsert → List (List Value) → Result (List Stored) Refusal
+new_rows ctx table analysed_insert values = and_then (each_with (row_of_tuple table analysed_insert.places) analysed_insert.tuples values) (λ rows. Ok (numbered table.key ctx.txn ctx.next rows))
 
 -- the change that puts a new row into the table
 abbrev pub inserted_row : List ℕ → Stored → Change
@@ -100,43 +100,43 @@ inserted table returning role decisions rows (Ok _) = Effect.Done (reply_of retu
 inserted table returning role decisions rows (Err refusal) = Effect.Refused refusal decisions
 
 -- each new row is judged, and then all are put in or none
-unfoldable pub insert_judged : List ℕ → List ℕ → TableDef → Addition → List Stored → List Decision → Asking Effect
-insert_judged role name table addition rows decisions =
-    settled (rows_or_refused name table.columns (order_of addition.places table.columns) decisions [] rows) (inserted name addition.returning role decisions rows)
+unfoldable pub insert_judged : List ℕ → List ℕ → TableDef → AnalysedInsert → List Stored → List Decision → Asking Effect
+insert_judged role name table analysed_insert rows decisions =
+    settled (rows_or_refused name table.columns (order_of analysed_insert.places table.columns) decisions [] rows) (inserted name analysed_insert.returning role decisions rows)
 
 -- what row security says of them is asked first
-unfoldable pub insert_rows : List ℕ → List ℕ → TableDef → Protection → Addition → List Stored → Asking Effect
-insert_rows role name table protection addition rows = followed_by (decisions_of protection.new protection.fences role rows) (insert_judged role name table addition rows)
+unfoldable pub insert_rows : List ℕ → List ℕ → TableDef → PolicyExpansion → AnalysedInsert → List Stored → Asking Effect
+insert_rows role name table expansion analysed_insert rows = followed_by (decisions_of expansion.new expansion.relations role rows) (insert_judged role name table analysed_insert rows)
 
 -- the ranges of the values
-unfoldable pub insert_made : Ctx → List ℕ → TableDef → Protection → Addition → List (List Value) → Asking Effect
-insert_made ctx name table protection addition values = followed_by (known (new_rows ctx table addition values)) (λ rows.
-    insert_rows ctx.role name table protection addition rows)
+unfoldable pub insert_made : Ctx → List ℕ → TableDef → PolicyExpansion → AnalysedInsert → List (List Value) → Asking Effect
+insert_made ctx name table expansion analysed_insert values = followed_by (known (new_rows ctx table analysed_insert values)) (λ rows.
+    insert_rows ctx.role name table expansion analysed_insert rows)
 
 -- the values of the tuples, then their ranges
-unfoldable pub insert_values : Ctx → List ℕ → TableDef → Protection → Addition → Asking Effect
-insert_values ctx name table protection addition = followed_by (tuples_of protection.fences ctx.role addition.tuples) (insert_made ctx name table protection addition)
+unfoldable pub insert_values : Ctx → List ℕ → TableDef → PolicyExpansion → AnalysedInsert → Asking Effect
+insert_values ctx name table expansion analysed_insert = followed_by (tuples_of expansion.relations ctx.role analysed_insert.tuples) (insert_made ctx name table expansion analysed_insert)
 
 -- the privileges, then the values
-unfoldable pub insert_guarded : Ctx → List ℕ → TableDef → Standing → Protection → Addition → Asking Effect
-insert_guarded ctx name table standing protection addition = followed_by (privileges_or_denied standing Privilege.Insert (returning_reads addition.returning) name protection.asked) (λ _.
-    insert_values ctx name table protection addition)
+unfoldable pub insert_with_quals : Ctx → List ℕ → TableDef → RolePrivileges → PolicyExpansion → AnalysedInsert → Asking Effect
+insert_with_quals ctx name table role_privileges expansion analysed_insert = followed_by (privileges_or_denied role_privileges Privilege.Insert (returning_reads analysed_insert.returning) name expansion.permission_checks) (λ _.
+    insert_values ctx name table expansion analysed_insert)
 
 -- the tables of the tuples' subqueries
 abbrev pub tuples_tables : List (List Term) → List (List ℕ)
 tuples_tables [] = []
 tuples_tables (tuple ∷ tuples) = all_tables tuple ++ tuples_tables tuples
 
--- what guards the new rows from the role
-unfoldable pub insert_as : Ctx → List ℕ → TableDef → Standing → Addition → Asking Effect
-insert_as ctx name table standing addition =
-    followed_by (protection_of standing name table Kind.Insert (returning_reads addition.returning) (tuples_tables addition.tuples)) (λ protection. insert_guarded ctx name table standing protection addition)
+-- the policy expansion of the new rows
+unfoldable pub insert_as : Ctx → List ℕ → TableDef → RolePrivileges → AnalysedInsert → Asking Effect
+insert_as ctx name table role_privileges analysed_insert =
+    followed_by (expansion_of role_privileges name table Kind.Insert (returning_reads analysed_insert.returning) (tuples_tables analysed_insert.tuples)) (λ expansion. insert_with_quals ctx name table role_privileges expansion analysed_insert)
 
 -- who the role is
-unfoldable pub insert_into : Ctx → List ℕ → TableDef → Addition → Asking Effect
-insert_into ctx name table addition = followed_by (standing_of ctx.role) (λ standing. insert_as ctx name table standing addition)
+unfoldable pub insert_into : Ctx → List ℕ → TableDef → AnalysedInsert → Asking Effect
+insert_into ctx name table analysed_insert = followed_by (role_privileges_of ctx.role) (λ role_privileges. insert_as ctx name table role_privileges analysed_insert)
 
 -- the table has to be there, and the parts to be right
 abbrev pub insert : Ctx → Insert → Asking Effect
 insert ctx asked = followed_by (table_or_undefined asked.table) (λ table.
-    followed_by (addition_for ctx asked table) (λ addition. insert_into ctx asked.table table addition))
+    followed_by (analysed_insert_for ctx asked table) (λ analysed_insert. insert_into ctx asked.table table analysed_insert))

@@ -1,4 +1,4 @@
--- The rows that are answered: what is selected of those that a statement hits, in listing order, or their number.
+-- The rows that are answered: what is selected of those that qualify, in listing order, or their number.
 use Rattle.std.specs.Prelude.{ℕ, pos, List, [], ◌∷◌, length, Option, Some, None, map, if◌then◌else◌}
 use Rattle.std.specs.Cmp.Lexicographic.{slice_cmp}
 use Rattle.std.specs.Ordering.{is_lt}
@@ -26,7 +26,7 @@ abbrev pub listing : List (List Value) → List (List Value)
 listing [] = []
 listing (row ∷ rows) = put_listed row (listing rows)
 
--- what is answered from the rows that are hit: they or their items' values, in listing order; or one row, with their number
+-- what is answered from the qualifying rows: they or their items' values, in listing order; or one row, with their number
 -- alone (count(*), PostgreSQL manual, 9.21)
 abbrev pub answered : Selected → List ℕ → List (List Value) → List (List Value)
 answered All user rows = listing rows

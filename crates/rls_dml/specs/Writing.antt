@@ -8,7 +8,7 @@ use Rattle.rls_value.specs.{declared.value.Value.Value, declared.value.Value.The
 use Rattle.rls_expr.specs.declared.table.Column.{Column}
 use Rattle.rls_catalog.specs.{declared.verdict.Verdict.Verdict, declared.stored.Stored.Stored}
 use Rattle.rls_catalog.specs.declared.verdict.Verdict.TheVariants as verdict
-use Rattle.rls_guard.specs.{declared.reply.Decision.Decision, declared.standing.Standing.Standing, Standings.privilege_or_denied}
+use Rattle.rls_guard.specs.{declared.reply.Decision.Decision, declared.role_privileges.RolePrivileges.RolePrivileges, RolePrivileges.privilege_or_denied}
 use Rattle.rls_evaluation.specs.{Environments.assigned_value, Showing.allows}
 use Rattle.rls_source.specs.{Askings.Asking, Askings.known, Askings.asked_if, Askings.followed_by, Asked.asked_key, Sequences.each_or_refused}
 use Rattle.rls_dml.specs.Numbers.{has_number}
@@ -16,18 +16,18 @@ use Rattle.rls_dml.specs.Numbers.{has_number}
 -- ---- privileges
 
 -- SELECT on each of the tables
-abbrev pub readable_or_denied : Standing → List (List ℕ) → Asking (Unit {0})
-readable_or_denied standing [] = known (Ok tt)
-readable_or_denied standing (name ∷ names) = followed_by (privilege_or_denied standing Privilege.Select name) (λ _. readable_or_denied standing names)
+abbrev pub readable_or_denied : RolePrivileges → List (List ℕ) → Asking (Unit {0})
+readable_or_denied role_privileges [] = known (Ok tt)
+readable_or_denied role_privileges (name ∷ names) = followed_by (privilege_or_denied role_privileges Privilege.Select name) (λ _. readable_or_denied role_privileges names)
 
 -- that of the command, and SELECT where it reads the table
-abbrev pub own_or_denied : Standing → Privilege → Bool → List ℕ → Asking (Unit {0})
-own_or_denied standing privilege reads name = followed_by (privilege_or_denied standing privilege name) (λ _.
-    asked_if reads (privilege_or_denied standing Privilege.Select name) (known (Ok tt)))
+abbrev pub own_or_denied : RolePrivileges → Privilege → Bool → List ℕ → Asking (Unit {0})
+own_or_denied role_privileges privilege reads name = followed_by (privilege_or_denied role_privileges privilege name) (λ _.
+    asked_if reads (privilege_or_denied role_privileges Privilege.Select name) (known (Ok tt)))
 
 -- the same, then SELECT on each table that subqueries look at, those of policies too
-abbrev pub privileges_or_denied : Standing → Privilege → Bool → List ℕ → List (List ℕ) → Asking (Unit {0})
-privileges_or_denied standing privilege reads name others = followed_by (own_or_denied standing privilege reads name) (λ _. readable_or_denied standing others)
+abbrev pub privileges_or_denied : RolePrivileges → Privilege → Bool → List ℕ → List (List ℕ) → Asking (Unit {0})
+privileges_or_denied role_privileges privilege reads name others = followed_by (own_or_denied role_privileges privilege reads name) (λ _. readable_or_denied role_privileges others)
 
 -- ---- values
 

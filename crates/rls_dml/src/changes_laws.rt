@@ -5,8 +5,8 @@ ghost use Rattle.rls_expr.specs.declared.table.TableDef.{TableDef};
 ghost use Rattle.rls_catalog.specs.{declared.stored.Stored.Stored, Bases.FitsAll, InOrder.RowsInOrder, State.State};
 ghost use Rattle.rls_statement.specs.{declared.changing.Delete.Delete, declared.changing.Update.Update, declared.statement.Insert.Insert};
 ghost use Rattle.rls_guard.specs.{declared.context.Ctx.Ctx, declared.reply.Decision.Decision};
-ghost use Rattle.rls_expansion.specs.declared.protection.Protection.{Protection};
-ghost use Rattle.rls_dml.specs.{declared.deleting.Removal.Removal, declared.revision.Revision.Revision, Inserting.insert};
+ghost use Rattle.rls_expansion.specs.declared.expansion.PolicyExpansion.{PolicyExpansion};
+ghost use Rattle.rls_dml.specs.{declared.deleting.AnalysedDelete.AnalysedDelete, declared.analysed_update.AnalysedUpdate.AnalysedUpdate, Inserting.insert};
 ghost use Rattle.rls_dml.specs.Deleting.{delete, deleted};
 ghost use Rattle.rls_dml.specs.Fitting.{IfDone, NumbersFree, numbers_from, Overwrite};
 ghost use Rattle.rls_dml.specs.Updating.{update, update_values};
@@ -21,10 +21,10 @@ pub fn changes_fit()
 {}
 
 /// An INSERT writes one row for each tuple, numbered on from the transaction's next; of the rows that an UPDATE or a
-/// DELETE looks at, it writes those that are hit.
+/// DELETE looks at, it writes those that qualify.
 #[tactic(auto, using(crate::proofs::FittingLemmas::insert_overwrites, crate::proofs::FittingLemmas::update_overwrites, crate::proofs::FittingLemmas::delete_overwrites))]
 pub fn changes_overwrite()
     ensures insert { (s : State) (ctx : Ctx) (asked : Insert) → IfDone ((insert ctx asked).in_state s).gives (Overwrite asked.table (numbers_from ctx.txn ctx.next (length asked.tuples))) }
-    ensures update { (s : State) (role name : List ℕ) (table : TableDef) (protection : Protection) (revision : Revision) (decisions : List Decision) (hits : List Stored) → IfDone ((update_values role name table protection revision decisions hits).in_state s).gives (Overwrite name (map (λ stored. stored.id) hits)) }
-    ensures delete { (name : List ℕ) (removal : Removal) (role : List ℕ) (judged : List Decision × List Stored) → IfDone (Ok (deleted name removal role judged)) (Overwrite name (map (λ stored. stored.id) judged.1)) }
+    ensures update { (s : State) (role name : List ℕ) (table : TableDef) (expansion : PolicyExpansion) (analysed_update : AnalysedUpdate) (decisions : List Decision) (qualifying_rows : List Stored) → IfDone ((update_values role name table expansion analysed_update decisions qualifying_rows).in_state s).gives (Overwrite name (map (λ stored. stored.id) qualifying_rows)) }
+    ensures delete { (name : List ℕ) (analysed_delete : AnalysedDelete) (role : List ℕ) (judged : List Decision × List Stored) → IfDone (Ok (deleted name analysed_delete role judged)) (Overwrite name (map (λ stored. stored.id) judged.1)) }
 {}

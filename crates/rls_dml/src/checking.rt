@@ -3,7 +3,7 @@
 ghost use Rattle.std.specs.Prelude.{◌≡◌, ◌++◌, map, slice_get, IfOk, OnOk};
 ghost use Rattle.std.specs.List.{list_any, list_all};
 ghost use Rattle.rls_value.specs.Giving.{Gives};
-ghost use Rattle.rls_expr.specs.{Parts.mentions, Naming.step_of, Placing.names_in};
+ghost use Rattle.rls_expr.specs.{Parts.mentions, Naming.step_of, Resolving.names_in};
 ghost use Rattle.rls_expansion.specs.Used.{tables_if};
 ghost use Rattle.rls_guard.specs.Checks.{is_unsupported_item as spec_unsupported_item};
 ghost use Rattle.rls_dml.specs.Checking as spec;
@@ -11,7 +11,7 @@ ghost use Rattle.rls_dml.specs.Checking as spec;
 use rls_expansion::put_tables_if;
 use rls_expr::{
     Column, Expr, NameStep, NamedTable, Scope, TableDef, goes_into, has_query, has_sum, is_boolean,
-    is_typed, place_columns, put_all_names, reads_target, typing_of,
+    is_typed, put_all_names, reads_target, resolve_columns, typing_of,
 };
 use rls_guard::{is_unsupported, is_unsupported_item};
 use rls_statement::Selected;
@@ -44,65 +44,69 @@ pub fn put_returning_names<'x>(
     }
 }
 
-/// The condition with its columns by their places, if there is one.
-pub fn place_where(
+/// The condition with its columns resolved, if there is one.
+pub fn resolve_where(
     alloc: Global,
     condition: &Option<Expr>,
     scope: &Scope,
 ) -> Result<Option<Expr>, AllocError>
-    ensures { IfOk result (λ placed. placed ≡ spec.where_placed (names_in scope.now) condition.now) }
+    ensures { IfOk result (λ resolved. resolved ≡ spec.where_resolved (names_in scope.now) condition.now) }
 {
     match condition {
         None => Ok(None),
-        Some(condition) => match place_columns(alloc, condition, scope) {
-            Ok(placed) => Ok(Some(placed)),
+        Some(condition) => match resolve_columns(alloc, condition, scope) {
+            Ok(resolved) => Ok(Some(resolved)),
             Err(refused) => Err(refused),
         },
     }
 }
 
-/// What is selected, with columns by their places.
-pub fn place_selection(
+/// What is selected, with resolved columns.
+pub fn resolve_selection(
     alloc: Global,
     selected: &Selected,
     scope: &Scope,
 ) -> Result<Selected, AllocError>
-    ensures { IfOk result (λ placed. placed ≡ spec.selection_placed (names_in scope.now) selected.now) }
+    ensures { IfOk result (λ resolved. resolved ≡ spec.selection_resolved (names_in scope.now) selected.now) }
 {
     match selected {
         Selected::All => Ok(Selected::All),
-        Selected::Items(items) => match place_terms(alloc, items.as_slice(), scope) {
-            Ok(placed) => Ok(Selected::Items(placed)),
+        Selected::Items(items) => match resolve_terms(alloc, items.as_slice(), scope) {
+            Ok(resolved) => Ok(Selected::Items(resolved)),
             Err(refused) => Err(refused),
         },
         Selected::Count => Ok(Selected::Count),
     }
 }
 
-/// The expressions with columns by their places.
-pub fn place_terms(alloc: Global, exprs: &[Expr], scope: &Scope) -> Result<Items<Expr>, AllocError>
-    ensures { IfOk result (λ placed. placed ≡ map (spec.place_in (names_in scope.now)) exprs.now) }
+/// The expressions with resolved columns.
+pub fn resolve_terms(
+    alloc: Global,
+    exprs: &[Expr],
+    scope: &Scope,
+) -> Result<Items<Expr>, AllocError>
+    ensures { IfOk result (λ resolved. resolved ≡ map (spec.resolved_in (names_in scope.now)) exprs.now) }
 {
-    let mut placed = Items::new(alloc);
+    let mut resolved = Items::new(alloc);
     for expr in exprs {
-        let expr = place_columns(alloc, expr, scope)?;
-        placed.push(expr)?;
+        let expr = resolve_columns(alloc, expr, scope)?;
+        resolved.push(expr)?;
     }
-    Ok(placed)
+    Ok(resolved)
 }
 
-/// What RETURNING selects, with columns by their places, if it is there.
-pub fn place_returning(
+/// What RETURNING selects, with resolved columns, if it is there.
+pub fn resolve_returning(
     alloc: Global,
     returning: &Option<Selected>,
     scope: &Scope,
 ) -> Result<Option<Selected>, AllocError>
-    ensures { IfOk result (λ placed. placed ≡ spec.returning_placed (names_in scope.now) returning.now) }
+    ensures { IfOk result (λ resolved. resolved ≡ spec.returning_resolved (names_in scope.now) returning.now) }
 {
     match returning {
         None => Ok(None),
-        Some(selected) => match place_selection(alloc, selected, scope) {
-            Ok(placed) => Ok(Some(placed)),
+        Some(selected) => match resolve_selection(alloc, selected, scope) {
+            Ok(resolved) => Ok(Some(resolved)),
             Err(refused) => Err(refused),
         },
     }

@@ -3,24 +3,26 @@
 ghost use Rattle.std.specs.Prelude.{◌≡◌, [], ◌∷◌, None, map, IfOk};
 ghost use Rattle.rls_value.specs.Giving.{Gives};
 ghost use Rattle.rls_source.specs.Answering.{Answers, Tells};
-ghost use Rattle.rls_expr.specs.{Naming.step_of, Placing.names_in};
+ghost use Rattle.rls_expr.specs.{Naming.step_of, Resolving.names_in};
 ghost use Rattle.rls_guard.specs.Naming.{named};
-ghost use Rattle.rls_expansion.specs.{Protecting.protection_of, Used.tables_if};
+ghost use Rattle.rls_expansion.specs.{Expanding.expansion_of, Used.tables_if};
 ghost use Rattle.rls_dml.specs.Deleting as spec;
 
 use crate::checking::{
-    place_returning, place_where, put_returning_names, require_fitting, require_supported,
+    put_returning_names, require_fitting, require_supported, resolve_returning, resolve_where,
     returning_fits, returning_reads, returning_unsupported, where_fits, where_reads, where_tables,
     where_unsupported,
 };
+use crate::checking_rows::qualifying_rows_under;
 use crate::replying::{reply_of, standing_rows};
-use crate::sighting::hits_under;
 use crate::writing::require_privileges;
-use rls_catalog::{Change, Delta, Keyed, Lent, RowChange};
-use rls_expansion::{Protection, protection_of};
+use rls_catalog::{BorrowedRow, Change, Delta, Keyed, RowChange};
+use rls_expansion::{PolicyExpansion, expansion_of};
 use rls_expr::{Expr, FromTable, NameStep, NamedTable, Scope, TableDef, put_names_if};
-use rls_guard::{Ctx, Decision, Effect, Found, Reply, Standing, named_over, standing_of};
-use rls_judging::candidates;
+use rls_guard::{
+    Ctx, Decision, Effect, Found, Reply, RolePrivileges, named_over, role_privileges_of,
+};
+use rls_judging::scanned_rows;
 use rls_source::{Reads, RowSource, table_named};
 use rls_statement::{Delete, Selected};
 use rls_value::{Items, Kind, Name, Privilege, Refusal};
@@ -28,7 +30,7 @@ use std::alloc::{AllocError, Global};
 
 /// A DELETE whose names are resolved.
 #[derive(Drop)]
-pub struct Removal {
+pub struct AnalysedDelete {
     pub condition: Option<Expr>,
     pub returning: Option<Selected>,
 }
@@ -37,57 +39,57 @@ pub struct Removal {
 pub fn run_delete<'c, S: RowSource<'c>>(
     alloc: Global,
     source: &mut S,
-    notes: &mut Reads,
+    read_set: &mut Reads,
     ctx: &Ctx,
     delete: &Delete,
 ) -> Result<Effect, Refusal>
-    ensures { Answers S.state S.after (spec.delete ctx.now delete.now) source.old source.new notes.old notes.new result }
+    ensures { Answers S.state S.after (spec.delete ctx.now delete.now) source.old source.new read_set.old read_set.new result }
 {
-    let table = table_named(alloc, source, notes, &delete.table)?;
+    let table = table_named(alloc, source, read_set, &delete.table)?;
     let from = FromTable {
         name: &delete.table,
         table,
     };
-    let removal = known_removal(alloc, source, notes, delete, table)?;
-    let deleted = delete_from(alloc, source, notes, &ctx.role, from, &removal);
-    drop(removal);
+    let analysed_delete = known_analysed_delete(alloc, source, read_set, delete, table)?;
+    let deleted = delete_from(alloc, source, read_set, &ctx.role, from, &analysed_delete);
+    drop(analysed_delete);
     deleted
 }
 
 /// The parts of the statement.
-fn known_removal<'c, S: RowSource<'c>>(
+fn known_analysed_delete<'c, S: RowSource<'c>>(
     alloc: Global,
     source: &mut S,
-    notes: &mut Reads,
+    read_set: &mut Reads,
     delete: &Delete,
     table: &'c TableDef,
-) -> Result<Removal, Refusal>
-    ensures { Answers S.state S.after (spec.removal_for delete.now table.now) source.old source.new notes.old notes.new result }
+) -> Result<AnalysedDelete, Refusal>
+    ensures { Answers S.state S.after (spec.analysed_delete_for delete.now table.now) source.old source.new read_set.old read_set.new result }
 {
-    let found = found_for(alloc, source, notes, delete, table)?;
-    let removal = check_removal(alloc, delete, table, found.as_slice());
+    let found = found_for(alloc, source, read_set, delete, table)?;
+    let analysed_delete = check_analysed_delete(alloc, delete, table, found.as_slice());
     drop(found);
-    removal
+    analysed_delete
 }
 
 /// Looks for the names of the condition and of RETURNING.
 fn found_for<'c, S: RowSource<'c>>(
     alloc: Global,
     source: &mut S,
-    notes: &mut Reads,
+    read_set: &mut Reads,
     delete: &Delete,
     table: &'c TableDef,
 ) -> Result<Found<'c>, Refusal>
-    ensures { Answers S.state S.after (named (spec.removal_names delete.now) ((delete.now.table, table.now) ∷ []) []) source.old source.new notes.old notes.new result }
+    ensures { Answers S.state S.after (named (spec.analysed_delete_names delete.now) ((delete.now.table, table.now) ∷ []) []) source.old source.new read_set.old read_set.new result }
 {
     let steps = names_of(alloc, delete)?;
-    let found = named_over(alloc, source, notes, &steps, &delete.table, table);
+    let found = named_over(alloc, source, read_set, &steps, &delete.table, table);
     drop(steps);
     found
 }
 
 fn names_of<'x>(alloc: Global, delete: &'x Delete) -> Result<Vec<NameStep<'x>>, AllocError>
-    ensures { IfOk result (λ steps. map step_of steps.items ≡ spec.removal_names delete.now) }
+    ensures { IfOk result (λ steps. map step_of steps.items ≡ spec.analysed_delete_names delete.now) }
 {
     let mut steps = Vec::new(alloc);
     put_names_if(&mut steps, &delete.condition)?;
@@ -95,17 +97,17 @@ fn names_of<'x>(alloc: Global, delete: &'x Delete) -> Result<Vec<NameStep<'x>>, 
     Ok(steps)
 }
 
-/// Places the parts, and checks their types and that nothing isn't supported.
-fn check_removal<'x>(
+/// Resolves the parts, and checks their types and that nothing isn't supported.
+fn check_analysed_delete<'x>(
     alloc: Global,
     delete: &Delete,
     table: &'x TableDef,
     known: &'x [NamedTable<'x>],
-) -> Result<Removal, Refusal>
-    ensures { Gives result (spec.removal_in delete.now (delete.now.table, table.now) known.now) }
+) -> Result<AnalysedDelete, Refusal>
+    ensures { Gives result (spec.analysed_delete_in delete.now (delete.now.table, table.now) known.now) }
 {
     let tables = [NamedTable::new(&delete.table, table)?];
-    let removal = place_removal(
+    let analysed_delete = resolve_delete(
         alloc,
         delete,
         &Scope {
@@ -113,28 +115,32 @@ fn check_removal<'x>(
             known,
         },
     )?;
-    checked(removal)
+    checked(analysed_delete)
 }
 
 /// The parts, if none is refused.
-fn checked(removal: Removal) -> Result<Removal, Refusal>
-    ensures { Gives result (spec.removal_checked removal) }
+fn checked(analysed_delete: AnalysedDelete) -> Result<AnalysedDelete, Refusal>
+    ensures { Gives result (spec.analysed_delete_checked analysed_delete) }
 {
-    match require_removal(&removal) {
-        Ok(()) => Ok(removal),
+    match require_analysed_delete(&analysed_delete) {
+        Ok(()) => Ok(analysed_delete),
         Err(refusal) => {
-            drop(removal);
+            drop(analysed_delete);
             Err(refusal)
         }
     }
 }
 
-fn place_removal(alloc: Global, delete: &Delete, scope: &Scope) -> Result<Removal, AllocError>
-    ensures { IfOk result (λ removal. removal ≡ spec.removal_placed delete.now (names_in scope.now)) }
+fn resolve_delete(
+    alloc: Global,
+    delete: &Delete,
+    scope: &Scope,
+) -> Result<AnalysedDelete, AllocError>
+    ensures { IfOk result (λ analysed_delete. analysed_delete ≡ spec.analysed_delete_resolved delete.now (names_in scope.now)) }
 {
-    let condition = place_where(alloc, &delete.condition, scope)?;
-    match place_returning(alloc, &delete.returning, scope) {
-        Ok(returning) => Ok(Removal {
+    let condition = resolve_where(alloc, &delete.condition, scope)?;
+    match resolve_returning(alloc, &delete.returning, scope) {
+        Ok(returning) => Ok(AnalysedDelete {
             condition,
             returning,
         }),
@@ -145,188 +151,226 @@ fn place_removal(alloc: Global, delete: &Delete, scope: &Scope) -> Result<Remova
     }
 }
 
-fn require_removal(removal: &Removal) -> Result<(), Refusal>
-    ensures { Gives result (spec.removal_or_refused removal.now) }
+fn require_analysed_delete(analysed_delete: &AnalysedDelete) -> Result<(), Refusal>
+    ensures { Gives result (spec.analysed_delete_or_refused analysed_delete.now) }
 {
-    require_fitting(where_fits(&removal.condition) && returning_fits(&removal.returning))?;
+    require_fitting(
+        where_fits(&analysed_delete.condition) && returning_fits(&analysed_delete.returning),
+    )?;
     require_supported(
-        where_unsupported(&removal.condition) || returning_unsupported(&removal.returning),
+        where_unsupported(&analysed_delete.condition)
+            || returning_unsupported(&analysed_delete.returning),
     )
 }
 
 /// Whether it mentions a column of the table.
-fn reads(removal: &Removal) -> bool
-    ensures { result ≡ spec.removal_reads removal.now }
+fn reads(analysed_delete: &AnalysedDelete) -> bool
+    ensures { result ≡ spec.analysed_delete_reads analysed_delete.now }
 {
-    where_reads(&removal.condition) || returning_reads(&removal.returning)
+    where_reads(&analysed_delete.condition) || returning_reads(&analysed_delete.returning)
 }
 
-/// The standing of the role, what guards the rows from it, and the rows.
+/// The role's privileges, the policy expansion, and the rows.
 #[tactic(auto, unfolding(crate::specs::Deleting::delete_from))]
 fn delete_from<'c, 'x, S: RowSource<'c>>(
     alloc: Global,
     source: &mut S,
-    notes: &mut Reads,
+    read_set: &mut Reads,
     role: &Name,
     from: FromTable<'x>,
-    removal: &Removal,
+    analysed_delete: &AnalysedDelete,
 ) -> Result<Effect, Refusal>
-    ensures { Answers S.state S.after (spec.delete_from role.now from.entry.name.now from.entry.table.now removal.now) source.old source.new notes.old notes.new result }
+    ensures { Answers S.state S.after (spec.delete_from role.now from.entry.name.now from.entry.table.now analysed_delete.now) source.old source.new read_set.old read_set.new result }
 {
-    let standing = standing_of(alloc, source, notes, role)?;
-    let deleted = delete_as(alloc, source, notes, &standing, role, from, removal);
-    drop(standing);
+    let role_privileges = role_privileges_of(alloc, source, read_set, role)?;
+    let deleted = delete_as(
+        alloc,
+        source,
+        read_set,
+        &role_privileges,
+        role,
+        from,
+        analysed_delete,
+    );
+    drop(role_privileges);
     deleted
 }
 
-/// What guards the rows from the role, and the rows.
+/// The policy expansion, and the rows.
 #[tactic(auto, unfolding(crate::specs::Deleting::delete_as))]
 fn delete_as<'c, 'x, S: RowSource<'c>>(
     alloc: Global,
     source: &mut S,
-    notes: &mut Reads,
-    standing: &Standing,
+    read_set: &mut Reads,
+    role_privileges: &RolePrivileges,
     role: &Name,
     from: FromTable<'x>,
-    removal: &Removal,
+    analysed_delete: &AnalysedDelete,
 ) -> Result<Effect, Refusal>
-    ensures { Answers S.state S.after (spec.delete_as standing.now role.now from.entry.name.now from.entry.table.now removal.now) source.old source.new notes.old notes.new result }
+    ensures { Answers S.state S.after (spec.delete_as role_privileges.now role.now from.entry.name.now from.entry.table.now analysed_delete.now) source.old source.new read_set.old read_set.new result }
 {
-    let protection = protection(alloc, source, notes, standing, from, removal)?;
-    let deleted = delete_guarded(
+    let expansion = expansion(
         alloc,
         source,
-        notes,
-        standing,
-        &protection,
-        removal,
+        read_set,
+        role_privileges,
+        from,
+        analysed_delete,
+    )?;
+    let deleted = delete_with_quals(
+        alloc,
+        source,
+        read_set,
+        role_privileges,
+        &expansion,
+        analysed_delete,
         role,
         from,
     );
-    drop(protection);
+    drop(expansion);
     deleted
 }
 
-/// What guards the rows from the role.
-fn protection<'c, 'x, S: RowSource<'c>>(
+/// The policy expansion.
+fn expansion<'c, 'x, S: RowSource<'c>>(
     alloc: Global,
     source: &mut S,
-    notes: &mut Reads,
-    standing: &Standing,
+    read_set: &mut Reads,
+    role_privileges: &RolePrivileges,
     from: FromTable<'x>,
-    removal: &Removal,
-) -> Result<Protection<'c>, Refusal>
-    ensures { Answers S.state S.after (protection_of standing.now from.entry.name.now from.entry.table.now Kind.Delete (spec.removal_reads removal.now) (tables_if removal.now.condition)) source.old source.new notes.old notes.new result }
+    analysed_delete: &AnalysedDelete,
+) -> Result<PolicyExpansion<'c>, Refusal>
+    ensures { Answers S.state S.after (expansion_of role_privileges.now from.entry.name.now from.entry.table.now Kind.Delete (spec.analysed_delete_reads analysed_delete.now) (tables_if analysed_delete.now.condition)) source.old source.new read_set.old read_set.new result }
 {
-    let reads = reads(removal);
-    let tables = where_tables(alloc, &removal.condition)?;
-    let protection = protection_of(
+    let reads = reads(analysed_delete);
+    let tables = where_tables(alloc, &analysed_delete.condition)?;
+    let expansion = expansion_of(
         alloc,
         source,
-        notes,
-        standing,
+        read_set,
+        role_privileges,
         from,
         Kind::Delete,
         reads,
         tables.as_slice(),
     );
     drop(tables);
-    protection
+    expansion
 }
 
 /// The rows, where the role may delete them.
-#[tactic(auto, unfolding(crate::specs::Deleting::delete_guarded))]
-fn delete_guarded<'c, 'x, S: RowSource<'c>>(
+#[tactic(auto, unfolding(crate::specs::Deleting::delete_with_quals))]
+fn delete_with_quals<'c, 'x, S: RowSource<'c>>(
     alloc: Global,
     source: &mut S,
-    notes: &mut Reads,
-    standing: &Standing,
-    protection: &Protection<'c>,
-    removal: &Removal,
+    read_set: &mut Reads,
+    role_privileges: &RolePrivileges,
+    expansion: &PolicyExpansion<'c>,
+    analysed_delete: &AnalysedDelete,
     role: &Name,
     from: FromTable<'x>,
 ) -> Result<Effect, Refusal>
-    ensures { Answers S.state S.after (spec.delete_guarded standing.now protection.now removal.now role.now from.entry.name.now from.entry.table.now) source.old source.new notes.old notes.new result }
+    ensures { Answers S.state S.after (spec.delete_with_quals role_privileges.now expansion.now analysed_delete.now role.now from.entry.name.now from.entry.table.now) source.old source.new read_set.old read_set.new result }
 {
-    let reads = reads(removal);
+    let reads = reads(analysed_delete);
     require_privileges(
         alloc,
         source,
-        notes,
-        standing,
+        read_set,
+        role_privileges,
         Privilege::Delete,
         reads,
         from.name,
-        protection.asked.as_slice(),
+        expansion.permission_checks.as_slice(),
     )?;
-    let rows = candidates(alloc, source, notes, role, from, &removal.condition)?;
-    let deleted = delete_hits(
+    let rows = scanned_rows(
         alloc,
         source,
-        notes,
+        read_set,
+        role,
+        from,
+        &analysed_delete.condition,
+    )?;
+    let deleted = delete_qualifying_rows(
+        alloc,
+        source,
+        read_set,
         from.name,
-        &*protection,
-        &*removal,
+        &*expansion,
+        &*analysed_delete,
         &*role,
         rows.as_slice(),
     )?;
     Ok(deleted)
 }
 
-/// Judges each candidate; those that are allowed and meet the condition go.
-#[tactic(auto, unfolding(crate::specs::Deleting::delete_hits))]
-fn delete_hits<'a, 'c, S: RowSource<'c>>(
+/// Judges each scanned row; those that are allowed and meet the condition go.
+#[tactic(auto, unfolding(crate::specs::Deleting::delete_qualifying_rows))]
+fn delete_qualifying_rows<'a, 'c, S: RowSource<'c>>(
     alloc: Global,
     source: &mut S,
-    notes: &mut Reads,
+    read_set: &mut Reads,
     name: &Name,
-    protection: &'a Protection<'c>,
-    removal: &'a Removal,
+    expansion: &'a PolicyExpansion<'c>,
+    analysed_delete: &'a AnalysedDelete,
     role: &'a Name,
-    candidates: &'a [Lent<'c>],
+    scanned_rows: &'a [BorrowedRow<'c>],
 ) -> Result<Effect, AllocError>
-    ensures { Tells S.state S.after (spec.delete_hits role.now name.now protection.now removal.now candidates.now) source.old source.new notes.old notes.new result }
+    ensures { Tells S.state S.after (spec.delete_qualifying_rows role.now name.now expansion.now analysed_delete.now scanned_rows.now) source.old source.new read_set.old read_set.new result }
 {
-    let (decisions, hits) = hits_under(
+    let (decisions, qualifying_rows) = qualifying_rows_under(
         alloc,
         source,
-        notes,
-        protection,
+        read_set,
+        expansion,
         role,
-        &removal.condition,
-        candidates,
+        &analysed_delete.condition,
+        scanned_rows,
     )?;
-    deleted(alloc, name, removal, role, decisions, &hits)
+    deleted(
+        alloc,
+        name,
+        analysed_delete,
+        role,
+        decisions,
+        &qualifying_rows,
+    )
 }
 
-/// The rows that are hit go.
+/// The qualifying rows go.
 fn deleted<'c>(
     alloc: Global,
     name: &Name,
-    removal: &Removal,
+    analysed_delete: &AnalysedDelete,
     role: &Name,
     decisions: Vec<Decision>,
-    hits: &[&Lent<'c>],
+    qualifying_rows: &[&BorrowedRow<'c>],
 ) -> Result<Effect, AllocError>
-    ensures { IfOk result (λ effect. effect ≡ spec.deleted name.now removal.now role.now (decisions.items, map (λ hit. hit.now) hits.now)) }
+    ensures { IfOk result (λ effect. effect ≡ spec.deleted name.now analysed_delete.now role.now (decisions.items, map (λ qualifying_row. qualifying_row.now) qualifying_rows.now)) }
 {
-    let rows = standing_rows(alloc, hits)?;
-    let reply = reply_of(alloc, &removal.returning, role, &rows)?;
+    let rows = standing_rows(alloc, qualifying_rows)?;
+    let reply = reply_of(alloc, &analysed_delete.returning, role, &rows)?;
     drop(rows);
-    taken_out(alloc, name, hits, reply, Items::from_vec(decisions))
+    taken_out(
+        alloc,
+        name,
+        qualifying_rows,
+        reply,
+        Items::from_vec(decisions),
+    )
 }
 
-/// The rows that are hit, as changes beside the reply.
+/// The qualifying rows, as changes beside the reply.
 fn taken_out<'c>(
     alloc: Global,
     name: &Name,
-    hits: &[&Lent<'c>],
+    qualifying_rows: &[&BorrowedRow<'c>],
     reply: Reply,
     decisions: Items<Decision>,
 ) -> Result<Effect, AllocError>
-    ensures { IfOk result (λ effect. effect ≡ Effect.Done reply decisions (map (spec.deleted_row name.now) (map (λ hit. hit.now) hits.now)) None) }
+    ensures { IfOk result (λ effect. effect ≡ Effect.Done reply decisions (map (spec.deleted_row name.now) (map (λ qualifying_row. qualifying_row.now) qualifying_rows.now)) None) }
 {
-    match changes_of(alloc, name, hits) {
+    match changes_of(alloc, name, qualifying_rows) {
         Ok(delta) => Ok(Effect::Done(reply, decisions, delta, None)),
         Err(refused) => {
             drop(decisions);
@@ -336,17 +380,25 @@ fn taken_out<'c>(
     }
 }
 
-fn changes_of<'c>(alloc: Global, name: &Name, hits: &[&Lent<'c>]) -> Result<Delta, AllocError>
-    ensures { IfOk result (λ delta. delta ≡ map (spec.deleted_row name.now) (map (λ hit. hit.now) hits.now)) }
+fn changes_of<'c>(
+    alloc: Global,
+    name: &Name,
+    qualifying_rows: &[&BorrowedRow<'c>],
+) -> Result<Delta, AllocError>
+    ensures { IfOk result (λ delta. delta ≡ map (spec.deleted_row name.now) (map (λ qualifying_row. qualifying_row.now) qualifying_rows.now)) }
 {
-    let mut delta = Delta::with_capacity(alloc, hits.len())?;
-    for hit in hits {
-        delta.push(deleted_row(alloc, name, hit)?)?;
+    let mut delta = Delta::with_capacity(alloc, qualifying_rows.len())?;
+    for qualifying_row in qualifying_rows {
+        delta.push(deleted_row(alloc, name, qualifying_row)?)?;
     }
     Ok(delta)
 }
 
-fn deleted_row<'c>(alloc: Global, table: &Name, stored: &Lent<'c>) -> Result<Change, AllocError>
+fn deleted_row<'c>(
+    alloc: Global,
+    table: &Name,
+    stored: &BorrowedRow<'c>,
+) -> Result<Change, AllocError>
     ensures { IfOk result (λ change. change ≡ spec.deleted_row table.now stored.now) }
 {
     let before = Keyed {

@@ -4,23 +4,23 @@ ghost use Rattle.std.specs.Prelude.{◌≡◌, ◌+◌, ◌≤◌, [], ◌∷◌
 ghost use Rattle.rls_value.specs.Giving.{Gives};
 ghost use Rattle.rls_source.specs.Answering.{Answers, Tells};
 ghost use Rattle.rls_dml.specs.{Listings.reply_of as spec_reply_of, Checking.returning_reads as spec_returning_reads, Writing.assigned, Writing.each_with, Writing.rows_or_refused, Writing.order_of as spec_order_of};
-ghost use Rattle.rls_evaluation.specs.Scoping.{held_value};
-ghost use Rattle.rls_expansion.specs.Protecting.{protection_of};
-ghost use Rattle.rls_judging.specs.{Handed.held_each, Handed.values_held, Valuing.tuples_of};
+ghost use Rattle.rls_evaluation.specs.Scoping.{datum_value};
+ghost use Rattle.rls_expansion.specs.Expanding.{expansion_of};
+ghost use Rattle.rls_judging.specs.{Handed.datum_values_each, Handed.datum_values, Valuing.tuples_of};
 ghost use Rattle.rls_dml.specs.Inserting as spec;
 
-use crate::addition::{Addition, known_addition};
+use crate::analysed_insert::{AnalysedInsert, known_analysed_insert};
 use crate::checking::returning_reads;
+use crate::checking_rows::judged_under;
 use crate::keys::key_at;
 use crate::replaced::Replaced;
 use crate::replying::reply_of_new;
-use crate::sighting::judged_under;
 use crate::writing::{assign, behind_first, first_of, order_of, require_privileges, require_rows};
 use rls_catalog::{Change, Delta, Keyed, RowChange, Stored};
-use rls_evaluation::Held;
-use rls_expansion::{Protection, protection_of, put_all_tables};
+use rls_evaluation::Datum;
+use rls_expansion::{PolicyExpansion, expansion_of, put_all_tables};
 use rls_expr::{Column, Expr, FromTable, TableDef};
-use rls_guard::{Ctx, Decision, Effect, Standing, standing_of};
+use rls_guard::{Ctx, Decision, Effect, RolePrivileges, role_privileges_of};
 use rls_judging::tuples_of;
 use rls_source::{Reads, RowSource, table_named};
 use rls_statement::{Insert, Selected};
@@ -31,20 +31,20 @@ use std::alloc::{AllocError, Global};
 pub fn run_insert<'c, S: RowSource<'c>>(
     alloc: Global,
     source: &mut S,
-    notes: &mut Reads,
+    read_set: &mut Reads,
     ctx: &Ctx,
     insert: &Insert,
 ) -> Result<Effect, Refusal>
-    ensures { Answers S.state S.after (spec.insert ctx.now insert.now) source.old source.new notes.old notes.new result }
+    ensures { Answers S.state S.after (spec.insert ctx.now insert.now) source.old source.new read_set.old read_set.new result }
 {
-    let table = table_named(alloc, source, notes, &insert.table)?;
+    let table = table_named(alloc, source, read_set, &insert.table)?;
     let from = FromTable {
         name: &insert.table,
         table,
     };
-    let addition = known_addition(alloc, source, notes, ctx, insert, table)?;
-    let inserted = insert_into(alloc, source, notes, ctx, from, &addition);
-    drop(addition);
+    let analysed_insert = known_analysed_insert(alloc, source, read_set, ctx, insert, table)?;
+    let inserted = insert_into(alloc, source, read_set, ctx, from, &analysed_insert);
+    drop(analysed_insert);
     inserted
 }
 
@@ -53,74 +53,89 @@ pub fn run_insert<'c, S: RowSource<'c>>(
 fn insert_into<'c, 'x, S: RowSource<'c>>(
     alloc: Global,
     source: &mut S,
-    notes: &mut Reads,
+    read_set: &mut Reads,
     ctx: &Ctx,
     from: FromTable<'x>,
-    addition: &Addition,
+    analysed_insert: &AnalysedInsert,
 ) -> Result<Effect, Refusal>
-    requires { ctx.now.next + length addition.now.tuples ≤ 4294967295 }
-    ensures { Answers S.state S.after (spec.insert_into ctx.now from.entry.name.now from.entry.table.now addition.now) source.old source.new notes.old notes.new result }
+    requires { ctx.now.next + length analysed_insert.now.tuples ≤ 4294967295 }
+    ensures { Answers S.state S.after (spec.insert_into ctx.now from.entry.name.now from.entry.table.now analysed_insert.now) source.old source.new read_set.old read_set.new result }
 {
-    let standing = standing_of(alloc, source, notes, &ctx.role)?;
-    let inserted = insert_as(alloc, source, notes, ctx, from, &standing, addition);
-    drop(standing);
+    let role_privileges = role_privileges_of(alloc, source, read_set, &ctx.role)?;
+    let inserted = insert_as(
+        alloc,
+        source,
+        read_set,
+        ctx,
+        from,
+        &role_privileges,
+        analysed_insert,
+    );
+    drop(role_privileges);
     inserted
 }
 
-/// What guards the new rows from the role, and then the rows.
+/// The policy expansion, and then the new rows.
 #[tactic(auto, unfolding(crate::specs::Inserting::insert_as))]
 fn insert_as<'c, 'x, S: RowSource<'c>>(
     alloc: Global,
     source: &mut S,
-    notes: &mut Reads,
+    read_set: &mut Reads,
     ctx: &Ctx,
     from: FromTable<'x>,
-    standing: &Standing,
-    addition: &Addition,
+    role_privileges: &RolePrivileges,
+    analysed_insert: &AnalysedInsert,
 ) -> Result<Effect, Refusal>
-    requires { ctx.now.next + length addition.now.tuples ≤ 4294967295 }
-    ensures { Answers S.state S.after (spec.insert_as ctx.now from.entry.name.now from.entry.table.now standing.now addition.now) source.old source.new notes.old notes.new result }
+    requires { ctx.now.next + length analysed_insert.now.tuples ≤ 4294967295 }
+    ensures { Answers S.state S.after (spec.insert_as ctx.now from.entry.name.now from.entry.table.now role_privileges.now analysed_insert.now) source.old source.new read_set.old read_set.new result }
 {
-    let protection = protection(alloc, source, notes, standing, from, addition)?;
-    let inserted = insert_guarded(
+    let expansion = expansion(
         alloc,
         source,
-        notes,
+        read_set,
+        role_privileges,
+        from,
+        analysed_insert,
+    )?;
+    let inserted = insert_with_quals(
+        alloc,
+        source,
+        read_set,
         ctx,
         from,
-        standing,
-        &protection,
-        addition,
+        role_privileges,
+        &expansion,
+        analysed_insert,
     );
-    drop(protection);
+    drop(expansion);
     inserted
 }
 
-/// What guards the new rows from the role.
-fn protection<'c, 'x, S: RowSource<'c>>(
+/// The policy expansion of the new rows.
+fn expansion<'c, 'x, S: RowSource<'c>>(
     alloc: Global,
     source: &mut S,
-    notes: &mut Reads,
-    standing: &Standing,
+    read_set: &mut Reads,
+    role_privileges: &RolePrivileges,
     from: FromTable<'x>,
-    addition: &Addition,
-) -> Result<Protection<'c>, Refusal>
-    ensures { Answers S.state S.after (protection_of standing.now from.entry.name.now from.entry.table.now Kind.Insert (spec_returning_reads addition.now.returning) (spec.tuples_tables addition.now.tuples)) source.old source.new notes.old notes.new result }
+    analysed_insert: &AnalysedInsert,
+) -> Result<PolicyExpansion<'c>, Refusal>
+    ensures { Answers S.state S.after (expansion_of role_privileges.now from.entry.name.now from.entry.table.now Kind.Insert (spec_returning_reads analysed_insert.now.returning) (spec.tuples_tables analysed_insert.now.tuples)) source.old source.new read_set.old read_set.new result }
 {
-    let reads = returning_reads(&addition.returning);
-    let tables = tuples_tables(alloc, addition.tuples.as_slice())?;
-    let protection = protection_of(
+    let reads = returning_reads(&analysed_insert.returning);
+    let tables = tuples_tables(alloc, analysed_insert.tuples.as_slice())?;
+    let expansion = expansion_of(
         alloc,
         source,
-        notes,
-        standing,
+        read_set,
+        role_privileges,
         from,
         Kind::Insert,
         reads,
         tables.as_slice(),
     );
     drop(tables);
-    protection
+    expansion
 }
 
 /// The tables of the tuples' subqueries, in text order.
@@ -135,32 +150,40 @@ fn tuples_tables(alloc: Global, tuples: &[Items<Expr>]) -> Result<Items<Name>, A
 }
 
 /// The privileges, the values, and then the rows.
-#[tactic(auto, unfolding(crate::specs::Inserting::insert_guarded))]
-fn insert_guarded<'c, 'x, S: RowSource<'c>>(
+#[tactic(auto, unfolding(crate::specs::Inserting::insert_with_quals))]
+fn insert_with_quals<'c, 'x, S: RowSource<'c>>(
     alloc: Global,
     source: &mut S,
-    notes: &mut Reads,
+    read_set: &mut Reads,
     ctx: &Ctx,
     from: FromTable<'x>,
-    standing: &Standing,
-    protection: &Protection<'c>,
-    addition: &Addition,
+    role_privileges: &RolePrivileges,
+    expansion: &PolicyExpansion<'c>,
+    analysed_insert: &AnalysedInsert,
 ) -> Result<Effect, Refusal>
-    requires { ctx.now.next + length addition.now.tuples ≤ 4294967295 }
-    ensures { Answers S.state S.after (spec.insert_guarded ctx.now from.entry.name.now from.entry.table.now standing.now protection.now addition.now) source.old source.new notes.old notes.new result }
+    requires { ctx.now.next + length analysed_insert.now.tuples ≤ 4294967295 }
+    ensures { Answers S.state S.after (spec.insert_with_quals ctx.now from.entry.name.now from.entry.table.now role_privileges.now expansion.now analysed_insert.now) source.old source.new read_set.old read_set.new result }
 {
-    let reads = returning_reads(&addition.returning);
+    let reads = returning_reads(&analysed_insert.returning);
     require_privileges(
         alloc,
         source,
-        notes,
-        standing,
+        read_set,
+        role_privileges,
         Privilege::Insert,
         reads,
         from.name,
-        protection.asked.as_slice(),
+        expansion.permission_checks.as_slice(),
     )?;
-    insert_values(alloc, source, notes, &*ctx, from, &*protection, &*addition)
+    insert_values(
+        alloc,
+        source,
+        read_set,
+        &*ctx,
+        from,
+        &*expansion,
+        &*analysed_insert,
+    )
 }
 
 /// The values of the tuples, their ranges, and then the rows.
@@ -168,18 +191,25 @@ fn insert_guarded<'c, 'x, S: RowSource<'c>>(
 fn insert_values<'a, 'c, 'x, S: RowSource<'c>>(
     alloc: Global,
     source: &mut S,
-    notes: &mut Reads,
+    read_set: &mut Reads,
     ctx: &'a Ctx,
     from: FromTable<'x>,
-    protection: &'a Protection<'c>,
-    addition: &'a Addition,
+    expansion: &'a PolicyExpansion<'c>,
+    analysed_insert: &'a AnalysedInsert,
 ) -> Result<Effect, Refusal>
-    requires { ctx.now.next + length addition.now.tuples ≤ 4294967295 }
-    ensures { Answers S.state S.after (spec.insert_values ctx.now from.entry.name.now from.entry.table.now protection.now addition.now) source.old source.new notes.old notes.new result }
+    requires { ctx.now.next + length analysed_insert.now.tuples ≤ 4294967295 }
+    ensures { Answers S.state S.after (spec.insert_values ctx.now from.entry.name.now from.entry.table.now expansion.now analysed_insert.now) source.old source.new read_set.old read_set.new result }
 {
-    let values = tuples_under(alloc, source, notes, ctx, protection, addition)?;
+    let values = tuples_under(alloc, source, read_set, ctx, expansion, analysed_insert)?;
     let inserted = insert_made(
-        alloc, source, notes, ctx, from, protection, addition, &values,
+        alloc,
+        source,
+        read_set,
+        ctx,
+        from,
+        expansion,
+        analysed_insert,
+        &values,
     );
     drop(values);
     inserted
@@ -189,20 +219,20 @@ fn insert_values<'a, 'c, 'x, S: RowSource<'c>>(
 fn tuples_under<'a, 'c, S: RowSource<'c>>(
     alloc: Global,
     source: &mut S,
-    notes: &mut Reads,
+    read_set: &mut Reads,
     ctx: &'a Ctx,
-    protection: &'a Protection<'c>,
-    addition: &'a Addition,
-) -> Result<Vec<Vec<Held<'a>>>, AllocError>
-    ensures { Tells S.state S.after (tuples_of protection.now.fences ctx.now.role addition.now.tuples) source.old source.new notes.old notes.new (held_each result) }
+    expansion: &'a PolicyExpansion<'c>,
+    analysed_insert: &'a AnalysedInsert,
+) -> Result<Vec<Vec<Datum<'a>>>, AllocError>
+    ensures { Tells S.state S.after (tuples_of expansion.now.relations ctx.now.role analysed_insert.now.tuples) source.old source.new read_set.old read_set.new (datum_values_each result) }
 {
     tuples_of(
         alloc,
         source,
-        notes,
-        protection.fences.as_slice(),
+        read_set,
+        expansion.relations.as_slice(),
         &ctx.role,
-        addition.tuples.as_slice(),
+        analysed_insert.tuples.as_slice(),
     )
 }
 
@@ -211,25 +241,25 @@ fn tuples_under<'a, 'c, S: RowSource<'c>>(
 fn insert_made<'c, 'x, S: RowSource<'c>>(
     alloc: Global,
     source: &mut S,
-    notes: &mut Reads,
+    read_set: &mut Reads,
     ctx: &Ctx,
     from: FromTable<'x>,
-    protection: &Protection<'c>,
-    addition: &Addition,
-    values: &[Vec<Held>],
+    expansion: &PolicyExpansion<'c>,
+    analysed_insert: &AnalysedInsert,
+    values: &[Vec<Datum>],
 ) -> Result<Effect, Refusal>
-    requires { ctx.now.next + length addition.now.tuples ≤ 4294967295 }
-    ensures { Answers S.state S.after (spec.insert_made ctx.now from.entry.name.now from.entry.table.now protection.now addition.now (map values_held values.now)) source.old source.new notes.old notes.new result }
+    requires { ctx.now.next + length analysed_insert.now.tuples ≤ 4294967295 }
+    ensures { Answers S.state S.after (spec.insert_made ctx.now from.entry.name.now from.entry.table.now expansion.now analysed_insert.now (map datum_values values.now)) source.old source.new read_set.old read_set.new result }
 {
-    let rows = new_rows(alloc, ctx, from.table, addition, values)?;
+    let rows = new_rows(alloc, ctx, from.table, analysed_insert, values)?;
     Ok(insert_rows(
         alloc,
         source,
-        notes,
+        read_set,
         &ctx.role,
         from,
-        &*protection,
-        addition,
+        &*expansion,
+        analysed_insert,
         rows,
     )?)
 }
@@ -239,17 +269,17 @@ fn new_rows(
     alloc: Global,
     ctx: &Ctx,
     table: &TableDef,
-    addition: &Addition,
-    values: &[Vec<Held>],
+    analysed_insert: &AnalysedInsert,
+    values: &[Vec<Datum>],
 ) -> Result<Items<Stored>, Refusal>
-    requires { ctx.now.next + length addition.now.tuples ≤ 4294967295 }
-    ensures { Gives result (spec.new_rows ctx.now table.now addition.now (map values_held values.now)) }
+    requires { ctx.now.next + length analysed_insert.now.tuples ≤ 4294967295 }
+    ensures { Gives result (spec.new_rows ctx.now table.now analysed_insert.now (map datum_values values.now)) }
 {
     let rows = rows_of(
         alloc,
-        addition.tuples.as_slice(),
+        analysed_insert.tuples.as_slice(),
         table,
-        addition.places.as_slice(),
+        analysed_insert.places.as_slice(),
         values,
     )?;
     Ok(numbered(alloc, ctx, table.key.as_slice(), rows.into_vec())?)
@@ -260,9 +290,9 @@ fn rows_of(
     tuples: &[Items<Expr>],
     table: &TableDef,
     places: &[usize],
-    values: &[Vec<Held>],
+    values: &[Vec<Datum>],
 ) -> Result<Items<Row>, Refusal>
-    ensures given { Gives result (each_with (spec.row_of_tuple table.now places.now) tuples.now (map values_held values.now)) }
+    ensures given { Gives result (each_with (spec.row_of_tuple table.now places.now) tuples.now (map datum_values values.now)) }
     ensures count { IfOk result (λ rows. length rows ≡ length tuples.now) }
 {
     let mut rows = Items::new(alloc);
@@ -280,9 +310,9 @@ fn row_of(
     alloc: Global,
     columns: &[Column],
     places: &[usize],
-    values: &[Held],
+    values: &[Datum],
 ) -> Result<Row, Refusal>
-    ensures { Gives result (assigned columns.now places.now (map held_value values.now) (spec.nulls columns.now)) }
+    ensures { Gives result (assigned columns.now places.now (map datum_value values.now) (spec.nulls columns.now)) }
 {
     let nulls = nulls(alloc, columns)?;
     assign(alloc, columns, places, values, nulls)
@@ -325,17 +355,26 @@ fn numbered(
 fn insert_rows<'a, 'c, 'x, S: RowSource<'c>>(
     alloc: Global,
     source: &mut S,
-    notes: &mut Reads,
+    read_set: &mut Reads,
     role: &'a Name,
     from: FromTable<'x>,
-    protection: &'a Protection<'c>,
-    addition: &Addition,
+    expansion: &'a PolicyExpansion<'c>,
+    analysed_insert: &AnalysedInsert,
     rows: Items<Stored>,
 ) -> Result<Effect, AllocError>
-    ensures { Tells S.state S.after (spec.insert_rows role.now from.entry.name.now from.entry.table.now protection.now addition.now rows) source.old source.new notes.old notes.new result }
+    ensures { Tells S.state S.after (spec.insert_rows role.now from.entry.name.now from.entry.table.now expansion.now analysed_insert.now rows) source.old source.new read_set.old read_set.new result }
 {
-    let decisions = judged_under(alloc, source, notes, &*protection, &*role, &rows)?;
-    insert_judged(alloc, source, notes, role, from, addition, rows, decisions)
+    let decisions = judged_under(alloc, source, read_set, &*expansion, &*role, &rows)?;
+    insert_judged(
+        alloc,
+        source,
+        read_set,
+        role,
+        from,
+        analysed_insert,
+        rows,
+        decisions,
+    )
 }
 
 /// Where none of the new rows is refused, all are put in.
@@ -343,25 +382,32 @@ fn insert_rows<'a, 'c, 'x, S: RowSource<'c>>(
 fn insert_judged<'c, 'x, S: RowSource<'c>>(
     alloc: Global,
     source: &mut S,
-    notes: &mut Reads,
+    read_set: &mut Reads,
     role: &Name,
     from: FromTable<'x>,
-    addition: &Addition,
+    analysed_insert: &AnalysedInsert,
     rows: Items<Stored>,
     decisions: Vec<Decision>,
 ) -> Result<Effect, AllocError>
-    ensures { Tells S.state S.after (spec.insert_judged role.now from.entry.name.now from.entry.table.now addition.now rows decisions.items) source.old source.new notes.old notes.new result }
+    ensures { Tells S.state S.after (spec.insert_judged role.now from.entry.name.now from.entry.table.now analysed_insert.now rows decisions.items) source.old source.new read_set.old read_set.new result }
 {
     match require_inserted(
         alloc,
         source,
-        notes,
+        read_set,
         from,
-        addition.places.as_slice(),
+        analysed_insert.places.as_slice(),
         &decisions,
         rows.as_slice(),
     ) {
-        Ok(()) => inserted(alloc, from.name, &addition.returning, role, rows, decisions),
+        Ok(()) => inserted(
+            alloc,
+            from.name,
+            &analysed_insert.returning,
+            role,
+            rows,
+            decisions,
+        ),
         Err(Refusal::NoMemory) => Err(AllocError),
         Err(refusal) => Ok(Effect::Refused(refusal, Items::from_vec(decisions))),
     }
@@ -371,18 +417,18 @@ fn insert_judged<'c, 'x, S: RowSource<'c>>(
 fn require_inserted<'c, 'x, S: RowSource<'c>>(
     alloc: Global,
     source: &mut S,
-    notes: &mut Reads,
+    read_set: &mut Reads,
     from: FromTable<'x>,
     places: &[usize],
     decisions: &[Decision],
     rows: &[Stored],
 ) -> Result<(), Refusal>
-    ensures { Answers S.state S.after (rows_or_refused from.entry.name.now from.entry.table.now.columns (spec_order_of places.now from.entry.table.now.columns) decisions.now [] rows.now) source.old source.new notes.old notes.new result }
+    ensures { Answers S.state S.after (rows_or_refused from.entry.name.now from.entry.table.now.columns (spec_order_of places.now from.entry.table.now.columns) decisions.now [] rows.now) source.old source.new read_set.old read_set.new result }
 {
     let order = order_of(alloc, places, from.table.columns.as_slice())?;
     let replaced = Replaced::new(&[], false);
     let found = require_rows(
-        alloc, source, notes, from, &order, decisions, &replaced, rows,
+        alloc, source, read_set, from, &order, decisions, &replaced, rows,
     );
     drop(order);
     found

@@ -9,7 +9,7 @@ ghost use Rattle.rls_dml.specs.Writing as spec;
 ghost use Rattle.rls_dml.specs.Writing.{unique_or_refused, keys_taken, has_doubles};
 
 use crate::replaced::{Numbers, Replaced};
-use rls_catalog::{Lent, Stored};
+use rls_catalog::{BorrowedRow, Stored};
 use rls_source::{Reads, RowSource, noted_key};
 use rls_value::{Name, Object, Refusal, Row, Value, cmp_values};
 use std::alloc::{AllocError, Global};
@@ -72,15 +72,15 @@ fn is_value_at(value: &Value, row: &Row, place: usize) -> bool
 pub fn require_unique<'c, S: RowSource<'c>>(
     alloc: Global,
     source: &mut S,
-    notes: &mut Reads,
+    read_set: &mut Reads,
     name: &Name,
     replaced: &Replaced<'_, 'c>,
     rows: &[Stored],
 ) -> Result<(), Refusal>
-    ensures { Answers S.state S.after (unique_or_refused name.now replaced.now (spec.keys_of rows.now)) source.old source.new notes.old notes.new result }
+    ensures { Answers S.state S.after (unique_or_refused name.now replaced.now (spec.keys_of rows.now)) source.old source.new read_set.old read_set.new result }
 {
     let keys = whole_keys(alloc, rows)?;
-    let taken = are_taken(alloc, source, notes, name, replaced, &keys)?;
+    let taken = are_taken(alloc, source, read_set, name, replaced, &keys)?;
     if taken || have_doubles(alloc, &keys)? {
         return Err(Refusal::Unique(name.copy()?));
     }
@@ -121,21 +121,21 @@ fn have_null(values: &[Value]) -> bool
 fn are_taken<'c, S: RowSource<'c>>(
     alloc: Global,
     source: &mut S,
-    notes: &mut Reads,
+    read_set: &mut Reads,
     name: &Name,
     replaced: &Replaced<'_, 'c>,
     keys: &[Row],
 ) -> Result<bool, AllocError>
-    ensures { Tells S.state S.after (keys_taken name.now replaced.now keys.now) source.old source.new notes.old notes.new result }
+    ensures { Tells S.state S.after (keys_taken name.now replaced.now keys.now) source.old source.new read_set.old read_set.new result }
 {
     if let [] = keys {
         Ok(false)
     } else if none_stays(alloc, &*source, name, &*replaced)? {
-        read_keys(alloc, source, notes, name, keys)?;
+        read_keys(alloc, source, read_set, name, keys)?;
         Ok(false)
     } else {
         let numbers = replaced.numbers(alloc)?;
-        let taken = have_taken(alloc, source, notes, name, &numbers, keys);
+        let taken = have_taken(alloc, source, read_set, name, &numbers, keys);
         drop(numbers);
         taken
     }
@@ -163,17 +163,17 @@ fn none_stays<'c, S: RowSource<'c>>(
 fn read_keys<'c, S: RowSource<'c>>(
     alloc: Global,
     source: &mut S,
-    notes: &mut Reads,
+    read_set: &mut Reads,
     name: &Name,
     keys: &[Row],
 ) -> Result<(), AllocError>
-    ensures noted { OnOk result (notes.new ≡ notes.old ++ spec.keys_read name.now keys.now) }
+    ensures noted { OnOk result (read_set.new ≡ read_set.old ++ spec.keys_read name.now keys.now) }
     ensures read { OnOk result (source.new ≡ S.after source.old (spec.keys_read name.now keys.now)) }
     ensures state { S.state source.new ≡ S.state source.old }
 {
     let objects = key_objects(alloc, name, keys)?;
     source.mark(alloc, &objects)?;
-    notes.note_all(objects)
+    read_set.note_all(objects)
 }
 
 fn key_objects(alloc: Global, name: &Name, keys: &[Row]) -> Result<Vec<Object>, AllocError>
@@ -203,23 +203,23 @@ fn key_object(alloc: Global, name: &Name, key: &Row) -> Result<Object, AllocErro
 fn have_taken<'c, S: RowSource<'c>>(
     alloc: Global,
     source: &mut S,
-    notes: &mut Reads,
+    read_set: &mut Reads,
     name: &Name,
     replaced: &Numbers<'_, 'c>,
     keys: &[Row],
 ) -> Result<bool, AllocError>
-    ensures { Tells S.state S.after (keys_taken name.now replaced.now keys.now) source.old source.new notes.old notes.new result }
+    ensures { Tells S.state S.after (keys_taken name.now replaced.now keys.now) source.old source.new read_set.old read_set.new result }
 {
     let mut taken = false;
     for key in keys {
-        let found = noted_key(alloc, source, notes, name, key)?;
+        let found = noted_key(alloc, source, read_set, name, key)?;
         taken = taken || stays_any(replaced, found.as_slice());
     }
     Ok(taken)
 }
 
 /// Whether one of the rows stays.
-fn stays_any(replaced: &Numbers<'_, '_>, rows: &[Lent<'_>]) -> bool
+fn stays_any(replaced: &Numbers<'_, '_>, rows: &[BorrowedRow<'_>]) -> bool
     ensures { result ≡ spec.stays_any replaced.now rows.now }
 {
     rows.iter().any(|row| !replaced.has(row.id()))

@@ -4,7 +4,7 @@ ghost use Rattle.std.specs.Prelude.{◌≡◌, [], map, IfOk};
 ghost use Rattle.rls_dml.specs.Numbers as spec;
 ghost use Rattle.rls_dml.specs.Numbers.{has_number, AreNumbers};
 
-use rls_catalog::Lent;
+use rls_catalog::BorrowedRow;
 use rls_value::RowId;
 use std::alloc::{AllocError, Global};
 use std::collections::BTreeSet;
@@ -13,7 +13,7 @@ use std::marker::Model;
 /// The rows that a statement replaces.
 #[derive(Drop)]
 pub struct Replaced<'r, 'c> {
-    rows: &'r [&'r Lent<'c>],
+    rows: &'r [&'r BorrowedRow<'c>],
     may_be_all: bool,
 }
 
@@ -28,13 +28,13 @@ impl<'r, 'c> Model for Replaced<'r, 'c> {
 
 impl<'r, 'c> Replaced<'r, 'c> {
     /// Whoever made them says whether they may be all rows of the table, so that it is worth a look whether they are.
-    pub fn new(rows: &'r [&'r Lent<'c>], may_be_all: bool) -> Replaced<'r, 'c>
+    pub fn new(rows: &'r [&'r BorrowedRow<'c>], may_be_all: bool) -> Replaced<'r, 'c>
         ensures { result ≡ map (λ row. row.now) rows.now }
     {
         Replaced { rows, may_be_all }
     }
 
-    pub fn rows(&self) -> &'r [&'r Lent<'c>]
+    pub fn rows(&self) -> &'r [&'r BorrowedRow<'c>]
         ensures { map (λ row. row.now) result.now ≡ self.now }
     {
         self.rows
@@ -46,7 +46,7 @@ impl<'r, 'c> Replaced<'r, 'c> {
     }
 
     /// Whether the rows have the numbers of these, one by one.
-    pub fn are_numbered_as(&self, rows: &[Lent<'_>]) -> bool
+    pub fn are_numbered_as(&self, rows: &[BorrowedRow<'_>]) -> bool
         ensures { result ≡ spec.are_numbered_as rows.now self.now }
     {
         are_numbered_as(rows, self.rows)
@@ -67,7 +67,7 @@ impl<'r, 'c> Replaced<'r, 'c> {
 /// Rows, by whose numbers one is found fast.
 #[derive(Drop)]
 pub struct Numbers<'r, 'c> {
-    rows: &'r [&'r Lent<'c>],
+    rows: &'r [&'r BorrowedRow<'c>],
     numbers: BTreeSet<RowId>,
 }
 
@@ -93,7 +93,7 @@ impl<'r, 'c> Numbers<'r, 'c> {
 }
 
 /// Whether the rows have the numbers of the others, one by one; there may be more of the others.
-fn are_numbered_as(rows: &[Lent<'_>], others: &[&Lent<'_>]) -> bool
+fn are_numbered_as(rows: &[BorrowedRow<'_>], others: &[&BorrowedRow<'_>]) -> bool
     ensures { result ≡ spec.are_numbered_as rows.now (map (λ row. row.now) others.now) }
 {
     let mut left = others;
@@ -112,14 +112,14 @@ fn are_numbered_as(rows: &[Lent<'_>], others: &[&Lent<'_>]) -> bool
 }
 
 /// The numbers of the rows, in time linear in how many they are where they ascend.
-fn numbers_of(alloc: Global, rows: &[&Lent<'_>]) -> Result<BTreeSet<RowId>, AllocError>
+fn numbers_of(alloc: Global, rows: &[&BorrowedRow<'_>]) -> Result<BTreeSet<RowId>, AllocError>
     ensures { IfOk result (λ numbers. AreNumbers numbers.keys (map (λ row. row.now) rows.now)) }
 {
     let listed = list_numbers(alloc, rows)?;
     Ok(BTreeSet::from_iter(alloc, listed)?)
 }
 
-fn list_numbers(alloc: Global, rows: &[&Lent<'_>]) -> Result<Vec<RowId>, AllocError>
+fn list_numbers(alloc: Global, rows: &[&BorrowedRow<'_>]) -> Result<Vec<RowId>, AllocError>
     ensures { IfOk result (λ numbers. numbers.items ≡ map (λ stored. stored.id) (map (λ row. row.now) rows.now)) }
 {
     let mut numbers = Vec::with_capacity(alloc, rows.len())?;

@@ -1,10 +1,10 @@
-//! What is answered of the rows that a statement hits or writes.
+//! What is answered of the qualifying rows of a statement, or of those that it writes.
 
 ghost use Rattle.std.specs.Prelude.{◌≡◌, [], ◌∷◌, map, IfOk};
 ghost use Rattle.rls_dml.specs.Listings as spec;
 
 use crate::listing::listing_of;
-use rls_catalog::{Lent, Stored};
+use rls_catalog::{BorrowedRow, Stored};
 use rls_evaluation::value_over;
 use rls_expr::Expr;
 use rls_guard::Reply;
@@ -108,13 +108,13 @@ fn number_alone(alloc: Global, number: i64) -> Result<Items<Row>, AllocError>
 /// The rows as they stand.
 pub fn standing_rows<'r, 'c>(
     alloc: Global,
-    hits: &'r [&'r Lent<'c>],
+    qualifying_rows: &'r [&'r BorrowedRow<'c>],
 ) -> Result<Vec<&'r Row>, AllocError>
-    ensures { IfOk result (λ rows. map (λ row. row.now) rows.items ≡ map (λ stored. stored.row) (map (λ hit. hit.now) hits.now)) }
+    ensures { IfOk result (λ rows. map (λ row. row.now) rows.items ≡ map (λ stored. stored.row) (map (λ qualifying_row. qualifying_row.now) qualifying_rows.now)) }
 {
-    let mut rows = Vec::with_capacity(alloc, hits.len())?;
-    for hit in hits {
-        rows.push(hit.row())?;
+    let mut rows = Vec::with_capacity(alloc, qualifying_rows.len())?;
+    for qualifying_row in qualifying_rows {
+        rows.push(qualifying_row.row())?;
     }
     Ok(rows)
 }

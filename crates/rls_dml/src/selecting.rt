@@ -2,24 +2,26 @@
 
 ghost use Rattle.std.specs.Prelude.{◌≡◌, [], ◌∷◌, false, map, IfOk};
 ghost use Rattle.rls_value.specs.Giving.{Gives};
-ghost use Rattle.rls_expr.specs.{Naming.step_of, Placing.names_in};
+ghost use Rattle.rls_expr.specs.{Naming.step_of, Resolving.names_in};
 ghost use Rattle.rls_guard.specs.Naming.{named};
 ghost use Rattle.rls_source.specs.Answering.{Answers, Tells};
-ghost use Rattle.rls_expansion.specs.{Protecting.protection_of, Used.tables_if};
+ghost use Rattle.rls_expansion.specs.{Expanding.expansion_of, Used.tables_if};
 ghost use Rattle.rls_dml.specs.Selecting as spec;
 
 use crate::checking::{
-    place_selection, place_where, put_selection_names, require_fitting, require_supported,
+    put_selection_names, require_fitting, require_supported, resolve_selection, resolve_where,
     selection_fits, selection_unsupported, where_fits, where_tables, where_unsupported,
 };
+use crate::checking_rows::qualifying_rows_under;
 use crate::replying::{answered, standing_rows};
-use crate::sighting::hits_under;
 use crate::writing::require_privileges;
-use rls_catalog::{Delta, Lent};
-use rls_expansion::{Protection, protection_of};
+use rls_catalog::{BorrowedRow, Delta};
+use rls_expansion::{PolicyExpansion, expansion_of};
 use rls_expr::{Expr, FromTable, NameStep, NamedTable, Scope, TableDef, put_names_if};
-use rls_guard::{Ctx, Decision, Effect, Found, Reply, Standing, named_over, standing_of};
-use rls_judging::candidates;
+use rls_guard::{
+    Ctx, Decision, Effect, Found, Reply, RolePrivileges, named_over, role_privileges_of,
+};
+use rls_judging::scanned_rows;
 use rls_source::{Reads, RowSource, table_named};
 use rls_statement::{Select, Selected};
 use rls_value::{Items, Kind, Name, Privilege, Refusal, Row};
@@ -27,7 +29,7 @@ use std::alloc::{AllocError, Global};
 
 /// A SELECT whose names are resolved; no condition stands for one that is true.
 #[derive(Drop)]
-pub struct Query {
+pub struct AnalysedSelect {
     pub items: Selected,
     pub condition: Option<Expr>,
 }
@@ -36,57 +38,57 @@ pub struct Query {
 pub fn run_select<'c, S: RowSource<'c>>(
     alloc: Global,
     source: &mut S,
-    notes: &mut Reads,
+    read_set: &mut Reads,
     ctx: &Ctx,
     select: &Select,
 ) -> Result<Effect, Refusal>
-    ensures { Answers S.state S.after (spec.select ctx.now select.now) source.old source.new notes.old notes.new result }
+    ensures { Answers S.state S.after (spec.select ctx.now select.now) source.old source.new read_set.old read_set.new result }
 {
-    let table = table_named(alloc, source, notes, &select.table)?;
+    let table = table_named(alloc, source, read_set, &select.table)?;
     let from = FromTable {
         name: &select.table,
         table,
     };
-    let query = known_query(alloc, source, notes, select, table)?;
-    let listed = select_from(alloc, source, notes, &ctx.role, from, &query);
-    drop(query);
+    let analysed_select = known_analysed_select(alloc, source, read_set, select, table)?;
+    let listed = select_from(alloc, source, read_set, &ctx.role, from, &analysed_select);
+    drop(analysed_select);
     listed
 }
 
 /// The parts of the statement, over the table under its qualifier.
-fn known_query<'c, S: RowSource<'c>>(
+fn known_analysed_select<'c, S: RowSource<'c>>(
     alloc: Global,
     source: &mut S,
-    notes: &mut Reads,
+    read_set: &mut Reads,
     select: &Select,
     table: &'c TableDef,
-) -> Result<Query, Refusal>
-    ensures { Answers S.state S.after (spec.query_for select.now (spec.qualifier_of select.now, table.now)) source.old source.new notes.old notes.new result }
+) -> Result<AnalysedSelect, Refusal>
+    ensures { Answers S.state S.after (spec.analysed_select_for select.now (spec.qualifier_of select.now, table.now)) source.old source.new read_set.old read_set.new result }
 {
-    let found = found_for(alloc, source, notes, select, table)?;
-    let query = check_query(alloc, select, table, found.as_slice());
+    let found = found_for(alloc, source, read_set, select, table)?;
+    let analysed_select = check_analysed_select(alloc, select, table, found.as_slice());
     drop(found);
-    query
+    analysed_select
 }
 
 /// Looks for the names of the items and of the condition.
 fn found_for<'c, S: RowSource<'c>>(
     alloc: Global,
     source: &mut S,
-    notes: &mut Reads,
+    read_set: &mut Reads,
     select: &Select,
     table: &'c TableDef,
 ) -> Result<Found<'c>, Refusal>
-    ensures { Answers S.state S.after (named (spec.query_names select.now) ((spec.qualifier_of select.now, table.now) ∷ []) []) source.old source.new notes.old notes.new result }
+    ensures { Answers S.state S.after (named (spec.analysed_select_names select.now) ((spec.qualifier_of select.now, table.now) ∷ []) []) source.old source.new read_set.old read_set.new result }
 {
     let steps = names_of(alloc, select)?;
-    let found = named_over(alloc, source, notes, &steps, qualifier(select), table);
+    let found = named_over(alloc, source, read_set, &steps, qualifier(select), table);
     drop(steps);
     found
 }
 
 fn names_of<'x>(alloc: Global, select: &'x Select) -> Result<Vec<NameStep<'x>>, AllocError>
-    ensures { IfOk result (λ steps. map step_of steps.items ≡ spec.query_names select.now) }
+    ensures { IfOk result (λ steps. map step_of steps.items ≡ spec.analysed_select_names select.now) }
 {
     let mut steps = Vec::new(alloc);
     put_selection_names(&mut steps, &select.items)?;
@@ -104,17 +106,17 @@ fn qualifier(select: &Select) -> &Name
     }
 }
 
-/// Places the parts, and checks their types and that nothing isn't supported.
-fn check_query<'x>(
+/// Resolves the parts, and checks their types and that nothing isn't supported.
+fn check_analysed_select<'x>(
     alloc: Global,
     select: &Select,
     table: &'x TableDef,
     known: &'x [NamedTable<'x>],
-) -> Result<Query, Refusal>
-    ensures { Gives result (spec.query_in select.now (spec.qualifier_of select.now, table.now) known.now) }
+) -> Result<AnalysedSelect, Refusal>
+    ensures { Gives result (spec.analysed_select_in select.now (spec.qualifier_of select.now, table.now) known.now) }
 {
     let tables = [NamedTable::new(qualifier(select), table)?];
-    let query = place_query(
+    let analysed_select = resolve_select(
         alloc,
         select,
         &Scope {
@@ -122,21 +124,25 @@ fn check_query<'x>(
             known,
         },
     )?;
-    match require_query(&query) {
-        Ok(()) => Ok(query),
+    match require_analysed_select(&analysed_select) {
+        Ok(()) => Ok(analysed_select),
         Err(refusal) => {
-            drop(query);
+            drop(analysed_select);
             Err(refusal)
         }
     }
 }
 
-fn place_query(alloc: Global, select: &Select, scope: &Scope) -> Result<Query, AllocError>
-    ensures { IfOk result (λ query. query ≡ spec.query_placed select.now (names_in scope.now)) }
+fn resolve_select(
+    alloc: Global,
+    select: &Select,
+    scope: &Scope,
+) -> Result<AnalysedSelect, AllocError>
+    ensures { IfOk result (λ analysed_select. analysed_select ≡ spec.analysed_select_resolved select.now (names_in scope.now)) }
 {
-    let items = place_selection(alloc, &select.items, scope)?;
-    match place_where(alloc, &select.condition, scope) {
-        Ok(condition) => Ok(Query { items, condition }),
+    let items = resolve_selection(alloc, &select.items, scope)?;
+    match resolve_where(alloc, &select.condition, scope) {
+        Ok(condition) => Ok(AnalysedSelect { items, condition }),
         Err(refused) => {
             drop(items);
             Err(refused)
@@ -144,159 +150,186 @@ fn place_query(alloc: Global, select: &Select, scope: &Scope) -> Result<Query, A
     }
 }
 
-fn require_query(query: &Query) -> Result<(), Refusal>
-    ensures { Gives result (spec.query_or_refused query.now) }
+fn require_analysed_select(analysed_select: &AnalysedSelect) -> Result<(), Refusal>
+    ensures { Gives result (spec.analysed_select_or_refused analysed_select.now) }
 {
-    require_fitting(selection_fits(&query.items) && where_fits(&query.condition))?;
-    require_supported(selection_unsupported(&query.items) || where_unsupported(&query.condition))
+    require_fitting(
+        selection_fits(&analysed_select.items) && where_fits(&analysed_select.condition),
+    )?;
+    require_supported(
+        selection_unsupported(&analysed_select.items)
+            || where_unsupported(&analysed_select.condition),
+    )
 }
 
-/// The standing of the role, what guards the rows from it, and the rows.
+/// The role's privileges, the policy expansion, and the rows.
 #[tactic(auto, unfolding(crate::specs::Selecting::select_from))]
 fn select_from<'c, 'x, S: RowSource<'c>>(
     alloc: Global,
     source: &mut S,
-    notes: &mut Reads,
+    read_set: &mut Reads,
     role: &Name,
     from: FromTable<'x>,
-    query: &Query,
+    analysed_select: &AnalysedSelect,
 ) -> Result<Effect, Refusal>
-    ensures { Answers S.state S.after (spec.select_from role.now from.entry.name.now from.entry.table.now query.now) source.old source.new notes.old notes.new result }
+    ensures { Answers S.state S.after (spec.select_from role.now from.entry.name.now from.entry.table.now analysed_select.now) source.old source.new read_set.old read_set.new result }
 {
-    let standing = standing_of(alloc, source, notes, role)?;
-    let listed = select_as(alloc, source, notes, &standing, role, from, query);
-    drop(standing);
+    let role_privileges = role_privileges_of(alloc, source, read_set, role)?;
+    let listed = select_as(
+        alloc,
+        source,
+        read_set,
+        &role_privileges,
+        role,
+        from,
+        analysed_select,
+    );
+    drop(role_privileges);
     listed
 }
 
-/// What guards the rows from the role, and the rows.
+/// The policy expansion, and the rows.
 #[tactic(auto, unfolding(crate::specs::Selecting::select_as))]
 fn select_as<'c, 'x, S: RowSource<'c>>(
     alloc: Global,
     source: &mut S,
-    notes: &mut Reads,
-    standing: &Standing,
+    read_set: &mut Reads,
+    role_privileges: &RolePrivileges,
     role: &Name,
     from: FromTable<'x>,
-    query: &Query,
+    analysed_select: &AnalysedSelect,
 ) -> Result<Effect, Refusal>
-    ensures { Answers S.state S.after (spec.select_as standing.now role.now from.entry.name.now from.entry.table.now query.now) source.old source.new notes.old notes.new result }
+    ensures { Answers S.state S.after (spec.select_as role_privileges.now role.now from.entry.name.now from.entry.table.now analysed_select.now) source.old source.new read_set.old read_set.new result }
 {
-    let protection = protection(alloc, source, notes, standing, from, query)?;
-    let listed = list_guarded(
+    let expansion = expansion(
         alloc,
         source,
-        notes,
-        standing,
-        &protection,
-        query,
+        read_set,
+        role_privileges,
+        from,
+        analysed_select,
+    )?;
+    let listed = list_with_quals(
+        alloc,
+        source,
+        read_set,
+        role_privileges,
+        &expansion,
+        analysed_select,
         role,
         from,
     );
-    drop(protection);
+    drop(expansion);
     listed
 }
 
-/// What guards the rows from the role.
-fn protection<'c, 'x, S: RowSource<'c>>(
+/// The policy expansion.
+fn expansion<'c, 'x, S: RowSource<'c>>(
     alloc: Global,
     source: &mut S,
-    notes: &mut Reads,
-    standing: &Standing,
+    read_set: &mut Reads,
+    role_privileges: &RolePrivileges,
     from: FromTable<'x>,
-    query: &Query,
-) -> Result<Protection<'c>, Refusal>
-    ensures { Answers S.state S.after (protection_of standing.now from.entry.name.now from.entry.table.now Kind.Select false (tables_if query.now.condition)) source.old source.new notes.old notes.new result }
+    analysed_select: &AnalysedSelect,
+) -> Result<PolicyExpansion<'c>, Refusal>
+    ensures { Answers S.state S.after (expansion_of role_privileges.now from.entry.name.now from.entry.table.now Kind.Select false (tables_if analysed_select.now.condition)) source.old source.new read_set.old read_set.new result }
 {
-    let tables = where_tables(alloc, &query.condition)?;
-    let protection = protection_of(
+    let tables = where_tables(alloc, &analysed_select.condition)?;
+    let expansion = expansion_of(
         alloc,
         source,
-        notes,
-        standing,
+        read_set,
+        role_privileges,
         from,
         Kind::Select,
         false,
         tables.as_slice(),
     );
     drop(tables);
-    protection
+    expansion
 }
 
 /// The rows, where the role may read the table.
 #[tactic(auto, unfolding(crate::specs::Selecting::listed_for))]
-fn list_guarded<'c, 'x, S: RowSource<'c>>(
+fn list_with_quals<'c, 'x, S: RowSource<'c>>(
     alloc: Global,
     source: &mut S,
-    notes: &mut Reads,
-    standing: &Standing,
-    protection: &Protection<'c>,
-    query: &Query,
+    read_set: &mut Reads,
+    role_privileges: &RolePrivileges,
+    expansion: &PolicyExpansion<'c>,
+    analysed_select: &AnalysedSelect,
     role: &Name,
     from: FromTable<'x>,
 ) -> Result<Effect, Refusal>
-    ensures { Answers S.state S.after (spec.listed_for standing.now protection.now query.now role.now from.entry.name.now from.entry.table.now) source.old source.new notes.old notes.new result }
+    ensures { Answers S.state S.after (spec.listed_for role_privileges.now expansion.now analysed_select.now role.now from.entry.name.now from.entry.table.now) source.old source.new read_set.old read_set.new result }
 {
     require_privileges(
         alloc,
         source,
-        notes,
-        standing,
+        read_set,
+        role_privileges,
         Privilege::Select,
         false,
         from.name,
-        protection.asked.as_slice(),
+        expansion.permission_checks.as_slice(),
     )?;
-    let rows = candidates(alloc, source, notes, role, from, &query.condition)?;
+    let rows = scanned_rows(
+        alloc,
+        source,
+        read_set,
+        role,
+        from,
+        &analysed_select.condition,
+    )?;
     let listed = list(
         alloc,
         source,
-        notes,
-        &*protection,
-        &*query,
+        read_set,
+        &*expansion,
+        &*analysed_select,
         &*role,
         rows.as_slice(),
     )?;
     Ok(listed)
 }
 
-/// Judges each candidate, and answers from those that are allowed and meet the condition.
+/// Judges each scanned row, and answers from those that are allowed and meet the condition.
 #[tactic(auto, unfolding(crate::specs::Selecting::listed_from))]
 fn list<'a, 'c, S: RowSource<'c>>(
     alloc: Global,
     source: &mut S,
-    notes: &mut Reads,
-    protection: &'a Protection<'c>,
-    query: &'a Query,
+    read_set: &mut Reads,
+    expansion: &'a PolicyExpansion<'c>,
+    analysed_select: &'a AnalysedSelect,
     role: &'a Name,
-    candidates: &'a [Lent<'c>],
+    scanned_rows: &'a [BorrowedRow<'c>],
 ) -> Result<Effect, AllocError>
-    ensures { Tells S.state S.after (spec.listed_from role.now protection.now query.now candidates.now) source.old source.new notes.old notes.new result }
+    ensures { Tells S.state S.after (spec.listed_from role.now expansion.now analysed_select.now scanned_rows.now) source.old source.new read_set.old read_set.new result }
 {
-    let (decisions, hits) = hits_under(
+    let (decisions, qualifying_rows) = qualifying_rows_under(
         alloc,
         source,
-        notes,
-        protection,
+        read_set,
+        expansion,
         role,
-        &query.condition,
-        candidates,
+        &analysed_select.condition,
+        scanned_rows,
     )?;
-    answer(alloc, query, role, decisions, &hits)
+    answer(alloc, analysed_select, role, decisions, &qualifying_rows)
 }
 
-/// The answer from the rows that are hit.
+/// The answer from the qualifying rows.
 fn answer<'c>(
     alloc: Global,
-    query: &Query,
+    analysed_select: &AnalysedSelect,
     role: &Name,
     decisions: Vec<Decision>,
-    hits: &[&Lent<'c>],
+    qualifying_rows: &[&BorrowedRow<'c>],
 ) -> Result<Effect, AllocError>
-    ensures { IfOk result (λ effect. effect ≡ spec.listed_by query.now role.now (decisions.items, map (λ hit. hit.now) hits.now)) }
+    ensures { IfOk result (λ effect. effect ≡ spec.listed_by analysed_select.now role.now (decisions.items, map (λ qualifying_row. qualifying_row.now) qualifying_rows.now)) }
 {
-    let rows = standing_rows(alloc, hits)?;
-    match answered(alloc, &query.items, role, &rows) {
+    let rows = standing_rows(alloc, qualifying_rows)?;
+    match answered(alloc, &analysed_select.items, role, &rows) {
         Ok(rows) => Ok(Effect::Done(
             Reply::Rows(rows),
             Items::from_vec(decisions),

@@ -2,25 +2,27 @@
 
 ghost use Rattle.std.specs.Prelude.{◌≡◌, ◌++◌, [], ◌∷◌, ◌≤◌, None, length, map, take, drop, IfOk};
 ghost use Rattle.rls_value.specs.Giving.{Gives};
-ghost use Rattle.rls_evaluation.specs.Scoping.{held_value};
+ghost use Rattle.rls_evaluation.specs.Scoping.{datum_value};
 ghost use Rattle.rls_source.specs.Answering.{Answers, Tells};
 ghost use Rattle.rls_dml.specs.Listings as listings;
 ghost use Rattle.rls_dml.specs.Writing.{rows_or_refused, order_of as spec_order_of};
-ghost use Rattle.rls_expansion.specs.Protecting.{protection_of};
+ghost use Rattle.rls_expansion.specs.Expanding.{expansion_of};
 ghost use Rattle.rls_dml.specs.Updating as spec;
 
+use crate::analysed_update::{
+    AnalysedUpdate, analysed_update_tables, known_analysed_update, places_set, reads,
+};
+use crate::checking_rows::{judged_under, qualifying_rows_under};
 use crate::keys::key_like;
 use crate::replaced::Replaced;
 use crate::replying::reply_of_new;
-use crate::revision::{Revision, known_revision, places_set, reads, revision_tables};
-use crate::sighting::{hits_under, judged_under};
 use crate::writing::{assign, order_of, require_privileges, require_rows};
-use rls_catalog::{Change, Delta, Keyed, Lent, RowChange, Stored};
-use rls_evaluation::{Held, Scoped};
-use rls_expansion::{Protection, protection_of};
+use rls_catalog::{BorrowedRow, Change, Delta, Keyed, RowChange, Stored};
+use rls_evaluation::{Datum, Scoped};
+use rls_expansion::{PolicyExpansion, expansion_of};
 use rls_expr::{FromTable, TableDef};
-use rls_guard::{Ctx, Decision, Effect, Standing, standing_of};
-use rls_judging::{candidates, settings_of};
+use rls_guard::{Ctx, Decision, Effect, RolePrivileges, role_privileges_of};
+use rls_judging::{assignments_of, scanned_rows};
 use rls_source::{Reads, RowSource, table_named};
 use rls_statement::Update;
 use rls_value::{Items, Kind, Name, Privilege, Refusal};
@@ -31,164 +33,186 @@ use std::alloc::{AllocError, Global};
 pub fn run_update<'c, S: RowSource<'c>>(
     alloc: Global,
     source: &mut S,
-    notes: &mut Reads,
+    read_set: &mut Reads,
     ctx: &Ctx,
     update: &Update,
 ) -> Result<Effect, Refusal>
-    ensures { Answers S.state S.after (spec.update ctx.now update.now) source.old source.new notes.old notes.new result }
+    ensures { Answers S.state S.after (spec.update ctx.now update.now) source.old source.new read_set.old read_set.new result }
 {
-    let table = table_named(alloc, source, notes, &update.table)?;
+    let table = table_named(alloc, source, read_set, &update.table)?;
     let from = FromTable {
         name: &update.table,
         table,
     };
-    let revision = known_revision(alloc, source, notes, update, table)?;
-    let updated = update_in(alloc, source, notes, &ctx.role, from, &revision);
-    drop(revision);
+    let analysed_update = known_analysed_update(alloc, source, read_set, update, table)?;
+    let updated = update_in(alloc, source, read_set, &ctx.role, from, &analysed_update);
+    drop(analysed_update);
     updated
 }
 
-/// The standing of the role, what guards the rows from it, and the rows.
+/// The role's privileges, the policy expansion, and the rows.
 #[tactic(auto, unfolding(crate::specs::Updating::update_in))]
 fn update_in<'c, 'x, S: RowSource<'c>>(
     alloc: Global,
     source: &mut S,
-    notes: &mut Reads,
+    read_set: &mut Reads,
     role: &Name,
     from: FromTable<'x>,
-    revision: &Revision,
+    analysed_update: &AnalysedUpdate,
 ) -> Result<Effect, Refusal>
-    ensures { Answers S.state S.after (spec.update_in role.now from.entry.name.now from.entry.table.now revision.now) source.old source.new notes.old notes.new result }
+    ensures { Answers S.state S.after (spec.update_in role.now from.entry.name.now from.entry.table.now analysed_update.now) source.old source.new read_set.old read_set.new result }
 {
-    let standing = standing_of(alloc, source, notes, role)?;
-    let updated = update_as(alloc, source, notes, &standing, role, from, revision);
-    drop(standing);
+    let role_privileges = role_privileges_of(alloc, source, read_set, role)?;
+    let updated = update_as(
+        alloc,
+        source,
+        read_set,
+        &role_privileges,
+        role,
+        from,
+        analysed_update,
+    );
+    drop(role_privileges);
     updated
 }
 
-/// What guards the rows from the role, before and after, and the rows.
+/// The policy expansion, before and after, and the rows.
 #[tactic(auto, unfolding(crate::specs::Updating::update_as))]
 fn update_as<'c, 'x, S: RowSource<'c>>(
     alloc: Global,
     source: &mut S,
-    notes: &mut Reads,
-    standing: &Standing,
+    read_set: &mut Reads,
+    role_privileges: &RolePrivileges,
     role: &Name,
     from: FromTable<'x>,
-    revision: &Revision,
+    analysed_update: &AnalysedUpdate,
 ) -> Result<Effect, Refusal>
-    ensures { Answers S.state S.after (spec.update_as standing.now role.now from.entry.name.now from.entry.table.now revision.now) source.old source.new notes.old notes.new result }
+    ensures { Answers S.state S.after (spec.update_as role_privileges.now role.now from.entry.name.now from.entry.table.now analysed_update.now) source.old source.new read_set.old read_set.new result }
 {
-    let protection = protection(alloc, source, notes, standing, from, revision)?;
-    let updated = update_guarded(
+    let expansion = expansion(
         alloc,
         source,
-        notes,
-        standing,
-        &protection,
-        revision,
+        read_set,
+        role_privileges,
+        from,
+        analysed_update,
+    )?;
+    let updated = update_with_quals(
+        alloc,
+        source,
+        read_set,
+        role_privileges,
+        &expansion,
+        analysed_update,
         role,
         from,
     );
-    drop(protection);
+    drop(expansion);
     updated
 }
 
-/// What guards the rows from the role.
-fn protection<'c, 'x, S: RowSource<'c>>(
+/// The policy expansion.
+fn expansion<'c, 'x, S: RowSource<'c>>(
     alloc: Global,
     source: &mut S,
-    notes: &mut Reads,
-    standing: &Standing,
+    read_set: &mut Reads,
+    role_privileges: &RolePrivileges,
     from: FromTable<'x>,
-    revision: &Revision,
-) -> Result<Protection<'c>, Refusal>
-    ensures { Answers S.state S.after (protection_of standing.now from.entry.name.now from.entry.table.now Kind.Update (spec.revision_reads revision.now) (spec.revision_tables revision.now)) source.old source.new notes.old notes.new result }
+    analysed_update: &AnalysedUpdate,
+) -> Result<PolicyExpansion<'c>, Refusal>
+    ensures { Answers S.state S.after (expansion_of role_privileges.now from.entry.name.now from.entry.table.now Kind.Update (spec.analysed_update_reads analysed_update.now) (spec.analysed_update_tables analysed_update.now)) source.old source.new read_set.old read_set.new result }
 {
-    let reads = reads(revision);
-    let tables = revision_tables(alloc, revision)?;
-    let protection = protection_of(
+    let reads = reads(analysed_update);
+    let tables = analysed_update_tables(alloc, analysed_update)?;
+    let expansion = expansion_of(
         alloc,
         source,
-        notes,
-        standing,
+        read_set,
+        role_privileges,
         from,
         Kind::Update,
         reads,
         tables.as_slice(),
     );
     drop(tables);
-    protection
+    expansion
 }
 
 /// The rows, where the role may change them.
-#[tactic(auto, unfolding(crate::specs::Updating::update_guarded))]
-fn update_guarded<'c, 'x, S: RowSource<'c>>(
+#[tactic(auto, unfolding(crate::specs::Updating::update_with_quals))]
+fn update_with_quals<'c, 'x, S: RowSource<'c>>(
     alloc: Global,
     source: &mut S,
-    notes: &mut Reads,
-    standing: &Standing,
-    protection: &Protection<'c>,
-    revision: &Revision,
+    read_set: &mut Reads,
+    role_privileges: &RolePrivileges,
+    expansion: &PolicyExpansion<'c>,
+    analysed_update: &AnalysedUpdate,
     role: &Name,
     from: FromTable<'x>,
 ) -> Result<Effect, Refusal>
-    ensures { Answers S.state S.after (spec.update_guarded standing.now protection.now revision.now role.now from.entry.name.now from.entry.table.now) source.old source.new notes.old notes.new result }
+    ensures { Answers S.state S.after (spec.update_with_quals role_privileges.now expansion.now analysed_update.now role.now from.entry.name.now from.entry.table.now) source.old source.new read_set.old read_set.new result }
 {
-    let reads = reads(revision);
+    let reads = reads(analysed_update);
     require_privileges(
         alloc,
         source,
-        notes,
-        standing,
+        read_set,
+        role_privileges,
         Privilege::Update,
         reads,
         from.name,
-        protection.asked.as_slice(),
+        expansion.permission_checks.as_slice(),
     )?;
-    let rows = candidates(alloc, source, notes, role, from, &revision.condition)?;
-    update_hits(
+    let rows = scanned_rows(
         alloc,
         source,
-        notes,
-        &*protection,
-        &*revision,
+        read_set,
+        role,
+        from,
+        &analysed_update.condition,
+    )?;
+    update_qualifying_rows(
+        alloc,
+        source,
+        read_set,
+        &*expansion,
+        &*analysed_update,
         &*role,
         from,
         rows.as_slice(),
     )
 }
 
-/// Judges each candidate; those that are allowed and meet the condition get their new values.
-#[tactic(auto, unfolding(crate::specs::Updating::update_hits))]
-fn update_hits<'a, 'c, 'x, S: RowSource<'c>>(
+/// Judges each scanned row; those that are allowed and meet the condition get their new values.
+#[tactic(auto, unfolding(crate::specs::Updating::update_qualifying_rows))]
+fn update_qualifying_rows<'a, 'c, 'x, S: RowSource<'c>>(
     alloc: Global,
     source: &mut S,
-    notes: &mut Reads,
-    protection: &'a Protection<'c>,
-    revision: &'a Revision,
+    read_set: &mut Reads,
+    expansion: &'a PolicyExpansion<'c>,
+    analysed_update: &'a AnalysedUpdate,
     role: &'a Name,
     from: FromTable<'x>,
-    candidates: &'a [Lent<'c>],
+    scanned_rows: &'a [BorrowedRow<'c>],
 ) -> Result<Effect, Refusal>
-    ensures { Answers S.state S.after (spec.update_hits role.now from.entry.name.now from.entry.table.now protection.now revision.now candidates.now) source.old source.new notes.old notes.new result }
+    ensures { Answers S.state S.after (spec.update_qualifying_rows role.now from.entry.name.now from.entry.table.now expansion.now analysed_update.now scanned_rows.now) source.old source.new read_set.old read_set.new result }
 {
-    let (decisions, hits) = hits_under(
+    let (decisions, qualifying_rows) = qualifying_rows_under(
         alloc,
         source,
-        notes,
-        protection,
+        read_set,
+        expansion,
         role,
-        &revision.condition,
-        candidates,
+        &analysed_update.condition,
+        scanned_rows,
     )?;
-    let replaced = replaced_of(&hits, candidates);
+    let replaced = replaced_of(&qualifying_rows, scanned_rows);
     update_values(
         alloc,
         source,
-        notes,
-        &*protection,
-        &*revision,
+        read_set,
+        &*expansion,
+        &*analysed_update,
         &*role,
         from,
         decisions,
@@ -196,42 +220,57 @@ fn update_hits<'a, 'c, 'x, S: RowSource<'c>>(
     )
 }
 
-/// The rows that are hit. Where they are all of several candidates, which no key was pinned for then, they may be all rows
+/// The qualifying rows. Where they are all of several scanned rows, which no key was pinned for then, they may be all rows
 /// of the table.
-fn replaced_of<'r, 'c>(hits: &'r [&'r Lent<'c>], candidates: &[Lent<'c>]) -> Replaced<'r, 'c>
-    ensures { result ≡ map (λ hit. hit.now) hits.now }
+fn replaced_of<'r, 'c>(
+    qualifying_rows: &'r [&'r BorrowedRow<'c>],
+    scanned_rows: &[BorrowedRow<'c>],
+) -> Replaced<'r, 'c>
+    ensures { result ≡ map (λ qualifying_row. qualifying_row.now) qualifying_rows.now }
 {
-    Replaced::new(hits, hits.len() > 1 && hits.len() == candidates.len())
+    Replaced::new(
+        qualifying_rows,
+        qualifying_rows.len() > 1 && qualifying_rows.len() == scanned_rows.len(),
+    )
 }
 
-/// The new values of all rows that are hit, and then the rows.
+/// The new values of all qualifying rows, and then the rows.
 #[tactic(auto, unfolding(crate::specs::Updating::update_values))]
 fn update_values<'a, 'c, 'x, S: RowSource<'c>>(
     alloc: Global,
     source: &mut S,
-    notes: &mut Reads,
-    protection: &'a Protection<'c>,
-    revision: &'a Revision,
+    read_set: &mut Reads,
+    expansion: &'a PolicyExpansion<'c>,
+    analysed_update: &'a AnalysedUpdate,
     role: &'a Name,
     from: FromTable<'x>,
     decisions: Vec<Decision>,
     replaced: &Replaced<'a, 'c>,
 ) -> Result<Effect, Refusal>
-    ensures { Answers S.state S.after (spec.update_values role.now from.entry.name.now from.entry.table.now protection.now revision.now decisions.items replaced.now) source.old source.new notes.old notes.new result }
+    ensures { Answers S.state S.after (spec.update_values role.now from.entry.name.now from.entry.table.now expansion.now analysed_update.now decisions.items replaced.now) source.old source.new read_set.old read_set.new result }
 {
     let nothing = Scoped::Nothing;
-    let values = settings_of(
+    let values = assignments_of(
         alloc,
         source,
-        notes,
-        protection.fences.as_slice(),
+        read_set,
+        expansion.relations.as_slice(),
         role,
         &nothing,
-        revision.settings.as_slice(),
+        analysed_update.assignments.as_slice(),
         replaced.rows(),
     )?;
     let updated = update_made(
-        alloc, source, notes, protection, revision, role, from, decisions, replaced, &values,
+        alloc,
+        source,
+        read_set,
+        expansion,
+        analysed_update,
+        role,
+        from,
+        decisions,
+        replaced,
+        &values,
     );
     drop(values);
     updated
@@ -242,20 +281,29 @@ fn update_values<'a, 'c, 'x, S: RowSource<'c>>(
 fn update_made<'a, 'c, 'x, S: RowSource<'c>>(
     alloc: Global,
     source: &mut S,
-    notes: &mut Reads,
-    protection: &'a Protection<'c>,
-    revision: &'a Revision,
+    read_set: &mut Reads,
+    expansion: &'a PolicyExpansion<'c>,
+    analysed_update: &'a AnalysedUpdate,
     role: &'a Name,
     from: FromTable<'x>,
     decisions: Vec<Decision>,
     replaced: &Replaced<'a, 'c>,
-    values: &[Held],
+    values: &[Datum],
 ) -> Result<Effect, Refusal>
-    ensures { Answers S.state S.after (spec.update_made role.now from.entry.name.now from.entry.table.now protection.now revision.now decisions.items replaced.now (map held_value values.now)) source.old source.new notes.old notes.new result }
+    ensures { Answers S.state S.after (spec.update_made role.now from.entry.name.now from.entry.table.now expansion.now analysed_update.now decisions.items replaced.now (map datum_value values.now)) source.old source.new read_set.old read_set.new result }
 {
-    match updated_rows(alloc, from.table, revision, replaced.rows(), values) {
+    match updated_rows(alloc, from.table, analysed_update, replaced.rows(), values) {
         Ok(new) => Ok(update_rows(
-            alloc, source, notes, protection, revision, role, from, decisions, replaced, new,
+            alloc,
+            source,
+            read_set,
+            expansion,
+            analysed_update,
+            role,
+            from,
+            decisions,
+            replaced,
+            new,
         )?),
         Err(refusal) => {
             drop(decisions);
@@ -268,14 +316,14 @@ fn update_made<'a, 'c, 'x, S: RowSource<'c>>(
 fn updated_rows<'c>(
     alloc: Global,
     table: &TableDef,
-    revision: &Revision,
-    hits: &[&Lent<'c>],
-    values: &[Held],
+    analysed_update: &AnalysedUpdate,
+    qualifying_rows: &[&BorrowedRow<'c>],
+    values: &[Datum],
 ) -> Result<Items<Stored>, Refusal>
-    ensures { Gives result (spec.updated_rows table.now (spec.places_set revision.now.settings) (map (λ hit. hit.now) hits.now) (map held_value values.now)) }
+    ensures { Gives result (spec.updated_rows table.now (spec.places_set analysed_update.now.assignments) (map (λ qualifying_row. qualifying_row.now) qualifying_rows.now) (map datum_value values.now)) }
 {
-    let places = places_set(alloc, revision.settings.as_slice())?;
-    let rows = rows_with(alloc, table, &places, hits, values);
+    let places = places_set(alloc, analysed_update.assignments.as_slice())?;
+    let rows = rows_with(alloc, table, &places, qualifying_rows, values);
     drop(places);
     rows
 }
@@ -284,15 +332,21 @@ fn rows_with<'c>(
     alloc: Global,
     table: &TableDef,
     places: &[usize],
-    hits: &[&Lent<'c>],
-    values: &[Held],
+    qualifying_rows: &[&BorrowedRow<'c>],
+    values: &[Datum],
 ) -> Result<Items<Stored>, Refusal>
-    ensures { Gives result (spec.updated_rows table.now places.now (map (λ hit. hit.now) hits.now) (map held_value values.now)) }
+    ensures { Gives result (spec.updated_rows table.now places.now (map (λ qualifying_row. qualifying_row.now) qualifying_rows.now) (map datum_value values.now)) }
 {
-    let mut rows = Items::with_capacity(alloc, hits.len())?;
+    let mut rows = Items::with_capacity(alloc, qualifying_rows.len())?;
     let mut left = values;
-    for hit in hits {
-        let row = updated_row(alloc, table, places, hit, share_of(left, places.len()))?;
+    for qualifying_row in qualifying_rows {
+        let row = updated_row(
+            alloc,
+            table,
+            places,
+            qualifying_row,
+            share_of(left, places.len()),
+        )?;
         rows.push(row)?;
         left = behind_share(left, places.len());
     }
@@ -300,21 +354,21 @@ fn rows_with<'c>(
 }
 
 /// The first so many of the values, or all where there are fewer.
-fn share_of<'x, 'a>(values: &'x [Held<'a>], many: usize) -> &'x [Held<'a>]
-    ensures { map held_value result.now ≡ take many (map held_value values.now) }
+fn share_of<'x, 'a>(values: &'x [Datum<'a>], many: usize) -> &'x [Datum<'a>]
+    ensures { map datum_value result.now ≡ take many (map datum_value values.now) }
 {
     &values[..within(values, many)]
 }
 
 /// And those behind them.
-fn behind_share<'x, 'a>(values: &'x [Held<'a>], many: usize) -> &'x [Held<'a>]
-    ensures { map held_value result.now ≡ drop many (map held_value values.now) }
+fn behind_share<'x, 'a>(values: &'x [Datum<'a>], many: usize) -> &'x [Datum<'a>]
+    ensures { map datum_value result.now ≡ drop many (map datum_value values.now) }
 {
     &values[within(values, many)..]
 }
 
 /// The number, or how many values there are where there are fewer.
-fn within(values: &[Held], many: usize) -> usize
+fn within(values: &[Datum], many: usize) -> usize
     ensures count { result ≤ length values.now }
     ensures share { take result values.now ≡ take many values.now }
     ensures behind { drop result values.now ≡ drop many values.now }
@@ -330,10 +384,10 @@ fn updated_row<'c>(
     alloc: Global,
     table: &TableDef,
     places: &[usize],
-    stored: &Lent<'c>,
-    values: &[Held],
+    stored: &BorrowedRow<'c>,
+    values: &[Datum],
 ) -> Result<Stored, Refusal>
-    ensures { Gives result (spec.updated_row table.now places.now stored.now (map held_value values.now)) }
+    ensures { Gives result (spec.updated_row table.now places.now stored.now (map datum_value values.now)) }
 {
     let old = stored.row().to_vec(alloc)?;
     let row = assign(alloc, table.columns.as_slice(), places, values, old)?;
@@ -350,20 +404,29 @@ fn updated_row<'c>(
 fn update_rows<'a, 'c, 'x, S: RowSource<'c>>(
     alloc: Global,
     source: &mut S,
-    notes: &mut Reads,
-    protection: &'a Protection<'c>,
-    revision: &Revision,
+    read_set: &mut Reads,
+    expansion: &'a PolicyExpansion<'c>,
+    analysed_update: &AnalysedUpdate,
     role: &'a Name,
     from: FromTable<'x>,
     before: Vec<Decision>,
     replaced: &Replaced<'_, 'c>,
     new: Items<Stored>,
 ) -> Result<Effect, AllocError>
-    ensures { Tells S.state S.after (spec.update_rows role.now from.entry.name.now from.entry.table.now protection.now revision.now before.items replaced.now new) source.old source.new notes.old notes.new result }
+    ensures { Tells S.state S.after (spec.update_rows role.now from.entry.name.now from.entry.table.now expansion.now analysed_update.now before.items replaced.now new) source.old source.new read_set.old read_set.new result }
 {
-    let after = judged_under(alloc, source, notes, &*protection, &*role, &new)?;
+    let after = judged_under(alloc, source, read_set, &*expansion, &*role, &new)?;
     update_judged(
-        alloc, source, notes, revision, role, from, before, after, replaced, new,
+        alloc,
+        source,
+        read_set,
+        analysed_update,
+        role,
+        from,
+        before,
+        after,
+        replaced,
+        new,
     )
 }
 
@@ -372,8 +435,8 @@ fn update_rows<'a, 'c, 'x, S: RowSource<'c>>(
 fn update_judged<'c, 'x, S: RowSource<'c>>(
     alloc: Global,
     source: &mut S,
-    notes: &mut Reads,
-    revision: &Revision,
+    read_set: &mut Reads,
+    analysed_update: &AnalysedUpdate,
     role: &Name,
     from: FromTable<'x>,
     before: Vec<Decision>,
@@ -381,13 +444,13 @@ fn update_judged<'c, 'x, S: RowSource<'c>>(
     replaced: &Replaced<'_, 'c>,
     new: Items<Stored>,
 ) -> Result<Effect, AllocError>
-    ensures { Tells S.state S.after (spec.update_judged role.now from.entry.name.now from.entry.table.now revision.now before.items replaced.now new after.items) source.old source.new notes.old notes.new result }
+    ensures { Tells S.state S.after (spec.update_judged role.now from.entry.name.now from.entry.table.now analysed_update.now before.items replaced.now new after.items) source.old source.new read_set.old read_set.new result }
 {
     match require_updated(
         alloc,
         source,
-        notes,
-        revision,
+        read_set,
+        analysed_update,
         from,
         &after,
         replaced,
@@ -396,7 +459,7 @@ fn update_judged<'c, 'x, S: RowSource<'c>>(
         Ok(()) => updated(
             alloc,
             from.name,
-            revision,
+            analysed_update,
             role,
             before,
             after,
@@ -412,19 +475,21 @@ fn update_judged<'c, 'x, S: RowSource<'c>>(
 fn require_updated<'c, 'x, S: RowSource<'c>>(
     alloc: Global,
     source: &mut S,
-    notes: &mut Reads,
-    revision: &Revision,
+    read_set: &mut Reads,
+    analysed_update: &AnalysedUpdate,
     from: FromTable<'x>,
     decisions: &[Decision],
     replaced: &Replaced<'_, 'c>,
     new: &[Stored],
 ) -> Result<(), Refusal>
-    ensures { Answers S.state S.after (rows_or_refused from.entry.name.now from.entry.table.now.columns (spec_order_of (spec.places_set revision.now.settings) from.entry.table.now.columns) decisions.now replaced.now new.now) source.old source.new notes.old notes.new result }
+    ensures { Answers S.state S.after (rows_or_refused from.entry.name.now from.entry.table.now.columns (spec_order_of (spec.places_set analysed_update.now.assignments) from.entry.table.now.columns) decisions.now replaced.now new.now) source.old source.new read_set.old read_set.new result }
 {
-    let places = places_set(alloc, revision.settings.as_slice())?;
+    let places = places_set(alloc, analysed_update.assignments.as_slice())?;
     let order = order_of(alloc, &places, from.table.columns.as_slice())?;
     drop(places);
-    let found = require_rows(alloc, source, notes, from, &order, decisions, replaced, new);
+    let found = require_rows(
+        alloc, source, read_set, from, &order, decisions, replaced, new,
+    );
     drop(order);
     found
 }
@@ -461,18 +526,18 @@ fn refused(
 fn updated<'c>(
     alloc: Global,
     name: &Name,
-    revision: &Revision,
+    analysed_update: &AnalysedUpdate,
     role: &Name,
     before: Vec<Decision>,
     after: Vec<Decision>,
-    hits: &[&Lent<'c>],
+    qualifying_rows: &[&BorrowedRow<'c>],
     new: Items<Stored>,
 ) -> Result<Effect, AllocError>
-    ensures { IfOk result (λ effect. effect ≡ Effect.Done (listings.reply_of revision.now.returning role.now (map (λ stored. stored.row) new)) (before.items ++ after.items) (spec.changed_rows name.now (map (λ hit. hit.now) hits.now) new) None) }
+    ensures { IfOk result (λ effect. effect ≡ Effect.Done (listings.reply_of analysed_update.now.returning role.now (map (λ stored. stored.row) new)) (before.items ++ after.items) (spec.changed_rows name.now (map (λ qualifying_row. qualifying_row.now) qualifying_rows.now) new) None) }
 {
     let decisions = joined(before, after)?;
-    let reply = reply_of_new(alloc, &revision.returning, role, new.as_slice())?;
-    match changes_of(alloc, name, hits, new.into_vec()) {
+    let reply = reply_of_new(alloc, &analysed_update.returning, role, new.as_slice())?;
+    match changes_of(alloc, name, qualifying_rows, new.into_vec()) {
         Ok(delta) => Ok(Effect::Done(reply, decisions, delta, None)),
         Err(refused) => {
             drop(decisions);
@@ -486,17 +551,17 @@ fn updated<'c>(
 fn changes_of<'c>(
     alloc: Global,
     name: &Name,
-    mut hits: &[&Lent<'c>],
+    mut qualifying_rows: &[&BorrowedRow<'c>],
     new: Vec<Stored>,
 ) -> Result<Delta, AllocError>
-    ensures { IfOk result (λ delta. delta ≡ spec.changed_rows name.now (map (λ hit. hit.now) hits.entry.now) new.items) }
+    ensures { IfOk result (λ delta. delta ≡ spec.changed_rows name.now (map (λ qualifying_row. qualifying_row.now) qualifying_rows.entry.now) new.items) }
 {
-    let mut delta = Delta::with_capacity(alloc, hits.len())?;
+    let mut delta = Delta::with_capacity(alloc, qualifying_rows.len())?;
     for row in new {
-        match hits {
+        match qualifying_rows {
             [old, others @ ..] => {
                 delta.push(changed_row(alloc, name, old, row)?)?;
-                hits = others;
+                qualifying_rows = others;
             }
             [] => {
                 drop(row);
@@ -510,7 +575,7 @@ fn changes_of<'c>(
 fn changed_row<'c>(
     alloc: Global,
     table: &Name,
-    old: &Lent<'c>,
+    old: &BorrowedRow<'c>,
     new: Stored,
 ) -> Result<Change, AllocError>
     ensures { IfOk result (λ change. change ≡ spec.changed_row table.now old.now new) }
@@ -532,7 +597,11 @@ fn changed_row<'c>(
 }
 
 /// The table's name and the old row, copied for a change.
-fn row_before<'c>(alloc: Global, table: &Name, old: &Lent<'c>) -> Result<(Name, Keyed), AllocError>
+fn row_before<'c>(
+    alloc: Global,
+    table: &Name,
+    old: &BorrowedRow<'c>,
+) -> Result<(Name, Keyed), AllocError>
     ensures { IfOk result (λ pair. pair ≡ (table.now, record { key = old.now.key; row = old.now.row })) }
 {
     let before = Keyed {

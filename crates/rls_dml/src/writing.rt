@@ -2,17 +2,17 @@
 
 ghost use Rattle.std.specs.Prelude.{◌≡◌, map, slice_get, slice_set, Some, None, Ok, IfOk, MatchOption};
 ghost use Rattle.rls_value.specs.{Giving.Gives, Values.is_null, Values.value_at};
-ghost use Rattle.rls_evaluation.specs.Scoping.{held_value};
-ghost use Rattle.rls_judging.specs.Handed.{values_held};
+ghost use Rattle.rls_evaluation.specs.Scoping.{datum_value};
+ghost use Rattle.rls_judging.specs.Handed.{datum_values};
 ghost use Rattle.rls_source.specs.{Answering.Answers, Sequences.each_or_refused};
 ghost use Rattle.rls_dml.specs.Writing as spec;
 
 use crate::keys::require_unique;
 use crate::replaced::Replaced;
 use rls_catalog::{Stored, Verdict};
-use rls_evaluation::{Held, allows};
+use rls_evaluation::{Datum, allows};
 use rls_expr::{Column, FromTable};
-use rls_guard::{Decision, Standing};
+use rls_guard::{Decision, RolePrivileges};
 use rls_source::{Reads, RowSource};
 use rls_value::{Name, Privilege, Refusal, Row, Value, Why};
 use std::alloc::{AllocError, Global};
@@ -22,33 +22,41 @@ use std::alloc::{AllocError, Global};
 pub fn require_privileges<'c, S: RowSource<'c>>(
     alloc: Global,
     source: &mut S,
-    notes: &mut Reads,
-    standing: &Standing,
+    read_set: &mut Reads,
+    role_privileges: &RolePrivileges,
     privilege: Privilege,
     reads: bool,
     name: &Name,
     others: &[Name],
 ) -> Result<(), Refusal>
-    ensures { Answers S.state S.after (spec.privileges_or_denied standing.now privilege reads name.now others.now) source.old source.new notes.old notes.new result }
+    ensures { Answers S.state S.after (spec.privileges_or_denied role_privileges.now privilege reads name.now others.now) source.old source.new read_set.old read_set.new result }
 {
-    require_own(alloc, source, notes, standing, privilege, reads, name)?;
-    require_readable(alloc, source, notes, standing, others)
+    require_own(
+        alloc,
+        source,
+        read_set,
+        role_privileges,
+        privilege,
+        reads,
+        name,
+    )?;
+    require_readable(alloc, source, read_set, role_privileges, others)
 }
 
 fn require_own<'c, S: RowSource<'c>>(
     alloc: Global,
     source: &mut S,
-    notes: &mut Reads,
-    standing: &Standing,
+    read_set: &mut Reads,
+    role_privileges: &RolePrivileges,
     privilege: Privilege,
     reads: bool,
     name: &Name,
 ) -> Result<(), Refusal>
-    ensures { Answers S.state S.after (spec.own_or_denied standing.now privilege reads name.now) source.old source.new notes.old notes.new result }
+    ensures { Answers S.state S.after (spec.own_or_denied role_privileges.now privilege reads name.now) source.old source.new read_set.old read_set.new result }
 {
-    standing.require_privilege(alloc, source, notes, privilege, name)?;
+    role_privileges.require_privilege(alloc, source, read_set, privilege, name)?;
     if reads {
-        standing.require_privilege(alloc, source, notes, Privilege::Select, name)
+        role_privileges.require_privilege(alloc, source, read_set, Privilege::Select, name)
     } else {
         Ok(())
     }
@@ -57,14 +65,14 @@ fn require_own<'c, S: RowSource<'c>>(
 fn require_readable<'c, S: RowSource<'c>>(
     alloc: Global,
     source: &mut S,
-    notes: &mut Reads,
-    standing: &Standing,
+    read_set: &mut Reads,
+    role_privileges: &RolePrivileges,
     names: &[Name],
 ) -> Result<(), Refusal>
-    ensures { Answers S.state S.after (spec.readable_or_denied standing.now names.now) source.old source.new notes.old notes.new result }
+    ensures { Answers S.state S.after (spec.readable_or_denied role_privileges.now names.now) source.old source.new read_set.old read_set.new result }
 {
     for name in names {
-        standing.require_privilege(alloc, source, notes, Privilege::Select, name)?;
+        role_privileges.require_privilege(alloc, source, read_set, Privilege::Select, name)?;
     }
     Ok(())
 }
@@ -74,10 +82,10 @@ pub fn assign(
     alloc: Global,
     columns: &[Column],
     places: &[usize],
-    values: &[Held],
+    values: &[Datum],
     row: Vec<Value>,
 ) -> Result<Row, Refusal>
-    ensures { Gives result (spec.assigned columns.now places.now (map held_value values.now) row.items) }
+    ensures { Gives result (spec.assigned columns.now places.now (map datum_value values.now) row.items) }
 {
     let mut row = row;
     let mut places_left = places;
@@ -97,8 +105,13 @@ pub fn assign(
 }
 
 /// What the column at that place is given, in the column's range.
-fn given_to(alloc: Global, columns: &[Column], place: usize, value: &Held) -> Result<Value, Refusal>
-    ensures { Gives result (spec.given_to (slice_get columns.now place) (held_value value.now)) }
+fn given_to(
+    alloc: Global,
+    columns: &[Column],
+    place: usize,
+    value: &Datum,
+) -> Result<Value, Refusal>
+    ensures { Gives result (spec.given_to (slice_get columns.now place) (datum_value value.now)) }
 {
     match columns.get(place) {
         Some(column) => value.to_column(alloc, column),
@@ -107,8 +120,8 @@ fn given_to(alloc: Global, columns: &[Column], place: usize, value: &Held) -> Re
 }
 
 /// The first values, if there are some.
-pub fn first_of<'x, 'a>(values: &'x [Vec<Held<'a>>]) -> &'x [Held<'a>]
-    ensures { map held_value result.now ≡ spec.first_of (map values_held values.now) }
+pub fn first_of<'x, 'a>(values: &'x [Vec<Datum<'a>>]) -> &'x [Datum<'a>]
+    ensures { map datum_value result.now ≡ spec.first_of (map datum_values values.now) }
 {
     match values {
         [first, ..] => first.as_slice(),
@@ -117,8 +130,8 @@ pub fn first_of<'x, 'a>(values: &'x [Vec<Held<'a>>]) -> &'x [Held<'a>]
 }
 
 /// And those behind them.
-pub fn behind_first<'x, 'a>(values: &'x [Vec<Held<'a>>]) -> &'x [Vec<Held<'a>>]
-    ensures { map values_held result.now ≡ spec.behind_first (map values_held values.now) }
+pub fn behind_first<'x, 'a>(values: &'x [Vec<Datum<'a>>]) -> &'x [Vec<Datum<'a>>]
+    ensures { map datum_values result.now ≡ spec.behind_first (map datum_values values.now) }
 {
     match values {
         [_, further @ ..] => further,
@@ -163,17 +176,17 @@ fn is_written(places: &[usize], place: usize) -> bool
 pub fn require_rows<'c, 'x, S: RowSource<'c>>(
     alloc: Global,
     source: &mut S,
-    notes: &mut Reads,
+    read_set: &mut Reads,
     from: FromTable<'x>,
     order: &[usize],
     decisions: &[Decision],
     replaced: &Replaced<'_, 'c>,
     rows: &[Stored],
 ) -> Result<(), Refusal>
-    ensures { Answers S.state S.after (spec.rows_or_refused from.entry.name.now from.entry.table.now.columns order.now decisions.now replaced.now rows.now) source.old source.new notes.old notes.new result }
+    ensures { Answers S.state S.after (spec.rows_or_refused from.entry.name.now from.entry.table.now.columns order.now decisions.now replaced.now rows.now) source.old source.new read_set.old read_set.new result }
 {
     require_allowed(from.name, decisions)?;
-    require_constraints(alloc, source, notes, from, order, replaced, rows)
+    require_constraints(alloc, source, read_set, from, order, replaced, rows)
 }
 
 /// The first null where none may be, then a key that is taken.
@@ -181,16 +194,16 @@ pub fn require_rows<'c, 'x, S: RowSource<'c>>(
 fn require_constraints<'c, 'x, S: RowSource<'c>>(
     alloc: Global,
     source: &mut S,
-    notes: &mut Reads,
+    read_set: &mut Reads,
     from: FromTable<'x>,
     order: &[usize],
     replaced: &Replaced<'_, 'c>,
     rows: &[Stored],
 ) -> Result<(), Refusal>
-    ensures { Answers S.state S.after (spec.constraints_or_refused from.entry.name.now from.entry.table.now.columns order.now replaced.now rows.now) source.old source.new notes.old notes.new result }
+    ensures { Answers S.state S.after (spec.constraints_or_refused from.entry.name.now from.entry.table.now.columns order.now replaced.now rows.now) source.old source.new read_set.old read_set.new result }
 {
     require_values(rows, from.table.columns.as_slice(), order)?;
-    require_unique(alloc, source, notes, from.name, replaced, rows)
+    require_unique(alloc, source, read_set, from.name, replaced, rows)
 }
 
 fn require_allowed(table: &Name, decisions: &[Decision]) -> Result<(), Refusal>

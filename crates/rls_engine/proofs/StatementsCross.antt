@@ -10,7 +10,7 @@ use Rattle.rls_value.proofs.verb.PolicyKind.TheSendSync as PolicyKind
 use Rattle.rls_expr.proofs.column_name.ColumnName.TheSendSync as ColumnName
 use Rattle.rls_expr.proofs.expr.Comparison.TheSendSync as Comparison
 use Rattle.rls_expr.proofs.expr.FromItem.TheSendSync as FromItem
-use Rattle.rls_expr.proofs.expr.Place.TheSendSync as Place
+use Rattle.rls_expr.proofs.expr.Var.TheSendSync as Var
 use Rattle.rls_expr.proofs.expr.Selects.TheSendSync as Selects
 use Rattle.rls_expr.proofs.expr.Sign.TheSendSync as Sign
 use Rattle.rls_expr.proofs.policy.Grantee.TheSendSync as Grantee
@@ -37,7 +37,7 @@ use Rattle.rls_expr.specs.contracts.policy.Policy as Policy_
 use Rattle.rls_statement.specs.contracts.statement.Selected as Selected_
 use Rattle.rls_statement.specs.contracts.statement.Select as Select_
 use Rattle.rls_statement.specs.contracts.statement.Insert as Insert_
-use Rattle.rls_statement.specs.contracts.changing.Setting as Setting_
+use Rattle.rls_statement.specs.contracts.changing.Assignment as Assignment_
 use Rattle.rls_statement.specs.contracts.changing.Update as Update_
 use Rattle.rls_statement.specs.contracts.changing.Delete as Delete_
 use Rattle.rls_statement.specs.contracts.statement.CreatePolicy as CreatePolicy_
@@ -55,10 +55,10 @@ ruleset kept = (sendable, crossing.crosses, as_row_send, as_row_sync, declared_s
 
 -- ---- statements
 pub expr_send : IsSend Expr_.the_row
-expr_send = search (kept, Value.the_field_send, ColumnName.the_field_send, Comparison.the_field_send, FromItem.the_field_send, Place.the_field_send, Selects.the_field_send, Sign.the_field_send, knot.send-Expr) depth 14 fits 20000
+expr_send = search (kept, Value.the_field_send, ColumnName.the_field_send, Comparison.the_field_send, FromItem.the_field_send, Var.the_field_send, Selects.the_field_send, Sign.the_field_send, knot.send-Expr) depth 14 fits 20000
 
 pub expr_sync : IsSync Expr_.the_row
-expr_sync = search (kept, Value.the_field_sync, ColumnName.the_field_sync, Comparison.the_field_sync, FromItem.the_field_sync, Place.the_field_sync, Selects.the_field_sync, Sign.the_field_sync, knot.sync-Expr) depth 14 fits 20000
+expr_sync = search (kept, Value.the_field_sync, ColumnName.the_field_sync, Comparison.the_field_sync, FromItem.the_field_sync, Var.the_field_sync, Selects.the_field_sync, Sign.the_field_sync, knot.sync-Expr) depth 14 fits 20000
 
 pub policy_send : IsSend Policy_.the_row
 policy_send = search (kept, Name.the_send, PolicyKind.the_field_send, Items.the_send, Grantee.the_field_send, expr_send) depth 14 fits 20000
@@ -84,17 +84,17 @@ insert_send = search (kept, Name.the_send, Items.the_send, expr_send, selected_s
 pub insert_sync : IsSync Insert_.the_row
 insert_sync = search (kept, Name.the_sync, Items.the_sync, expr_sync, selected_sync) depth 14 fits 20000
 
-pub setting_send : IsSend Setting_.the_row
-setting_send = search (kept, Name.the_send, expr_send) depth 14 fits 20000
+pub assignment_send : IsSend Assignment_.the_row
+assignment_send = search (kept, Name.the_send, expr_send) depth 14 fits 20000
 
-pub setting_sync : IsSync Setting_.the_row
-setting_sync = search (kept, Name.the_sync, expr_sync) depth 14 fits 20000
+pub assignment_sync : IsSync Assignment_.the_row
+assignment_sync = search (kept, Name.the_sync, expr_sync) depth 14 fits 20000
 
 pub update_send : IsSend Update_.the_row
-update_send = search (kept, Name.the_send, Items.the_send, setting_send, expr_send, selected_send) depth 14 fits 20000
+update_send = search (kept, Name.the_send, Items.the_send, assignment_send, expr_send, selected_send) depth 14 fits 20000
 
 pub update_sync : IsSync Update_.the_row
-update_sync = search (kept, Name.the_sync, Items.the_sync, setting_sync, expr_sync, selected_sync) depth 14 fits 20000
+update_sync = search (kept, Name.the_sync, Items.the_sync, assignment_sync, expr_sync, selected_sync) depth 14 fits 20000
 
 pub delete_send : IsSend Delete_.the_row
 delete_send = search (kept, Name.the_send, expr_send, selected_send) depth 14 fits 20000

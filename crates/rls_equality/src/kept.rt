@@ -1,7 +1,7 @@
 //! Equality of what a state keeps.
 
 use crate::same::{Same, are_both_same, are_same};
-use rls_catalog::{Grant, Keyed, Lent, Membership, RoleDef, Stored};
+use rls_catalog::{BorrowedRow, Grant, Keyed, Membership, RoleDef, Stored};
 use rls_expr::{Column, Grantee, Policy, TableDef};
 
 impl Same for RoleDef {
@@ -79,8 +79,8 @@ impl Same for Stored {
     }
 }
 
-impl<'c> Same for Lent<'c> {
-    fn is_same(&self, other: &Lent<'c>) -> bool {
+impl<'c> Same for BorrowedRow<'c> {
+    fn is_same(&self, other: &BorrowedRow<'c>) -> bool {
         self.id().is_same(&other.id())
             && self.key().is_same(other.key())
             && self.row().is_same(other.row())

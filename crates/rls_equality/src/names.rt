@@ -3,7 +3,7 @@
 ghost use Rattle.std.specs.Prelude.{◌≡◌};
 
 use crate::same::{Same, are_both_same, are_same};
-use rls_expr::{ColumnName, FromItem, Place, Selects};
+use rls_expr::{ColumnName, FromItem, Selects, Var};
 use rls_value::{Name, Row, RowId, Value, cmp_rows, cmp_values};
 use std::cmp::Ordering;
 
@@ -65,8 +65,8 @@ impl Same for Selects {
     }
 }
 
-impl Same for Place {
-    fn is_same(&self, other: &Place) -> bool {
+impl Same for Var {
+    fn is_same(&self, other: &Var) -> bool {
         *self == *other
     }
 }

@@ -2,9 +2,9 @@
 
 use crate::same::{Same, are_both_same};
 use rls_statement::{
-    AlterPolicy, AlterRole, AlterTable, CreatePolicy, CreateRole, CreateTable, Delete, DropPolicy,
-    GrantPrivileges, GrantRoles, Insert, MarkedColumn, Privileges, RevokePrivileges, RevokeRoles,
-    Select, Selected, SetRole, Setting, Statement, Update,
+    AlterPolicy, AlterRole, AlterTable, Assignment, CreatePolicy, CreateRole, CreateTable, Delete,
+    DropPolicy, GrantPrivileges, GrantRoles, Insert, MarkedColumn, Privileges, RevokePrivileges,
+    RevokeRoles, Select, Selected, SetRole, Statement, Update,
 };
 
 impl Same for Statement {
@@ -150,14 +150,14 @@ impl Same for Insert {
 impl Same for Update {
     fn is_same(&self, other: &Update) -> bool {
         self.table.is_same(&other.table)
-            && self.settings.is_same(&other.settings)
+            && self.assignments.is_same(&other.assignments)
             && are_both_same(self.condition.as_ref(), other.condition.as_ref())
             && are_both_same(self.returning.as_ref(), other.returning.as_ref())
     }
 }
 
-impl Same for Setting {
-    fn is_same(&self, other: &Setting) -> bool {
+impl Same for Assignment {
+    fn is_same(&self, other: &Assignment) -> bool {
         self.column.is_same(&other.column) && self.value.is_same(&other.value)
     }
 }

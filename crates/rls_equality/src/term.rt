@@ -32,7 +32,7 @@ pub fn is_same_term(left: &Expr, right: &Expr) -> bool
     match (left.node(), right.node()) {
         (Node::Literal(left), Node::Literal(right)) => left.is_same(right),
         (Node::Column(left), Node::Column(right)) => left.is_same(right),
-        (Node::Place(left), Node::Place(right)) => left.is_same(right),
+        (Node::Var(left), Node::Var(right)) => left.is_same(right),
         (Node::CurrentUser, Node::CurrentUser) => true,
         (Node::Compare(how, a, b), Node::Compare(other, c, d)) => {
             *how == *other && is_same_term(a, c) && is_same_term(b, d)
@@ -42,17 +42,17 @@ pub fn is_same_term(left: &Expr, right: &Expr) -> bool
         (Node::Not(left), Node::Not(right)) => is_same_term(left, right),
         (Node::IsNull(left), Node::IsNull(right)) => is_same_term(left, right),
         (Node::IsNotNull(left), Node::IsNotNull(right)) => is_same_term(left, right),
-        (Node::Among(left, list), Node::Among(right, others)) => {
+        (Node::InList(left, list), Node::InList(right, others)) => {
             is_same_term(left, right) && are_same_terms(list, others)
         }
-        (Node::NotAmong(left, list), Node::NotAmong(right, others)) => {
+        (Node::NotInList(left, list), Node::NotInList(right, others)) => {
             is_same_term(left, right) && are_same_terms(list, others)
         }
         (Node::Exists(left), Node::Exists(right)) => is_same_query(left, right),
-        (Node::Within(a, left), Node::Within(b, right)) => {
+        (Node::InSubquery(a, left), Node::InSubquery(b, right)) => {
             is_same_term(a, b) && is_same_query(left, right)
         }
-        (Node::NotWithin(a, left), Node::NotWithin(b, right)) => {
+        (Node::NotInSubquery(a, left), Node::NotInSubquery(b, right)) => {
             is_same_term(a, b) && is_same_query(left, right)
         }
         (Node::Scalar(left), Node::Scalar(right)) => is_same_query(left, right),

@@ -4,7 +4,7 @@ use Rattle.std.proofs.Common.{arith, ap, sym, ◌∙◌, append_assoc}
 use Rattle.std.proofs.lemmas.Bool.{and_parts, ltb-true, true≢false}
 use Rattle.rls_value.specs.{declared.refusal.Refusal.Refusal, declared.object.Object.Object, declared.value.Value.Value, declared.truth.Truth.Truth, Giving.and_then, declared.value.Value.TheVariants.Null, declared.value.Value.TheVariants.Text, declared.value.Value.TheVariants.Bool as Flag, declared.truth.Truth.TheVariants.True, declared.truth.Truth.TheVariants.False, Truths.negation_of, Truths.is_true, Values.value_of_truth, Values.truth_in, Values.is_null, Values.value_at}
 use Rattle.rls_expr.specs.declared.expr.Comparison.TheVariants as c
-use Rattle.rls_expr.specs.Terms.{Term, Terms, Query, Literal, Column, Place, CurrentUser, Compare, And, Or, Not, IsNull, IsNotNull, Among, NotAmong, Exists, Within, NotWithin, Scalar, Sum, End, More, Select}
+use Rattle.rls_expr.specs.Terms.{Term, Terms, Query, Literal, Column, Var, CurrentUser, Compare, And, Or, Not, IsNull, IsNotNull, InList, NotInList, Exists, InSubquery, NotInSubquery, Scalar, Sum, End, More, Select}
 use Rattle.rls_catalog.specs.State.{State}
 use Rattle.rls_source.specs.{Readings.Reading, Readings.unread, Readings.next_reads, Readings.read_then, Askings.Asking, Askings.known, Askings.followed_by, Askings.asked_if}
 use Rattle.rls_evaluation.specs.Alone.{stays_within, stay_within, query_within, is_alone, with_item, items_seen, asked_query, any_equal, is_some}
@@ -128,26 +128,26 @@ has_row_seen (Select from key selects items condition) sees env s =
 -- the same role, and the same rows of the so many innermost tables
 record IsSameWithin (tables : ℕ) (a b : Environment) : Type 0 where
   pub user : a.user ≡ b.user
-  pub rows : (out : ℕ) → out < tables → row_at a.rows out ≡ row_at b.rows out
+  pub rows : (level : ℕ) → level < tables → row_at a.rows level ≡ row_at b.rows level
 
-inner_same : (tables : ℕ) (a b : Environment) (row : List Value) (out : ℕ) → IsSameWithin tables a b → out < suc tables → row_at (inside row a).rows out ≡ row_at (inside row b).rows out
+inner_same : (tables : ℕ) (a b : Environment) (row : List Value) (level : ℕ) → IsSameWithin tables a b → level < suc tables → row_at (inside row a).rows level ≡ row_at (inside row b).rows level
 inner_same tables a b row zero same below = refl
-inner_same tables a b row (suc out) same below = same.rows out (omega (arith, below))
+inner_same tables a b row (suc level) same below = same.rows level (omega (arith, below))
 
 -- a row more is the same
 inside_same : (tables : ℕ) (a b : Environment) (row : List Value) → IsSameWithin tables a b → IsSameWithin (suc tables) (inside row a) (inside row b)
-inside_same tables a b row same = record { user = same.user; rows = λ out below. inner_same tables a b row out same below }
+inside_same tables a b row same = record { user = same.user; rows = λ level below. inner_same tables a b row level same below }
 
 -- ---- keys
 
-outer_same : (tables out column : ℕ) (a b : Environment) → IsSameWithin tables a b → out < suc tables → outer_value out column a ≡ outer_value out column b
+outer_same : (tables level column : ℕ) (a b : Environment) → IsSameWithin tables a b → level < suc tables → outer_value level column a ≡ outer_value level column b
 outer_same tables zero column a b same below = refl
-outer_same tables (suc out) column a b same below = ap (λ row. Some (value_at row column)) (same.rows out (omega (arith, below)))
+outer_same tables (suc level) column a b same below = ap (λ row. Some (value_at row column)) (same.rows level (omega (arith, below)))
 
 known_same : (tables : ℕ) (t : Term) (a b : Environment) → IsSameWithin tables a b → stays_within (suc tables) t ≡ true → known_value t a ≡ known_value t b
 known_same tables (Literal v) a b same is = refl
 known_same tables (Column name) a b same is = refl
-known_same tables (Place at) a b same is = outer_same tables at.out at.column a b same (ltb-true at.out (suc tables) is)
+known_same tables (Var at) a b same is = outer_same tables at.level at.column a b same (ltb-true at.level (suc tables) is)
 known_same tables CurrentUser a b same is = ap (λ user. Some (Text user)) same.user
 known_same tables (Compare how x y) a b same is = refl
 known_same tables (And ts) a b same is = refl
@@ -155,18 +155,18 @@ known_same tables (Or ts) a b same is = refl
 known_same tables (Not t) a b same is = refl
 known_same tables (IsNull t) a b same is = refl
 known_same tables (IsNotNull t) a b same is = refl
-known_same tables (Among t ts) a b same is = refl
-known_same tables (NotAmong t ts) a b same is = refl
+known_same tables (InList t ts) a b same is = refl
+known_same tables (NotInList t ts) a b same is = refl
 known_same tables (Exists q) a b same is = refl
-known_same tables (Within t q) a b same is = refl
-known_same tables (NotWithin t q) a b same is = refl
+known_same tables (InSubquery t q) a b same is = refl
+known_same tables (NotInSubquery t q) a b same is = refl
 known_same tables (Scalar q) a b same is = refl
 known_same tables (Sum signs ts) a b same is = refl
 
 pin_in_same : (tables column : ℕ) (t : Term) (a b : Environment) → IsSameWithin tables a b → stays_within (suc tables) t ≡ true → pin_in column t a ≡ pin_in column t b
 pin_in_same tables column (Literal v) a b same is = refl
 pin_in_same tables column (Column name) a b same is = refl
-pin_in_same tables column (Place at) a b same is = refl
+pin_in_same tables column (Var at) a b same is = refl
 pin_in_same tables column CurrentUser a b same is = refl
 pin_in_same tables column (Compare c.Equal x y) a b same is =
     let parts = and_parts (stays_within (suc tables) x) (stays_within (suc tables) y) is in
@@ -181,11 +181,11 @@ pin_in_same tables column (Or ts) a b same is = refl
 pin_in_same tables column (Not t) a b same is = refl
 pin_in_same tables column (IsNull t) a b same is = refl
 pin_in_same tables column (IsNotNull t) a b same is = refl
-pin_in_same tables column (Among t ts) a b same is = refl
-pin_in_same tables column (NotAmong t ts) a b same is = refl
+pin_in_same tables column (InList t ts) a b same is = refl
+pin_in_same tables column (NotInList t ts) a b same is = refl
 pin_in_same tables column (Exists q) a b same is = refl
-pin_in_same tables column (Within t q) a b same is = refl
-pin_in_same tables column (NotWithin t q) a b same is = refl
+pin_in_same tables column (InSubquery t q) a b same is = refl
+pin_in_same tables column (NotInSubquery t q) a b same is = refl
 pin_in_same tables column (Scalar q) a b same is = refl
 pin_in_same tables column (Sum signs ts) a b same is = refl
 
@@ -198,7 +198,7 @@ pin_among_same tables column (More t ts) a b same is =
 pin_same : (tables column : ℕ) (t : Term) (a b : Environment) → IsSameWithin tables a b → stays_within (suc tables) t ≡ true → pin_of column t a ≡ pin_of column t b
 pin_same tables column (Literal v) a b same is = refl
 pin_same tables column (Column name) a b same is = refl
-pin_same tables column (Place at) a b same is = refl
+pin_same tables column (Var at) a b same is = refl
 pin_same tables column CurrentUser a b same is = refl
 pin_same tables column (Compare how x y) a b same is = pin_in_same tables column (Compare how x y) a b same is
 pin_same tables column (And ts) a b same is = pin_among_same tables column ts a b same is
@@ -206,11 +206,11 @@ pin_same tables column (Or ts) a b same is = refl
 pin_same tables column (Not t) a b same is = refl
 pin_same tables column (IsNull t) a b same is = refl
 pin_same tables column (IsNotNull t) a b same is = refl
-pin_same tables column (Among t ts) a b same is = refl
-pin_same tables column (NotAmong t ts) a b same is = refl
+pin_same tables column (InList t ts) a b same is = refl
+pin_same tables column (NotInList t ts) a b same is = refl
 pin_same tables column (Exists q) a b same is = refl
-pin_same tables column (Within t q) a b same is = refl
-pin_same tables column (NotWithin t q) a b same is = refl
+pin_same tables column (InSubquery t q) a b same is = refl
+pin_same tables column (NotInSubquery t q) a b same is = refl
 pin_same tables column (Scalar q) a b same is = refl
 pin_same tables column (Sum signs ts) a b same is = refl
 
@@ -244,7 +244,7 @@ mutual
   value_same : (tables : ℕ) (t : Term) (sees : Shows) (a b : Environment) (s : State) → IsSameWithin tables a b → stays_within tables t ≡ true → (value_of t sees a).in_state s ≡ (value_of t sees b).in_state s
   value_same tables (Literal v) sees a b s same is = refl
   value_same tables (Column name) sees a b s same is = refl
-  value_same tables (Place at) sees a b s same is = ap (λ row. unread (Ok (value_at row at.column))) (same.rows at.out (ltb-true at.out tables is))
+  value_same tables (Var at) sees a b s same is = ap (λ row. unread (Ok (value_at row at.column))) (same.rows at.level (ltb-true at.level tables is))
   value_same tables CurrentUser sees a b s same is = ap (λ user. unread (Ok (Text user))) same.user
   value_same tables (Compare how x y) sees a b s same is =
       let parts = and_parts (stays_within tables x) (stays_within tables y) is in
@@ -254,17 +254,17 @@ mutual
   value_same tables (Not t) sees a b s same is = λ i. read_then (value_same tables t sees a b s same is i) (λ x. unread (Ok (value_of_truth (negation_of (truth_in x)))))
   value_same tables (IsNull t) sees a b s same is = λ i. read_then (value_same tables t sees a b s same is i) (λ x. unread (Ok (Flag (is_null x))))
   value_same tables (IsNotNull t) sees a b s same is = λ i. read_then (value_same tables t sees a b s same is i) (λ x. unread (Ok (Flag (not (is_null x)))))
-  value_same tables (Among t ts) sees a b s same is =
+  value_same tables (InList t ts) sees a b s same is =
       let parts = and_parts (stays_within tables t) (stay_within tables ts) is in
       λ i. read_then (value_same tables t sees a b s same parts.0 i) (λ x. read_then (together_same tables (or_equal x) False ts sees a b s same parts.1 i) (λ truth. unread (Ok (value_of_truth truth))))
-  value_same tables (NotAmong t ts) sees a b s same is =
+  value_same tables (NotInList t ts) sees a b s same is =
       let parts = and_parts (stays_within tables t) (stay_within tables ts) is in
       λ i. read_then (value_same tables t sees a b s same parts.0 i) (λ x. read_then (together_same tables (or_equal x) False ts sees a b s same parts.1 i) (λ truth. unread (Ok (value_of_truth (negation_of truth)))))
   value_same tables (Exists q) sees a b s same is = λ i. read_then (has_row_same tables q sees a b s same is i) (λ is. unread (Ok (Flag is)))
-  value_same tables (Within t q) sees a b s same is =
+  value_same tables (InSubquery t q) sees a b s same is =
       let parts = and_parts (stays_within tables t) (query_within tables q) is in
       λ i. read_then (value_same tables t sees a b s same parts.0 i) (λ x. read_then (among_same tables x q sees a b s same parts.1 i) (λ truth. unread (Ok (value_of_truth truth))))
-  value_same tables (NotWithin t q) sees a b s same is =
+  value_same tables (NotInSubquery t q) sees a b s same is =
       let parts = and_parts (stays_within tables t) (query_within tables q) is in
       λ i. read_then (value_same tables t sees a b s same parts.0 i) (λ x. read_then (among_same tables x q sees a b s same parts.1 i) (λ truth. unread (Ok (value_of_truth (negation_of truth)))))
   value_same tables (Scalar q) sees a b s same is = first_same tables q sees a b s same is
@@ -329,7 +329,7 @@ seen_same tables (Select from key selects items condition) sees a b s same is =
     (item_same (suc tables) items sees (inside row a) (inside row b) s (inside_same tables a b row same) parts.0))
 
 none_further : (a b : Environment) → a.user ≡ b.user → IsSameWithin 0 a b
-none_further a b same = record { user = same; rows = λ out below. absurd (omega (arith, below)) }
+none_further a b same = record { user = same; rows = λ level below. absurd (omega (arith, below)) }
 
 -- a subquery that names no column further out gives the same wherever it is asked for the same role
 pub alone_same : (q : Query) (sees : Shows) (a b : Environment) (s : State) → is_alone q ≡ true → a.user ≡ b.user → (items_seen q sees a).in_state s ≡ (items_seen q sees b).in_state s

@@ -2,11 +2,11 @@ pub mod KeyLemmas
 pub mod Telling
 pub mod Absorbing
 pub mod AloneLemmas
-pub mod AnswerLemmas
-pub mod Fencing
+pub mod CachedSubplanLemmas
+pub mod RelationLemmas
 pub mod Exempting
 pub mod LoopLemmas
-pub mod NotedLemmas
+pub mod ReadSetLemmas
 pub mod PlainLemmas
 pub mod ValueSetLemmas
 pub mod DecidingLemmas

@@ -8,7 +8,7 @@ use Rattle.std.specs.declared.alloc.AllocError.{AllocError}
 use Rattle.rls_expr.specs.{declared.expr.Sign.Sign, declared.expr.Sign.TheVariants.Plus, declared.policy.Policy.Policy, Terms.Term, Terms.More, Terms.terms_of}
 use Rattle.rls_catalog.specs.State.{State}
 use Rattle.rls_source.specs.Askings.{Asking, followed_by}
-use Rattle.rls_evaluation.specs.{Alone.with_item, Keys.or_else, Holding.Tells, Environments.Environment, Environments.joined, Environments.number_or_null, Gathering.gathered, Gathering.with_row}
+use Rattle.rls_evaluation.specs.{Alone.with_item, Keys.or_else, Holding.Evaluates, Environments.Environment, Environments.joined, Environments.number_or_null, Gathering.gathered, Gathering.with_row}
 use Rattle.rls_evaluation.specs.Eval.{Shows, value_of, together, item_or, sum_of, sum_from}
 use Rattle.rls_evaluation.proofs.Telling.{Leads, leads_end, turn, tells_on, drop_at}
 
@@ -68,34 +68,34 @@ terms_left es i e h is = simp unary_clauses (terms_from es i e h is)
 
 -- a turn over parts, whose truths are put together by AND or by OR
 pub terms_turn : (op : Truth → Truth → Truth) (again : (a b c : Truth) → op (op a b) c ≡ op a (op b c)) (truth : Value → Truth) (none : Truth) (sees : Shows) (env : Environment)
-    (es : List Term) (i : ℕ) (e : Term) (v : Value) (so_far next : Truth) (now mid after : State) (old notes new : List Object)
+    (es : List Term) (i : ℕ) (e : Term) (v : Value) (so_far next : Truth) (now mid after : State) (old read_set new : List Object)
     → i < length es → e ≡ get_or es i e → next ≡ op so_far (truth v) → mid ≡ now
-    → Leads (together (λ v rest. op (truth v) rest) none (terms_of es) sees env) (together (λ v rest. op (truth v) rest) none (terms_of (drop i es)) sees env) (op so_far) now old notes
-    → Tells (value_of e sees env) mid after notes new (Ok v)
+    → Leads (together (λ v rest. op (truth v) rest) none (terms_of es) sees env) (together (λ v rest. op (truth v) rest) none (terms_of (drop i es)) sees env) (op so_far) now old read_set
+    → Evaluates (value_of e sees env) mid after read_set new (Ok v)
     → Leads (together (λ v rest. op (truth v) rest) none (terms_of es) sees env) (together (λ v rest. op (truth v) rest) none (terms_of (drop (i + 1) es)) sees env) (op next) now old new
-terms_turn op again truth none sees env es i e v so_far next now mid after old notes new below is step same leads told =
+terms_turn op again truth none sees env es i e v so_far next now mid after old read_set new below is step same leads told =
     turn (together (λ v rest. op (truth v) rest) none (terms_of es) sees env) (op so_far) (op next) (λ v rest. op (truth v) rest)
     (together (λ v rest. op (truth v) rest) none (terms_of (drop i es)) sees env) (value_of e sees env) (together (λ v rest. op (truth v) rest) none (terms_of (drop (i + 1) es)) sees env)
-    now mid after old notes new v (ap (λ ts. together (λ v rest. op (truth v) rest) none ts sees env) (terms_left es i e below is))
+    now mid after old read_set new v (ap (λ ts. together (λ v rest. op (truth v) rest) none ts sees env) (terms_left es i e below is))
     (λ rest. ap (λ t. op t rest) step ∙ again so_far (truth v) rest) same leads told
 
 -- the end of the parts
-pub terms_end : (op : Truth → Truth → Truth) (truth : Value → Truth) (none : Truth) (sees : Shows) (env : Environment) (es : List Term) (i : ℕ) (so_far : Truth) (now after : State) (old notes : List Object)
+pub terms_end : (op : Truth → Truth → Truth) (truth : Value → Truth) (none : Truth) (sees : Shows) (env : Environment) (es : List Term) (i : ℕ) (so_far : Truth) (now after : State) (old read_set : List Object)
     → length es ≤ i → so_far ≡ op so_far none → after ≡ now
-    → Leads (together (λ v rest. op (truth v) rest) none (terms_of es) sees env) (together (λ v rest. op (truth v) rest) none (terms_of (drop i es)) sees env) (op so_far) now old notes
-    → Tells (together (λ v rest. op (truth v) rest) none (terms_of es) sees env) now after old notes (Ok so_far)
-terms_end op truth none sees env es i so_far now after old notes past is same leads =
-    leads_end (together (λ v rest. op (truth v) rest) none (terms_of es) sees env) (together (λ v rest. op (truth v) rest) none (terms_of (drop i es)) sees env) (op so_far) now after old notes none so_far
+    → Leads (together (λ v rest. op (truth v) rest) none (terms_of es) sees env) (together (λ v rest. op (truth v) rest) none (terms_of (drop i es)) sees env) (op so_far) now old read_set
+    → Evaluates (together (λ v rest. op (truth v) rest) none (terms_of es) sees env) now after old read_set (Ok so_far)
+terms_end op truth none sees env es i so_far now after old read_set past is same leads =
+    leads_end (together (λ v rest. op (truth v) rest) none (terms_of es) sees env) (together (λ v rest. op (truth v) rest) none (terms_of (drop i es)) sees env) (op so_far) now after old read_set none so_far
     (ap (λ ts. together (λ v rest. op (truth v) rest) none (terms_of ts) sees env) (drop_all i es past)) is same leads
 
 -- a turn over a list
 pub rows_turn : {A B R V : Type 0} (whole : Asking V) (join next : R → V) (put : A → B → R → R) (none : R) (ask : A → Asking B) (xs : List A) (i : ℕ) (x : A) (y : B)
-    (now mid after : State) (old notes new : List Object)
+    (now mid after : State) (old read_set new : List Object)
     → i < length xs → x ≡ get_or xs i x → ((rest : R) → next rest ≡ join (put x y rest)) → mid ≡ now
-    → Leads whole (gathered put none ask (drop i xs)) join now old notes → Tells (ask x) mid after notes new (Ok y)
+    → Leads whole (gathered put none ask (drop i xs)) join now old read_set → Evaluates (ask x) mid after read_set new (Ok y)
     → Leads whole (gathered put none ask (drop (i + 1) xs)) next now old new
-rows_turn whole join next put none ask xs i x y now mid after old notes new below is step same leads told =
-    turn whole join next (put x) (gathered put none ask (drop i xs)) (ask x) (gathered put none ask (drop (i + 1) xs)) now mid after old notes new y
+rows_turn whole join next put none ask xs i x y now mid after old read_set new below is step same leads told =
+    turn whole join next (put x) (gathered put none ask (drop i xs)) (ask x) (gathered put none ask (drop (i + 1) xs)) now mid after old read_set new y
     (ap (gathered put none ask) (drop_at xs i x below is)) step same leads told
 
 -- the first item stays the first
@@ -123,24 +123,24 @@ behind_first x xs = take_all (length (x ∷ xs) - 1) xs (omega arith)
 
 -- the first part of a sum, then the others
 pub sum_told : (sees : Shows) (env : Environment) (signs : List Sign) (parts : List Term) (e : Term) (before mid after : State) (old between new : List Object) (v number : Value) (result : Result Value AllocError)
-    → 1 ≤ length parts → e ≡ get_or parts 0 e → Tells (value_of e sees env) before mid old between (Ok v) → number ≡ number_or_null v
-    → Tells (sum_from number signs (terms_of (take (length parts - 1) (drop 1 parts))) sees env) mid after between new result → Tells (sum_of signs (terms_of parts) sees env) before after old new result
+    → 1 ≤ length parts → e ≡ get_or parts 0 e → Evaluates (value_of e sees env) before mid old between (Ok v) → number ≡ number_or_null v
+    → Evaluates (sum_from number signs (terms_of (take (length parts - 1) (drop 1 parts))) sees env) mid after between new result → Evaluates (sum_of signs (terms_of parts) sees env) before after old new result
 sum_told sees env signs [] e before mid after old between new v number result some is first same rest = absurd (omega (arith, some))
 sum_told sees env signs (x ∷ xs) e before mid after old between new v number result some is first same rest =
     tells_on (value_of x sees env) (λ v. sum_from (number_or_null v) signs (terms_of xs) sees env) before mid after old between new v result
-    (subst (λ e. Tells (value_of e sees env) before mid old between (Ok v)) is first)
-    (subst (λ es. Tells (sum_from (number_or_null v) signs (terms_of es) sees env) mid after between new result) (behind_first x xs)
-    (subst (λ n. Tells (sum_from n signs (terms_of (take (length (x ∷ xs) - 1) xs)) sees env) mid after between new result) same rest))
+    (subst (λ e. Evaluates (value_of e sees env) before mid old between (Ok v)) is first)
+    (subst (λ es. Evaluates (sum_from (number_or_null v) signs (terms_of es) sees env) mid after between new result) (behind_first x xs)
+    (subst (λ n. Evaluates (sum_from n signs (terms_of (take (length (x ∷ xs) - 1) xs)) sees env) mid after between new result) same rest))
 
 -- one part more of a sum, then the others
 pub sum_on : (sees : Shows) (env : Environment) (so_far : Value) (signs : List Sign) (parts : List Term) (e : Term) (before mid after : State) (old between new : List Object) (v next : Value) (result : Result Value AllocError)
-    → 1 ≤ length signs → 1 ≤ length parts → e ≡ get_or parts 0 e → Tells (value_of e sees env) before mid old between (Ok v) → next ≡ joined (slice_index_or signs 0 Plus) so_far v
-    → Tells (sum_from next (take (length signs - 1) (drop 1 signs)) (terms_of (take (length parts - 1) (drop 1 parts))) sees env) mid after between new result → Tells (sum_from so_far signs (terms_of parts) sees env) before after old new result
+    → 1 ≤ length signs → 1 ≤ length parts → e ≡ get_or parts 0 e → Evaluates (value_of e sees env) before mid old between (Ok v) → next ≡ joined (slice_index_or signs 0 Plus) so_far v
+    → Evaluates (sum_from next (take (length signs - 1) (drop 1 signs)) (terms_of (take (length parts - 1) (drop 1 parts))) sees env) mid after between new result → Evaluates (sum_from so_far signs (terms_of parts) sees env) before after old new result
 sum_on sees env so_far [] parts e before mid after old between new v next result some many is first same rest = absurd (omega (arith, some))
 sum_on sees env so_far (y ∷ ys) [] e before mid after old between new v next result some many is first same rest = absurd (omega (arith, many))
 sum_on sees env so_far (y ∷ ys) (x ∷ xs) e before mid after old between new v next result some many is first same rest =
     tells_on (value_of x sees env) (λ v. sum_from (joined y so_far v) ys (terms_of xs) sees env) before mid after old between new v result
-    (subst (λ e. Tells (value_of e sees env) before mid old between (Ok v)) is first)
-    (subst (λ ys. Tells (sum_from (joined y so_far v) ys (terms_of xs) sees env) mid after between new result) (behind_first y ys)
-    (subst (λ es. Tells (sum_from (joined y so_far v) (take (length (y ∷ ys) - 1) ys) (terms_of es) sees env) mid after between new result) (behind_first x xs)
-    (subst (λ n. Tells (sum_from n (take (length (y ∷ ys) - 1) ys) (terms_of (take (length (x ∷ xs) - 1) xs)) sees env) mid after between new result) same rest)))
+    (subst (λ e. Evaluates (value_of e sees env) before mid old between (Ok v)) is first)
+    (subst (λ ys. Evaluates (sum_from (joined y so_far v) ys (terms_of xs) sees env) mid after between new result) (behind_first y ys)
+    (subst (λ es. Evaluates (sum_from (joined y so_far v) (take (length (y ∷ ys) - 1) ys) (terms_of es) sees env) mid after between new result) (behind_first x xs)
+    (subst (λ n. Evaluates (sum_from n (take (length (y ∷ ys) - 1) ys) (terms_of (take (length (x ∷ xs) - 1) xs)) sees env) mid after between new result) same rest)))

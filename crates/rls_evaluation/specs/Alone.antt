@@ -5,7 +5,7 @@ use Rattle.rls_value.specs.declared.truth.Truth.{Truth}
 use Rattle.rls_value.specs.declared.truth.Truth.TheVariants.{False}
 use Rattle.rls_value.specs.Truths.{disjunction_of}
 use Rattle.rls_value.specs.Values.{equal_values}
-use Rattle.rls_expr.specs.Terms.{Term, Terms, Query, Literal, Column, Place, CurrentUser, Compare, And, Or, Not, IsNull, IsNotNull, Among, NotAmong, Exists, Within, NotWithin, Scalar, Sum, End, More, Select}
+use Rattle.rls_expr.specs.Terms.{Term, Terms, Query, Literal, Column, Var, CurrentUser, Compare, And, Or, Not, IsNull, IsNotNull, InList, NotInList, Exists, InSubquery, NotInSubquery, Scalar, Sum, End, More, Select}
 use Rattle.rls_source.specs.Askings.{Asking, followed_by}
 use Rattle.rls_evaluation.specs.Environments.{Environment, inside}
 use Rattle.rls_evaluation.specs.Gathering.{gathered}
@@ -17,7 +17,7 @@ abbrev mutual
   pub stays_within : ℕ → Term → Bool
   stays_within tables (Literal v) = true
   stays_within tables (Column name) = true
-  stays_within tables (Place at) = nat_lt at.out tables
+  stays_within tables (Var at) = nat_lt at.level tables
   stays_within tables CurrentUser = true
   stays_within tables (Compare how a b) = stays_within tables a && stays_within tables b
   stays_within tables (And ts) = stay_within tables ts
@@ -25,11 +25,11 @@ abbrev mutual
   stays_within tables (Not t) = stays_within tables t
   stays_within tables (IsNull t) = stays_within tables t
   stays_within tables (IsNotNull t) = stays_within tables t
-  stays_within tables (Among t ts) = stays_within tables t && stay_within tables ts
-  stays_within tables (NotAmong t ts) = stays_within tables t && stay_within tables ts
+  stays_within tables (InList t ts) = stays_within tables t && stay_within tables ts
+  stays_within tables (NotInList t ts) = stays_within tables t && stay_within tables ts
   stays_within tables (Exists q) = query_within tables q
-  stays_within tables (Within t q) = stays_within tables t && query_within tables q
-  stays_within tables (NotWithin t q) = stays_within tables t && query_within tables q
+  stays_within tables (InSubquery t q) = stays_within tables t && query_within tables q
+  stays_within tables (NotInSubquery t q) = stays_within tables t && query_within tables q
   stays_within tables (Scalar q) = query_within tables q
   stays_within tables (Sum signs ts) = false
 

@@ -7,7 +7,7 @@ use Rattle.rls_expr.specs.Terms.{Term}
 use Rattle.rls_catalog.specs.State.{State}
 use Rattle.rls_catalog.specs.Verdict.{is_such, lesser, verdict_by}
 use Rattle.rls_source.specs.Readings.{unread}
-use Rattle.rls_evaluation.specs.declared.fence.Guard.TheVariants.{Policies}
+use Rattle.rls_evaluation.specs.declared.relation.SecurityQuals.TheVariants.{Policies}
 use Rattle.rls_evaluation.specs.Eval.{Shows}
 use Rattle.rls_evaluation.specs.Showing.{verdict_on}
 

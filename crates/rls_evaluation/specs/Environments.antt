@@ -24,9 +24,9 @@ alone user = record { user = user; rows = [] }
 abbrev pub inside : List Value → Environment → Environment
 inside row env = record { user = env.user; rows = row ∷ env.rows }
 
--- the row that lies so many rows out
+-- the row so many levels up
 abbrev pub row_at : List (List Value) → ℕ → List Value
-row_at rows out = unwrap_or (slice_get rows out) []
+row_at rows level = unwrap_or (slice_get rows level) []
 
 -- each operator by `=`, `<` and NOT
 abbrev pub compared : Comparison → Value → Value → Truth

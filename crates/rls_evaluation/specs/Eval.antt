@@ -1,4 +1,4 @@
--- The value of a placed term (PostgreSQL manual, 9.1, 9.2, 9.23, 9.24 and 4.2.11): a comparison with null is null, AND, OR and
+-- The value of a resolved term (PostgreSQL manual, 9.1, 9.2, 9.23, 9.24 and 4.2.11): a comparison with null is null, AND, OR and
 -- NOT are Kleene's, IN is the OR of equalities, a sum is a whole number without a range, and a subquery has one row more
 -- in scope. Each part is evaluated.
 use Rattle.std.specs.Prelude.{ℕ, List, [], ◌∷◌, Bool, true, false, ◌||◌, not, Option, Some, None, Ok}
@@ -8,7 +8,7 @@ use Rattle.rls_value.specs.declared.truth.Truth.TheVariants.{True, False}
 use Rattle.rls_value.specs.Truths.{conjunction_of, disjunction_of, negation_of, is_true}
 use Rattle.rls_value.specs.Values.{equal_values, value_of_truth, truth_in, is_null, value_at}
 use Rattle.rls_expr.specs.declared.expr.Sign.{Sign}
-use Rattle.rls_expr.specs.Terms.{Term, Terms, Query, Literal, Column, Place, CurrentUser, Compare, And, Or, Not, IsNull, IsNotNull, Among, NotAmong, Exists, Within, NotWithin, Scalar, Sum, End, More, Select}
+use Rattle.rls_expr.specs.Terms.{Term, Terms, Query, Literal, Column, Var, CurrentUser, Compare, And, Or, Not, IsNull, IsNotNull, InList, NotInList, Exists, InSubquery, NotInSubquery, Scalar, Sum, End, More, Select}
 use Rattle.rls_source.specs.Askings.{Asking, known, asked_if, followed_by}
 use Rattle.rls_evaluation.specs.Environments.{Environment, inside, row_at, compared, joined, number_or_null}
 use Rattle.rls_evaluation.specs.{Gathering.gathered, Keys.key_of}
@@ -69,11 +69,11 @@ abbrev pub turned_value : Bool → Asking Truth → Asking Value
 turned_value is_negated asking = followed_by asking (λ truth. known (Ok (value_of_truth (turned is_negated truth))))
 
 abbrev mutual
-  -- no placed term has a column by its name
+  -- no resolved term has a column by its name
   pub value_of : Term → Shows → Environment → Asking Value
   value_of (Literal v) sees env = known (Ok v)
   value_of (Column name) sees env = known (Ok Null)
-  value_of (Place at) sees env = known (Ok (value_at (row_at env.rows at.out) at.column))
+  value_of (Var at) sees env = known (Ok (value_at (row_at env.rows at.level) at.column))
   value_of CurrentUser sees env = known (Ok (Text env.user))
   value_of (Compare how a b) sees env = followed_by (value_of a sees env) (λ x. followed_by (value_of b sees env) (λ y. known (Ok (value_of_truth (compared how x y)))))
   value_of (And ts) sees env = as_value (together and_value True ts sees env)
@@ -81,11 +81,11 @@ abbrev mutual
   value_of (Not t) sees env = followed_by (value_of t sees env) (λ x. known (Ok (value_of_truth (negation_of (truth_in x)))))
   value_of (IsNull t) sees env = followed_by (value_of t sees env) (λ x. known (Ok (Flag (is_null x))))
   value_of (IsNotNull t) sees env = followed_by (value_of t sees env) (λ x. known (Ok (Flag (not (is_null x)))))
-  value_of (Among t ts) sees env = followed_by (value_of t sees env) (λ x. as_value (together (or_equal x) False ts sees env))
-  value_of (NotAmong t ts) sees env = followed_by (value_of t sees env) (λ x. negated (together (or_equal x) False ts sees env))
+  value_of (InList t ts) sees env = followed_by (value_of t sees env) (λ x. as_value (together (or_equal x) False ts sees env))
+  value_of (NotInList t ts) sees env = followed_by (value_of t sees env) (λ x. negated (together (or_equal x) False ts sees env))
   value_of (Exists q) sees env = followed_by (has_row q sees env) (λ is. known (Ok (Flag is)))
-  value_of (Within t q) sees env = followed_by (value_of t sees env) (λ x. as_value (among_items x q sees env))
-  value_of (NotWithin t q) sees env = followed_by (value_of t sees env) (λ x. negated (among_items x q sees env))
+  value_of (InSubquery t q) sees env = followed_by (value_of t sees env) (λ x. as_value (among_items x q sees env))
+  value_of (NotInSubquery t q) sees env = followed_by (value_of t sees env) (λ x. negated (among_items x q sees env))
   value_of (Scalar q) sees env = first_item q sees env
   value_of (Sum signs ts) sees env = sum_of signs ts sees env
 

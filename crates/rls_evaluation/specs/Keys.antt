@@ -5,24 +5,24 @@ use Rattle.rls_value.specs.declared.value.Value.{Value}
 use Rattle.rls_value.specs.declared.value.Value.TheVariants.{Text}
 use Rattle.rls_value.specs.Values.{value_at}
 use Rattle.rls_expr.specs.declared.expr.Comparison.TheVariants.{Equal}
-use Rattle.rls_expr.specs.Terms.{Term, Terms, Literal, Place, CurrentUser, Compare, And, End, More}
+use Rattle.rls_expr.specs.Terms.{Term, Terms, Literal, Var, CurrentUser, Compare, And, End, More}
 use Rattle.rls_evaluation.specs.Environments.{Environment, row_at}
 
 -- the value of a column further out, seen from inside the subquery; none of its own
 abbrev pub outer_value : ℕ → ℕ → Environment → Option Value
 outer_value zero column env = None
-outer_value (suc out) column env = Some (value_at (row_at env.rows out) column)
+outer_value (suc level) column env = Some (value_at (row_at env.rows level) column)
 
 -- a literal, the current role, or a column further out
 abbrev pub known_value : Term → Environment → Option Value
 known_value (Literal v) env = Some v
-known_value (Place at) env = outer_value at.out at.column env
+known_value (Var at) env = outer_value at.level at.column env
 known_value CurrentUser env = Some (Text env.user)
 known_value _ env = None
 
 -- it is the column at that place of the subquery's own table
 abbrev pub is_column : ℕ → Term → Bool
-is_column column (Place at) = nat_eq at.out 0 && nat_eq at.column column
+is_column column (Var at) = nat_eq at.level 0 && nat_eq at.column column
 is_column column _ = false
 
 -- what the one side is known to be, where the other is the column

@@ -12,5 +12,5 @@ pub mod Plain
 pub mod Tableless
 pub mod Wides
 pub mod ValueSets
-pub mod Answering
+pub mod CachedSubplans
 pub mod Holding

@@ -6,13 +6,13 @@ use Rattle.rls_expr.specs.Terms.{Term}
 use Rattle.rls_catalog.specs.State.{State}
 use Rattle.rls_source.specs.Readings.{unread}
 use Rattle.rls_evaluation.specs.declared.plain.Plain.{Plain}
-use Rattle.rls_evaluation.specs.declared.plain.Plain.TheVariants.{Lent, Name}
+use Rattle.rls_evaluation.specs.declared.plain.Plain.TheVariants.{BorrowedRow, Name}
 use Rattle.rls_evaluation.specs.Environments.{Environment}
 use Rattle.rls_evaluation.specs.Eval.{Shows, value_of}
 
 -- the value, wherever it stands
 abbrev pub plain_value : Plain → Value
-plain_value (Lent v) = v.now
+plain_value (BorrowedRow v) = v.now
 plain_value (Name t) = Text t.now
 
 -- the term has this value whatever tables show, and nothing is read for it

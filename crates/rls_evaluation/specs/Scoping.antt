@@ -5,8 +5,8 @@ use Rattle.rls_value.specs.declared.value.Value.{Value}
 use Rattle.rls_value.specs.declared.value.Value.TheVariants as v
 use Rattle.rls_evaluation.specs.declared.scope.Scoped.{Scoped, Nothing, Over'}
 use Rattle.rls_evaluation.specs.declared.scope.Env.{Env}
-use Rattle.rls_evaluation.specs.declared.held.Held.{Held}
-use Rattle.rls_evaluation.specs.declared.held.Held.TheVariants.{Null, Int, Text, Own, Bool}
+use Rattle.rls_evaluation.specs.declared.datum.Datum.{Datum}
+use Rattle.rls_evaluation.specs.declared.datum.Datum.TheVariants.{Null, Int, Text, Own, Bool}
 use Rattle.rls_evaluation.specs.Environments.{Environment}
 
 -- the rows in scope
@@ -19,36 +19,36 @@ abbrev pub env_of : Env → Environment
 env_of env = record { user = env.user.now; rows = rows_in env.rows }
 
 -- the value, wherever its text stands
-abbrev pub held_value : Held → Value
-held_value Null = v.Null
-held_value (Int n) = v.Int n
-held_value (Text t) = v.Text t.now
-held_value (Own t) = v.Text t
-held_value (Bool b) = v.Bool b
+abbrev pub datum_value : Datum → Value
+datum_value Null = v.Null
+datum_value (Int n) = v.Int n
+datum_value (Text t) = v.Text t.now
+datum_value (Own t) = v.Text t
+datum_value (Bool b) = v.Bool b
 
 -- the same, if there is one
-abbrev pub maybe_held : Option Held → Option Value
-maybe_held None = None
-maybe_held (Some held) = Some (held_value held)
+abbrev pub maybe_datum : Option Datum → Option Value
+maybe_datum None = None
+maybe_datum (Some datum) = Some (datum_value datum)
 
 -- the same of a call that may fail
-abbrev pub held_now : {E : Type 0} → Result Held E → Result Value E
-held_now (Ok held) = Ok (held_value held)
-held_now (Err refused) = Err refused
+abbrev pub datum_now : {E : Type 0} → Result Datum E → Result Value E
+datum_now (Ok datum) = Ok (datum_value datum)
+datum_now (Err refused) = Err refused
 
 -- the text of a value, if it is one
 abbrev pub text_in : Value → Option (List ℕ)
 text_in (v.Text t) = Some t
 text_in _ = None
 
--- a text that is lent, if there is one
+-- a text that is borrowed, if there is one
 abbrev pub text_now : Option (Bor (List ℕ)) → Option (List ℕ)
 text_now None = None
 text_now (Some text) = Some text.now
 
 -- a value that may be missing, of a call that may fail
-abbrev pub maybe_now : {E : Type 0} → Result (Option Held) E → Result (Option Value) E
-maybe_now (Ok held) = Ok (maybe_held held)
+abbrev pub maybe_now : {E : Type 0} → Result (Option Datum) E → Result (Option Value) E
+maybe_now (Ok datum) = Ok (maybe_datum datum)
 maybe_now (Err refused) = Err refused
 
 -- a number, or null

@@ -60,29 +60,29 @@ fn stays_within(expr: &Expr, tables: &Inside) -> bool
 {
     match expr.node() {
         Node::Literal(_) | Node::Column(_) | Node::CurrentUser => true,
-        Node::Place(place) => is_inside(place.out, tables),
+        Node::Var(var) => is_inside(var.level, tables),
         Node::Compare(_, left, right) => stays_within(left, tables) && stays_within(right, tables),
         Node::And(parts) | Node::Or(parts) => stay_within(parts, tables),
         Node::Not(operand) | Node::IsNull(operand) | Node::IsNotNull(operand) => {
             stays_within(operand, tables)
         }
-        Node::Among(left, list) | Node::NotAmong(left, list) => {
+        Node::InList(left, list) | Node::NotInList(left, list) => {
             stays_within(left, tables) && stay_within(list, tables)
         }
         Node::Exists(query) | Node::Scalar(query) => query_within(query, tables),
-        Node::Within(left, query) | Node::NotWithin(left, query) => {
+        Node::InSubquery(left, query) | Node::NotInSubquery(left, query) => {
             stays_within(left, tables) && query_within(query, tables)
         }
         Node::Sum(_, _) => false,
     }
 }
 
-/// Whether the table that lies so many tables out is one of them.
-fn is_inside(out: usize, tables: &Inside) -> bool
-    ensures { result ≡ nat_lt out (tables_of tables.now) }
+/// Whether the table so many levels up is one of them.
+fn is_inside(level: usize, tables: &Inside) -> bool
+    ensures { result ≡ nat_lt level (tables_of tables.now) }
 {
     match tables {
         Inside::Nothing => false,
-        Inside::Table(outer) => out == 0 || is_inside(out - 1, outer),
+        Inside::Table(outer) => level == 0 || is_inside(level - 1, outer),
     }
 }

@@ -10,7 +10,7 @@ use crate::scope::{Env, Scoped};
 use rls_catalog::Verdict;
 use rls_expr::{Expr, Policy};
 use rls_role::lesser_name;
-use rls_value::{Loan, Name, Row, Truth};
+use rls_value::{Name, Reference, Row, Truth};
 use std::alloc::AllocError;
 
 /// The policies that decide on a row: by name the first permissive one that is true, and the first restrictive one that
@@ -23,7 +23,7 @@ pub struct Deciding<'c> {
 
 /// The policies that decide on the row, which alone is in scope; none where a condition isn't told where it stands.
 pub fn deciding_on<'a, 'c>(
-    conditions: &'a [(Loan<'c, Policy>, Expr)],
+    conditions: &'a [(Reference<'c, Policy>, Expr)],
     user: &'a Name,
     row: &'a Row,
 ) -> Option<Deciding<'c>>

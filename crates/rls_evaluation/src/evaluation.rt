@@ -1,29 +1,31 @@
-//! The value of a placed expression, with its subqueries.
+//! The value of a resolved expression, with its subqueries.
 
 ghost use Rattle.std.specs.Prelude.{◌≡◌, [], ◌++◌, ◌||◌, false, true, Some, None, drop, IfOk, OnOk, if◌then◌else◌};
 ghost use Rattle.rls_value.specs.{declared.truth.Truth.TheVariants.False, declared.value.Value.TheVariants.Null, Truths.disjunction_of};
 ghost use Rattle.rls_expr.specs.Terms as t;
 ghost use Rattle.rls_expr.specs.{Terms.maybe_term, Terms.terms_of, ExprTerms.query_of};
-ghost use Rattle.rls_evaluation.specs.{Alone.is_alone, Alone.items_seen, Alone.items_for, Alone.asked_query, Alone.with_item, Scoping.env_of, Scoping.held_value, Scoping.held_now, Scoping.maybe_held, Scoping.maybe_now, Scoping.number_value, Holding.Holds, Holding.Tells, Holding.shown_at, Holding.object_for, Holding.asked_of, Holding.is_key, Holding.put_in, Answering.Comes, Environments.inside, Keys.or_else, Gathering.gathered, Gathering.kept, Gathering.with_row, Showing.shows, Showing.judgements_on, Showing.is_allowed, Eval.value_of, Eval.together, Eval.or_equal, Eval.among_items, Eval.item_equals, Eval.item_of, Eval.item_or, Eval.meets, Eval.or_item, Eval.ranged_over, Eval.turned, Eval.turned_value};
+ghost use Rattle.rls_evaluation.specs.{Alone.is_alone, Alone.items_seen, Alone.items_for, Alone.asked_query, Alone.with_item, Scoping.env_of, Scoping.datum_value, Scoping.datum_now, Scoping.maybe_datum, Scoping.maybe_now, Scoping.number_value, Holding.Holds, Holding.Evaluates, Holding.shown_at, Holding.object_for, Holding.asked_of, Holding.is_key, Holding.put_in, CachedSubplans.Comes, Environments.inside, Keys.or_else, Gathering.gathered, Gathering.kept, Gathering.with_row, Showing.shows, Showing.judgements_on, Showing.is_allowed, Eval.value_of, Eval.together, Eval.or_equal, Eval.among_items, Eval.item_equals, Eval.item_of, Eval.item_or, Eval.meets, Eval.or_item, Eval.ranged_over, Eval.turned, Eval.turned_value};
 ghost use Rattle.rls_source.specs.{Askings.followed_by, Footprints.with_object};
 ghost use Rattle.rls_evaluation.specs.Eval as means;
 ghost use Rattle.rls_evaluation.specs.Showing as spec;
 
 use crate::alone::is_alone;
+use crate::datum::{Datum, compare, datum_number, datum_of, datum_truth, equals, joined};
 use crate::deciding::deciding_on;
-use crate::fence::{Guard, View, allows, is_exempt, place_of};
-use crate::held::{Held, compare, equals, held_number, held_of, held_truth, joined};
+use crate::execution_state::{
+    ExecutionState, Rows, found, keep_subplan, place_of_subplan, remembered,
+};
 use crate::keys::{has_null, key_of};
-use crate::memo::{Rows, Work, found, keep_answer, place_of_answer, remembered};
-use crate::noted::Noted;
 use crate::plain::plain_condition;
+use crate::read_set::ReadSet;
+use crate::relation::{SecurityQuals, VisibleRelations, allows, is_exempt, place_of};
 use crate::scope::{Env, Scoped, column_value};
 use crate::tables::Tables;
 use crate::value_set::ValueSet;
 use rls_catalog::Verdict;
 use rls_expr::{Comparison, Expr, Node, Policy, Sign, Subquery};
 use rls_policy::{Judgement, combine};
-use rls_value::{Items, Loan, Name, Object, Row, Truth, Value};
+use rls_value::{Items, Name, Object, Reference, Row, Truth, Value};
 use std::alloc::{AllocError, Global};
 
 /// The value of the expression. Nothing is cut short: every part is evaluated.
@@ -31,39 +33,43 @@ use std::alloc::{AllocError, Global};
 pub fn eval<'a, 'c, S: Tables>(
     alloc: Global,
     source: &mut S,
-    work: &mut Work,
-    view: View<'a, 'c>,
+    execution: &mut ExecutionState,
+    visible: VisibleRelations<'a, 'c>,
     expr: &'a Expr,
     env: &Env<'a>,
-) -> Result<Held<'a>, AllocError>
-    requires { Holds view.fences.now env.now.user.now (S.state source.old) work.old }
-    ensures tells { Tells (value_of expr.now (shows (drop view.entry.from view.entry.fences.now) env.now.user.now) (env_of env.now)) (S.state source.old) (S.state source.new) work.old.notes work.new.notes (held_now result) }
-    ensures holds { OnOk result (Holds view.entry.fences.now env.now.user.now (S.state source.new) work.new) }
+) -> Result<Datum<'a>, AllocError>
+    requires { Holds visible.relations.now env.now.user.now (S.state source.old) execution.old }
+    ensures tells { Evaluates (value_of expr.now (shows (drop visible.entry.from visible.entry.relations.now) env.now.user.now) (env_of env.now)) (S.state source.old) (S.state source.new) execution.old.read_set execution.new.read_set (datum_now result) }
+    ensures holds { OnOk result (Holds visible.entry.relations.now env.now.user.now (S.state source.new) execution.new) }
 {
     match expr.node() {
-        Node::Literal(value) => Ok(held_of(value)),
-        Node::Column(_) => Ok(Held::Null),
-        Node::Place(place) => Ok(column_value(&env.rows, place.out, place.column)),
-        Node::CurrentUser => Ok(Held::Text(env.user.as_str())),
+        Node::Literal(value) => Ok(datum_of(value)),
+        Node::Column(_) => Ok(Datum::Null),
+        Node::Var(var) => Ok(column_value(&env.rows, var.level, var.column)),
+        Node::CurrentUser => Ok(Datum::Text(env.user.as_str())),
         Node::Compare(how, left, right) => {
-            comparison(alloc, source, work, view, *how, left, right, env)
+            comparison(alloc, source, execution, visible, *how, left, right, env)
         }
-        Node::And(parts) => conjunction(alloc, source, work, view, parts, env),
-        Node::Or(parts) => disjunction(alloc, source, work, view, parts, env),
-        Node::Not(operand) => negation(alloc, source, work, view, operand, env),
-        Node::IsNull(operand) => null_test(alloc, source, work, view, operand, env),
-        Node::IsNotNull(operand) => not_null_test(alloc, source, work, view, operand, env),
-        Node::Among(operand, list) => among(alloc, source, work, view, operand, list, false, env),
-        Node::NotAmong(operand, list) => among(alloc, source, work, view, operand, list, true, env),
-        Node::Exists(query) => exists(alloc, source, work, view, query, env),
-        Node::Within(operand, query) => within(
-            alloc, source, work, view, operand, query, false, env,
+        Node::And(parts) => conjunction(alloc, source, execution, visible, parts, env),
+        Node::Or(parts) => disjunction(alloc, source, execution, visible, parts, env),
+        Node::Not(operand) => negation(alloc, source, execution, visible, operand, env),
+        Node::IsNull(operand) => null_test(alloc, source, execution, visible, operand, env),
+        Node::IsNotNull(operand) => not_null_test(alloc, source, execution, visible, operand, env),
+        Node::InList(operand, list) => among(
+            alloc, source, execution, visible, operand, list, false, env,
         ),
-        Node::NotWithin(operand, query) => within(
-            alloc, source, work, view, operand, query, true, env,
+        Node::NotInList(operand, list) => among(
+            alloc, source, execution, visible, operand, list, true, env,
         ),
-        Node::Scalar(query) => scalar(alloc, source, work, view, query, env),
-        Node::Sum(signs, parts) => sum(alloc, source, work, view, signs, parts, env),
+        Node::Exists(query) => exists(alloc, source, execution, visible, query, env),
+        Node::InSubquery(operand, query) => within(
+            alloc, source, execution, visible, operand, query, false, env,
+        ),
+        Node::NotInSubquery(operand, query) => within(
+            alloc, source, execution, visible, operand, query, true, env,
+        ),
+        Node::Scalar(query) => scalar(alloc, source, execution, visible, query, env),
+        Node::Sum(signs, parts) => sum(alloc, source, execution, visible, signs, parts, env),
     }
 }
 
@@ -72,18 +78,18 @@ pub fn eval<'a, 'c, S: Tables>(
 fn condition_value<'a, 'c, S: Tables>(
     alloc: Global,
     source: &mut S,
-    work: &mut Work,
-    view: View<'a, 'c>,
+    execution: &mut ExecutionState,
+    visible: VisibleRelations<'a, 'c>,
     condition: &'a Expr,
     env: &Env<'a>,
-) -> Result<Held<'a>, AllocError>
-    requires { Holds view.fences.now env.now.user.now (S.state source.old) work.old }
-    ensures tells { Tells (value_of condition.now (shows (drop view.entry.from view.entry.fences.now) env.now.user.now) (env_of env.now)) (S.state source.old) (S.state source.new) work.old.notes work.new.notes (held_now result) }
-    ensures holds { OnOk result (Holds view.entry.fences.now env.now.user.now (S.state source.new) work.new) }
+) -> Result<Datum<'a>, AllocError>
+    requires { Holds visible.relations.now env.now.user.now (S.state source.old) execution.old }
+    ensures tells { Evaluates (value_of condition.now (shows (drop visible.entry.from visible.entry.relations.now) env.now.user.now) (env_of env.now)) (S.state source.old) (S.state source.new) execution.old.read_set execution.new.read_set (datum_now result) }
+    ensures holds { OnOk result (Holds visible.entry.relations.now env.now.user.now (S.state source.new) execution.new) }
 {
     match plain_condition(condition, env) {
-        Some(truth) => Ok(held_truth(truth)),
-        None => eval(alloc, source, work, view, condition, env),
+        Some(truth) => Ok(datum_truth(truth)),
+        None => eval(alloc, source, execution, visible, condition, env),
     }
 }
 
@@ -92,20 +98,20 @@ fn condition_value<'a, 'c, S: Tables>(
 fn comparison<'a, 'c, S: Tables>(
     alloc: Global,
     source: &mut S,
-    work: &mut Work,
-    view: View<'a, 'c>,
+    execution: &mut ExecutionState,
+    visible: VisibleRelations<'a, 'c>,
     how: Comparison,
     left: &'a Expr,
     right: &'a Expr,
     env: &Env<'a>,
-) -> Result<Held<'a>, AllocError>
-    requires { Holds view.fences.now env.now.user.now (S.state source.old) work.old }
-    ensures tells { Tells (value_of (t.Compare how left.now right.now) (shows (drop view.entry.from view.entry.fences.now) env.now.user.now) (env_of env.now)) (S.state source.old) (S.state source.new) work.old.notes work.new.notes (held_now result) }
-    ensures holds { OnOk result (Holds view.entry.fences.now env.now.user.now (S.state source.new) work.new) }
+) -> Result<Datum<'a>, AllocError>
+    requires { Holds visible.relations.now env.now.user.now (S.state source.old) execution.old }
+    ensures tells { Evaluates (value_of (t.Compare how left.now right.now) (shows (drop visible.entry.from visible.entry.relations.now) env.now.user.now) (env_of env.now)) (S.state source.old) (S.state source.new) execution.old.read_set execution.new.read_set (datum_now result) }
+    ensures holds { OnOk result (Holds visible.entry.relations.now env.now.user.now (S.state source.new) execution.new) }
 {
-    let left = eval(alloc, source, work, view, left, env)?;
-    let right = eval(alloc, source, work, view, right, env)?;
-    Ok(held_truth(compare(how, &left, &right)))
+    let left = eval(alloc, source, execution, visible, left, env)?;
+    let right = eval(alloc, source, execution, visible, right, env)?;
+    Ok(datum_truth(compare(how, &left, &right)))
 }
 
 /// AND of the parts.
@@ -113,21 +119,21 @@ fn comparison<'a, 'c, S: Tables>(
 fn conjunction<'a, 'c, S: Tables>(
     alloc: Global,
     source: &mut S,
-    work: &mut Work,
-    view: View<'a, 'c>,
+    execution: &mut ExecutionState,
+    visible: VisibleRelations<'a, 'c>,
     parts: &'a [Expr],
     env: &Env<'a>,
-) -> Result<Held<'a>, AllocError>
-    requires { Holds view.fences.now env.now.user.now (S.state source.old) work.old }
-    ensures tells { Tells (value_of (t.And (terms_of parts.now)) (shows (drop view.entry.from view.entry.fences.now) env.now.user.now) (env_of env.now)) (S.state source.old) (S.state source.new) work.old.notes work.new.notes (held_now result) }
-    ensures holds { OnOk result (Holds view.entry.fences.now env.now.user.now (S.state source.new) work.new) }
+) -> Result<Datum<'a>, AllocError>
+    requires { Holds visible.relations.now env.now.user.now (S.state source.old) execution.old }
+    ensures tells { Evaluates (value_of (t.And (terms_of parts.now)) (shows (drop visible.entry.from visible.entry.relations.now) env.now.user.now) (env_of env.now)) (S.state source.old) (S.state source.new) execution.old.read_set execution.new.read_set (datum_now result) }
+    ensures holds { OnOk result (Holds visible.entry.relations.now env.now.user.now (S.state source.new) execution.new) }
 {
     let mut so_far = Truth::True;
     for part in parts {
-        let held = condition_value(alloc, source, work, view, part, env)?;
-        so_far = so_far.and(held.truth());
+        let datum = condition_value(alloc, source, execution, visible, part, env)?;
+        so_far = so_far.and(datum.truth());
     }
-    Ok(held_truth(so_far))
+    Ok(datum_truth(so_far))
 }
 
 /// OR of the parts.
@@ -135,21 +141,21 @@ fn conjunction<'a, 'c, S: Tables>(
 fn disjunction<'a, 'c, S: Tables>(
     alloc: Global,
     source: &mut S,
-    work: &mut Work,
-    view: View<'a, 'c>,
+    execution: &mut ExecutionState,
+    visible: VisibleRelations<'a, 'c>,
     parts: &'a [Expr],
     env: &Env<'a>,
-) -> Result<Held<'a>, AllocError>
-    requires { Holds view.fences.now env.now.user.now (S.state source.old) work.old }
-    ensures tells { Tells (value_of (t.Or (terms_of parts.now)) (shows (drop view.entry.from view.entry.fences.now) env.now.user.now) (env_of env.now)) (S.state source.old) (S.state source.new) work.old.notes work.new.notes (held_now result) }
-    ensures holds { OnOk result (Holds view.entry.fences.now env.now.user.now (S.state source.new) work.new) }
+) -> Result<Datum<'a>, AllocError>
+    requires { Holds visible.relations.now env.now.user.now (S.state source.old) execution.old }
+    ensures tells { Evaluates (value_of (t.Or (terms_of parts.now)) (shows (drop visible.entry.from visible.entry.relations.now) env.now.user.now) (env_of env.now)) (S.state source.old) (S.state source.new) execution.old.read_set execution.new.read_set (datum_now result) }
+    ensures holds { OnOk result (Holds visible.entry.relations.now env.now.user.now (S.state source.new) execution.new) }
 {
     let mut so_far = Truth::False;
     for part in parts {
-        let held = condition_value(alloc, source, work, view, part, env)?;
-        so_far = so_far.or(held.truth());
+        let datum = condition_value(alloc, source, execution, visible, part, env)?;
+        so_far = so_far.or(datum.truth());
     }
-    Ok(held_truth(so_far))
+    Ok(datum_truth(so_far))
 }
 
 /// NOT.
@@ -157,17 +163,17 @@ fn disjunction<'a, 'c, S: Tables>(
 fn negation<'a, 'c, S: Tables>(
     alloc: Global,
     source: &mut S,
-    work: &mut Work,
-    view: View<'a, 'c>,
+    execution: &mut ExecutionState,
+    visible: VisibleRelations<'a, 'c>,
     operand: &'a Expr,
     env: &Env<'a>,
-) -> Result<Held<'a>, AllocError>
-    requires { Holds view.fences.now env.now.user.now (S.state source.old) work.old }
-    ensures tells { Tells (value_of (t.Not operand.now) (shows (drop view.entry.from view.entry.fences.now) env.now.user.now) (env_of env.now)) (S.state source.old) (S.state source.new) work.old.notes work.new.notes (held_now result) }
-    ensures holds { OnOk result (Holds view.entry.fences.now env.now.user.now (S.state source.new) work.new) }
+) -> Result<Datum<'a>, AllocError>
+    requires { Holds visible.relations.now env.now.user.now (S.state source.old) execution.old }
+    ensures tells { Evaluates (value_of (t.Not operand.now) (shows (drop visible.entry.from visible.entry.relations.now) env.now.user.now) (env_of env.now)) (S.state source.old) (S.state source.new) execution.old.read_set execution.new.read_set (datum_now result) }
+    ensures holds { OnOk result (Holds visible.entry.relations.now env.now.user.now (S.state source.new) execution.new) }
 {
-    let held = eval(alloc, source, work, view, operand, env)?;
-    Ok(held_truth(held.truth().not()))
+    let datum = eval(alloc, source, execution, visible, operand, env)?;
+    Ok(datum_truth(datum.truth().not()))
 }
 
 /// `IS NULL`.
@@ -175,17 +181,17 @@ fn negation<'a, 'c, S: Tables>(
 fn null_test<'a, 'c, S: Tables>(
     alloc: Global,
     source: &mut S,
-    work: &mut Work,
-    view: View<'a, 'c>,
+    execution: &mut ExecutionState,
+    visible: VisibleRelations<'a, 'c>,
     operand: &'a Expr,
     env: &Env<'a>,
-) -> Result<Held<'a>, AllocError>
-    requires { Holds view.fences.now env.now.user.now (S.state source.old) work.old }
-    ensures tells { Tells (value_of (t.IsNull operand.now) (shows (drop view.entry.from view.entry.fences.now) env.now.user.now) (env_of env.now)) (S.state source.old) (S.state source.new) work.old.notes work.new.notes (held_now result) }
-    ensures holds { OnOk result (Holds view.entry.fences.now env.now.user.now (S.state source.new) work.new) }
+) -> Result<Datum<'a>, AllocError>
+    requires { Holds visible.relations.now env.now.user.now (S.state source.old) execution.old }
+    ensures tells { Evaluates (value_of (t.IsNull operand.now) (shows (drop visible.entry.from visible.entry.relations.now) env.now.user.now) (env_of env.now)) (S.state source.old) (S.state source.new) execution.old.read_set execution.new.read_set (datum_now result) }
+    ensures holds { OnOk result (Holds visible.entry.relations.now env.now.user.now (S.state source.new) execution.new) }
 {
-    let held = eval(alloc, source, work, view, operand, env)?;
-    Ok(Held::Bool(held.is_null()))
+    let datum = eval(alloc, source, execution, visible, operand, env)?;
+    Ok(Datum::Bool(datum.is_null()))
 }
 
 /// `IS NOT NULL`.
@@ -193,17 +199,17 @@ fn null_test<'a, 'c, S: Tables>(
 fn not_null_test<'a, 'c, S: Tables>(
     alloc: Global,
     source: &mut S,
-    work: &mut Work,
-    view: View<'a, 'c>,
+    execution: &mut ExecutionState,
+    visible: VisibleRelations<'a, 'c>,
     operand: &'a Expr,
     env: &Env<'a>,
-) -> Result<Held<'a>, AllocError>
-    requires { Holds view.fences.now env.now.user.now (S.state source.old) work.old }
-    ensures tells { Tells (value_of (t.IsNotNull operand.now) (shows (drop view.entry.from view.entry.fences.now) env.now.user.now) (env_of env.now)) (S.state source.old) (S.state source.new) work.old.notes work.new.notes (held_now result) }
-    ensures holds { OnOk result (Holds view.entry.fences.now env.now.user.now (S.state source.new) work.new) }
+) -> Result<Datum<'a>, AllocError>
+    requires { Holds visible.relations.now env.now.user.now (S.state source.old) execution.old }
+    ensures tells { Evaluates (value_of (t.IsNotNull operand.now) (shows (drop visible.entry.from visible.entry.relations.now) env.now.user.now) (env_of env.now)) (S.state source.old) (S.state source.new) execution.old.read_set execution.new.read_set (datum_now result) }
+    ensures holds { OnOk result (Holds visible.entry.relations.now env.now.user.now (S.state source.new) execution.new) }
 {
-    let held = eval(alloc, source, work, view, operand, env)?;
-    Ok(Held::Bool(!held.is_null()))
+    let datum = eval(alloc, source, execution, visible, operand, env)?;
+    Ok(Datum::Bool(!datum.is_null()))
 }
 
 /// `IN` or `NOT IN` with a list.
@@ -211,20 +217,20 @@ fn not_null_test<'a, 'c, S: Tables>(
 fn among<'a, 'c, S: Tables>(
     alloc: Global,
     source: &mut S,
-    work: &mut Work,
-    view: View<'a, 'c>,
+    execution: &mut ExecutionState,
+    visible: VisibleRelations<'a, 'c>,
     operand: &'a Expr,
     list: &'a [Expr],
     is_negated: bool,
     env: &Env<'a>,
-) -> Result<Held<'a>, AllocError>
-    requires { Holds view.fences.now env.now.user.now (S.state source.old) work.old }
-    ensures tells { Tells (followed_by (value_of operand.now (shows (drop view.entry.from view.entry.fences.now) env.now.user.now) (env_of env.now)) (λ x. turned_value is_negated (together (or_equal x) False (terms_of list.now) (shows (drop view.entry.from view.entry.fences.now) env.now.user.now) (env_of env.now)))) (S.state source.old) (S.state source.new) work.old.notes work.new.notes (held_now result) }
-    ensures holds { OnOk result (Holds view.entry.fences.now env.now.user.now (S.state source.new) work.new) }
+) -> Result<Datum<'a>, AllocError>
+    requires { Holds visible.relations.now env.now.user.now (S.state source.old) execution.old }
+    ensures tells { Evaluates (followed_by (value_of operand.now (shows (drop visible.entry.from visible.entry.relations.now) env.now.user.now) (env_of env.now)) (λ x. turned_value is_negated (together (or_equal x) False (terms_of list.now) (shows (drop visible.entry.from visible.entry.relations.now) env.now.user.now) (env_of env.now)))) (S.state source.old) (S.state source.new) execution.old.read_set execution.new.read_set (datum_now result) }
+    ensures holds { OnOk result (Holds visible.entry.relations.now env.now.user.now (S.state source.new) execution.new) }
 {
-    let held = eval(alloc, source, work, view, operand, env)?;
-    let truth = is_one_of(alloc, source, work, view, &held, list, env)?;
-    Ok(held_truth(turned(truth, is_negated)))
+    let datum = eval(alloc, source, execution, visible, operand, env)?;
+    let truth = is_one_of(alloc, source, execution, visible, &datum, list, env)?;
+    Ok(datum_truth(turned(truth, is_negated)))
 }
 
 /// Whether the value is equal to one of the list.
@@ -232,20 +238,20 @@ fn among<'a, 'c, S: Tables>(
 fn is_one_of<'a, 'c, S: Tables>(
     alloc: Global,
     source: &mut S,
-    work: &mut Work,
-    view: View<'a, 'c>,
-    value: &Held,
+    execution: &mut ExecutionState,
+    visible: VisibleRelations<'a, 'c>,
+    value: &Datum,
     list: &'a [Expr],
     env: &Env<'a>,
 ) -> Result<Truth, AllocError>
-    requires { Holds view.fences.now env.now.user.now (S.state source.old) work.old }
-    ensures tells { Tells (together (or_equal (held_value value.now)) False (terms_of list.now) (shows (drop view.entry.from view.entry.fences.now) env.now.user.now) (env_of env.now)) (S.state source.old) (S.state source.new) work.old.notes work.new.notes result }
-    ensures holds { OnOk result (Holds view.entry.fences.now env.now.user.now (S.state source.new) work.new) }
+    requires { Holds visible.relations.now env.now.user.now (S.state source.old) execution.old }
+    ensures tells { Evaluates (together (or_equal (datum_value value.now)) False (terms_of list.now) (shows (drop visible.entry.from visible.entry.relations.now) env.now.user.now) (env_of env.now)) (S.state source.old) (S.state source.new) execution.old.read_set execution.new.read_set result }
+    ensures holds { OnOk result (Holds visible.entry.relations.now env.now.user.now (S.state source.new) execution.new) }
 {
     let mut so_far = Truth::False;
     for part in list {
-        let held = eval(alloc, source, work, view, part, env)?;
-        so_far = so_far.or(equals(value, &held));
+        let datum = eval(alloc, source, execution, visible, part, env)?;
+        so_far = so_far.or(equals(value, &datum));
     }
     Ok(so_far)
 }
@@ -255,23 +261,25 @@ fn is_one_of<'a, 'c, S: Tables>(
 fn sum<'a, 'c, S: Tables>(
     alloc: Global,
     source: &mut S,
-    work: &mut Work,
-    view: View<'a, 'c>,
+    execution: &mut ExecutionState,
+    visible: VisibleRelations<'a, 'c>,
     signs: &'a [Sign],
     parts: &'a [Expr],
     env: &Env<'a>,
-) -> Result<Held<'a>, AllocError>
-    requires { Holds view.fences.now env.now.user.now (S.state source.old) work.old }
-    ensures tells { Tells (value_of (t.Sum signs.now (terms_of parts.now)) (shows (drop view.entry.from view.entry.fences.now) env.now.user.now) (env_of env.now)) (S.state source.old) (S.state source.new) work.old.notes work.new.notes (held_now result) }
-    ensures holds { OnOk result (Holds view.entry.fences.now env.now.user.now (S.state source.new) work.new) }
+) -> Result<Datum<'a>, AllocError>
+    requires { Holds visible.relations.now env.now.user.now (S.state source.old) execution.old }
+    ensures tells { Evaluates (value_of (t.Sum signs.now (terms_of parts.now)) (shows (drop visible.entry.from visible.entry.relations.now) env.now.user.now) (env_of env.now)) (S.state source.old) (S.state source.new) execution.old.read_set execution.new.read_set (datum_now result) }
+    ensures holds { OnOk result (Holds visible.entry.relations.now env.now.user.now (S.state source.new) execution.new) }
 {
     match parts {
-        [] => Ok(Held::Null),
+        [] => Ok(Datum::Null),
         [first, further @ ..] => {
-            let held = eval(alloc, source, work, view, first, env)?;
-            let number = held.number();
-            drop(held);
-            sum_from(alloc, source, work, view, number, signs, further, env)
+            let datum = eval(alloc, source, execution, visible, first, env)?;
+            let number = datum.number();
+            drop(datum);
+            sum_from(
+                alloc, source, execution, visible, number, signs, further, env,
+            )
         }
     }
 }
@@ -281,29 +289,29 @@ fn sum<'a, 'c, S: Tables>(
 fn sum_from<'a, 'c, S: Tables>(
     alloc: Global,
     source: &mut S,
-    work: &mut Work,
-    view: View<'a, 'c>,
+    execution: &mut ExecutionState,
+    visible: VisibleRelations<'a, 'c>,
     first: Option<i128>,
     signs: &'a [Sign],
     parts: &'a [Expr],
     env: &Env<'a>,
-) -> Result<Held<'a>, AllocError>
-    requires { Holds view.fences.now env.now.user.now (S.state source.old) work.old }
-    ensures tells { Tells (means.sum_from (number_value first) signs.now (terms_of parts.now) (shows (drop view.entry.from view.entry.fences.now) env.now.user.now) (env_of env.now)) (S.state source.old) (S.state source.new) work.old.notes work.new.notes (held_now result) }
-    ensures holds { OnOk result (Holds view.entry.fences.now env.now.user.now (S.state source.new) work.new) }
+) -> Result<Datum<'a>, AllocError>
+    requires { Holds visible.relations.now env.now.user.now (S.state source.old) execution.old }
+    ensures tells { Evaluates (means.sum_from (number_value first) signs.now (terms_of parts.now) (shows (drop visible.entry.from visible.entry.relations.now) env.now.user.now) (env_of env.now)) (S.state source.old) (S.state source.new) execution.old.read_set execution.new.read_set (datum_now result) }
+    ensures holds { OnOk result (Holds visible.entry.relations.now env.now.user.now (S.state source.new) execution.new) }
 {
     match (signs, parts) {
         ([sign, other_signs @ ..], [part, other_parts @ ..]) => {
-            let held = eval(alloc, source, work, view, part, env)?;
-            let so_far = joined(*sign, first, &held);
-            drop(held);
+            let datum = eval(alloc, source, execution, visible, part, env)?;
+            let so_far = joined(*sign, first, &datum);
+            drop(datum);
             match so_far {
                 Ok(so_far) => {
                     sum_from(
                         alloc,
                         source,
-                        work,
-                        view,
+                        execution,
+                        visible,
                         so_far,
                         other_signs,
                         other_parts,
@@ -313,7 +321,7 @@ fn sum_from<'a, 'c, S: Tables>(
                 Err(refused) => Err(refused),
             }
         }
-        (_, _) => Ok(held_number(first)),
+        (_, _) => Ok(datum_number(first)),
     }
 }
 
@@ -322,31 +330,31 @@ fn sum_from<'a, 'c, S: Tables>(
 fn exists<'a, 'c, S: Tables>(
     alloc: Global,
     source: &mut S,
-    work: &mut Work,
-    view: View<'a, 'c>,
+    execution: &mut ExecutionState,
+    visible: VisibleRelations<'a, 'c>,
     query: &'a Subquery,
     env: &Env<'a>,
-) -> Result<Held<'a>, AllocError>
-    requires { Holds view.fences.now env.now.user.now (S.state source.old) work.old }
-    ensures tells { Tells (value_of (t.Exists (query_of query.now)) (shows (drop view.entry.from view.entry.fences.now) env.now.user.now) (env_of env.now)) (S.state source.old) (S.state source.new) work.old.notes work.new.notes (held_now result) }
-    ensures holds { OnOk result (Holds view.entry.fences.now env.now.user.now (S.state source.new) work.new) }
+) -> Result<Datum<'a>, AllocError>
+    requires { Holds visible.relations.now env.now.user.now (S.state source.old) execution.old }
+    ensures tells { Evaluates (value_of (t.Exists (query_of query.now)) (shows (drop visible.entry.from visible.entry.relations.now) env.now.user.now) (env_of env.now)) (S.state source.old) (S.state source.new) execution.old.read_set execution.new.read_set (datum_now result) }
+    ensures holds { OnOk result (Holds visible.entry.relations.now env.now.user.now (S.state source.new) execution.new) }
 {
     if is_alone(query) {
-        return exists_alone(alloc, source, work, view, query, env);
+        return exists_alone(alloc, source, execution, visible, query, env);
     }
-    let rows = rows_for(alloc, source, work, view, query, env)?;
+    let rows = rows_for(alloc, source, execution, visible, query, env)?;
     let met = is_met(
         alloc,
         source,
-        work,
-        view,
+        execution,
+        visible,
         &query.condition,
         &*env,
         rows.as_slice(),
     );
     drop(rows);
     match met {
-        Ok(met) => Ok(Held::Bool(met)),
+        Ok(met) => Ok(Datum::Bool(met)),
         Err(refused) => Err(refused),
     }
 }
@@ -356,27 +364,40 @@ fn exists<'a, 'c, S: Tables>(
 fn exists_alone<'a, 'c, S: Tables>(
     alloc: Global,
     source: &mut S,
-    work: &mut Work,
-    view: View<'a, 'c>,
+    execution: &mut ExecutionState,
+    visible: VisibleRelations<'a, 'c>,
     query: &'a Subquery,
     env: &Env<'a>,
-) -> Result<Held<'a>, AllocError>
+) -> Result<Datum<'a>, AllocError>
     requires alone { is_alone (query_of query.now) ≡ true }
-    requires holds { Holds view.fences.now env.now.user.now (S.state source.old) work.old }
-    ensures tells { Tells (value_of (t.Exists (query_of query.now)) (shows (drop view.entry.from view.entry.fences.now) env.now.user.now) (env_of env.now)) (S.state source.old) (S.state source.new) work.old.notes work.new.notes (held_now result) }
-    ensures holds { OnOk result (Holds view.entry.fences.now env.now.user.now (S.state source.new) work.new) }
+    requires holds { Holds visible.relations.now env.now.user.now (S.state source.old) execution.old }
+    ensures tells { Evaluates (value_of (t.Exists (query_of query.now)) (shows (drop visible.entry.from visible.entry.relations.now) env.now.user.now) (env_of env.now)) (S.state source.old) (S.state source.new) execution.old.read_set execution.new.read_set (datum_now result) }
+    ensures holds { OnOk result (Holds visible.entry.relations.now env.now.user.now (S.state source.new) execution.new) }
 {
-    let found = place_of_answer(&work.answers, work.next, view.from, false, query);
+    let found = place_of_subplan(
+        &execution.cached_subplans,
+        execution.next,
+        visible.from,
+        false,
+        query,
+    );
     match found {
         Some(place) => {
-            work.next = place + 1;
-            Ok(Held::Bool(work.answers[place].values.is_some()))
+            execution.next = place + 1;
+            Ok(Datum::Bool(execution.cached_subplans[place].values.is_some()))
         }
         None => {
-            let values = items_alone(alloc, source, work, view, query, false, env)?;
+            let values = items_alone(alloc, source, execution, visible, query, false, env)?;
             let is = values.is_some();
-            keep_answer(alloc, &mut work.answers, view.from, false, query, values)?;
-            Ok(Held::Bool(is))
+            keep_subplan(
+                alloc,
+                &mut execution.cached_subplans,
+                visible.from,
+                false,
+                query,
+                values,
+            )?;
+            Ok(Datum::Bool(is))
         }
     }
 }
@@ -386,15 +407,15 @@ fn exists_alone<'a, 'c, S: Tables>(
 fn is_met<'a, 'c, S: Tables>(
     alloc: Global,
     source: &mut S,
-    work: &mut Work,
-    view: View<'a, 'c>,
+    execution: &mut ExecutionState,
+    visible: VisibleRelations<'a, 'c>,
     condition: &'a Option<Expr>,
     env: &'a Env<'a>,
     rows: &'a [Row],
 ) -> Result<bool, AllocError>
-    requires { Holds view.fences.now env.now.user.now (S.state source.old) work.old }
-    ensures tells { Tells (gathered (λ row is rest. is || rest) false (λ row. meets (maybe_term condition.now) (shows (drop view.entry.from view.entry.fences.now) env.now.user.now) (inside row (env_of env.now))) rows.now) (S.state source.old) (S.state source.new) work.old.notes work.new.notes result }
-    ensures holds { OnOk result (Holds view.entry.fences.now env.now.user.now (S.state source.new) work.new) }
+    requires { Holds visible.relations.now env.now.user.now (S.state source.old) execution.old }
+    ensures tells { Evaluates (gathered (λ row is rest. is || rest) false (λ row. meets (maybe_term condition.now) (shows (drop visible.entry.from visible.entry.relations.now) env.now.user.now) (inside row (env_of env.now))) rows.now) (S.state source.old) (S.state source.new) execution.old.read_set execution.new.read_set result }
+    ensures holds { OnOk result (Holds visible.entry.relations.now env.now.user.now (S.state source.new) execution.new) }
 {
     let mut so_far = false;
     for row in rows {
@@ -402,7 +423,7 @@ fn is_met<'a, 'c, S: Tables>(
             user: env.user,
             rows: Scoped::Over(row, &env.rows),
         };
-        let is = meets_condition(alloc, source, work, view, condition, &inner)?;
+        let is = meets_condition(alloc, source, execution, visible, condition, &inner)?;
         so_far = either(so_far, is);
     }
     Ok(so_far)
@@ -413,20 +434,20 @@ fn is_met<'a, 'c, S: Tables>(
 fn within<'a, 'c, S: Tables>(
     alloc: Global,
     source: &mut S,
-    work: &mut Work,
-    view: View<'a, 'c>,
+    execution: &mut ExecutionState,
+    visible: VisibleRelations<'a, 'c>,
     operand: &'a Expr,
     query: &'a Subquery,
     is_negated: bool,
     env: &Env<'a>,
-) -> Result<Held<'a>, AllocError>
-    requires { Holds view.fences.now env.now.user.now (S.state source.old) work.old }
-    ensures tells { Tells (followed_by (value_of operand.now (shows (drop view.entry.from view.entry.fences.now) env.now.user.now) (env_of env.now)) (λ x. turned_value is_negated (among_items x (query_of query.now) (shows (drop view.entry.from view.entry.fences.now) env.now.user.now) (env_of env.now)))) (S.state source.old) (S.state source.new) work.old.notes work.new.notes (held_now result) }
-    ensures holds { OnOk result (Holds view.entry.fences.now env.now.user.now (S.state source.new) work.new) }
+) -> Result<Datum<'a>, AllocError>
+    requires { Holds visible.relations.now env.now.user.now (S.state source.old) execution.old }
+    ensures tells { Evaluates (followed_by (value_of operand.now (shows (drop visible.entry.from visible.entry.relations.now) env.now.user.now) (env_of env.now)) (λ x. turned_value is_negated (among_items x (query_of query.now) (shows (drop visible.entry.from visible.entry.relations.now) env.now.user.now) (env_of env.now)))) (S.state source.old) (S.state source.new) execution.old.read_set execution.new.read_set (datum_now result) }
+    ensures holds { OnOk result (Holds visible.entry.relations.now env.now.user.now (S.state source.new) execution.new) }
 {
-    let held = eval(alloc, source, work, view, operand, env)?;
-    let truth = is_within(alloc, source, work, view, &held, query, env)?;
-    Ok(held_truth(turned(truth, is_negated)))
+    let datum = eval(alloc, source, execution, visible, operand, env)?;
+    let truth = is_within(alloc, source, execution, visible, &datum, query, env)?;
+    Ok(datum_truth(turned(truth, is_negated)))
 }
 
 /// Whether the value is equal to the item of a row that meets the condition.
@@ -434,25 +455,25 @@ fn within<'a, 'c, S: Tables>(
 fn is_within<'a, 'c, S: Tables>(
     alloc: Global,
     source: &mut S,
-    work: &mut Work,
-    view: View<'a, 'c>,
-    value: &Held,
+    execution: &mut ExecutionState,
+    visible: VisibleRelations<'a, 'c>,
+    value: &Datum,
     query: &'a Subquery,
     env: &Env<'a>,
 ) -> Result<Truth, AllocError>
-    requires { Holds view.fences.now env.now.user.now (S.state source.old) work.old }
-    ensures tells { Tells (among_items (held_value value.now) (query_of query.now) (shows (drop view.entry.from view.entry.fences.now) env.now.user.now) (env_of env.now)) (S.state source.old) (S.state source.new) work.old.notes work.new.notes result }
-    ensures holds { OnOk result (Holds view.entry.fences.now env.now.user.now (S.state source.new) work.new) }
+    requires { Holds visible.relations.now env.now.user.now (S.state source.old) execution.old }
+    ensures tells { Evaluates (among_items (datum_value value.now) (query_of query.now) (shows (drop visible.entry.from visible.entry.relations.now) env.now.user.now) (env_of env.now)) (S.state source.old) (S.state source.new) execution.old.read_set execution.new.read_set result }
+    ensures holds { OnOk result (Holds visible.entry.relations.now env.now.user.now (S.state source.new) execution.new) }
 {
     if is_alone(query) {
-        return is_within_alone(alloc, source, work, view, value, query, env);
+        return is_within_alone(alloc, source, execution, visible, value, query, env);
     }
-    let rows = rows_for(alloc, source, work, view, query, env)?;
+    let rows = rows_for(alloc, source, execution, visible, query, env)?;
     let truth = is_item(
         alloc,
         source,
-        work,
-        view,
+        execution,
+        visible,
         value,
         query,
         &*env,
@@ -467,27 +488,42 @@ fn is_within<'a, 'c, S: Tables>(
 fn is_within_alone<'a, 'c, S: Tables>(
     alloc: Global,
     source: &mut S,
-    work: &mut Work,
-    view: View<'a, 'c>,
-    value: &Held,
+    execution: &mut ExecutionState,
+    visible: VisibleRelations<'a, 'c>,
+    value: &Datum,
     query: &'a Subquery,
     env: &Env<'a>,
 ) -> Result<Truth, AllocError>
     requires alone { is_alone (query_of query.now) ≡ true }
-    requires holds { Holds view.fences.now env.now.user.now (S.state source.old) work.old }
-    ensures tells { Tells (among_items (held_value value.now) (query_of query.now) (shows (drop view.entry.from view.entry.fences.now) env.now.user.now) (env_of env.now)) (S.state source.old) (S.state source.new) work.old.notes work.new.notes result }
-    ensures holds { OnOk result (Holds view.entry.fences.now env.now.user.now (S.state source.new) work.new) }
+    requires holds { Holds visible.relations.now env.now.user.now (S.state source.old) execution.old }
+    ensures tells { Evaluates (among_items (datum_value value.now) (query_of query.now) (shows (drop visible.entry.from visible.entry.relations.now) env.now.user.now) (env_of env.now)) (S.state source.old) (S.state source.new) execution.old.read_set execution.new.read_set result }
+    ensures holds { OnOk result (Holds visible.entry.relations.now env.now.user.now (S.state source.new) execution.new) }
 {
-    let found = place_of_answer(&work.answers, work.next, view.from, true, query);
+    let found = place_of_subplan(
+        &execution.cached_subplans,
+        execution.next,
+        visible.from,
+        true,
+        query,
+    );
     match found {
         Some(place) => {
-            work.next = place + 1;
-            work.answers[place].values.equals_any(alloc, value)
+            execution.next = place + 1;
+            execution.cached_subplans[place]
+                .values
+                .equals_any(alloc, value)
         }
         None => {
-            let values = items_alone(alloc, source, work, view, query, true, env)?;
+            let values = items_alone(alloc, source, execution, visible, query, true, env)?;
             let truth = values.equals_any(alloc, value)?;
-            keep_answer(alloc, &mut work.answers, view.from, true, query, values)?;
+            keep_subplan(
+                alloc,
+                &mut execution.cached_subplans,
+                visible.from,
+                true,
+                query,
+                values,
+            )?;
             Ok(truth)
         }
     }
@@ -498,23 +534,23 @@ fn is_within_alone<'a, 'c, S: Tables>(
 fn items_alone<'a, 'c, S: Tables>(
     alloc: Global,
     source: &mut S,
-    work: &mut Work,
-    view: View<'a, 'c>,
+    execution: &mut ExecutionState,
+    visible: VisibleRelations<'a, 'c>,
     query: &'a Subquery,
     has_items: bool,
     env: &Env<'a>,
 ) -> Result<ValueSet, AllocError>
-    requires { Holds view.fences.now env.now.user.now (S.state source.old) work.old }
-    ensures comes { IfOk result (λ set. Comes (items_seen (asked_query has_items (query_of query.now)) (shows (drop view.entry.from view.entry.fences.now) env.now.user.now) (env_of env.now)) (S.state source.old) (S.state source.new) work.old.notes work.new.notes set) }
+    requires { Holds visible.relations.now env.now.user.now (S.state source.old) execution.old }
+    ensures comes { IfOk result (λ set. Comes (items_seen (asked_query has_items (query_of query.now)) (shows (drop visible.entry.from visible.entry.relations.now) env.now.user.now) (env_of env.now)) (S.state source.old) (S.state source.new) execution.old.read_set execution.new.read_set set) }
     ensures stands { S.state source.new ≡ S.state source.old }
-    ensures holds { OnOk result (Holds view.entry.fences.now env.now.user.now (S.state source.new) work.new) }
+    ensures holds { OnOk result (Holds visible.entry.relations.now env.now.user.now (S.state source.new) execution.new) }
 {
-    let rows = rows_for(alloc, source, work, view, query, env)?;
+    let rows = rows_for(alloc, source, execution, visible, query, env)?;
     let values = items_over(
         alloc,
         source,
-        work,
-        view,
+        execution,
+        visible,
         query,
         has_items,
         &*env,
@@ -532,16 +568,16 @@ fn items_alone<'a, 'c, S: Tables>(
 fn items_over<'a, 'c, S: Tables>(
     alloc: Global,
     source: &mut S,
-    work: &mut Work,
-    view: View<'a, 'c>,
+    execution: &mut ExecutionState,
+    visible: VisibleRelations<'a, 'c>,
     query: &'a Subquery,
     has_items: bool,
     env: &'a Env<'a>,
     rows: &'a [Row],
 ) -> Result<Items<Value>, AllocError>
-    requires { Holds view.fences.now env.now.user.now (S.state source.old) work.old }
-    ensures tells { Tells (gathered with_item [] (λ row. means.item_if (meets (maybe_term query.now.condition) (shows (drop view.entry.from view.entry.fences.now) env.now.user.now) (inside row (env_of env.now))) (item_of (items_for has_items (terms_of query.now.items.items)) (shows (drop view.entry.from view.entry.fences.now) env.now.user.now) (inside row (env_of env.now)))) rows.now) (S.state source.old) (S.state source.new) work.old.notes work.new.notes result }
-    ensures holds { OnOk result (Holds view.entry.fences.now env.now.user.now (S.state source.new) work.new) }
+    requires { Holds visible.relations.now env.now.user.now (S.state source.old) execution.old }
+    ensures tells { Evaluates (gathered with_item [] (λ row. means.item_if (meets (maybe_term query.now.condition) (shows (drop visible.entry.from visible.entry.relations.now) env.now.user.now) (inside row (env_of env.now))) (item_of (items_for has_items (terms_of query.now.items.items)) (shows (drop visible.entry.from visible.entry.relations.now) env.now.user.now) (inside row (env_of env.now)))) rows.now) (S.state source.old) (S.state source.new) execution.old.read_set execution.new.read_set result }
+    ensures holds { OnOk result (Holds visible.entry.relations.now env.now.user.now (S.state source.new) execution.new) }
 {
     let mut values = Items::new(alloc);
     for row in rows {
@@ -549,7 +585,7 @@ fn items_over<'a, 'c, S: Tables>(
             user: env.user,
             rows: Scoped::Over(row, &env.rows),
         };
-        let item = item_or_null(alloc, source, work, view, query, has_items, &inner)?;
+        let item = item_or_null(alloc, source, execution, visible, query, has_items, &inner)?;
         push_item(alloc, &mut values, item)?;
     }
     Ok(values)
@@ -560,20 +596,20 @@ fn items_over<'a, 'c, S: Tables>(
 fn item_or_null<'a, 'c, S: Tables>(
     alloc: Global,
     source: &mut S,
-    work: &mut Work,
-    view: View<'a, 'c>,
+    execution: &mut ExecutionState,
+    visible: VisibleRelations<'a, 'c>,
     query: &'a Subquery,
     has_items: bool,
     env: &Env<'a>,
-) -> Result<Option<Held<'a>>, AllocError>
-    requires { Holds view.fences.now env.now.user.now (S.state source.old) work.old }
-    ensures tells { Tells (means.item_if (meets (maybe_term query.now.condition) (shows (drop view.entry.from view.entry.fences.now) env.now.user.now) (env_of env.now)) (item_of (items_for has_items (terms_of query.now.items.items)) (shows (drop view.entry.from view.entry.fences.now) env.now.user.now) (env_of env.now))) (S.state source.old) (S.state source.new) work.old.notes work.new.notes (maybe_now result) }
-    ensures holds { OnOk result (Holds view.entry.fences.now env.now.user.now (S.state source.new) work.new) }
+) -> Result<Option<Datum<'a>>, AllocError>
+    requires { Holds visible.relations.now env.now.user.now (S.state source.old) execution.old }
+    ensures tells { Evaluates (means.item_if (meets (maybe_term query.now.condition) (shows (drop visible.entry.from visible.entry.relations.now) env.now.user.now) (env_of env.now)) (item_of (items_for has_items (terms_of query.now.items.items)) (shows (drop visible.entry.from visible.entry.relations.now) env.now.user.now) (env_of env.now))) (S.state source.old) (S.state source.new) execution.old.read_set execution.new.read_set (maybe_now result) }
+    ensures holds { OnOk result (Holds visible.entry.relations.now env.now.user.now (S.state source.new) execution.new) }
 {
     if has_items {
-        return item_if(alloc, source, work, view, query, env);
+        return item_if(alloc, source, execution, visible, query, env);
     }
-    let is = meets_condition(alloc, source, work, view, &query.condition, env)?;
+    let is = meets_condition(alloc, source, execution, visible, &query.condition, env)?;
     Ok(null_if(is))
 }
 
@@ -582,16 +618,16 @@ fn item_or_null<'a, 'c, S: Tables>(
 fn is_item<'a, 'c, S: Tables>(
     alloc: Global,
     source: &mut S,
-    work: &mut Work,
-    view: View<'a, 'c>,
-    value: &Held,
+    execution: &mut ExecutionState,
+    visible: VisibleRelations<'a, 'c>,
+    value: &Datum,
     query: &'a Subquery,
     env: &'a Env<'a>,
     rows: &'a [Row],
 ) -> Result<Truth, AllocError>
-    requires { Holds view.fences.now env.now.user.now (S.state source.old) work.old }
-    ensures tells { Tells (gathered (λ row item rest. or_item (held_value value.now) item rest) False (λ row. means.item_if (meets (maybe_term query.now.condition) (shows (drop view.entry.from view.entry.fences.now) env.now.user.now) (inside row (env_of env.now))) (item_of (terms_of query.now.items.items) (shows (drop view.entry.from view.entry.fences.now) env.now.user.now) (inside row (env_of env.now)))) rows.now) (S.state source.old) (S.state source.new) work.old.notes work.new.notes result }
-    ensures holds { OnOk result (Holds view.entry.fences.now env.now.user.now (S.state source.new) work.new) }
+    requires { Holds visible.relations.now env.now.user.now (S.state source.old) execution.old }
+    ensures tells { Evaluates (gathered (λ row item rest. or_item (datum_value value.now) item rest) False (λ row. means.item_if (meets (maybe_term query.now.condition) (shows (drop visible.entry.from visible.entry.relations.now) env.now.user.now) (inside row (env_of env.now))) (item_of (terms_of query.now.items.items) (shows (drop visible.entry.from visible.entry.relations.now) env.now.user.now) (inside row (env_of env.now)))) rows.now) (S.state source.old) (S.state source.new) execution.old.read_set execution.new.read_set result }
+    ensures holds { OnOk result (Holds visible.entry.relations.now env.now.user.now (S.state source.new) execution.new) }
 {
     let mut so_far = Truth::False;
     for row in rows {
@@ -599,7 +635,7 @@ fn is_item<'a, 'c, S: Tables>(
             user: env.user,
             rows: Scoped::Over(row, &env.rows),
         };
-        let item = item_if(alloc, source, work, view, query, &inner)?;
+        let item = item_if(alloc, source, execution, visible, query, &inner)?;
         so_far = or_equal(so_far, value, &item);
     }
     Ok(so_far)
@@ -610,17 +646,25 @@ fn is_item<'a, 'c, S: Tables>(
 fn scalar<'a, 'c, S: Tables>(
     alloc: Global,
     source: &mut S,
-    work: &mut Work,
-    view: View<'a, 'c>,
+    execution: &mut ExecutionState,
+    visible: VisibleRelations<'a, 'c>,
     query: &'a Subquery,
     env: &Env<'a>,
-) -> Result<Held<'a>, AllocError>
-    requires { Holds view.fences.now env.now.user.now (S.state source.old) work.old }
-    ensures tells { Tells (value_of (t.Scalar (query_of query.now)) (shows (drop view.entry.from view.entry.fences.now) env.now.user.now) (env_of env.now)) (S.state source.old) (S.state source.new) work.old.notes work.new.notes (held_now result) }
-    ensures holds { OnOk result (Holds view.entry.fences.now env.now.user.now (S.state source.new) work.new) }
+) -> Result<Datum<'a>, AllocError>
+    requires { Holds visible.relations.now env.now.user.now (S.state source.old) execution.old }
+    ensures tells { Evaluates (value_of (t.Scalar (query_of query.now)) (shows (drop visible.entry.from visible.entry.relations.now) env.now.user.now) (env_of env.now)) (S.state source.old) (S.state source.new) execution.old.read_set execution.new.read_set (datum_now result) }
+    ensures holds { OnOk result (Holds visible.entry.relations.now env.now.user.now (S.state source.new) execution.new) }
 {
-    let rows = rows_for(alloc, source, work, view, query, env)?;
-    let item = first_item(alloc, source, work, view, query, &*env, rows.as_slice());
+    let rows = rows_for(alloc, source, execution, visible, query, env)?;
+    let item = first_item(
+        alloc,
+        source,
+        execution,
+        visible,
+        query,
+        &*env,
+        rows.as_slice(),
+    );
     drop(rows);
     item
 }
@@ -630,15 +674,15 @@ fn scalar<'a, 'c, S: Tables>(
 fn first_item<'a, 'b, 'c, S: Tables>(
     alloc: Global,
     source: &mut S,
-    work: &mut Work,
-    view: View<'a, 'c>,
+    execution: &mut ExecutionState,
+    visible: VisibleRelations<'a, 'c>,
     query: &'a Subquery,
     env: &'a Env<'a>,
     rows: &'a [Row],
-) -> Result<Held<'b>, AllocError>
-    requires { Holds view.fences.now env.now.user.now (S.state source.old) work.old }
-    ensures tells { Tells (gathered (λ row item rest. item_or item rest) Null (λ row. means.item_if (meets (maybe_term query.now.condition) (shows (drop view.entry.from view.entry.fences.now) env.now.user.now) (inside row (env_of env.now))) (item_of (terms_of query.now.items.items) (shows (drop view.entry.from view.entry.fences.now) env.now.user.now) (inside row (env_of env.now)))) rows.now) (S.state source.old) (S.state source.new) work.old.notes work.new.notes (held_now result) }
-    ensures holds { OnOk result (Holds view.entry.fences.now env.now.user.now (S.state source.new) work.new) }
+) -> Result<Datum<'b>, AllocError>
+    requires { Holds visible.relations.now env.now.user.now (S.state source.old) execution.old }
+    ensures tells { Evaluates (gathered (λ row item rest. item_or item rest) Null (λ row. means.item_if (meets (maybe_term query.now.condition) (shows (drop visible.entry.from visible.entry.relations.now) env.now.user.now) (inside row (env_of env.now))) (item_of (terms_of query.now.items.items) (shows (drop visible.entry.from visible.entry.relations.now) env.now.user.now) (inside row (env_of env.now)))) rows.now) (S.state source.old) (S.state source.new) execution.old.read_set execution.new.read_set (datum_now result) }
+    ensures holds { OnOk result (Holds visible.entry.relations.now env.now.user.now (S.state source.new) execution.new) }
 {
     let mut first = None;
     for row in rows {
@@ -646,7 +690,7 @@ fn first_item<'a, 'b, 'c, S: Tables>(
             user: env.user,
             rows: Scoped::Over(row, &env.rows),
         };
-        let item = item_if(alloc, source, work, view, query, &inner)?;
+        let item = item_if(alloc, source, execution, visible, query, &inner)?;
         first = first_of(alloc, first, &item)?;
     }
     Ok(or_null(first))
@@ -657,21 +701,21 @@ fn first_item<'a, 'b, 'c, S: Tables>(
 fn item_if<'a, 'c, S: Tables>(
     alloc: Global,
     source: &mut S,
-    work: &mut Work,
-    view: View<'a, 'c>,
+    execution: &mut ExecutionState,
+    visible: VisibleRelations<'a, 'c>,
     query: &'a Subquery,
     env: &Env<'a>,
-) -> Result<Option<Held<'a>>, AllocError>
-    requires { Holds view.fences.now env.now.user.now (S.state source.old) work.old }
-    ensures tells { Tells (means.item_if (meets (maybe_term query.now.condition) (shows (drop view.entry.from view.entry.fences.now) env.now.user.now) (env_of env.now)) (item_of (terms_of query.now.items.items) (shows (drop view.entry.from view.entry.fences.now) env.now.user.now) (env_of env.now))) (S.state source.old) (S.state source.new) work.old.notes work.new.notes (maybe_now result) }
-    ensures holds { OnOk result (Holds view.entry.fences.now env.now.user.now (S.state source.new) work.new) }
+) -> Result<Option<Datum<'a>>, AllocError>
+    requires { Holds visible.relations.now env.now.user.now (S.state source.old) execution.old }
+    ensures tells { Evaluates (means.item_if (meets (maybe_term query.now.condition) (shows (drop visible.entry.from visible.entry.relations.now) env.now.user.now) (env_of env.now)) (item_of (terms_of query.now.items.items) (shows (drop visible.entry.from visible.entry.relations.now) env.now.user.now) (env_of env.now))) (S.state source.old) (S.state source.new) execution.old.read_set execution.new.read_set (maybe_now result) }
+    ensures holds { OnOk result (Holds visible.entry.relations.now env.now.user.now (S.state source.new) execution.new) }
 {
-    let is = meets_condition(alloc, source, work, view, &query.condition, env)?;
+    let is = meets_condition(alloc, source, execution, visible, &query.condition, env)?;
     if !is {
         return Ok(None);
     }
-    let held = item(alloc, source, work, view, &query.items, env)?;
-    Ok(Some(held))
+    let datum = item(alloc, source, execution, visible, &query.items, env)?;
+    Ok(Some(datum))
 }
 
 /// The one item that the subquery selects.
@@ -679,18 +723,18 @@ fn item_if<'a, 'c, S: Tables>(
 fn item<'a, 'c, S: Tables>(
     alloc: Global,
     source: &mut S,
-    work: &mut Work,
-    view: View<'a, 'c>,
+    execution: &mut ExecutionState,
+    visible: VisibleRelations<'a, 'c>,
     items: &'a [Expr],
     env: &Env<'a>,
-) -> Result<Held<'a>, AllocError>
-    requires { Holds view.fences.now env.now.user.now (S.state source.old) work.old }
-    ensures tells { Tells (item_of (terms_of items.now) (shows (drop view.entry.from view.entry.fences.now) env.now.user.now) (env_of env.now)) (S.state source.old) (S.state source.new) work.old.notes work.new.notes (held_now result) }
-    ensures holds { OnOk result (Holds view.entry.fences.now env.now.user.now (S.state source.new) work.new) }
+) -> Result<Datum<'a>, AllocError>
+    requires { Holds visible.relations.now env.now.user.now (S.state source.old) execution.old }
+    ensures tells { Evaluates (item_of (terms_of items.now) (shows (drop visible.entry.from visible.entry.relations.now) env.now.user.now) (env_of env.now)) (S.state source.old) (S.state source.new) execution.old.read_set execution.new.read_set (datum_now result) }
+    ensures holds { OnOk result (Holds visible.entry.relations.now env.now.user.now (S.state source.new) execution.new) }
 {
     match items {
-        [] => Ok(Held::Null),
-        [item, ..] => eval(alloc, source, work, view, item, env),
+        [] => Ok(Datum::Null),
+        [item, ..] => eval(alloc, source, execution, visible, item, env),
     }
 }
 
@@ -699,20 +743,20 @@ fn item<'a, 'c, S: Tables>(
 pub fn meets_condition<'a, 'c, S: Tables>(
     alloc: Global,
     source: &mut S,
-    work: &mut Work,
-    view: View<'a, 'c>,
+    execution: &mut ExecutionState,
+    visible: VisibleRelations<'a, 'c>,
     condition: &'a Option<Expr>,
     env: &Env<'a>,
 ) -> Result<bool, AllocError>
-    requires { Holds view.fences.now env.now.user.now (S.state source.old) work.old }
-    ensures tells { Tells (meets (maybe_term condition.now) (shows (drop view.entry.from view.entry.fences.now) env.now.user.now) (env_of env.now)) (S.state source.old) (S.state source.new) work.old.notes work.new.notes result }
-    ensures holds { OnOk result (Holds view.entry.fences.now env.now.user.now (S.state source.new) work.new) }
+    requires { Holds visible.relations.now env.now.user.now (S.state source.old) execution.old }
+    ensures tells { Evaluates (meets (maybe_term condition.now) (shows (drop visible.entry.from visible.entry.relations.now) env.now.user.now) (env_of env.now)) (S.state source.old) (S.state source.new) execution.old.read_set execution.new.read_set result }
+    ensures holds { OnOk result (Holds visible.entry.relations.now env.now.user.now (S.state source.new) execution.new) }
 {
     match condition {
         None => Ok(true),
         Some(condition) => {
-            let held = condition_value(alloc, source, work, view, condition, env)?;
-            Ok(held.truth().is_true())
+            let datum = condition_value(alloc, source, execution, visible, condition, env)?;
+            Ok(datum.truth().is_true())
         }
     }
 }
@@ -722,78 +766,86 @@ pub fn meets_condition<'a, 'c, S: Tables>(
 fn rows_for<'a, 'c, S: Tables>(
     alloc: Global,
     source: &mut S,
-    work: &mut Work,
-    view: View<'a, 'c>,
+    execution: &mut ExecutionState,
+    visible: VisibleRelations<'a, 'c>,
     query: &'a Subquery,
     env: &Env<'a>,
 ) -> Result<Rows, AllocError>
-    requires { Holds view.fences.now env.now.user.now (S.state source.old) work.old }
-    ensures tells { Tells (ranged_over (query_of query.now) (shows (drop view.entry.from view.entry.fences.now) env.now.user.now) (env_of env.now)) (S.state source.old) (S.state source.new) work.old.notes work.new.notes result }
-    ensures holds { OnOk result (Holds view.entry.fences.now env.now.user.now (S.state source.new) work.new) }
+    requires { Holds visible.relations.now env.now.user.now (S.state source.old) execution.old }
+    ensures tells { Evaluates (ranged_over (query_of query.now) (shows (drop visible.entry.from visible.entry.relations.now) env.now.user.now) (env_of env.now)) (S.state source.old) (S.state source.new) execution.old.read_set execution.new.read_set result }
+    ensures holds { OnOk result (Holds visible.entry.relations.now env.now.user.now (S.state source.new) execution.new) }
 {
     let key = key_of(alloc, &query.key, &query.condition, env)?;
-    seen(alloc, source, work, view, env.user, &query.from.table, key)
+    seen(
+        alloc,
+        source,
+        execution,
+        visible,
+        env.user,
+        &query.from.table,
+        key,
+    )
 }
 
-/// What the table shows, by the fences from one on.
+/// What the table shows, by the relations from one on.
 #[cycle(eval)]
 fn seen<'a, 'c, S: Tables>(
     alloc: Global,
     source: &mut S,
-    work: &mut Work,
-    view: View<'a, 'c>,
+    execution: &mut ExecutionState,
+    visible: VisibleRelations<'a, 'c>,
     user: &'a Name,
     table: &Name,
     key: Option<Row>,
 ) -> Result<Rows, AllocError>
-    requires { Holds view.fences.now user.now (S.state source.old) work.old }
-    ensures tells { Tells (shows (drop view.entry.from view.entry.fences.now) user.now table.now key) (S.state source.old) (S.state source.new) work.old.notes work.new.notes result }
-    ensures holds { OnOk result (Holds view.entry.fences.now user.now (S.state source.new) work.new) }
+    requires { Holds visible.relations.now user.now (S.state source.old) execution.old }
+    ensures tells { Evaluates (shows (drop visible.entry.from visible.entry.relations.now) user.now table.now key) (S.state source.old) (S.state source.new) execution.old.read_set execution.new.read_set result }
+    ensures holds { OnOk result (Holds visible.entry.relations.now user.now (S.state source.new) execution.new) }
 {
-    match place_of(view.fences, view.from, table) {
+    match place_of(visible.relations, visible.from, table) {
         None => {
             drop(key);
             Rows::new(Vec::new(alloc))
         }
         Some(place) => {
             let object = object_of(table, key)?;
-            let here = View {
-                fences: view.fences,
+            let here = VisibleRelations {
+                relations: visible.relations,
                 from: place,
             };
-            shown_once(alloc, source, work, here, user, object)
+            shown_once(alloc, source, execution, here, user, object)
         }
     }
 }
 
-/// What the first of the fences shows: as it was found before, or found and kept. A look-up by key that no policy judges
+/// What the first of the relations shows: as it was found before, or found and kept. A look-up by key that no policy judges
 /// costs no more than to find it again, and isn't kept.
 #[cycle(eval)]
 fn shown_once<'a, 'c, S: Tables>(
     alloc: Global,
     source: &mut S,
-    work: &mut Work,
-    view: View<'a, 'c>,
+    execution: &mut ExecutionState,
+    visible: VisibleRelations<'a, 'c>,
     user: &'a Name,
     object: Object,
 ) -> Result<Rows, AllocError>
-    requires { Holds view.fences.now user.now (S.state source.old) work.old }
-    ensures tells { Tells (shown_at view.entry.fences.now user.now view.entry.from object) (S.state source.old) (S.state source.new) work.old.notes work.new.notes result }
-    ensures holds { OnOk result (Holds view.entry.fences.now user.now (S.state source.new) work.new) }
+    requires { Holds visible.relations.now user.now (S.state source.old) execution.old }
+    ensures tells { Evaluates (shown_at visible.entry.relations.now user.now visible.entry.from object) (S.state source.old) (S.state source.new) execution.old.read_set execution.new.read_set result }
+    ensures holds { OnOk result (Holds visible.entry.relations.now user.now (S.state source.new) execution.new) }
 {
-    if is_looked_up(view, &object) {
-        let rows = shown(alloc, source, work, view, user, &object);
+    if is_looked_up(visible, &object) {
+        let rows = shown(alloc, source, execution, visible, user, &object);
         drop(object);
         return rows;
     }
-    let known = found(&work.seen, view.from, &object);
+    let known = found(&execution.cached_rows, visible.from, &object);
     match known {
         Ok(Some(rows)) => {
             drop(object);
             Ok(rows)
         }
-        Ok(None) => match shown(alloc, source, work, view, user, &object) {
-            Ok(rows) => remembered(&mut work.seen, object, view.from, rows),
+        Ok(None) => match shown(alloc, source, execution, visible, user, &object) {
+            Ok(rows) => remembered(&mut execution.cached_rows, object, visible.from, rows),
             Err(refused) => {
                 drop(object);
                 Err(refused)
@@ -806,33 +858,41 @@ fn shown_once<'a, 'c, S: Tables>(
     }
 }
 
-/// What the first of the fences shows.
+/// What the first of the relations shows.
 #[cycle(eval)]
 fn shown<'a, 'c, S: Tables>(
     alloc: Global,
     source: &mut S,
-    work: &mut Work,
-    view: View<'a, 'c>,
+    execution: &mut ExecutionState,
+    visible: VisibleRelations<'a, 'c>,
     user: &'a Name,
     object: &Object,
 ) -> Result<Rows, AllocError>
-    requires { Holds view.fences.now user.now (S.state source.old) work.old }
-    ensures tells { Tells (shown_at view.entry.fences.now user.now view.entry.from object.now) (S.state source.old) (S.state source.new) work.old.notes work.new.notes result }
-    ensures holds { OnOk result (Holds view.entry.fences.now user.now (S.state source.new) work.new) }
+    requires { Holds visible.relations.now user.now (S.state source.old) execution.old }
+    ensures tells { Evaluates (shown_at visible.entry.relations.now user.now visible.entry.from object.now) (S.state source.old) (S.state source.new) execution.old.read_set execution.new.read_set result }
+    ensures holds { OnOk result (Holds visible.entry.relations.now user.now (S.state source.new) execution.new) }
 {
-    if view.from >= view.fences.len() {
+    if visible.from >= visible.relations.len() {
         return Rows::new(Vec::new(alloc));
     }
-    let rows = asked(alloc, source, work, view, user, object)?;
-    let guard = &view.fences[view.from].guard;
-    if is_exempt(guard) {
+    let rows = asked(alloc, source, execution, visible, user, object)?;
+    let quals = &visible.relations[visible.from].quals;
+    if is_exempt(quals) {
         return Rows::new(rows.into_vec());
     }
-    let behind = View {
-        fences: view.fences,
-        from: view.from + 1,
+    let behind = VisibleRelations {
+        relations: visible.relations,
+        from: visible.from + 1,
     };
-    let kept = kept_rows(alloc, source, work, behind, user, guard, rows.as_slice())?;
+    let kept = kept_rows(
+        alloc,
+        source,
+        execution,
+        behind,
+        user,
+        quals,
+        rows.as_slice(),
+    )?;
     Ok(kept)
 }
 
@@ -840,25 +900,25 @@ fn shown<'a, 'c, S: Tables>(
 fn asked<'a, 'c, S: Tables>(
     alloc: Global,
     source: &mut S,
-    work: &mut Work,
-    view: View<'a, 'c>,
+    execution: &mut ExecutionState,
+    visible: VisibleRelations<'a, 'c>,
     user: &'a Name,
     object: &Object,
 ) -> Result<Items<Row>, AllocError>
-    requires { Holds view.fences.now user.now (S.state source.old) work.old }
-    ensures tells { Tells (asked_of object.now) (S.state source.old) (S.state source.new) work.old.notes work.new.notes result }
-    ensures holds { OnOk result (Holds view.entry.fences.now user.now (S.state source.new) work.new) }
+    requires { Holds visible.relations.now user.now (S.state source.old) execution.old }
+    ensures tells { Evaluates (asked_of object.now) (S.state source.old) (S.state source.new) execution.old.read_set execution.new.read_set result }
+    ensures holds { OnOk result (Holds visible.entry.relations.now user.now (S.state source.new) execution.new) }
 {
     match object {
         Object::Rows(table) => {
-            note_of(alloc, &mut work.notes, object)?;
+            note_of(alloc, &mut execution.read_set, object)?;
             source.all_rows(alloc, table)
         }
         Object::Key(table, key) => {
             if has_null(key.as_slice()) {
                 return Ok(Items::new(alloc));
             }
-            note_of(alloc, &mut work.notes, object)?;
+            note_of(alloc, &mut execution.read_set, object)?;
             source.rows_with(alloc, table, key)
         }
         Object::Role(_)
@@ -871,88 +931,99 @@ fn asked<'a, 'c, S: Tables>(
 }
 
 /// Notes the object.
-fn note_of(alloc: Global, notes: &mut Noted, object: &Object) -> Result<(), AllocError>
-    ensures { OnOk result (notes.new ≡ with_object notes.old object.now) }
+fn note_of(alloc: Global, read_set: &mut ReadSet, object: &Object) -> Result<(), AllocError>
+    ensures { OnOk result (read_set.new ≡ with_object read_set.old object.now) }
 {
     match object.copy(alloc) {
-        Ok(object) => notes.note(object),
+        Ok(object) => read_set.note(object),
         Err(refused) => Err(refused),
     }
 }
 
-/// The rows that the guard allows.
+/// The rows that the quals allow.
 #[cycle(eval)]
 fn kept_rows<'a, 'c, S: Tables>(
     alloc: Global,
     source: &mut S,
-    work: &mut Work,
-    view: View<'a, 'c>,
+    execution: &mut ExecutionState,
+    visible: VisibleRelations<'a, 'c>,
     user: &'a Name,
-    guard: &'a Guard<'c>,
+    quals: &'a SecurityQuals<'c>,
     rows: &'a [Row],
 ) -> Result<Rows, AllocError>
-    requires { Holds view.fences.now user.now (S.state source.old) work.old }
-    ensures tells { Tells (kept (is_allowed guard.now (shows (drop view.entry.from view.entry.fences.now) user.now) user.now) rows.now) (S.state source.old) (S.state source.new) work.old.notes work.new.notes result }
-    ensures holds { OnOk result (Holds view.entry.fences.now user.now (S.state source.new) work.new) }
+    requires { Holds visible.relations.now user.now (S.state source.old) execution.old }
+    ensures tells { Evaluates (kept (is_allowed quals.now (shows (drop visible.entry.from visible.entry.relations.now) user.now) user.now) rows.now) (S.state source.old) (S.state source.new) execution.old.read_set execution.new.read_set result }
+    ensures holds { OnOk result (Holds visible.entry.relations.now user.now (S.state source.new) execution.new) }
 {
     let mut judgements = Vec::new(alloc);
     let mut kept = Items::new(alloc);
     for row in rows {
-        let is = is_allowed(alloc, source, work, view, &mut judgements, guard, user, row)?;
+        let is = is_allowed(
+            alloc,
+            source,
+            execution,
+            visible,
+            &mut judgements,
+            quals,
+            user,
+            row,
+        )?;
         push_if(alloc, &mut kept, is, row)?;
     }
     drop(judgements);
     Rows::new(kept.into_vec())
 }
 
-/// Whether the guard allows the row.
+/// Whether the quals allow the row.
 #[cycle(eval)]
 fn is_allowed<'a, 'c, S: Tables>(
     alloc: Global,
     source: &mut S,
-    work: &mut Work,
-    view: View<'a, 'c>,
+    execution: &mut ExecutionState,
+    visible: VisibleRelations<'a, 'c>,
     judgements: &mut Vec<Judgement<'c>>,
-    guard: &'a Guard<'c>,
+    quals: &'a SecurityQuals<'c>,
     user: &'a Name,
     row: &'a Row,
 ) -> Result<bool, AllocError>
-    requires { Holds view.fences.now user.now (S.state source.old) work.old }
-    ensures tells { Tells (spec.is_allowed guard.now (shows (drop view.entry.from view.entry.fences.now) user.now) user.now row.now) (S.state source.old) (S.state source.new) work.old.notes work.new.notes result }
-    ensures holds { OnOk result (Holds view.entry.fences.now user.now (S.state source.new) work.new) }
+    requires { Holds visible.relations.now user.now (S.state source.old) execution.old }
+    ensures tells { Evaluates (spec.is_allowed quals.now (shows (drop visible.entry.from visible.entry.relations.now) user.now) user.now row.now) (S.state source.old) (S.state source.new) execution.old.read_set execution.new.read_set result }
+    ensures holds { OnOk result (Holds visible.entry.relations.now user.now (S.state source.new) execution.new) }
 {
-    let verdict = verdict_on(alloc, source, work, view, judgements, guard, user, row)?;
+    let verdict = verdict_on(
+        alloc, source, execution, visible, judgements, quals, user, row,
+    )?;
     Ok(allows(&verdict))
 }
 
-/// What the guard says of the row, with the buffer for what its policies say, whose memory serves the next row; where each
+/// What the quals say of the row, with the buffer for what its policies say, whose memory serves the next row; where each
 /// condition is told where it stands the buffer isn't used.
 #[cycle(eval)]
 pub fn verdict_on<'a, 'c, S: Tables>(
     alloc: Global,
     source: &mut S,
-    work: &mut Work,
-    view: View<'a, 'c>,
+    execution: &mut ExecutionState,
+    visible: VisibleRelations<'a, 'c>,
     judgements: &mut Vec<Judgement<'c>>,
-    guard: &'a Guard<'c>,
+    quals: &'a SecurityQuals<'c>,
     user: &'a Name,
     row: &'a Row,
 ) -> Result<Verdict, AllocError>
-    requires { Holds view.fences.now user.now (S.state source.old) work.old }
-    ensures tells { Tells (spec.verdict_on guard.now (shows (drop view.entry.from view.entry.fences.now) user.now) user.now row.now) (S.state source.old) (S.state source.new) work.old.notes work.new.notes result }
-    ensures holds { OnOk result (Holds view.entry.fences.now user.now (S.state source.new) work.new) }
+    requires { Holds visible.relations.now user.now (S.state source.old) execution.old }
+    ensures tells { Evaluates (spec.verdict_on quals.now (shows (drop visible.entry.from visible.entry.relations.now) user.now) user.now row.now) (S.state source.old) (S.state source.new) execution.old.read_set execution.new.read_set result }
+    ensures holds { OnOk result (Holds visible.entry.relations.now user.now (S.state source.new) execution.new) }
 {
-    match guard {
-        Guard::Exempt => Ok(Verdict::Exempt),
-        Guard::Policies(conditions) => {
+    match quals {
+        SecurityQuals::Exempt => Ok(Verdict::Exempt),
+        SecurityQuals::Policies(conditions) => {
             if let Some(deciding) = deciding_on(conditions.as_slice(), user, row) {
                 return deciding.verdict();
             }
             put_judgements(
                 alloc,
                 source,
-                work,
-                view,
+                execution,
+                visible,
                 judgements,
                 conditions.as_slice(),
                 user,
@@ -968,16 +1039,16 @@ pub fn verdict_on<'a, 'c, S: Tables>(
 fn put_judgements<'a, 'c, S: Tables>(
     alloc: Global,
     source: &mut S,
-    work: &mut Work,
-    view: View<'a, 'c>,
+    execution: &mut ExecutionState,
+    visible: VisibleRelations<'a, 'c>,
     judgements: &mut Vec<Judgement<'c>>,
-    conditions: &'a [(Loan<'c, Policy>, Expr)],
+    conditions: &'a [(Reference<'c, Policy>, Expr)],
     user: &'a Name,
     row: &'a Row,
 ) -> Result<(), AllocError>
-    requires { Holds view.fences.now user.now (S.state source.old) work.old }
-    ensures tells { Tells (judgements_on conditions.now (shows (drop view.entry.from view.entry.fences.now) user.now) user.now row.now) (S.state source.old) (S.state source.new) work.old.notes work.new.notes (put_in judgements.new.items result) }
-    ensures holds { OnOk result (Holds view.entry.fences.now user.now (S.state source.new) work.new) }
+    requires { Holds visible.relations.now user.now (S.state source.old) execution.old }
+    ensures tells { Evaluates (judgements_on conditions.now (shows (drop visible.entry.from visible.entry.relations.now) user.now) user.now row.now) (S.state source.old) (S.state source.new) execution.old.read_set execution.new.read_set (put_in judgements.new.items result) }
+    ensures holds { OnOk result (Holds visible.entry.relations.now user.now (S.state source.new) execution.new) }
 {
     let nothing = Scoped::Nothing;
     let env = Env {
@@ -986,8 +1057,8 @@ fn put_judgements<'a, 'c, S: Tables>(
     };
     judgements.clear();
     for (policy, condition) in conditions {
-        let held = condition_value(alloc, source, work, view, condition, &env)?;
-        judgements.push((Loan::new(policy.get()), held.truth()))?;
+        let datum = condition_value(alloc, source, execution, visible, condition, &env)?;
+        judgements.push((Reference::new(policy.get()), datum.truth()))?;
     }
     Ok(())
 }
@@ -1009,8 +1080,10 @@ fn object_of(table: &Name, key: Option<Row>) -> Result<Object, AllocError>
 }
 
 /// Whether it is a key, of a table that row security doesn't apply to.
-fn is_looked_up(view: View, object: &Object) -> bool {
-    view.from < view.fences.len() && is_exempt(&view.fences[view.from].guard) && is_key(object)
+fn is_looked_up(visible: VisibleRelations, object: &Object) -> bool {
+    visible.from < visible.relations.len()
+        && is_exempt(&visible.relations[visible.from].quals)
+        && is_key(object)
 }
 
 fn is_key(object: &Object) -> bool
@@ -1050,16 +1123,20 @@ fn either(one: bool, other: bool) -> bool
     one || other
 }
 
-fn null_if<'a>(is: bool) -> Option<Held<'a>>
-    ensures { maybe_held result ≡ if is then Some Null else None }
+fn null_if<'a>(is: bool) -> Option<Datum<'a>>
+    ensures { maybe_datum result ≡ if is then Some Null else None }
 {
-    if is { Some(Held::Null) } else { None }
+    if is { Some(Datum::Null) } else { None }
 }
 
 /// The item behind the others, if there is one. A number beyond 64 bits, which only a sum can be, is answered as want of
 /// memory.
-fn push_item(alloc: Global, values: &mut Items<Value>, item: Option<Held>) -> Result<(), AllocError>
-    ensures { OnOk result (values.new ≡ values.old ++ with_item [] (maybe_held item.entry) []) }
+fn push_item(
+    alloc: Global,
+    values: &mut Items<Value>,
+    item: Option<Datum>,
+) -> Result<(), AllocError>
+    ensures { OnOk result (values.new ≡ values.old ++ with_item [] (maybe_datum item.entry) []) }
 {
     match item {
         Some(item) => {
@@ -1071,8 +1148,8 @@ fn push_item(alloc: Global, values: &mut Items<Value>, item: Option<Held>) -> Re
 }
 
 /// OR with the equality of the item, if there is one.
-fn or_equal(so_far: Truth, value: &Held, item: &Option<Held>) -> Truth
-    ensures { result ≡ disjunction_of so_far (item_equals (held_value value.now) (maybe_held item.now)) }
+fn or_equal(so_far: Truth, value: &Datum, item: &Option<Datum>) -> Truth
+    ensures { result ≡ disjunction_of so_far (item_equals (datum_value value.now) (maybe_datum item.now)) }
 {
     match item {
         Some(item) => so_far.or(equals(value, item)),
@@ -1083,10 +1160,10 @@ fn or_equal(so_far: Truth, value: &Held, item: &Option<Held>) -> Truth
 /// The first that is there; of the further one a value with its own text.
 fn first_of<'a>(
     alloc: Global,
-    first: Option<Held<'a>>,
-    further: &Option<Held>,
-) -> Result<Option<Held<'a>>, AllocError>
-    ensures { IfOk result (λ held. maybe_held held ≡ or_else (maybe_held first.entry) (maybe_held further.now)) }
+    first: Option<Datum<'a>>,
+    further: &Option<Datum>,
+) -> Result<Option<Datum<'a>>, AllocError>
+    ensures { IfOk result (λ datum. maybe_datum datum ≡ or_else (maybe_datum first.entry) (maybe_datum further.now)) }
 {
     match first {
         Some(first) => Ok(Some(first)),
@@ -1094,11 +1171,11 @@ fn first_of<'a>(
     }
 }
 
-fn own_copy<'a>(alloc: Global, held: &Option<Held>) -> Result<Option<Held<'a>>, AllocError>
-    ensures { IfOk result (λ own. maybe_held own ≡ maybe_held held.now) }
+fn own_copy<'a>(alloc: Global, datum: &Option<Datum>) -> Result<Option<Datum<'a>>, AllocError>
+    ensures { IfOk result (λ own. maybe_datum own ≡ maybe_datum datum.now) }
 {
-    match held {
-        Some(held) => match held.to_own(alloc) {
+    match datum {
+        Some(datum) => match datum.to_own(alloc) {
             Ok(own) => Ok(Some(own)),
             Err(refused) => Err(refused),
         },
@@ -1106,11 +1183,11 @@ fn own_copy<'a>(alloc: Global, held: &Option<Held>) -> Result<Option<Held<'a>>, 
     }
 }
 
-fn or_null(held: Option<Held>) -> Held
-    ensures { held_value result ≡ item_or (maybe_held held.entry) Null }
+fn or_null(datum: Option<Datum>) -> Datum
+    ensures { datum_value result ≡ item_or (maybe_datum datum.entry) Null }
 {
-    match held {
-        Some(held) => held,
-        None => Held::Null,
+    match datum {
+        Some(datum) => datum,
+        None => Datum::Null,
     }
 }

@@ -5,9 +5,9 @@ ghost use Rattle.std.specs.List.{list_any};
 ghost use Rattle.rls_value.specs.Values.{is_null};
 ghost use Rattle.rls_expr.specs.Terms.{maybe_term, terms_of};
 ghost use Rattle.rls_evaluation.specs.Keys as spec;
-ghost use Rattle.rls_evaluation.specs.Scoping.{env_of, maybe_held};
+ghost use Rattle.rls_evaluation.specs.Scoping.{env_of, maybe_datum};
 
-use crate::held::{Held, held_of};
+use crate::datum::{Datum, datum_of};
 use crate::scope::{Env, column_value};
 use rls_expr::{Comparison, Expr, Node};
 use rls_value::{Row, Value};
@@ -44,7 +44,7 @@ fn all_pinned(
     let mut values = Vec::with_capacity(alloc, columns.len())?;
     for column in columns {
         match pin_of(condition, *column, env) {
-            Some(held) => values.push(held.to_value(alloc)?)?,
+            Some(datum) => values.push(datum.to_value(alloc)?)?,
             None => return Ok(None),
         }
     }
@@ -56,8 +56,8 @@ fn all_pinned(
 
 /// What the condition sets the column equal to: where it, or a part of its outermost AND, sets it equal to what is known
 /// before a row is looked at; the first such part counts.
-fn pin_of<'a>(condition: &'a Expr, column: usize, env: &Env<'a>) -> Option<Held<'a>>
-    ensures { maybe_held result ≡ spec.pin_of column condition.now (env_of env.now) }
+fn pin_of<'a>(condition: &'a Expr, column: usize, env: &Env<'a>) -> Option<Datum<'a>>
+    ensures { maybe_datum result ≡ spec.pin_of column condition.now (env_of env.now) }
 {
     match condition.node() {
         Node::And(parts) => pin_among(parts, column, env),
@@ -65,20 +65,20 @@ fn pin_of<'a>(condition: &'a Expr, column: usize, env: &Env<'a>) -> Option<Held<
     }
 }
 
-fn pin_among<'a>(parts: &'a [Expr], column: usize, env: &Env<'a>) -> Option<Held<'a>>
-    ensures { maybe_held result ≡ spec.pin_among column (terms_of parts.now) (env_of env.now) }
+fn pin_among<'a>(parts: &'a [Expr], column: usize, env: &Env<'a>) -> Option<Datum<'a>>
+    ensures { maybe_datum result ≡ spec.pin_among column (terms_of parts.now) (env_of env.now) }
 {
     for part in parts {
-        if let Some(held) = pin_in(part, column, env) {
-            return Some(held);
+        if let Some(datum) = pin_in(part, column, env) {
+            return Some(datum);
         }
     }
     None
 }
 
 /// What the one part sets the column equal to.
-fn pin_in<'a>(part: &'a Expr, column: usize, env: &Env<'a>) -> Option<Held<'a>>
-    ensures { maybe_held result ≡ spec.pin_in column part.now (env_of env.now) }
+fn pin_in<'a>(part: &'a Expr, column: usize, env: &Env<'a>) -> Option<Datum<'a>>
+    ensures { maybe_datum result ≡ spec.pin_in column part.now (env_of env.now) }
 {
     match part.node() {
         Node::Compare(Comparison::Equal, left, right) => pin_of_sides(left, right, column, env),
@@ -91,17 +91,17 @@ fn pin_of_sides<'a>(
     right: &'a Expr,
     column: usize,
     env: &Env<'a>,
-) -> Option<Held<'a>>
-    ensures { maybe_held result ≡ spec.pin_of_sides column left.now right.now (env_of env.now) }
+) -> Option<Datum<'a>>
+    ensures { maybe_datum result ≡ spec.pin_of_sides column left.now right.now (env_of env.now) }
 {
     match pin_by(left, right, column, env) {
-        Some(held) => Some(held),
+        Some(datum) => Some(datum),
         None => pin_by(right, left, column, env),
     }
 }
 
-fn pin_by<'a>(here: &Expr, there: &'a Expr, column: usize, env: &Env<'a>) -> Option<Held<'a>>
-    ensures { maybe_held result ≡ spec.pin_by column here.now there.now (env_of env.now) }
+fn pin_by<'a>(here: &Expr, there: &'a Expr, column: usize, env: &Env<'a>) -> Option<Datum<'a>>
+    ensures { maybe_datum result ≡ spec.pin_by column here.now there.now (env_of env.now) }
 {
     if is_column(here, column) {
         return known_value(there, env);
@@ -113,30 +113,30 @@ fn is_column(expr: &Expr, column: usize) -> bool
     ensures { result ≡ spec.is_column column expr.now }
 {
     match expr.node() {
-        Node::Place(place) => place.out == 0 && place.column == column,
+        Node::Var(var) => var.level == 0 && var.column == column,
         _ => false,
     }
 }
 
 /// What is known before a row of the subquery is looked at: a literal, the current role, a column further out.
-fn known_value<'a>(expr: &'a Expr, env: &Env<'a>) -> Option<Held<'a>>
-    ensures { maybe_held result ≡ spec.known_value expr.now (env_of env.now) }
+fn known_value<'a>(expr: &'a Expr, env: &Env<'a>) -> Option<Datum<'a>>
+    ensures { maybe_datum result ≡ spec.known_value expr.now (env_of env.now) }
 {
     match expr.node() {
-        Node::Literal(value) => Some(held_of(value)),
-        Node::Place(place) => outer_value(place.out, place.column, env),
-        Node::CurrentUser => Some(Held::Text(env.user.as_str())),
+        Node::Literal(value) => Some(datum_of(value)),
+        Node::Var(var) => outer_value(var.level, var.column, env),
+        Node::CurrentUser => Some(Datum::Text(env.user.as_str())),
         _ => None,
     }
 }
 
-fn outer_value<'a>(out: usize, column: usize, env: &Env<'a>) -> Option<Held<'a>>
-    ensures { maybe_held result ≡ spec.outer_value out column (env_of env.now) }
+fn outer_value<'a>(level: usize, column: usize, env: &Env<'a>) -> Option<Datum<'a>>
+    ensures { maybe_datum result ≡ spec.outer_value level column (env_of env.now) }
 {
-    if out == 0 {
+    if level == 0 {
         return None;
     }
-    Some(column_value(&env.rows, out - 1, column))
+    Some(column_value(&env.rows, level - 1, column))
 }
 
 /// Whether a null is among the values.

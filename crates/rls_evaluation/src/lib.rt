@@ -2,25 +2,25 @@
 #![tactic(auto)]
 
 mod alone;
+mod datum;
 mod deciding;
 mod evaluation;
-mod fence;
-mod held;
+mod execution_state;
 mod keys;
-mod memo;
-mod noted;
 mod plain;
+mod read_set;
+mod relation;
 mod scope;
 mod tableless;
 mod tables;
 mod value_set;
 
+pub use datum::Datum;
 pub use evaluation::{eval, meets_condition, verdict_on};
-pub use fence::{Fence, Guard, View, allows};
-pub use held::Held;
+pub use execution_state::ExecutionState;
 pub use keys::key_of;
-pub use memo::Work;
-pub use noted::Noted;
+pub use read_set::ReadSet;
+pub use relation::{SecuredRelation, SecurityQuals, VisibleRelations, allows};
 pub use scope::{Env, Scoped};
 pub use tableless::value_over;
 pub use tables::{Looked, Tables};

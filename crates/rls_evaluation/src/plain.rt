@@ -12,10 +12,10 @@ use rls_expr::{Comparison, Expr, Node};
 use rls_value::{Truth, Value};
 use std::cmp::Ordering;
 
-/// A value that is lent: of a literal or a row, or the name of the current role.
+/// A value that is borrowed: of a literal or a row, or the name of the current role.
 #[derive(Clone, Copy)]
 pub enum Plain<'a> {
-    Lent(&'a Value),
+    BorrowedRow(&'a Value),
     Name(&'a str),
 }
 
@@ -52,25 +52,25 @@ fn plain_operand<'a>(operand: &'a Expr, env: &Env<'a>) -> Option<Plain<'a>>
     ensures { IfSome result (λ value. IsPlainly operand.now (env_of env.now) (plain_value value)) }
 {
     match operand.node() {
-        Node::Literal(value) => Some(Plain::Lent(value)),
-        Node::Place(place) => plain_column(&env.rows, place.out, place.column),
+        Node::Literal(value) => Some(Plain::BorrowedRow(value)),
+        Node::Var(var) => plain_column(&env.rows, var.level, var.column),
         Node::CurrentUser => Some(Plain::Name(env.user.as_str())),
         _ => None,
     }
 }
 
-/// A column of the row that lies so many rows out, if there is one.
-fn plain_column<'a>(rows: &Scoped<'a>, out: usize, column: usize) -> Option<Plain<'a>>
-    ensures { IfSome result (λ value. plain_value value ≡ value_at (row_at (rows_in rows.now) out) column) }
+/// A column of the row so many levels up, if there is one.
+fn plain_column<'a>(rows: &Scoped<'a>, level: usize, column: usize) -> Option<Plain<'a>>
+    ensures { IfSome result (λ value. plain_value value ≡ value_at (row_at (rows_in rows.now) level) column) }
 {
     match rows {
         Scoped::Nothing => None,
         Scoped::Over(row, outer) => {
-            if out > 0 {
-                return plain_column(*outer, out - 1, column);
+            if level > 0 {
+                return plain_column(*outer, level - 1, column);
             }
             match (*row).get(column) {
-                Some(value) => Some(Plain::Lent(value)),
+                Some(value) => Some(Plain::BorrowedRow(value)),
                 None => None,
             }
         }
@@ -97,10 +97,10 @@ fn equal_plain(left: Plain<'_>, right: Plain<'_>) -> Truth
     ensures { result ≡ equal_values (plain_value left.entry) (plain_value right.entry) }
 {
     match (left, right) {
-        (Plain::Lent(Value::Int(left)), Plain::Lent(Value::Int(right))) => {
+        (Plain::BorrowedRow(Value::Int(left)), Plain::BorrowedRow(Value::Int(right))) => {
             Truth::from_bool(*left == *right)
         }
-        (Plain::Lent(Value::Bool(left)), Plain::Lent(Value::Bool(right))) => {
+        (Plain::BorrowedRow(Value::Bool(left)), Plain::BorrowedRow(Value::Bool(right))) => {
             Truth::from_bool(*left == *right)
         }
         (left, right) => match (left.text(), right.text()) {
@@ -115,10 +115,10 @@ fn less_plain(left: Plain<'_>, right: Plain<'_>) -> Truth
     ensures { result ≡ less_values (plain_value left.entry) (plain_value right.entry) }
 {
     match (left, right) {
-        (Plain::Lent(Value::Int(left)), Plain::Lent(Value::Int(right))) => {
+        (Plain::BorrowedRow(Value::Int(left)), Plain::BorrowedRow(Value::Int(right))) => {
             Truth::from_bool(*left < *right)
         }
-        (Plain::Lent(Value::Bool(left)), Plain::Lent(Value::Bool(right))) => {
+        (Plain::BorrowedRow(Value::Bool(left)), Plain::BorrowedRow(Value::Bool(right))) => {
             Truth::from_bool(!*left && *right)
         }
         (left, right) => match (left.text(), right.text()) {
@@ -135,8 +135,8 @@ impl<'a> Plain<'a> {
     {
         match self {
             Plain::Name(name) => Some(name),
-            Plain::Lent(Value::Text(text)) => Some(text.as_str()),
-            Plain::Lent(Value::Null | Value::Int(_) | Value::Bool(_)) => None,
+            Plain::BorrowedRow(Value::Text(text)) => Some(text.as_str()),
+            Plain::BorrowedRow(Value::Null | Value::Int(_) | Value::Bool(_)) => None,
         }
     }
 }

@@ -3,9 +3,9 @@
 ghost use Rattle.std.specs.Prelude.{◌≡◌};
 ghost use Rattle.rls_value.specs.Values.{value_at};
 ghost use Rattle.rls_evaluation.specs.Environments.{row_at};
-ghost use Rattle.rls_evaluation.specs.Scoping.{held_value, rows_in};
+ghost use Rattle.rls_evaluation.specs.Scoping.{datum_value, rows_in};
 
-use crate::held::{Held, value_in};
+use crate::datum::{Datum, value_in};
 use rls_value::{Name, Row};
 
 /// The rows in scope, the innermost first.
@@ -22,17 +22,17 @@ pub struct Env<'a> {
     pub rows: Scoped<'a>,
 }
 
-/// A column of the row that lies so many rows out; null where there is none.
-pub fn column_value<'a>(rows: &Scoped<'a>, out: usize, column: usize) -> Held<'a>
-    ensures { held_value result ≡ value_at (row_at (rows_in rows.now) out) column }
+/// A column of the row so many levels up; null where there is none.
+pub fn column_value<'a>(rows: &Scoped<'a>, level: usize, column: usize) -> Datum<'a>
+    ensures { datum_value result ≡ value_at (row_at (rows_in rows.now) level) column }
 {
     match rows {
-        Scoped::Nothing => Held::Null,
+        Scoped::Nothing => Datum::Null,
         Scoped::Over(row, outer) => {
-            if out == 0 {
+            if level == 0 {
                 value_in(*row, column)
             } else {
-                column_value(*outer, out - 1, column)
+                column_value(*outer, level - 1, column)
             }
         }
     }

@@ -6,8 +6,8 @@ ghost use Rattle.rls_evaluation.specs.Scoping.{env_of};
 ghost use Rattle.rls_evaluation.specs.Tableless as spec;
 
 use crate::evaluation::eval;
-use crate::fence::View;
-use crate::memo::Work;
+use crate::execution_state::ExecutionState;
+use crate::relation::VisibleRelations;
 use crate::scope::{Env, Scoped};
 use crate::tables::Tables;
 use rls_expr::Expr;
@@ -60,15 +60,15 @@ fn value_in<'x>(alloc: Global, expr: &'x Expr, env: &Env<'x>) -> Result<Value, A
     ensures { IfOk result (λ value. value ≡ spec.value_in expr.now (env_of env.now)) }
 {
     let mut tables = NoTables;
-    let mut work = Work::new(alloc);
-    let view = View {
-        fences: &[],
+    let mut execution = ExecutionState::new(alloc);
+    let visible = VisibleRelations {
+        relations: &[],
         from: 0,
     };
-    let held = eval(alloc, &mut tables, &mut work, view, expr, env);
-    drop(work);
-    match held {
-        Ok(held) => held.to_value(alloc),
+    let datum = eval(alloc, &mut tables, &mut execution, visible, expr, env);
+    drop(execution);
+    match datum {
+        Ok(datum) => datum.to_value(alloc),
         Err(refused) => Err(refused),
     }
 }

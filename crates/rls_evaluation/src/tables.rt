@@ -4,7 +4,7 @@ ghost use Rattle.std.specs.Prelude.{◌≡◌, IfOk};
 ghost use Rattle.rls_catalog.specs.State.{State, rows_of, rows_with_key};
 ghost use Rattle.rls_evaluation.specs.Showing.{values_of};
 
-use rls_catalog::Lent;
+use rls_catalog::BorrowedRow;
 use rls_source::RowSource;
 use rls_value::{Items, Name, Row};
 use std::alloc::{AllocError, Global};
@@ -69,8 +69,8 @@ impl<'s, 'c, S: RowSource<'c>> Tables for Looked<'s, 'c, S> {
     }
 }
 
-/// The same rows, which share their values with those that are lent.
-fn shared(alloc: Global, rows: &[Lent]) -> Result<Items<Row>, AllocError>
+/// The same rows, which share their values with those that are borrowed.
+fn shared(alloc: Global, rows: &[BorrowedRow]) -> Result<Items<Row>, AllocError>
     ensures { IfOk result (λ copies. copies ≡ values_of rows.now) }
 {
     let mut copies = Vec::with_capacity(alloc, rows.len())?;

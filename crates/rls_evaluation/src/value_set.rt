@@ -1,12 +1,12 @@
 //! The values of a list, to be asked whether one of them is equal to another.
 
 ghost use Rattle.std.specs.Prelude.{◌≡◌, ◌||◌, List, IfOk, OnOk, []};
-ghost use Rattle.rls_value.specs.{declared.value.Value.Value as Datum, Values.listed, Values.rank_of};
-ghost use Rattle.rls_evaluation.specs.{Alone.any_equal, Alone.is_some, Scoping.held_value, Wides.wide_value};
+ghost use Rattle.rls_value.specs.{declared.value.Value.Value as SqlValue, Values.listed, Values.rank_of};
+ghost use Rattle.rls_evaluation.specs.{Alone.any_equal, Alone.is_some, Scoping.datum_value, Wides.wide_value};
 ghost use Rattle.rls_value.specs.declared.value.Value.TheVariants as v;
 ghost use Rattle.rls_evaluation.specs.ValueSets.{IsSetOf, IsSetWith, finds, is_flag, is_number, is_text, lets_open, three};
 
-use crate::held::Held;
+use crate::datum::Datum;
 use rls_value::{Items, Text, Truth, Value};
 use std::alloc::{AllocError, Global};
 use std::cmp::Ordering;
@@ -29,10 +29,10 @@ pub struct Listed {
 }
 
 impl Model for Listed {
-    ghost use Rattle.rls_value.specs.declared.value.Value.{Value as Datum};
+    ghost use Rattle.rls_value.specs.declared.value.Value.{Value as SqlValue};
     ghost use Rattle.rls_evaluation.specs.Wides.{wide_value};
 
-    ghost Value = { Datum };
+    ghost Value = { SqlValue };
 
     ghost view = { λ it. wide_value it.value };
 }
@@ -146,25 +146,25 @@ impl ValueSet {
 
     /// Whether there is a value.
     pub fn is_some(&self) -> bool
-        ensures { (items : List Datum) → IsSetOf self.now items → result ≡ is_some items }
+        ensures { (items : List SqlValue) → IsSetOf self.now items → result ≡ is_some items }
     {
         self.is_some
     }
 
     /// Whether one of the values is equal to it. No memory is taken but for a text.
-    pub fn equals_any(&self, alloc: Global, held: &Held) -> Result<Truth, AllocError>
-        ensures { (items : List Datum) → IsSetOf self.now items → IfOk result (λ truth. truth ≡ any_equal (held_value held.now) items) }
+    pub fn equals_any(&self, alloc: Global, datum: &Datum) -> Result<Truth, AllocError>
+        ensures { (items : List SqlValue) → IsSetOf self.now items → IfOk result (λ truth. truth ≡ any_equal (datum_value datum.now) items) }
     {
-        match wide_held(alloc, held) {
-            Ok(value) => Ok(self.truth(value, held)),
+        match wide_datum(alloc, datum) {
+            Ok(value) => Ok(self.truth(value, datum)),
             Err(refused) => Err(refused),
         }
     }
 
-    fn truth(&self, value: Wide, held: &Held) -> Truth
-        ensures { (items : List Datum) → IsSetOf self.now items → wide_value value ≡ held_value held.now → result ≡ any_equal (held_value held.now) items }
+    fn truth(&self, value: Wide, datum: &Datum) -> Truth
+        ensures { (items : List SqlValue) → IsSetOf self.now items → wide_value value ≡ datum_value datum.now → result ≡ any_equal (datum_value datum.now) items }
     {
-        three(self.finds(value), self.lets_open(held))
+        three(self.finds(value), self.lets_open(datum))
     }
 
     /// Whether a value is there that isn't null.
@@ -178,14 +178,14 @@ impl ValueSet {
     }
 
     /// Whether a value that is equal to none of these may be equal to one that isn't known.
-    fn lets_open(&self, held: &Held) -> bool
-        ensures { result ≡ lets_open self.now (held_value held.now) }
+    fn lets_open(&self, datum: &Datum) -> bool
+        ensures { result ≡ lets_open self.now (datum_value datum.now) }
     {
-        match held {
-            Held::Null => self.is_some,
-            Held::Int(_) => self.not_numbers,
-            Held::Text(_) | Held::Own(_) => self.not_texts,
-            Held::Bool(_) => self.not_flags,
+        match datum {
+            Datum::Null => self.is_some,
+            Datum::Int(_) => self.not_numbers,
+            Datum::Text(_) | Datum::Own(_) => self.not_texts,
+            Datum::Bool(_) => self.not_flags,
         }
     }
 }
@@ -201,15 +201,15 @@ fn wide_of(value: Value) -> Wide
     }
 }
 
-fn wide_held(alloc: Global, held: &Held) -> Result<Wide, AllocError>
-    ensures { IfOk result (λ value. wide_value value ≡ held_value held.now) }
+fn wide_datum(alloc: Global, datum: &Datum) -> Result<Wide, AllocError>
+    ensures { IfOk result (λ value. wide_value value ≡ datum_value datum.now) }
 {
-    match held {
-        Held::Null => Ok(Wide::Null),
-        Held::Int(number) => Ok(Wide::Int(*number)),
-        Held::Text(text) => wide_text(alloc, *text),
-        Held::Own(text) => wide_text(alloc, text.as_str()),
-        Held::Bool(flag) => Ok(Wide::Bool(*flag)),
+    match datum {
+        Datum::Null => Ok(Wide::Null),
+        Datum::Int(number) => Ok(Wide::Int(*number)),
+        Datum::Text(text) => wide_text(alloc, *text),
+        Datum::Own(text) => wide_text(alloc, text.as_str()),
+        Datum::Bool(flag) => Ok(Wide::Bool(*flag)),
     }
 }
 

@@ -4,7 +4,7 @@ use Rattle.std.proofs.Common.{ap, sym, ◌∙◌, append-nil}
 use Rattle.std.proofs.lemmas.Bool.{true≢false}
 use Rattle.rls_expr.specs.Naming.{Step, Look, Enter, Leave, names_of, names_all}
 use Rattle.rls_expr.specs.Parts.{has_query, have_query}
-use Rattle.rls_expr.specs.Terms.{Term, Terms, Literal, Column, Place, CurrentUser, Compare, And, Or, Not, IsNull, IsNotNull, Among, NotAmong, Exists, Within, NotWithin, Scalar, Sum, End, More}
+use Rattle.rls_expr.specs.Terms.{Term, Terms, Literal, Column, Var, CurrentUser, Compare, And, Or, Not, IsNull, IsNotNull, InList, NotInList, Exists, InSubquery, NotInSubquery, Scalar, Sum, End, More}
 use Rattle.rls_expansion.specs.Used.{entered, tables_of}
 
 first_not : (a b : Bool) → (a || b) ≡ false → a ≡ false
@@ -28,7 +28,7 @@ mutual
   no_tables : (t : Term) → has_query t ≡ false → entered (names_of t) ≡ []
   no_tables (Literal v) is = refl
   no_tables (Column name) is = refl
-  no_tables (Place at) is = refl
+  no_tables (Var at) is = refl
   no_tables CurrentUser is = refl
   no_tables (Compare how a b) is =
       none_of_both (names_of a) (names_of b) (no_tables a (first_not (has_query a) (has_query b) is)) (no_tables b (second_not (has_query a) (has_query b) is))
@@ -37,13 +37,13 @@ mutual
   no_tables (Not t) is = no_tables t is
   no_tables (IsNull t) is = no_tables t is
   no_tables (IsNotNull t) is = no_tables t is
-  no_tables (Among t ts) is =
+  no_tables (InList t ts) is =
       none_of_both (names_of t) (names_all ts) (no_tables t (first_not (has_query t) (have_query ts) is)) (no_tables_in ts (second_not (has_query t) (have_query ts) is))
-  no_tables (NotAmong t ts) is =
+  no_tables (NotInList t ts) is =
       none_of_both (names_of t) (names_all ts) (no_tables t (first_not (has_query t) (have_query ts) is)) (no_tables_in ts (second_not (has_query t) (have_query ts) is))
   no_tables (Exists q) is = absurd (true≢false is)
-  no_tables (Within t q) is = absurd (true≢false is)
-  no_tables (NotWithin t q) is = absurd (true≢false is)
+  no_tables (InSubquery t q) is = absurd (true≢false is)
+  no_tables (NotInSubquery t q) is = absurd (true≢false is)
   no_tables (Scalar q) is = absurd (true≢false is)
   no_tables (Sum signs ts) is = no_tables_in ts is
 

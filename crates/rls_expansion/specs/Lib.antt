@@ -2,6 +2,6 @@ pub mod Policies
 pub mod Used
 pub mod Enough
 pub mod Leading
-pub mod Rooms
-pub mod Fences
-pub mod Protecting
+pub mod Dependencies
+pub mod Relations
+pub mod Expanding

@@ -7,16 +7,16 @@ use Rattle.rls_expr.specs.declared.policy.Policy.{Policy}
 use Rattle.rls_catalog.specs.Verdict.{exempts}
 use Rattle.rls_source.specs.Askings.{Asking, known, asked_if, followed_by}
 use Rattle.rls_source.specs.Asked.{asked_policies}
-use Rattle.rls_guard.specs.declared.standing.Standing.{Standing}
-use Rattle.rls_guard.specs.Standings.{has_owner}
+use Rattle.rls_guard.specs.declared.role_privileges.RolePrivileges.{RolePrivileges}
+use Rattle.rls_guard.specs.RolePrivileges.{has_owner}
 
 -- the policies of the table; none where row security doesn't apply to the role
-unfoldable pub policies_for : Standing → List ℕ → TableDef → Asking (Option (List Policy))
-policies_for standing name table =
-    asked_if (exempts standing.attributes table (has_owner standing table)) (known (Ok None))
+unfoldable pub policies_for : RolePrivileges → List ℕ → TableDef → Asking (Option (List Policy))
+policies_for role_privileges name table =
+    asked_if (exempts role_privileges.attributes table (has_owner role_privileges table)) (known (Ok None))
     (followed_by (asked_policies name) (λ policies. known (Ok (Some policies))))
 
--- what a call gives that lends them
-abbrev pub policies_lent : {E : Type 0} → Result (Option (Bor (List Policy))) E → Result (Option (List Policy)) E
-policies_lent (Ok found) = Ok (option_copied found)
-policies_lent (Err refused) = Err refused
+-- what a call gives that borrows them
+abbrev pub policies_borrowed : {E : Type 0} → Result (Option (Bor (List Policy))) E → Result (Option (List Policy)) E
+policies_borrowed (Ok found) = Ok (option_copied found)
+policies_borrowed (Err refused) = Err refused

@@ -1,16 +1,16 @@
-//! What a statement's rows are protected by: the policies of its table and of those that subqueries lead to, asked of the
+//! The policy expansion of a statement: the policies of its table and of those that subqueries lead to, asked of the
 //! state, and what is made of them.
 #![tactic(auto)]
 
-mod fences;
+mod dependencies;
+mod expansion;
 mod laws;
 mod policies;
-mod protection;
-mod rooms;
+mod relations;
 mod used;
 
+pub use dependencies::dependencies_of;
+pub use expansion::{PolicyExpansion, expansion_of};
 pub use laws::expression_taken;
 pub use policies::policies_for;
-pub use protection::{Protection, protection_of};
-pub use rooms::rooms_of;
 pub use used::{holds_subquery, put_all_tables, put_tables, put_tables_if, tables_used};

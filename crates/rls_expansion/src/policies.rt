@@ -2,10 +2,10 @@
 
 ghost use Rattle.rls_source.specs.Answering.{Tells};
 ghost use Rattle.rls_expansion.specs.Policies as spec;
-ghost use Rattle.rls_expansion.specs.Policies.{policies_lent};
+ghost use Rattle.rls_expansion.specs.Policies.{policies_borrowed};
 
 use rls_expr::{Policy, TableDef};
-use rls_guard::Standing;
+use rls_guard::RolePrivileges;
 use rls_source::{Reads, RowSource, noted_policies};
 use rls_value::Name;
 use std::alloc::{AllocError, Global};
@@ -16,16 +16,16 @@ use std::alloc::{AllocError, Global};
 pub fn policies_for<'c, S: RowSource<'c>>(
     alloc: Global,
     source: &mut S,
-    notes: &mut Reads,
-    standing: &Standing,
+    read_set: &mut Reads,
+    role_privileges: &RolePrivileges,
     name: &Name,
     table: &TableDef,
 ) -> Result<Option<&'c [Policy]>, AllocError>
-    ensures { Tells S.state S.after (spec.policies_for standing.now name.now table.now) source.old source.new notes.old notes.new (policies_lent result) }
+    ensures { Tells S.state S.after (spec.policies_for role_privileges.now name.now table.now) source.old source.new read_set.old read_set.new (policies_borrowed result) }
 {
-    if standing.is_exempt(table) {
+    if role_privileges.is_exempt(table) {
         return Ok(None);
     }
-    let policies = noted_policies(alloc, source, notes, name)?;
+    let policies = noted_policies(alloc, source, read_set, name)?;
     Ok(Some(policies))
 }

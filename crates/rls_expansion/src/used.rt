@@ -9,7 +9,7 @@ ghost use Rattle.rls_expansion.specs.Used as spec;
 
 use rls_catalog::Side;
 use rls_expr::{Expr, NameStep, Policy, has_query, put_names};
-use rls_role::Reach;
+use rls_role::EffectiveRoles;
 use rls_value::{Items, Kind, Name, PolicyKind};
 use std::alloc::{AllocError, Global};
 
@@ -18,14 +18,14 @@ use std::alloc::{AllocError, Global};
 pub fn tables_used(
     alloc: Global,
     policies: &[Policy],
-    reach: &Reach,
+    effective_roles: &EffectiveRoles,
     asks: &[(Kind, Side)],
 ) -> Result<Items<Name>, AllocError>
-    ensures { IfOk result (λ tables. tables ≡ spec.tables_used reach.now.superuser reach.now.names asks.now policies.now) }
+    ensures { IfOk result (λ tables. tables ≡ spec.tables_used effective_roles.now.superuser effective_roles.now.names asks.now policies.now) }
 {
     let mut tables = Items::new(alloc);
     for policy in policies {
-        put_used(alloc, &mut tables, policy, reach, asks)?;
+        put_used(alloc, &mut tables, policy, effective_roles, asks)?;
     }
     Ok(tables)
 }
@@ -35,23 +35,23 @@ fn put_used(
     alloc: Global,
     tables: &mut Items<Name>,
     policy: &Policy,
-    reach: &Reach,
+    effective_roles: &EffectiveRoles,
     asks: &[(Kind, Side)],
 ) -> Result<(), AllocError>
-    ensures { OnOk result (tables.new ≡ tables.old ++ spec.tables_by reach.now.superuser reach.now.names asks.now policy.now) }
+    ensures { OnOk result (tables.new ≡ tables.old ++ spec.tables_by effective_roles.now.superuser effective_roles.now.names asks.now policy.now) }
 {
-    if is_to(policy, reach) {
+    if is_to(policy, effective_roles) {
         put_asked(alloc, tables, policy, asks)
     } else {
         Ok(())
     }
 }
 
-fn is_to(policy: &Policy, reach: &Reach) -> bool
-    ensures { result ≡ list_any (includes reach.now.superuser reach.now.names) policy.now.to }
+fn is_to(policy: &Policy, effective_roles: &EffectiveRoles) -> bool
+    ensures { result ≡ list_any (includes effective_roles.now.superuser effective_roles.now.names) policy.now.to }
 {
     for grantee in policy.to.as_slice() {
-        if reach.includes(grantee) {
+        if effective_roles.includes(grantee) {
             return true;
         }
     }

@@ -3,9 +3,9 @@ use Rattle.std.specs.Prelude.{ℕ, ◌-◌, List, [], ◌∷◌, Option, Some, N
 use Rattle.std.specs.List.{list_any}
 use Rattle.std.specs.Str.{bytes_eq}
 use Rattle.rls_value.specs.{declared.row.RowId.RowId, declared.value.Value.Value, declared.value.Value.TheVariants.Null, Values.value_at}
-use Rattle.rls_expr.specs.{declared.table.Column.Column, declared.table.TableDef.TableDef, Parts.has_query, Placing.placed, Tables.column_named, Terms.Term}
+use Rattle.rls_expr.specs.{declared.table.Column.Column, declared.table.TableDef.TableDef, Parts.has_query, Resolving.resolved, Tables.column_named, Terms.Term}
 use Rattle.rls_catalog.specs.{State.State, State.rows_of, State.table_of}
-use Rattle.rls_statement.specs.{declared.changing.Setting.Setting, declared.changing.Update.Update, declared.statement.Insert.Insert, declared.statement.Statement.Statement}
+use Rattle.rls_statement.specs.{declared.changing.Assignment.Assignment, declared.changing.Update.Update, declared.statement.Insert.Insert, declared.statement.Statement.Statement}
 use Rattle.rls_statement.specs.declared.statement.Statement.TheVariants as statement
 use Rattle.rls_evaluation.specs.{Environments.over, Tableless.value_in}
 use Rattle.rls_guard.specs.{declared.context.Ctx.Ctx, Naming.names_over}
@@ -50,9 +50,9 @@ inserted ctx asked table id = inserted_of ctx.role asked.columns table (slice_ge
 -- ---- UPDATE
 
 -- the last that the column is set to, else what was found so far
-abbrev pub last_set : Option Term → List Setting → List ℕ → Option Term
+abbrev pub last_set : Option Term → List Assignment → List ℕ → Option Term
 last_set found [] name = found
-last_set found (setting ∷ settings) name = last_set (if bytes_eq setting.column name then Some setting.value else found) settings name
+last_set found (assignment ∷ assignments) name = last_set (if bytes_eq assignment.column name then Some assignment.value else found) assignments name
 
 -- what stands at a place that may not be there
 abbrev pub value_if : List Value → Option ℕ → Value
@@ -60,35 +60,35 @@ value_if row (Some place) = value_at row place
 value_if row None = Null
 
 -- what stands in the column of that name
-abbrev pub standing_value : TableDef → List Value → List ℕ → Value
-standing_value table row name = value_if row (column_named table.columns name)
+abbrev pub role_privileges_value : TableDef → List Value → List ℕ → Value
+role_privileges_value table row name = value_if row (column_named table.columns name)
 
 -- the value of the term over the row, its columns being the table's
 abbrev pub value_set : List ℕ → List ℕ → TableDef → List Value → Term → Value
-value_set role from table row term = value_in (placed term (names_over (from, table) [])) (over role row)
+value_set role from table row term = value_in (resolved term (names_over (from, table) [])) (over role row)
 
 -- what the column is set to over the row, else what stands there
 abbrev pub updated_value : List ℕ → List ℕ → TableDef → List Value → List ℕ → Option Term → Value
 updated_value role from table row name (Some term) = value_set role from table row term
-updated_value role from table row name None = standing_value table row name
+updated_value role from table row name None = role_privileges_value table row name
 
 -- the row with what it is set to, where no subquery stands in that
-abbrev pub updated : List ℕ → List Setting → List ℕ → TableDef → List Value → Option (List Value)
-updated role settings from table row =
-    if list_any (λ setting. has_query setting.value) settings then None
-    else Some (map (λ column. updated_value role from table row column.name (last_set None settings column.name)) table.columns)
+abbrev pub updated : List ℕ → List Assignment → List ℕ → TableDef → List Value → Option (List Value)
+updated role assignments from table row =
+    if list_any (λ assignment. has_query assignment.value) assignments then None
+    else Some (map (λ column. updated_value role from table row column.name (last_set None assignments column.name)) table.columns)
 
 -- the same of a row that may not be there
-abbrev pub updated_if : List ℕ → List Setting → List ℕ → TableDef → Option (List Value) → Option (List Value)
-updated_if role settings from table (Some row) = updated role settings from table row
-updated_if role settings from table None = None
+abbrev pub updated_if : List ℕ → List Assignment → List ℕ → TableDef → Option (List Value) → Option (List Value)
+updated_if role assignments from table (Some row) = updated role assignments from table row
+updated_if role assignments from table None = None
 
 -- ---- both
 
 -- the row of that number
 abbrev pub proposed_in : State → Ctx → Statement → List ℕ → Option TableDef → RowId → Option (List Value)
 proposed_in s ctx (statement.Insert asked) name (Some table) id = inserted ctx asked table id
-proposed_in s ctx (statement.Update asked) name (Some table) id = updated_if ctx.role asked.settings name table (row_in id (rows_of s name))
+proposed_in s ctx (statement.Update asked) name (Some table) id = updated_if ctx.role asked.assignments name table (row_in id (rows_of s name))
 proposed_in s ctx asked name table id = None
 
 -- the row of that number that the statement would have written into the table

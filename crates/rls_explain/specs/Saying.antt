@@ -5,9 +5,9 @@ use Rattle.rls_value.specs.declared.verb.Kind.TheVariants as k
 use Rattle.rls_expr.specs.{declared.policy.Policy.Policy, declared.table.TableDef.TableDef, Terms.Term}
 use Rattle.rls_catalog.specs.{declared.verdict.Side.Side, State.State, State.table_of}
 use Rattle.rls_catalog.specs.declared.verdict.Side.TheVariants as side
-use Rattle.rls_evaluation.specs.{declared.fence.Guard.Guard, declared.fence.Guard.TheVariants.Exempt, declared.fence.Guard.TheVariants.Policies, Environments.over, Eval.Shows, Eval.value_of, Showing.shows}
-use Rattle.rls_guard.specs.declared.guard.Watch.{Watch}
-use Rattle.rls_expansion.specs.declared.protection.Protection.{Protection}
+use Rattle.rls_evaluation.specs.{declared.relation.SecurityQuals.SecurityQuals, declared.relation.SecurityQuals.TheVariants.Exempt, declared.relation.SecurityQuals.TheVariants.Policies, Environments.over, Eval.Shows, Eval.value_of, Showing.shows}
+use Rattle.rls_guard.specs.declared.quals.RowCheck.{RowCheck}
+use Rattle.rls_expansion.specs.declared.expansion.PolicyExpansion.{PolicyExpansion}
 use Rattle.rls_depth.specs.Deep.{ruled}
 use Rattle.rls_meaning.specs.{Commands.Command, Commands.closing_in, Rows.sees}
 use Rattle.rls_explain.specs.declared.explanation.Said.{Said}
@@ -33,8 +33,8 @@ said_by s sees role row condition = said_as condition.0 (truth_of s sees role ro
 
 -- ---- those that apply
 
--- the policies that guard rows, each with the expression that it is asked for
-abbrev pub conditions_in : Guard → List (Policy × Term)
+-- the policies of quals, each with the expression that it is asked for
+abbrev pub conditions_in : SecurityQuals → List (Policy × Term)
 conditions_in Exempt = []
 conditions_in (Policies conditions) = conditions
 
@@ -64,24 +64,24 @@ said_on s role name kind which row = said_at s role name (table_of s name) kind 
 -- ---- as they are found
 
 -- who is asked of rows of that side; of a new row SELECT is asked what it is of one that stands
-abbrev pub watches_for : Protection → Kind → Side → List Watch
-watches_for p k.Select which = p.old
-watches_for p k.Insert which = p.new
-watches_for p k.Update side.Old = p.old
-watches_for p k.Update side.New = p.new
-watches_for p k.Delete which = p.old
+abbrev pub row_checks_for : PolicyExpansion → Kind → Side → List RowCheck
+row_checks_for p k.Select which = p.old
+row_checks_for p k.Insert which = p.new
+row_checks_for p k.Update side.Old = p.old
+row_checks_for p k.Update side.New = p.new
+row_checks_for p k.Delete which = p.old
 
 -- the conditions of the first, which is the command's own
-abbrev pub first_conditions : List Watch → List (Policy × Term)
+abbrev pub first_conditions : List RowCheck → List (Policy × Term)
 first_conditions [] = []
-first_conditions (watch ∷ watches) = conditions_in watch.guard
+first_conditions (row_check ∷ row_checks) = conditions_in row_check.quals
 
--- the protection, unless it is refused
-abbrev pub unless_refused : Result Protection Refusal → Option Protection
+-- the policy expansion, unless it is refused
+abbrev pub unless_refused : Result PolicyExpansion Refusal → Option PolicyExpansion
 unless_refused (Ok p) = Some p
 unless_refused (Err refusal) = None
 
--- what its policies say of the row, their subqueries looking through its fences; nothing where there is none
-abbrev pub said_found : State → List ℕ → Kind → Side → List Value → Option Protection → List Said
-said_found s role kind which row (Some p) = map (said_by s (shows p.fences role) role row) (first_conditions (watches_for p kind which))
+-- what its policies say of the row, their subqueries looking through its relations; nothing where there is none
+abbrev pub said_found : State → List ℕ → Kind → Side → List Value → Option PolicyExpansion → List Said
+said_found s role kind which row (Some p) = map (said_by s (shows p.relations role) role row) (first_conditions (row_checks_for p kind which))
 said_found s role kind which row None = []

@@ -3,19 +3,19 @@
 ghost use Rattle.std.specs.Prelude.{◌≡◌, Some, map, IfOk};
 ghost use Rattle.rls_value.specs.Giving.{Gives};
 ghost use Rattle.rls_evaluation.specs.Showing.{shows};
-ghost use Rattle.rls_meaning.specs.Protecting.{protection_in};
+ghost use Rattle.rls_meaning.specs.Expanding.{expansion_in};
 ghost use Rattle.rls_explain.specs.Saying as spec;
 
 use crate::explanation::Said;
-use crate::laws::protection_says;
+use crate::laws::expansion_says;
 use crate::saying::said_by_each;
 use rls_catalog::Side;
-use rls_evaluation::Guard;
-use rls_expansion::{Protection, protection_of};
+use rls_evaluation::SecurityQuals;
+use rls_expansion::{PolicyExpansion, expansion_of};
 use rls_expr::{Expr, FromTable, Policy};
-use rls_guard::{Watch, standing_of};
+use rls_guard::{RowCheck, role_privileges_of};
 use rls_source::{Reads, RowSource};
-use rls_value::{Items, Kind, Loan, Name, Refusal, Row};
+use rls_value::{Items, Kind, Name, Reference, Refusal, Row};
 use std::alloc::{AllocError, Global};
 
 /// What each policy of the table says of the row that applies to the role for that type of command.
@@ -58,26 +58,26 @@ fn said_in<'c, 'x, S: RowSource<'c>>(
     ensures said { IfOk result (λ said. said ≡ spec.said_at (S.state source.old) role.now from.entry.name.now (Some from.entry.table.now) kind side row.now) }
     ensures state { S.state source.new ≡ S.state source.old }
 {
-    protection_says();
-    let found = protection_if(alloc, source, role, from, kind)?;
+    expansion_says();
+    let found = expansion_if(alloc, source, role, from, kind)?;
     let said = said_found(alloc, &*source, role, &found, kind, side, row);
     drop(found);
     said
 }
 
-/// What protects the table's rows for that type of command; nothing where a chain of policies closes.
-fn protection_if<'c, 'x, S: RowSource<'c>>(
+/// The policy expansion of that type of command on the table; none where a chain of policies closes.
+fn expansion_if<'c, 'x, S: RowSource<'c>>(
     alloc: Global,
     source: &mut S,
     role: &Name,
     from: FromTable<'x>,
     kind: Kind,
-) -> Result<Option<Protection<'c>>, AllocError>
-    ensures given { IfOk result (λ found. found ≡ spec.unless_refused (protection_in (S.state source.old) (spec.command_on role.now from.entry.name.now from.entry.table.now kind))) }
+) -> Result<Option<PolicyExpansion<'c>>, AllocError>
+    ensures given { IfOk result (λ found. found ≡ spec.unless_refused (expansion_in (S.state source.old) (spec.command_on role.now from.entry.name.now from.entry.table.now kind))) }
     ensures state { S.state source.new ≡ S.state source.old }
 {
-    match protection_for(alloc, source, role, from, kind) {
-        Ok(protection) => Ok(Some(protection)),
+    match expansion_for(alloc, source, role, from, kind) {
+        Ok(expansion) => Ok(Some(expansion)),
         Err(Refusal::NoMemory) => Err(AllocError),
         Err(refusal) => {
             drop(refusal);
@@ -87,45 +87,54 @@ fn protection_if<'c, 'x, S: RowSource<'c>>(
 }
 
 /// The same, a chain that closes as a refusal.
-fn protection_for<'c, 'x, S: RowSource<'c>>(
+fn expansion_for<'c, 'x, S: RowSource<'c>>(
     alloc: Global,
     source: &mut S,
     role: &Name,
     from: FromTable<'x>,
     kind: Kind,
-) -> Result<Protection<'c>, Refusal>
-    ensures given { Gives result (protection_in (S.state source.old) (spec.command_on role.now from.entry.name.now from.entry.table.now kind)) }
+) -> Result<PolicyExpansion<'c>, Refusal>
+    ensures given { Gives result (expansion_in (S.state source.old) (spec.command_on role.now from.entry.name.now from.entry.table.now kind)) }
     ensures state { S.state source.new ≡ S.state source.old }
 {
-    let mut notes = Reads::new(alloc);
-    let protection = noted_protection(alloc, source, &mut notes, role, from, kind);
-    drop(notes);
-    protection
+    let mut read_set = Reads::new(alloc);
+    let expansion = noted_expansion(alloc, source, &mut read_set, role, from, kind);
+    drop(read_set);
+    expansion
 }
 
-fn noted_protection<'c, 'x, S: RowSource<'c>>(
+fn noted_expansion<'c, 'x, S: RowSource<'c>>(
     alloc: Global,
     source: &mut S,
-    notes: &mut Reads,
+    read_set: &mut Reads,
     role: &Name,
     from: FromTable<'x>,
     kind: Kind,
-) -> Result<Protection<'c>, Refusal>
-    ensures given { Gives result (protection_in (S.state source.old) (spec.command_on role.now from.entry.name.now from.entry.table.now kind)) }
+) -> Result<PolicyExpansion<'c>, Refusal>
+    ensures given { Gives result (expansion_in (S.state source.old) (spec.command_on role.now from.entry.name.now from.entry.table.now kind)) }
     ensures state { S.state source.new ≡ S.state source.old }
 {
-    let standing = standing_of(alloc, source, notes, role)?;
-    let protection = protection_of(alloc, source, notes, &standing, from, kind, false, &[]);
-    drop(standing);
-    protection
+    let role_privileges = role_privileges_of(alloc, source, read_set, role)?;
+    let expansion = expansion_of(
+        alloc,
+        source,
+        read_set,
+        &role_privileges,
+        from,
+        kind,
+        false,
+        &[],
+    );
+    drop(role_privileges);
+    expansion
 }
 
-/// What is said, where there is a protection.
+/// What is said, where there is a policy expansion.
 fn said_found<'c, S: RowSource<'c>>(
     alloc: Global,
     source: &S,
     role: &Name,
-    found: &Option<Protection<'c>>,
+    found: &Option<PolicyExpansion<'c>>,
     kind: Kind,
     side: Side,
     row: &Row,
@@ -133,53 +142,57 @@ fn said_found<'c, S: RowSource<'c>>(
     ensures { IfOk result (λ said. said ≡ spec.said_found (S.state source.now) role.now kind side row.now found.now) }
 {
     match found {
-        Some(protection) => said_under(alloc, source, role, protection, kind, side, row),
+        Some(expansion) => said_under(alloc, source, role, expansion, kind, side, row),
         None => Ok(Items::new(alloc)),
     }
 }
 
-/// What the protection's policies say that are asked of a row of that side.
+/// What the policies of the expansion say that are asked of a row of that side.
 fn said_under<'c, S: RowSource<'c>>(
     alloc: Global,
     source: &S,
     role: &Name,
-    protection: &Protection<'c>,
+    expansion: &PolicyExpansion<'c>,
     kind: Kind,
     side: Side,
     row: &Row,
 ) -> Result<Items<Said>, AllocError>
-    ensures { IfOk result (λ said. said ≡ map (spec.said_by (S.state source.now) (shows protection.now.fences role.now) role.now row.now) (spec.first_conditions (spec.watches_for protection.now kind side))) }
+    ensures { IfOk result (λ said. said ≡ map (spec.said_by (S.state source.now) (shows expansion.now.relations role.now) role.now row.now) (spec.first_conditions (spec.row_checks_for expansion.now kind side))) }
 {
-    let conditions = first_conditions(watches_for(protection, kind, side));
+    let conditions = first_conditions(row_checks_for(expansion, kind, side));
     said_by_each(
         alloc,
         source,
-        protection.fences.as_slice(),
+        expansion.relations.as_slice(),
         role,
         row,
         conditions,
     )
 }
 
-fn watches_for<'a, 'c>(protection: &'a Protection<'c>, kind: Kind, side: Side) -> &'a [Watch<'c>]
-    ensures { result.now ≡ spec.watches_for protection.now kind side }
+fn row_checks_for<'a, 'c>(
+    expansion: &'a PolicyExpansion<'c>,
+    kind: Kind,
+    side: Side,
+) -> &'a [RowCheck<'c>]
+    ensures { result.now ≡ spec.row_checks_for expansion.now kind side }
 {
     match (kind, side) {
         (Kind::Select, _) | (Kind::Delete, _) | (Kind::Update, Side::Old) => {
-            protection.old.as_slice()
+            expansion.old.as_slice()
         }
-        (Kind::Insert, _) | (Kind::Update, Side::New) => protection.new.as_slice(),
+        (Kind::Insert, _) | (Kind::Update, Side::New) => expansion.new.as_slice(),
     }
 }
 
-fn first_conditions<'a, 'c>(watches: &'a [Watch<'c>]) -> &'a [(Loan<'c, Policy>, Expr)]
-    ensures { result.now ≡ spec.first_conditions watches.now }
+fn first_conditions<'a, 'c>(row_checks: &'a [RowCheck<'c>]) -> &'a [(Reference<'c, Policy>, Expr)]
+    ensures { result.now ≡ spec.first_conditions row_checks.now }
 {
-    match watches {
+    match row_checks {
         [] => &[],
-        [watch, ..] => match &watch.guard {
-            Guard::Exempt => &[],
-            Guard::Policies(conditions) => conditions.as_slice(),
+        [row_check, ..] => match &row_check.quals {
+            SecurityQuals::Exempt => &[],
+            SecurityQuals::Policies(conditions) => conditions.as_slice(),
         },
     }
 }

@@ -8,7 +8,7 @@ ghost use Rattle.rls_explain.specs.Rows as numbered;
 
 use crate::proposing::proposed;
 use rls_access::{Ctx, Decision, Effect};
-use rls_catalog::{Change, Keyed, Lent, RowChange, Side};
+use rls_catalog::{BorrowedRow, Change, Keyed, RowChange, Side};
 use rls_source::RowSource;
 use rls_statement::Statement;
 use rls_value::{Name, Row, RowId};
@@ -55,7 +55,7 @@ pub fn row_before<'c, S: RowSource<'c>>(
     row
 }
 
-fn row_in(alloc: Global, rows: &[Lent], id: RowId) -> Result<Option<Row>, AllocError>
+fn row_in(alloc: Global, rows: &[BorrowedRow], id: RowId) -> Result<Option<Row>, AllocError>
     ensures { IfOk result (λ row. row ≡ numbered.row_in id rows.now) }
 {
     for stored in rows {

@@ -5,16 +5,16 @@ ghost use Rattle.std.specs.List.{list_any};
 ghost use Rattle.std.specs.Option.{option_copied};
 ghost use Rattle.rls_catalog.specs.State.{rows_of};
 ghost use Rattle.rls_evaluation.specs.{Environments.over, Tableless.value_in};
-ghost use Rattle.rls_expr.specs.{Parts.has_query, Placing.placed, Scopes.in_scope};
+ghost use Rattle.rls_expr.specs.{Parts.has_query, Resolving.resolved, Scopes.in_scope};
 ghost use Rattle.rls_guard.specs.Naming.{names_over};
 ghost use Rattle.rls_explain.specs.Proposing as spec;
 
 use crate::finding::row_before;
 use rls_access::Ctx;
 use rls_evaluation::value_over;
-use rls_expr::{Column, Expr, FromTable, NamedTable, Scope, TableDef, has_query, place_columns};
+use rls_expr::{Column, Expr, FromTable, NamedTable, Scope, TableDef, has_query, resolve_columns};
 use rls_source::RowSource;
-use rls_statement::{Insert, Setting, Statement, Update};
+use rls_statement::{Assignment, Insert, Statement, Update};
 use rls_value::{Items, Name, Row, RowId, Value};
 use std::alloc::{AllocError, Global};
 
@@ -54,7 +54,7 @@ fn proposed_in<'c, 'x, S: RowSource<'c>>(
         Statement::Insert(insert) => inserted(alloc, ctx, insert, from.table, id),
         Statement::Update(update) => {
             let row = row_before(alloc, source, from.name, id)?;
-            let new = updated_if(alloc, &ctx.role, update.settings.as_slice(), from, &row);
+            let new = updated_if(alloc, &ctx.role, update.assignments.as_slice(), from, &row);
             drop(row);
             new
         }
@@ -186,70 +186,72 @@ fn last_for<'x>(mut names: &[Name], mut tuple: &'x [Expr], name: &Name) -> Optio
 fn updated_if<'x>(
     alloc: Global,
     role: &Name,
-    settings: &[Setting],
+    assignments: &[Assignment],
     from: FromTable<'x>,
     row: &Option<Row>,
 ) -> Result<Option<Row>, AllocError>
-    ensures { IfOk result (λ new. new ≡ spec.updated_if role.now settings.now from.entry.name.now from.entry.table.now row.now) }
+    ensures { IfOk result (λ new. new ≡ spec.updated_if role.now assignments.now from.entry.name.now from.entry.table.now row.now) }
 {
     match row {
         None => Ok(None),
-        Some(row) => updated(alloc, role, settings, from, row),
+        Some(row) => updated(alloc, role, assignments, from, row),
     }
 }
 
 fn updated<'x>(
     alloc: Global,
     role: &Name,
-    settings: &[Setting],
+    assignments: &[Assignment],
     from: FromTable<'x>,
     row: &Row,
 ) -> Result<Option<Row>, AllocError>
-    ensures { IfOk result (λ new. new ≡ spec.updated role.now settings.now from.entry.name.now from.entry.table.now row.now) }
+    ensures { IfOk result (λ new. new ≡ spec.updated role.now assignments.now from.entry.name.now from.entry.table.now row.now) }
 {
-    if settings_hold_query(settings) {
+    if assignments_hold_query(assignments) {
         return Ok(None);
     }
     let mut values = Vec::with_capacity(alloc, from.table.columns.len())?;
     for column in from.table.columns.as_slice() {
-        values.push(updated_value(alloc, role, settings, from, row, &column.name)?)?;
+        values.push(updated_value(alloc, role, assignments, from, row, &column.name)?)?;
     }
     Ok(Some(Row::new(values)?))
 }
 
-fn settings_hold_query(settings: &[Setting]) -> bool
-    ensures { result ≡ list_any (λ setting. has_query setting.value) settings.now }
+fn assignments_hold_query(assignments: &[Assignment]) -> bool
+    ensures { result ≡ list_any (λ assignment. has_query assignment.value) assignments.now }
 {
-    settings.iter().any(|setting| has_query(&setting.value))
+    assignments
+        .iter()
+        .any(|assignment| has_query(&assignment.value))
 }
 
 /// The value of the column: what it is set to over the row, else what stands there.
 fn updated_value<'x>(
     alloc: Global,
     role: &Name,
-    settings: &[Setting],
+    assignments: &[Assignment],
     from: FromTable<'x>,
     row: &Row,
     name: &Name,
 ) -> Result<Value, AllocError>
-    ensures { IfOk result (λ value. value ≡ spec.updated_value role.now from.entry.name.now from.entry.table.now row.now name.now (spec.last_set None settings.now name.now)) }
+    ensures { IfOk result (λ value. value ≡ spec.updated_value role.now from.entry.name.now from.entry.table.now row.now name.now (spec.last_set None assignments.now name.now)) }
 {
-    match last_set(settings, name) {
+    match last_set(assignments, name) {
         Some(expr) => value_set(alloc, role, from, row, expr),
-        None => standing_value(from.table, row, name),
+        None => role_privileges_value(from.table, row, name),
     }
 }
 
 /// The last that the column is set to.
-fn last_set<'x>(mut settings: &'x [Setting], name: &Name) -> Option<&'x Expr>
-    ensures { option_copied result ≡ spec.last_set None settings.entry.now name.now }
+fn last_set<'x>(mut assignments: &'x [Assignment], name: &Name) -> Option<&'x Expr>
+    ensures { option_copied result ≡ spec.last_set None assignments.entry.now name.now }
 {
     let mut found = None;
-    while let [setting, others @ ..] = settings {
-        if setting.column.is(name) {
-            found = Some(&setting.value);
+    while let [assignment, others @ ..] = assignments {
+        if assignment.column.is(name) {
+            found = Some(&assignment.value);
         }
-        settings = others;
+        assignments = others;
     }
     found
 }
@@ -263,18 +265,18 @@ fn value_set<'x>(
 ) -> Result<Value, AllocError>
     ensures { IfOk result (λ value. value ≡ spec.value_set role.now from.entry.name.now from.entry.table.now row.now expr.now) }
 {
-    let expr = placed_over(alloc, from, expr)?;
+    let expr = resolved_over(alloc, from, expr)?;
     let value = value_over(alloc, &expr, role, row);
     drop(expr);
     value
 }
 
-/// The expression with its columns by their places.
-fn placed_over<'x>(alloc: Global, from: FromTable<'x>, expr: &Expr) -> Result<Expr, AllocError>
-    ensures { IfOk result (λ it. it ≡ placed expr.now (names_over (in_scope from.entry) [])) }
+/// The expression with its columns resolved.
+fn resolved_over<'x>(alloc: Global, from: FromTable<'x>, expr: &Expr) -> Result<Expr, AllocError>
+    ensures { IfOk result (λ it. it ≡ resolved expr.now (names_over (in_scope from.entry) [])) }
 {
     let tables = [NamedTable::new(from.name, from.table)?];
-    place_columns(
+    resolve_columns(
         alloc,
         expr,
         &Scope {
@@ -284,8 +286,8 @@ fn placed_over<'x>(alloc: Global, from: FromTable<'x>, expr: &Expr) -> Result<Ex
     )
 }
 
-fn standing_value(table: &TableDef, row: &Row, name: &Name) -> Result<Value, AllocError>
-    ensures { IfOk result (λ value. value ≡ spec.standing_value table.now row.now name.now) }
+fn role_privileges_value(table: &TableDef, row: &Row, name: &Name) -> Result<Value, AllocError>
+    ensures { IfOk result (λ value. value ≡ spec.role_privileges_value table.now row.now name.now) }
 {
     match table.column(name) {
         Some(place) => row.value(place),

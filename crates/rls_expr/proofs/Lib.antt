@@ -1,3 +1,3 @@
-pub mod PlacingLemmas
+pub mod ResolvingLemmas
 pub mod TypingLemmas
 pub mod TermSizes

@@ -6,5 +6,5 @@ pub mod Tables
 pub mod Scopes
 pub mod Naming
 pub mod Typing
-pub mod Placing
+pub mod Resolving
 pub mod Parts

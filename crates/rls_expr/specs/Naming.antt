@@ -4,7 +4,7 @@ use Rattle.rls_expr.specs.declared.column_name.ColumnName.{ColumnName}
 use Rattle.rls_expr.specs.declared.expr.FromItem.{FromItem}
 use Rattle.rls_expr.specs.declared.names.NameStep.{NameStep}
 use Rattle.rls_expr.specs.declared.names.NameStep.TheVariants as code
-use Rattle.rls_expr.specs.Terms.{Term, Terms, Query, Literal, Column, Place, CurrentUser, Compare, And, Or, Not, IsNull, IsNotNull, Among, NotAmong, Exists, Within, NotWithin, Scalar, Sum, End, More, Select}
+use Rattle.rls_expr.specs.Terms.{Term, Terms, Query, Literal, Column, Var, CurrentUser, Compare, And, Or, Not, IsNull, IsNotNull, InList, NotInList, Exists, InSubquery, NotInSubquery, Scalar, Sum, End, More, Select}
 
 -- a column is named; a subquery begins, which names its table; it ends
 pub data Step : Type 0 where
@@ -17,7 +17,7 @@ abbrev mutual
   pub names_of : Term → List Step
   names_of (Literal v) = []
   names_of (Column name) = Look name ∷ []
-  names_of (Place at) = []
+  names_of (Var at) = []
   names_of CurrentUser = []
   names_of (Compare how a b) = names_of a ++ names_of b
   names_of (And ts) = names_all ts
@@ -25,11 +25,11 @@ abbrev mutual
   names_of (Not t) = names_of t
   names_of (IsNull t) = names_of t
   names_of (IsNotNull t) = names_of t
-  names_of (Among t ts) = names_of t ++ names_all ts
-  names_of (NotAmong t ts) = names_of t ++ names_all ts
+  names_of (InList t ts) = names_of t ++ names_all ts
+  names_of (NotInList t ts) = names_of t ++ names_all ts
   names_of (Exists q) = query_names q
-  names_of (Within t q) = names_of t ++ query_names q
-  names_of (NotWithin t q) = names_of t ++ query_names q
+  names_of (InSubquery t q) = names_of t ++ query_names q
+  names_of (NotInSubquery t q) = names_of t ++ query_names q
   names_of (Scalar q) = query_names q
   names_of (Sum signs ts) = names_all ts
 

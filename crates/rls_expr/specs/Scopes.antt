@@ -8,7 +8,7 @@ use Rattle.rls_expr.specs.declared.column_name.ColumnName.{ColumnName}
 use Rattle.rls_expr.specs.declared.table.TableDef.{TableDef}
 use Rattle.rls_expr.specs.declared.scope.FromTable.{FromTable}
 use Rattle.rls_expr.specs.declared.expr.Category.{Category}
-use Rattle.rls_expr.specs.declared.expr.Place.{Place}
+use Rattle.rls_expr.specs.declared.expr.Var.{Var}
 use Rattle.rls_expr.specs.Tables.{typed_column}
 
 -- a table in scope: the name that qualifies its columns, and its definition
@@ -28,32 +28,32 @@ known_table (known ∷ others) name = if bytes_eq known.0 name then Some known.1
 abbrev pub Unknown : Type 0
 Unknown = NameKind × List ℕ
 
--- the column of the table that lies so many tables out, if it is there
-abbrev pub place_or : ℕ → Option (ℕ × Category) → Result Place Unknown → Result Place Unknown
-place_or out (Some column) otherwise = Ok (record { out = out; column = column.0; kind = column.1 })
-place_or out None otherwise = otherwise
+-- the column of the table so many levels up, if it is there
+abbrev pub var_or : ℕ → Option (ℕ × Category) → Result Var Unknown → Result Var Unknown
+var_or level (Some column) otherwise = Ok (record { level = level; column = column.0; kind = column.1 })
+var_or level None otherwise = otherwise
 
--- a name alone means the column of the innermost table that has one of that name; the first table lies so many tables out
-abbrev pub unqualified_from : ℕ → List InScope → List ℕ → Result Place Unknown
-unqualified_from out [] name = Err (kind.Column, name)
-unqualified_from out (from ∷ outer) name = place_or out (typed_column 0 from.1.columns name) (unqualified_from (out + 1) outer name)
+-- a name alone means the column of the innermost table that has one of that name; the first table is so many levels up
+abbrev pub unqualified_from : ℕ → List InScope → List ℕ → Result Var Unknown
+unqualified_from level [] name = Err (kind.Column, name)
+unqualified_from level (from ∷ outer) name = var_or level (typed_column 0 from.1.columns name) (unqualified_from (level + 1) outer name)
 
 -- with a qualifier it means the column of the innermost table of that qualifier, and none further out
-abbrev pub qualified_from : ℕ → List InScope → List ℕ → List ℕ → Result Place Unknown
-qualified_from out [] qualifier name = Err (kind.Relation, qualifier)
-qualified_from out (from ∷ outer) qualifier name =
-    if bytes_eq from.0 qualifier then place_or out (typed_column 0 from.1.columns name) (Err (kind.Column, name)) else qualified_from (out + 1) outer qualifier name
+abbrev pub qualified_from : ℕ → List InScope → List ℕ → List ℕ → Result Var Unknown
+qualified_from level [] qualifier name = Err (kind.Relation, qualifier)
+qualified_from level (from ∷ outer) qualifier name =
+    if bytes_eq from.0 qualifier then var_or level (typed_column 0 from.1.columns name) (Err (kind.Column, name)) else qualified_from (level + 1) outer qualifier name
 
 -- the same, whether there is a qualifier or not
-abbrev pub place_by : List InScope → Option (List ℕ) → List ℕ → Result Place Unknown
-place_by tables None name = unqualified_from 0 tables name
-place_by tables (Some qualifier) name = qualified_from 0 tables qualifier name
+abbrev pub var_by : List InScope → Option (List ℕ) → List ℕ → Result Var Unknown
+var_by tables None name = unqualified_from 0 tables name
+var_by tables (Some qualifier) name = qualified_from 0 tables qualifier name
 
--- the place that a column's name means, or which name is unknown
-abbrev pub place_in : List InScope → ColumnName → Result Place Unknown
-place_in tables column = place_by tables column.qualifier column.name
+-- the column that a name is resolved to, or which name is unknown
+abbrev pub var_in : List InScope → ColumnName → Result Var Unknown
+var_in tables column = var_by tables column.qualifier column.name
 
--- what a call gives that lends the unknown name
-abbrev pub place_lent : Result Place (NameKind × Bor (List ℕ)) → Result Place Unknown
-place_lent (Ok place) = Ok place
-place_lent (Err (kind, name)) = Err (kind, name.now)
+-- what a call gives that borrows the unknown name
+abbrev pub var_borrowed : Result Var (NameKind × Bor (List ℕ)) → Result Var Unknown
+var_borrowed (Ok var) = Ok var
+var_borrowed (Err (kind, name)) = Err (kind, name.now)

@@ -5,7 +5,7 @@ use Rattle.rls_expr.specs.declared.column_name.ColumnName.{ColumnName}
 use Rattle.rls_expr.specs.declared.expr.Comparison.{Comparison}
 use Rattle.rls_expr.specs.declared.expr.Sign.{Sign}
 use Rattle.rls_expr.specs.declared.expr.FromItem.{FromItem}
-use Rattle.rls_expr.specs.declared.expr.Place.{Place as ColumnPlace}
+use Rattle.rls_expr.specs.declared.expr.Var.{Var as VarOf}
 use Rattle.rls_expr.specs.declared.expr.Selects.{Selects}
 
 mutual
@@ -13,8 +13,8 @@ mutual
     Literal : Value → Term
     -- a column as it is written
     Column : ColumnName → Term
-    -- a column by its place
-    Place : ColumnPlace → Term
+    -- a resolved column
+    Var : VarOf → Term
     CurrentUser : Term
     Compare : Comparison → Term → Term → Term
     And : Terms → Term
@@ -23,12 +23,12 @@ mutual
     IsNull : Term → Term
     IsNotNull : Term → Term
     -- IN, and NOT IN, with a list
-    Among : Term → Terms → Term
-    NotAmong : Term → Terms → Term
+    InList : Term → Terms → Term
+    NotInList : Term → Terms → Term
     -- EXISTS, IN and NOT IN with a subquery, and a subquery that stands for a value
     Exists : Query → Term
-    Within : Term → Query → Term
-    NotWithin : Term → Query → Term
+    InSubquery : Term → Query → Term
+    NotInSubquery : Term → Query → Term
     Scalar : Query → Term
     -- a sum, with the signs between its parts
     Sum : List Sign → Terms → Term
@@ -38,7 +38,7 @@ mutual
     More : Term → Terms → Terms
 
   pub data Query : Type 0 where
-    -- a table, its key's places once it is placed, what is selected, the items, and WHERE: no term, or one
+    -- a table, its key's places once it is resolved, what is selected, the items, and WHERE: no term, or one
     Select : FromItem → List ℕ → Selects → Terms → Terms → Query
 
 -- what qualifies a table's columns: its alias or, without one, its name
@@ -64,7 +64,7 @@ abbrev mutual
   pub term_size : Term → ℕ
   term_size (Literal v) = 1
   term_size (Column name) = 1
-  term_size (Place at) = 1
+  term_size (Var at) = 1
   term_size CurrentUser = 1
   term_size (Compare how a b) = term_size a + term_size b + 1
   term_size (And ts) = terms_size ts + 1
@@ -72,11 +72,11 @@ abbrev mutual
   term_size (Not t) = term_size t + 1
   term_size (IsNull t) = term_size t + 1
   term_size (IsNotNull t) = term_size t + 1
-  term_size (Among t ts) = term_size t + terms_size ts + 1
-  term_size (NotAmong t ts) = term_size t + terms_size ts + 1
+  term_size (InList t ts) = term_size t + terms_size ts + 1
+  term_size (NotInList t ts) = term_size t + terms_size ts + 1
   term_size (Exists q) = query_size q + 1
-  term_size (Within t q) = term_size t + query_size q + 1
-  term_size (NotWithin t q) = term_size t + query_size q + 1
+  term_size (InSubquery t q) = term_size t + query_size q + 1
+  term_size (NotInSubquery t q) = term_size t + query_size q + 1
   term_size (Scalar q) = query_size q + 1
   term_size (Sum signs ts) = terms_size ts + 1
 

@@ -12,7 +12,7 @@ use Rattle.rls_expr.specs.declared.expr.Selects.TheVariants as s
 use Rattle.rls_expr.specs.declared.typing.Typing.{Typing}
 use Rattle.rls_expr.specs.declared.typing.Typing.TheVariants.{Fault, Null, Of}
 use Rattle.rls_expr.specs.Tables.{category_of}
-use Rattle.rls_expr.specs.Terms.{Term, Terms, Query, Literal, Column, Place, CurrentUser, Compare, And, Or, Not, IsNull, IsNotNull, Among, NotAmong, Exists, Within, NotWithin, Scalar, Sum, End, More, Select}
+use Rattle.rls_expr.specs.Terms.{Term, Terms, Query, Literal, Column, Var, CurrentUser, Compare, And, Or, Not, IsNull, IsNotNull, InList, NotInList, Exists, InSubquery, NotInSubquery, Scalar, Sum, End, More, Select}
 
 -- whether two categories are one
 abbrev pub same_type : Category → Category → Bool
@@ -83,11 +83,11 @@ selected_type s.All only true = only
 selected_type s.Items only true = only
 
 abbrev mutual
-  -- the type of a placed term
+  -- the type of a resolved term
   pub type_of : Term → Typing
   type_of (Literal v) = literal_type v
   type_of (Column name) = Fault
-  type_of (Place at) = Of at.kind
+  type_of (Var at) = Of at.kind
   type_of CurrentUser = Of t.Text
   type_of (Compare how a b) = goes_with (type_of a) (type_of b)
   type_of (And ts) = boolean_if (all_booleans ts)
@@ -95,11 +95,11 @@ abbrev mutual
   type_of (Not u) = boolean_if (takes_boolean (type_of u))
   type_of (IsNull u) = tested (type_of u)
   type_of (IsNotNull u) = tested (type_of u)
-  type_of (Among u us) = among_type (type_of u) us
-  type_of (NotAmong u us) = among_type (type_of u) us
+  type_of (InList u us) = among_type (type_of u) us
+  type_of (NotInList u us) = among_type (type_of u) us
   type_of (Exists q) = boolean_if (query_fits q)
-  type_of (Within u q) = goes_with (type_of u) (item_type q)
-  type_of (NotWithin u q) = goes_with (type_of u) (item_type q)
+  type_of (InSubquery u q) = goes_with (type_of u) (item_type q)
+  type_of (NotInSubquery u q) = goes_with (type_of u) (item_type q)
   type_of (Scalar q) = item_type q
   type_of (Sum signs us) = number_if (all_numbers us)
 

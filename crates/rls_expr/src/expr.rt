@@ -23,8 +23,8 @@ pub enum Node {
     Literal(Value),
     /// A column as it is written.
     Column(ColumnName),
-    /// A column that is placed.
-    Place(Place),
+    /// A column that is resolved.
+    Var(Var),
     CurrentUser,
     Compare(Comparison, Box<Expr>, Box<Expr>),
     And(Vec<Expr>),
@@ -33,25 +33,25 @@ pub enum Node {
     IsNull(Box<Expr>),
     IsNotNull(Box<Expr>),
     /// `IN` with a list.
-    Among(Box<Expr>, Vec<Expr>),
+    InList(Box<Expr>, Vec<Expr>),
     /// `NOT IN` with a list.
-    NotAmong(Box<Expr>, Vec<Expr>),
+    NotInList(Box<Expr>, Vec<Expr>),
     /// `EXISTS`: whether the subquery gives a row.
     Exists(Box<Subquery>),
     /// `IN` with a subquery.
-    Within(Box<Expr>, Box<Subquery>),
+    InSubquery(Box<Expr>, Box<Subquery>),
     /// `NOT IN` with a subquery.
-    NotWithin(Box<Expr>, Box<Subquery>),
+    NotInSubquery(Box<Expr>, Box<Subquery>),
     /// A scalar subquery: what it selects of its one row.
     Scalar(Box<Subquery>),
     /// A sum: the signs between the parts, and the parts.
     Sum(Vec<Sign>, Vec<Expr>),
 }
 
-/// A column of the table that lies so many tables out: its place there, and its type.
+/// A column of the table so many levels up: its index there, and its type.
 #[derive(Clone, Copy, PartialEq, Eq)]
-pub struct Place {
-    pub out: usize,
+pub struct Var {
+    pub level: usize,
     pub column: usize,
     pub kind: Category,
 }
@@ -69,10 +69,10 @@ pub enum Category {
 #[derive(Drop)]
 pub struct Subquery {
     pub from: FromItem,
-    /// The places of the table's primary key, once it is placed.
+    /// The indexes of the table's primary key, once it is resolved.
     pub key: Vec<usize>,
     pub selects: Selects,
-    /// The items as they are written; once it is placed, each column where it selects all.
+    /// The items as they are written; once it is resolved, each column where it selects all.
     pub items: Vec<Expr>,
     pub condition: Option<Expr>,
 }
@@ -178,7 +178,7 @@ impl Expr {
         let node = match &self.node {
             Node::Literal(value) => Node::Literal(value.copy()?),
             Node::Column(name) => Node::Column(name.copy()?),
-            Node::Place(place) => Node::Place(*place),
+            Node::Var(var) => Node::Var(*var),
             Node::CurrentUser => Node::CurrentUser,
             Node::Compare(how, left, right) => {
                 let left = copy_boxed(alloc, left)?;
@@ -190,26 +190,26 @@ impl Expr {
             Node::Not(operand) => Node::Not(copy_boxed(alloc, operand)?),
             Node::IsNull(operand) => Node::IsNull(copy_boxed(alloc, operand)?),
             Node::IsNotNull(operand) => Node::IsNotNull(copy_boxed(alloc, operand)?),
-            Node::Among(left, list) => {
+            Node::InList(left, list) => {
                 let left = copy_boxed(alloc, left)?;
                 let list = copy_parts(alloc, list)?;
-                Node::Among(left, list)
+                Node::InList(left, list)
             }
-            Node::NotAmong(left, list) => {
+            Node::NotInList(left, list) => {
                 let left = copy_boxed(alloc, left)?;
                 let list = copy_parts(alloc, list)?;
-                Node::NotAmong(left, list)
+                Node::NotInList(left, list)
             }
             Node::Exists(query) => Node::Exists(copy_query(alloc, query)?),
-            Node::Within(left, query) => {
+            Node::InSubquery(left, query) => {
                 let left = copy_boxed(alloc, left)?;
                 let query = copy_query(alloc, query)?;
-                Node::Within(left, query)
+                Node::InSubquery(left, query)
             }
-            Node::NotWithin(left, query) => {
+            Node::NotInSubquery(left, query) => {
                 let left = copy_boxed(alloc, left)?;
                 let query = copy_query(alloc, query)?;
-                Node::NotWithin(left, query)
+                Node::NotInSubquery(left, query)
             }
             Node::Scalar(query) => Node::Scalar(copy_query(alloc, query)?),
             Node::Sum(signs, parts) => {

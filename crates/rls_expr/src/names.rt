@@ -30,7 +30,7 @@ pub fn put_names<'x>(steps: &mut Vec<NameStep<'x>>, expr: &'x Expr) -> Result<()
     ensures { OnOk result (map step_of steps.new.items ≡ map step_of steps.old.items ++ names_of expr.now) }
 {
     match expr.node() {
-        Node::Literal(_) | Node::Place(_) | Node::CurrentUser => Ok(()),
+        Node::Literal(_) | Node::Var(_) | Node::CurrentUser => Ok(()),
         Node::Column(name) => put_step(steps, NameStep::Column(name)),
         Node::Compare(_, left, right) => {
             put_names(steps, left)?;
@@ -40,12 +40,12 @@ pub fn put_names<'x>(steps: &mut Vec<NameStep<'x>>, expr: &'x Expr) -> Result<()
         Node::Not(operand) | Node::IsNull(operand) | Node::IsNotNull(operand) => {
             put_names(steps, operand)
         }
-        Node::Among(left, list) | Node::NotAmong(left, list) => {
+        Node::InList(left, list) | Node::NotInList(left, list) => {
             put_names(steps, left)?;
             put_all_names(steps, list)
         }
         Node::Exists(query) | Node::Scalar(query) => put_query_names(steps, query),
-        Node::Within(left, query) | Node::NotWithin(left, query) => {
+        Node::InSubquery(left, query) | Node::NotInSubquery(left, query) => {
             put_names(steps, left)?;
             put_query_names(steps, query)
         }

@@ -3,7 +3,7 @@
 ghost use Rattle.std.specs.Prelude.{◌≡◌, nat_eq};
 ghost use Rattle.rls_expr.specs.ExprTerms.{query_of};
 ghost use Rattle.rls_expr.specs.Parts as spec;
-ghost use Rattle.rls_expr.specs.Parts.{has_query, have_query, has_sum, have_sum, level_of, mentions, some_mentions};
+ghost use Rattle.rls_expr.specs.Parts.{has_query, have_query, has_sum, have_sum, nesting_of, mentions, some_mentions};
 ghost use Rattle.rls_expr.specs.Terms.{maybe_term, terms_of};
 
 use crate::expr::{Expr, Node, Subquery};
@@ -16,7 +16,7 @@ pub fn has_sum(expr: &Expr) -> bool
     match expr.node() {
         Node::Literal(_)
         | Node::Column(_)
-        | Node::Place(_)
+        | Node::Var(_)
         | Node::CurrentUser
         | Node::Exists(_)
         | Node::Scalar(_) => false,
@@ -25,9 +25,9 @@ pub fn has_sum(expr: &Expr) -> bool
         Node::Not(operand)
         | Node::IsNull(operand)
         | Node::IsNotNull(operand)
-        | Node::Within(operand, _)
-        | Node::NotWithin(operand, _) => has_sum(operand),
-        Node::Among(left, list) | Node::NotAmong(left, list) => has_sum(left) || have_sum(list),
+        | Node::InSubquery(operand, _)
+        | Node::NotInSubquery(operand, _) => has_sum(operand),
+        Node::InList(left, list) | Node::NotInList(left, list) => has_sum(left) || have_sum(list),
         Node::Sum(_, _) => true,
     }
 }
@@ -50,12 +50,14 @@ pub fn has_query(expr: &Expr) -> bool
     ensures { result ≡ has_query expr.now }
 {
     match expr.node() {
-        Node::Literal(_) | Node::Column(_) | Node::Place(_) | Node::CurrentUser => false,
+        Node::Literal(_) | Node::Column(_) | Node::Var(_) | Node::CurrentUser => false,
         Node::Compare(_, left, right) => has_query(left) || has_query(right),
         Node::And(parts) | Node::Or(parts) | Node::Sum(_, parts) => have_query(parts),
         Node::Not(operand) | Node::IsNull(operand) | Node::IsNotNull(operand) => has_query(operand),
-        Node::Among(left, list) | Node::NotAmong(left, list) => has_query(left) || have_query(list),
-        Node::Exists(_) | Node::Scalar(_) | Node::Within(_, _) | Node::NotWithin(_, _) => true,
+        Node::InList(left, list) | Node::NotInList(left, list) => has_query(left)
+            || have_query(list),
+        Node::Exists(_) | Node::Scalar(_) | Node::InSubquery(_, _) | Node::NotInSubquery(_, _) =>
+            true,
     }
 }
 
@@ -71,55 +73,55 @@ fn have_query(parts: &[Expr]) -> bool
     false
 }
 
-/// How many tables out a table lies.
+/// How many levels up a table is.
 #[derive(Clone, Copy)]
-enum Level<'a> {
+enum Nesting<'a> {
     Innermost,
-    Inside(&'a Level<'a>),
+    Inside(&'a Nesting<'a>),
 }
 
-/// Whether a column of the target stands in a placed expression, also inside a subquery; a column of another use of the
+/// Whether a column of the target stands in a resolved expression, also inside a subquery; a column of another use of the
 /// same table there doesn't count.
 pub fn reads_target(expr: &Expr) -> bool
     ensures { result ≡ mentions 0 expr.now }
 {
-    is_mentioned(expr, &Level::Innermost)
+    is_mentioned(expr, &Nesting::Innermost)
 }
 
 #[cycle(mentions)]
-fn is_mentioned(expr: &Expr, table: &Level) -> bool
-    ensures { result ≡ mentions (level_of table.now) expr.now }
+fn is_mentioned(expr: &Expr, table: &Nesting) -> bool
+    ensures { result ≡ mentions (nesting_of table.now) expr.now }
 {
     match expr.node() {
         Node::Literal(_) | Node::Column(_) | Node::CurrentUser => false,
-        Node::Place(place) => is_out(place.out, table),
+        Node::Var(var) => is_level(var.level, table),
         Node::Compare(_, left, right) => is_mentioned(left, table) || is_mentioned(right, table),
         Node::And(parts) | Node::Or(parts) | Node::Sum(_, parts) => some_mentions(parts, table),
         Node::Not(operand) | Node::IsNull(operand) | Node::IsNotNull(operand) => {
             is_mentioned(operand, table)
         }
-        Node::Among(left, list) | Node::NotAmong(left, list) => {
+        Node::InList(left, list) | Node::NotInList(left, list) => {
             is_mentioned(left, table) || some_mentions(list, table)
         }
         Node::Exists(query) | Node::Scalar(query) => query_mentions(query, table),
-        Node::Within(left, query) | Node::NotWithin(left, query) => {
+        Node::InSubquery(left, query) | Node::NotInSubquery(left, query) => {
             is_mentioned(left, table) || query_mentions(query, table)
         }
     }
 }
 
-/// Inside the subquery the table lies one further out.
+/// Inside the subquery the table is one level further up.
 #[cycle(mentions)]
-fn query_mentions(query: &Subquery, table: &Level) -> bool
-    ensures { result ≡ spec.query_mentions (level_of table.now) (query_of query.now) }
+fn query_mentions(query: &Subquery, table: &Nesting) -> bool
+    ensures { result ≡ spec.query_mentions (nesting_of table.now) (query_of query.now) }
 {
-    let inside = Level::Inside(&*table);
+    let inside = Nesting::Inside(&*table);
     some_mentions(&query.items, &inside) || condition_mentions(&query.condition, &inside)
 }
 
 #[cycle(mentions)]
-fn condition_mentions(condition: &Option<Expr>, table: &Level) -> bool
-    ensures { result ≡ some_mentions (level_of table.now) (maybe_term condition.now) }
+fn condition_mentions(condition: &Option<Expr>, table: &Nesting) -> bool
+    ensures { result ≡ some_mentions (nesting_of table.now) (maybe_term condition.now) }
 {
     match condition {
         None => false,
@@ -128,8 +130,8 @@ fn condition_mentions(condition: &Option<Expr>, table: &Level) -> bool
 }
 
 #[cycle(mentions)]
-fn some_mentions(parts: &[Expr], table: &Level) -> bool
-    ensures { result ≡ some_mentions (level_of table.now) (terms_of parts.now) }
+fn some_mentions(parts: &[Expr], table: &Nesting) -> bool
+    ensures { result ≡ some_mentions (nesting_of table.now) (terms_of parts.now) }
 {
     for part in parts {
         if is_mentioned(part, table) {
@@ -139,17 +141,17 @@ fn some_mentions(parts: &[Expr], table: &Level) -> bool
     false
 }
 
-/// Whether that many tables out is that level.
-fn is_out(out: usize, level: &Level) -> bool
-    ensures { result ≡ nat_eq out (level_of level.now) }
+/// Whether so many levels up is that nesting.
+fn is_level(level: usize, nesting: &Nesting) -> bool
+    ensures { result ≡ nat_eq level (nesting_of nesting.now) }
 {
-    match level {
-        Level::Innermost => out == 0,
-        Level::Inside(outer) => {
-            if out == 0 {
+    match nesting {
+        Nesting::Innermost => level == 0,
+        Nesting::Inside(outer) => {
+            if level == 0 {
                 false
             } else {
-                is_out(out - 1, outer)
+                is_level(level - 1, outer)
             }
         }
     }

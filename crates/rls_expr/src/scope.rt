@@ -2,10 +2,10 @@
 
 ghost use Rattle.std.specs.Prelude.{◌≡◌, ◌∷◌, IfOk};
 ghost use Rattle.std.specs.Option.{option_copied};
-ghost use Rattle.rls_expr.specs.Scopes.{known_table, place_in, unqualified_from, qualified_from, place_lent};
+ghost use Rattle.rls_expr.specs.Scopes.{known_table, var_in, unqualified_from, qualified_from, var_borrowed};
 
 use crate::column_name::ColumnName;
-use crate::expr::Place;
+use crate::expr::Var;
 use crate::table::TableDef;
 use rls_value::{Name, NameKind};
 use std::alloc::{AllocError, Global};
@@ -83,13 +83,13 @@ pub fn inside<'c>(
     Ok(all)
 }
 
-/// How many tables out, where there, and of which type the column is that the name means; else the name that is unknown,
+/// How many levels up, where there, and of which type the column is that the name means; else the name that is unknown,
 /// the qualifier's or the column's.
-pub fn place_of<'n>(
+pub fn var_of<'n>(
     tables: &[NamedTable],
     column: &'n ColumnName,
-) -> Result<Place, (NameKind, &'n Name)>
-    ensures { place_lent result ≡ place_in tables.now column.now }
+) -> Result<Var, (NameKind, &'n Name)>
+    ensures { var_borrowed result ≡ var_in tables.now column.now }
 {
     match &column.qualifier {
         None => unqualified(tables, &column.name),
@@ -98,12 +98,16 @@ pub fn place_of<'n>(
 }
 
 /// The same of a name alone.
-pub fn unqualified<'n>(tables: &[NamedTable], name: &'n Name) -> Result<Place, (NameKind, &'n Name)>
-    ensures { place_lent result ≡ unqualified_from 0 tables.now name.now }
+pub fn unqualified<'n>(tables: &[NamedTable], name: &'n Name) -> Result<Var, (NameKind, &'n Name)>
+    ensures { var_borrowed result ≡ unqualified_from 0 tables.now name.now }
 {
-    for (out, from) in tables.iter().enumerate() {
+    for (level, from) in tables.iter().enumerate() {
         if let Some((column, kind)) = from.table.typed_column(name) {
-            return Ok(Place { out, column, kind });
+            return Ok(Var {
+                level,
+                column,
+                kind,
+            });
         }
     }
     Err((NameKind::Column, name))
@@ -113,13 +117,17 @@ fn qualified<'n>(
     tables: &[NamedTable],
     qualifier: &'n Name,
     name: &'n Name,
-) -> Result<Place, (NameKind, &'n Name)>
-    ensures { place_lent result ≡ qualified_from 0 tables.now qualifier.now name.now }
+) -> Result<Var, (NameKind, &'n Name)>
+    ensures { var_borrowed result ≡ qualified_from 0 tables.now qualifier.now name.now }
 {
-    for (out, from) in tables.iter().enumerate() {
+    for (level, from) in tables.iter().enumerate() {
         if from.name.is(qualifier) {
             return match from.table.typed_column(name) {
-                Some((column, kind)) => Ok(Place { out, column, kind }),
+                Some((column, kind)) => Ok(Var {
+                    level,
+                    column,
+                    kind,
+                }),
                 None => Err((NameKind::Column, name)),
             };
         }

@@ -56,7 +56,7 @@ impl TableDef {
     pub fn column(&self, name: &Name) -> Option<usize>
         ensures place { result ≡ column_named self.now.columns name.now }
     {
-        place_of(self.columns.as_slice(), name)
+        var_of(self.columns.as_slice(), name)
     }
 
     /// The place and the type of the first column of that name.
@@ -101,7 +101,7 @@ fn copy_shape(alloc: Global, table: &TableDef) -> Result<(Items<Column>, Vec<usi
     }
 }
 
-fn place_of(columns: &[Column], name: &Name) -> Option<usize>
+fn var_of(columns: &[Column], name: &Name) -> Option<usize>
     ensures { result ≡ column_named columns.now name.now }
 {
     columns.iter().position(|column| column.name.is(name))

@@ -29,7 +29,7 @@ pub fn goes_into(typing: Typing, column: ColType) -> bool
     }
 }
 
-/// The type of an expression whose columns are placed.
+/// The type of an expression whose columns are resolved.
 #[cycle(typing)]
 pub fn typing_of(expr: &Expr) -> Typing
     ensures { result ≡ type_of expr.now }
@@ -37,15 +37,18 @@ pub fn typing_of(expr: &Expr) -> Typing
     match expr.node() {
         Node::Literal(value) => literal_typing(value),
         Node::Column(_) => Typing::Fault,
-        Node::Place(place) => Typing::Of(place.kind),
+        Node::Var(var) => Typing::Of(var.kind),
         Node::CurrentUser => Typing::Of(Category::Text),
         Node::Compare(_, left, right) => compared(typing_of(left), typing_of(right)),
         Node::And(parts) | Node::Or(parts) => boolean_if(are_booleans(parts)),
         Node::Not(operand) => boolean_if(is_boolean(typing_of(operand))),
         Node::IsNull(operand) | Node::IsNotNull(operand) => tested(typing_of(operand)),
-        Node::Among(left, list) | Node::NotAmong(left, list) => among_typing(typing_of(left), list),
+        Node::InList(left, list) | Node::NotInList(left, list) => among_typing(
+            typing_of(left),
+            list,
+        ),
         Node::Exists(query) => boolean_if(query_fits(query)),
-        Node::Within(left, query) | Node::NotWithin(left, query) => {
+        Node::InSubquery(left, query) | Node::NotInSubquery(left, query) => {
             compared(typing_of(left), item_typing(query))
         }
         Node::Scalar(query) => item_typing(query),

@@ -4,7 +4,7 @@ use Rattle.std.specs.BTreeSet.{BTreeSet, contains}
 use Rattle.std.proofs.Common.{sym}
 use Rattle.rls_value.specs.{Names.one_of, declared.verb.Privilege.Privilege}
 use Rattle.rls_catalog.specs.{declared.grant.Grant.Grant, State.name_order}
-use Rattle.rls_role.specs.declared.reach.Reach.{Reach}
+use Rattle.rls_role.specs.declared.effective_roles.EffectiveRoles.{EffectiveRoles}
 use Rattle.rls_grant.specs.{Grantors.grantor_by, Holders.holders_of, Optioned.AreHolders, Revoking.left_or_refused}
 use Rattle.rls_grant.proofs.HolderLaws.{holders_are}
 
@@ -21,9 +21,9 @@ same_one owner grants privilege holders are role =
     (λ is. (holders_are owner grants privilege role).1 ((are role).0 is)) (λ is. (are role).1 ((holders_are owner grants privilege role).0 is))
 
 -- so the same role grants
-pub grantor_same : (reach : Reach) (role owner : List ℕ) (grants : List Grant) (privilege : Privilege) (holders : BTreeSet (List ℕ)) → AreHolders owner grants privilege holders
-    → grantor_by reach role owner (contains name_order holders) ≡ grantor_by reach role owner (one_of (holders_of owner grants privilege))
-grantor_same reach role owner grants privilege holders are i = grantor_by reach role owner (λ name. same_one owner grants privilege holders are name i)
+pub grantor_same : (effective_roles : EffectiveRoles) (role owner : List ℕ) (grants : List Grant) (privilege : Privilege) (holders : BTreeSet (List ℕ)) → AreHolders owner grants privilege holders
+    → grantor_by effective_roles role owner (contains name_order holders) ≡ grantor_by effective_roles role owner (one_of (holders_of owner grants privilege))
+grantor_same effective_roles role owner grants privilege holders are i = grantor_by effective_roles role owner (λ name. same_one owner grants privilege holders are name i)
 
 -- and the same is left
 pub left_same : (cascade : Bool) (table owner : List ℕ) (privilege : Privilege) (holders : BTreeSet (List ℕ)) (grants : List Grant) → AreHolders owner grants privilege holders

@@ -9,7 +9,7 @@ use Rattle.rls_expr.specs.{declared.table.TableDef.TableDef, declared.policy.Gra
 use Rattle.rls_catalog.specs.{declared.change.Change.Change, declared.grant.Grant.Grant, GrantOptions.without_options_of, State.name_order}
 use Rattle.rls_source.specs.{Asked.asked_grants, Named.table_or_undefined, Named.grantees_or_undefined, Sequences.each_or_refused, Sequences.put_before, Askings.Asking, Askings.known, Askings.followed_by}
 use Rattle.rls_statement.specs.declared.statement.GrantPrivileges.{GrantPrivileges}
-use Rattle.rls_role.specs.{Reaching.reach_of, declared.reach.Reach.Reach}
+use Rattle.rls_role.specs.{Reaching.effective_roles_of, declared.effective_roles.EffectiveRoles.EffectiveRoles}
 use Rattle.rls_grant.specs.{declared.grantors.Grantor.Grantor, Holders.holders_of, Grantors.all_privileges, Grantors.grantors}
 
 -- ---- where a grant stands among the others
@@ -34,18 +34,18 @@ grant_order grant other =
     ordering_then (nat_cmp (place_of grant.privilege) (place_of other.privilege))
     (ordering_then (grantee_order grant.grantee other.grantee) (name_order grant.grantor other.grantor))
 
--- it is the same grant, its mark aside
+-- it is the same grant, its grant option aside
 abbrev pub is_there : List Grant → Grant → Bool
 is_there grants grant = list_any (λ other. is_eq (grant_order other grant)) grants
 
--- the mark of a grant that is there stays, and the mark of the new one is added
-abbrev pub with_mark : Grant → Grant → Grant
-with_mark grant other = if is_eq (grant_order other grant) then record other { option = other.option || grant.option } else other
+-- the grant option of a grant that is there stays, and that of the new one is added
+abbrev pub with_grant_option : Grant → Grant → Grant
+with_grant_option grant other = if is_eq (grant_order other grant) then record other { option = other.option || grant.option } else other
 
 -- the grant in its place
 abbrev pub with_grant : List Grant → Grant → List Grant
 with_grant grants grant =
-    if is_there grants grant then map (with_mark grant) grants else put_before (λ other. is_lt (grant_order grant other)) grant grants
+    if is_there grants grant then map (with_grant_option grant) grants else put_before (λ other. is_lt (grant_order grant other)) grant grants
 
 -- grants put in, one after another
 abbrev pub with_grants : List Grant → List Grant → List Grant
@@ -104,13 +104,13 @@ unfoldable pub granted : TableDef → List Grant → List Grantor → GrantPrivi
 granted table grants by asked = and_then (options_or_refused asked.with_option table.owner grants by asked.to) (λ _. Ok (grants_with grants by asked))
 
 -- each privilege has to have a grantor; then the grant option has to be one that may go to the grantees
-unfoldable pub grants_made : Reach → List ℕ → TableDef → List Grant → GrantPrivileges → Result (List Change) Refusal
-grants_made reach role table grants asked = and_then (grantors reach role asked.table table grants asked.privileges) (λ by. granted table grants by asked)
+unfoldable pub grants_made : EffectiveRoles → List ℕ → TableDef → List Grant → GrantPrivileges → Result (List Change) Refusal
+grants_made effective_roles role table grants asked = and_then (grantors effective_roles role asked.table table grants asked.privileges) (λ by. granted table grants by asked)
 
 -- the grants that are there, and whose privileges the role has
 unfoldable pub grant_on : List ℕ → TableDef → GrantPrivileges → Asking (List Change)
 grant_on role table asked = followed_by (asked_grants asked.table) (λ grants.
-    followed_by (reach_of role) (λ reach. known (grants_made reach role table grants asked)))
+    followed_by (effective_roles_of role) (λ effective_roles. known (grants_made effective_roles role table grants asked)))
 
 -- the table and the grantees have to be there
 abbrev pub grant : List ℕ → GrantPrivileges → Asking (List Change)

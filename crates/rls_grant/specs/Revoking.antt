@@ -5,12 +5,12 @@ use Rattle.std.specs.List.{list_any}
 use Rattle.rls_value.specs.{Giving.and_then, Names.one_of, declared.verb.Privilege.Privilege, declared.refusal.Refusal.Refusal, declared.refusal.Refusal.TheVariants.Dependent}
 use Rattle.rls_expr.specs.{declared.table.TableDef.TableDef, declared.policy.Grantee.Grantee}
 use Rattle.rls_catalog.specs.{declared.change.Change.Change, declared.grant.Grant.Grant, Privileges.is_same_privilege}
-use Rattle.rls_catalog.specs.GrantOptions.{is_grant_of, unmarked}
+use Rattle.rls_catalog.specs.GrantOptions.{is_grant_of, not_grantable}
 use Rattle.rls_source.specs.Asked.{asked_grants}
 use Rattle.rls_source.specs.Askings.{Asking, known, followed_by}
 use Rattle.rls_source.specs.Named.{table_or_undefined, grantees_or_undefined}
 use Rattle.rls_statement.specs.declared.statement.RevokePrivileges.{RevokePrivileges}
-use Rattle.rls_role.specs.{Reaching.reach_of, declared.reach.Reach.Reach}
+use Rattle.rls_role.specs.{Reaching.effective_roles_of, declared.effective_roles.EffectiveRoles.EffectiveRoles}
 use Rattle.rls_grant.specs.{declared.grantors.Grantor.Grantor, Granting.grants_written, Grantors.grantors, Holders.holders_of}
 
 -- ---- what is taken
@@ -23,14 +23,14 @@ is_by grantees grant grantor = list_any (λ grantee. is_grant_of grantor.privile
 abbrev pub is_taken : List Grantor → List Grantee → Grant → Bool
 is_taken by grantees grant = list_any (is_by grantees grant) by
 
--- it goes, or its mark does
-abbrev pub without_mark : List Grantor → List Grantee → Grant → Grant
-without_mark by grantees grant = if is_taken by grantees grant then unmarked grant else grant
+-- it goes, or its grant option does
+abbrev pub without_grant_option : List Grantor → List Grantee → Grant → Grant
+without_grant_option by grantees grant = if is_taken by grantees grant then not_grantable grant else grant
 
 -- the grants without those that are taken, or without their options
 abbrev pub without_taken : Bool → List Grantor → List Grantee → List Grant → List Grant
 without_taken option_only by grantees grants =
-    if option_only then map (without_mark by grantees) grants else filter (λ grant. not (is_taken by grantees grant)) grants
+    if option_only then map (without_grant_option by grantees) grants else filter (λ grant. not (is_taken by grantees grant)) grants
 
 -- ---- what is left of it
 
@@ -58,13 +58,13 @@ revoked table grants by asked =
     and_then (left_after asked.cascade asked.table table.owner by (without_taken asked.option_only by asked.from grants)) (λ left. Ok (grants_written asked.table left))
 
 -- each privilege has to have a grantor
-unfoldable pub grants_revoked : Reach → List ℕ → TableDef → List Grant → RevokePrivileges → Result (List Change) Refusal
-grants_revoked reach role table grants asked = and_then (grantors reach role asked.table table grants asked.privileges) (λ by. revoked table grants by asked)
+unfoldable pub grants_revoked : EffectiveRoles → List ℕ → TableDef → List Grant → RevokePrivileges → Result (List Change) Refusal
+grants_revoked effective_roles role table grants asked = and_then (grantors effective_roles role asked.table table grants asked.privileges) (λ by. revoked table grants by asked)
 
 -- the grants that are there, and whose privileges the role has
 unfoldable pub revoke_on : List ℕ → TableDef → RevokePrivileges → Asking (List Change)
 revoke_on role table asked = followed_by (asked_grants asked.table) (λ grants.
-    followed_by (reach_of role) (λ reach. known (grants_revoked reach role table grants asked)))
+    followed_by (effective_roles_of role) (λ effective_roles. known (grants_revoked effective_roles role table grants asked)))
 
 -- the table and the grantees have to be there
 abbrev pub revoke : List ℕ → RevokePrivileges → Asking (List Change)

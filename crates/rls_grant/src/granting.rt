@@ -13,7 +13,7 @@ use crate::optioning::options_without;
 use crate::placing::put_grants;
 use rls_catalog::{Change, Delta, Grant};
 use rls_expr::{Grantee, TableDef};
-use rls_role::{Reach, noted_reach};
+use rls_role::{EffectiveRoles, noted_effective_roles};
 use rls_source::{Reads, RowSource, noted_grants, require_grantees, table_named};
 use rls_statement::GrantPrivileges;
 use rls_value::{GrantFault, Items, Name, Privilege, Refusal};
@@ -27,49 +27,57 @@ use std::alloc::{AllocError, Global};
 pub fn grant<'c, S: RowSource<'c>>(
     alloc: Global,
     source: &mut S,
-    notes: &mut Reads,
+    read_set: &mut Reads,
     role: &Name,
     grant: &GrantPrivileges,
 ) -> Result<Delta, Refusal>
-    ensures answers { Answers S.state S.after (spec.grant role.now grant.now) source.old source.new notes.old notes.new result }
+    ensures answers { Answers S.state S.after (spec.grant role.now grant.now) source.old source.new read_set.old read_set.new result }
     ensures back { (owner : List ℕ) (grants : List Given) (privilege : Kind) (grantor grantee : List ℕ) → (goes_back owner grants privilege grantor grantee ≡ true) ↔ GoesBack owner grants privilege grantor grantee }
 {
-    let table = table_named(alloc, source, notes, &grant.table)?;
-    require_grantees(alloc, source, notes, grant.to.as_slice())?;
-    grant_for(alloc, source, notes, role, table, grant)
+    let table = table_named(alloc, source, read_set, &grant.table)?;
+    require_grantees(alloc, source, read_set, grant.to.as_slice())?;
+    grant_for(alloc, source, read_set, role, table, grant)
 }
 
 #[tactic(auto, unfolding(crate::specs::Granting::grant_on))]
 fn grant_for<'c, S: RowSource<'c>>(
     alloc: Global,
     source: &mut S,
-    notes: &mut Reads,
+    read_set: &mut Reads,
     role: &Name,
     table: &TableDef,
     grant: &GrantPrivileges,
 ) -> Result<Delta, Refusal>
-    ensures { Answers S.state S.after (grant_on role.now table.now grant.now) source.old source.new notes.old notes.new result }
+    ensures { Answers S.state S.after (grant_on role.now table.now grant.now) source.old source.new read_set.old read_set.new result }
 {
-    let grants = noted_grants(alloc, source, notes, &grant.table)?;
-    let reach = noted_reach(alloc, source, notes, role)?;
-    let made = make_grants(alloc, &reach, role, table, grants, grant);
-    drop(reach);
+    let grants = noted_grants(alloc, source, read_set, &grant.table)?;
+    let effective_roles = noted_effective_roles(alloc, source, read_set, role)?;
+    let made = make_grants(alloc, &effective_roles, role, table, grants, grant);
+    drop(effective_roles);
     made
 }
 
 #[tactic(auto, unfolding(crate::specs::Granting::grants_made))]
 fn make_grants(
     alloc: Global,
-    reach: &Reach,
+    effective_roles: &EffectiveRoles,
     role: &Name,
     table: &TableDef,
     grants: &[Grant],
     grant: &GrantPrivileges,
 ) -> Result<Delta, Refusal>
-    ensures { Gives result (grants_made reach.now role.now table.now grants.now grant.now) }
+    ensures { Gives result (grants_made effective_roles.now role.now table.now grants.now grant.now) }
 {
     let named = &grant.privileges;
-    let grantors = grantors_of(alloc, reach, role, &grant.table, table, grants, named)?;
+    let grantors = grantors_of(
+        alloc,
+        effective_roles,
+        role,
+        &grant.table,
+        table,
+        grants,
+        named,
+    )?;
     let made = grant_by(alloc, table, grants, grantors.as_slice(), grant);
     drop(grantors);
     made

@@ -11,7 +11,7 @@ ghost use Rattle.rls_grant.specs.{Grantors.grantor_by, Holders.holders_of};
 use crate::optioning::options;
 use rls_catalog::Grant;
 use rls_expr::TableDef;
-use rls_role::{Reach, lesser_name};
+use rls_role::{EffectiveRoles, lesser_name};
 use rls_statement::Privileges;
 use rls_value::{Items, Name, Privilege, Refusal, Why};
 use std::alloc::{AllocError, Global};
@@ -28,17 +28,17 @@ pub struct Grantor {
 #[tactic(auto, unfolding(crate::specs::Grantors::grantors))]
 pub(crate) fn grantors_of(
     alloc: Global,
-    reach: &Reach,
+    effective_roles: &EffectiveRoles,
     role: &Name,
     name: &Name,
     table: &TableDef,
     grants: &[Grant],
     named: &Privileges,
 ) -> Result<Items<Grantor>, Refusal>
-    ensures { Gives result (spec.grantors reach.now role.now name.now table.now grants.now named.now) }
+    ensures { Gives result (spec.grantors effective_roles.now role.now name.now table.now grants.now named.now) }
 {
     let named = named_privileges(alloc, named)?;
-    let grantors = grantor_of_each(alloc, reach, role, name, table, grants, &named);
+    let grantors = grantor_of_each(alloc, effective_roles, role, name, table, grants, &named);
     drop(named);
     grantors
 }
@@ -65,18 +65,18 @@ fn named_privileges(alloc: Global, named: &Privileges) -> Result<Vec<Privilege>,
 
 fn grantor_of_each(
     alloc: Global,
-    reach: &Reach,
+    effective_roles: &EffectiveRoles,
     role: &Name,
     name: &Name,
     table: &TableDef,
     grants: &[Grant],
     privileges: &[Privilege],
 ) -> Result<Items<Grantor>, Refusal>
-    ensures { Gives result (each_of (spec.granted_by reach.now role.now name.now table.now grants.now) privileges.now) }
+    ensures { Gives result (each_of (spec.granted_by effective_roles.now role.now name.now table.now grants.now) privileges.now) }
 {
     let mut grantors = Items::new(alloc);
     for privilege in privileges {
-        let grantor = grantor_of(alloc, reach, role, name, table, grants, privilege)?;
+        let grantor = grantor_of(alloc, effective_roles, role, name, table, grants, privilege)?;
         grantors.push(grantor)?;
     }
     Ok(grantors)
@@ -84,17 +84,24 @@ fn grantor_of_each(
 
 fn grantor_of(
     alloc: Global,
-    reach: &Reach,
+    effective_roles: &EffectiveRoles,
     role: &Name,
     name: &Name,
     table: &TableDef,
     grants: &[Grant],
     privilege: &Privilege,
 ) -> Result<Grantor, Refusal>
-    ensures { Gives result (spec.granted_by reach.now role.now name.now table.now grants.now privilege.now) }
+    ensures { Gives result (spec.granted_by effective_roles.now role.now name.now table.now grants.now privilege.now) }
 {
     let privilege = *privilege;
-    match grantor_name(alloc, reach, role, &table.owner, grants, privilege)? {
+    match grantor_name(
+        alloc,
+        effective_roles,
+        role,
+        &table.owner,
+        grants,
+        privilege,
+    )? {
         Some(name) => Ok(Grantor { privilege, name }),
         None => Err(Refusal::Denied(Why::GrantOption(privilege, name.copy()?))),
     }
@@ -105,36 +112,36 @@ fn grantor_of(
 #[tactic(auto, using(crate::proofs::HolderLemmas::grantor_same))]
 fn grantor_name(
     alloc: Global,
-    reach: &Reach,
+    effective_roles: &EffectiveRoles,
     role: &Name,
     owner: &Name,
     grants: &[Grant],
     privilege: Privilege,
 ) -> Result<Option<Name>, AllocError>
-    ensures { IfOk result (λ name. name ≡ grantor_by reach.now role.now owner.now (one_of (holders_of owner.now grants.now privilege))) }
+    ensures { IfOk result (λ name. name ≡ grantor_by effective_roles.now role.now owner.now (one_of (holders_of owner.now grants.now privilege))) }
 {
     let holders = options(alloc, owner, grants, privilege)?;
-    match grantor_among(reach, role, owner, &holders) {
+    match grantor_among(effective_roles, role, owner, &holders) {
         Some(name) => Ok(Some(name.copy()?)),
         None => Ok(None),
     }
 }
 
 fn grantor_among<'a>(
-    reach: &'a Reach,
+    effective_roles: &'a EffectiveRoles,
     role: &'a Name,
     owner: &'a Name,
     holders: &BTreeSet<Name>,
 ) -> Option<&'a Name>
-    ensures { option_copied result ≡ grantor_by reach.now role.now owner.now (contains name_order holders.now) }
+    ensures { option_copied result ≡ grantor_by effective_roles.now role.now owner.now (contains name_order holders.now) }
 {
-    if reach.has(owner) {
+    if effective_roles.has(owner) {
         return Some(owner);
     }
     if holders.contains(role) {
         return Some(role);
     }
-    least_common(reach.names.as_slice(), holders)
+    least_common(effective_roles.names.as_slice(), holders)
 }
 
 fn least_common<'a>(roles: &'a [Name], holders: &BTreeSet<Name>) -> Option<&'a Name>

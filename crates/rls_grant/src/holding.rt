@@ -7,7 +7,7 @@ ghost use Rattle.rls_catalog.specs.Privileges.{holds_reads};
 ghost use Rattle.rls_catalog.specs.State.{State, AgreesOn};
 
 use rls_catalog::Grant;
-use rls_role::{Reach, reach_of};
+use rls_role::{EffectiveRoles, effective_roles_of};
 use rls_source::RowSource;
 use rls_value::{Name, Privilege};
 use std::alloc::{AllocError, Global};
@@ -28,20 +28,20 @@ pub fn holds<'c, S: RowSource<'c>>(
     ensures read { OnOk result (source.new ≡ S.after source.old (holds_reads (S.state source.old) role.now table.now)) }
     ensures state { S.state source.new ≡ S.state source.old }
 {
-    let reach = reach_of(alloc, source, role)?;
-    if reach.superuser {
+    let effective_roles = effective_roles_of(alloc, source, role)?;
+    if effective_roles.superuser {
         return Ok(true);
     }
     let grants = source.grants(alloc, table)?;
-    Ok(is_granted(grants, privilege, &reach))
+    Ok(is_granted(grants, privilege, &effective_roles))
 }
 
 /// Whether some of the grants is of the privilege and for the role.
-pub fn is_granted(grants: &[Grant], privilege: Privilege, reach: &Reach) -> bool
-    ensures { result ≡ list_any (λ grant. spec.is_same_privilege grant.privilege privilege && spec.includes reach.now.superuser reach.now.names grant.grantee) grants.now }
+pub fn is_granted(grants: &[Grant], privilege: Privilege, effective_roles: &EffectiveRoles) -> bool
+    ensures { result ≡ list_any (λ grant. spec.is_same_privilege grant.privilege privilege && spec.includes effective_roles.now.superuser effective_roles.now.names grant.grantee) grants.now }
 {
     grants.iter().any(|grant| {
-        is_same_privilege(grant.privilege, privilege) && reach.includes(&grant.grantee)
+        is_same_privilege(grant.privilege, privilege) && effective_roles.includes(&grant.grantee)
     })
 }
 

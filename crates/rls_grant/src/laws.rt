@@ -7,7 +7,7 @@ ghost use Rattle.rls_catalog.specs.Privileges.{AreOptions};
 ghost use Rattle.rls_catalog.specs.State.{State};
 ghost use Rattle.rls_catalog.specs.declared.grant.Grant.{Grant};
 ghost use Rattle.rls_value.specs.declared.verb.Privilege.{Privilege};
-ghost use Rattle.rls_role.specs.Reaching.{reach_in};
+ghost use Rattle.rls_role.specs.Reaching.{effective_roles_in};
 ghost use Rattle.rls_grant.specs.Grantors.{grantor_by};
 ghost use Rattle.rls_grant.specs.Holders.{holders_of};
 
@@ -15,6 +15,6 @@ ghost use Rattle.rls_grant.specs.Holders.{holders_of};
 /// are the least set of the holders of the grant option.
 #[tactic(auto, using(crate::proofs::GrantorLaws::grantor_means, crate::proofs::HolderLaws::holders_are))]
 pub fn grantor_means()
-    ensures grantor { (s : State) (role owner : List ℕ) (holders : List (List ℕ)) → grantor_by (reach_in s role) role owner (one_of holders) ≡ grantor_of s role owner holders }
+    ensures grantor { (s : State) (role owner : List ℕ) (holders : List (List ℕ)) → grantor_by (effective_roles_in s role) role owner (one_of holders) ≡ grantor_of s role owner holders }
     ensures holders { (owner : List ℕ) (grants : List Grant) (privilege : Privilege) → AreOptions owner grants privilege (holders_of owner grants privilege) }
 {}

@@ -13,7 +13,7 @@ use rls_value::{Items, Privilege};
 use std::alloc::{AllocError, Global};
 use std::cmp::Ordering;
 
-/// The grants with new ones put into their places; where one is there already, its mark stays, and that of the new one is
+/// The grants with new ones put into their places; where one is there already, its grant option stays, and that of the new one is
 /// added.
 pub fn put_grants(
     alloc: Global,
@@ -33,26 +33,30 @@ fn put_grant(alloc: Global, grants: Items<Grant>, grant: Grant) -> Result<Items<
     ensures { IfOk result (λ all. all ≡ spec.with_grant grants grant) }
 {
     if is_there(grants.as_slice(), &grant) {
-        let all = marked(alloc, grants, &grant);
+        let all = with_grant_options(alloc, grants, &grant);
         drop(grant);
         return all;
     }
     put_new(grants, grant)
 }
 
-/// The grants, of which the one that is the same has the mark of this one too.
-fn marked(alloc: Global, grants: Items<Grant>, grant: &Grant) -> Result<Items<Grant>, AllocError>
-    ensures { IfOk result (λ all. all ≡ map (spec.with_mark grant.now) grants) }
+/// The grants, of which the one that is the same has the grant option of this one too.
+fn with_grant_options(
+    alloc: Global,
+    grants: Items<Grant>,
+    grant: &Grant,
+) -> Result<Items<Grant>, AllocError>
+    ensures { IfOk result (λ all. all ≡ map (spec.with_grant_option grant.now) grants) }
 {
     let mut all = Items::new(alloc);
     for other in grants.into_vec() {
-        all.push(with_mark(grant, other))?;
+        all.push(with_grant_option(grant, other))?;
     }
     Ok(all)
 }
 
-fn with_mark(grant: &Grant, other: Grant) -> Grant
-    ensures { result ≡ spec.with_mark grant.now other }
+fn with_grant_option(grant: &Grant, other: Grant) -> Grant
+    ensures { result ≡ spec.with_grant_option grant.now other }
 {
     if cmp_grants(&other, grant) != Ordering::Equal {
         return other;

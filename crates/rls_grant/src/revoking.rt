@@ -5,7 +5,7 @@ ghost use Rattle.std.specs.{BTreeSet.contains, List.list_any};
 ghost use Rattle.rls_value.specs.{Giving.Gives, Names.one_of, declared.verb.Privilege.Privilege as Kind};
 ghost use Rattle.rls_catalog.specs.{GrantOptions.HasDependents, GrantOptions.LeftAfterRevoke, GrantOptions.is_grant_of, State.name_order, declared.grant.Grant.Grant as Given};
 ghost use Rattle.rls_source.specs.Answering.{Answers};
-ghost use Rattle.rls_grant.specs.{Holders.holders_of, Revoking.grants_revoked, Revoking.is_by, Revoking.is_taken, Revoking.left_after, Revoking.left_or_refused, Revoking.revoke_on, Revoking.without_mark, Revoking.without_taken};
+ghost use Rattle.rls_grant.specs.{Holders.holders_of, Revoking.grants_revoked, Revoking.is_by, Revoking.is_taken, Revoking.left_after, Revoking.left_or_refused, Revoking.revoke_on, Revoking.without_grant_option, Revoking.without_taken};
 ghost use Rattle.rls_grant.specs.Revoking as spec;
 
 use crate::granting::write_grants;
@@ -14,7 +14,7 @@ use crate::holding::is_same_privilege;
 use crate::optioning::{is_same_grantee, options};
 use rls_catalog::{Delta, Grant};
 use rls_expr::{Grantee, TableDef};
-use rls_role::{Reach, noted_reach};
+use rls_role::{EffectiveRoles, noted_effective_roles};
 use rls_source::{Reads, RowSource, noted_grants, require_grantees, table_named};
 use rls_statement::RevokePrivileges;
 use rls_value::{Items, Name, Privilege, Refusal};
@@ -29,50 +29,58 @@ use std::collections::BTreeSet;
 pub fn revoke<'c, S: RowSource<'c>>(
     alloc: Global,
     source: &mut S,
-    notes: &mut Reads,
+    read_set: &mut Reads,
     role: &Name,
     revoke: &RevokePrivileges,
 ) -> Result<Delta, Refusal>
-    ensures answers { Answers S.state S.after (spec.revoke role.now revoke.now) source.old source.new notes.old notes.new result }
+    ensures answers { Answers S.state S.after (spec.revoke role.now revoke.now) source.old source.new read_set.old read_set.new result }
     ensures left { (owner : List ℕ) (grants : List Given) (privilege : Kind) → LeftAfterRevoke owner grants privilege (filter (spec.stays (one_of (holders_of owner grants privilege)) privilege) grants) }
     ensures dependents { (owner : List ℕ) (grants : List Given) (privilege : Kind) → (list_any (λ grant. not (spec.stays (one_of (holders_of owner grants privilege)) privilege grant)) grants ≡ true) ↔ HasDependents owner grants privilege }
 {
-    let table = table_named(alloc, source, notes, &revoke.table)?;
-    require_grantees(alloc, source, notes, revoke.from.as_slice())?;
-    revoke_for(alloc, source, notes, role, table, revoke)
+    let table = table_named(alloc, source, read_set, &revoke.table)?;
+    require_grantees(alloc, source, read_set, revoke.from.as_slice())?;
+    revoke_for(alloc, source, read_set, role, table, revoke)
 }
 
 #[tactic(auto, unfolding(crate::specs::Revoking::revoke_on))]
 fn revoke_for<'c, S: RowSource<'c>>(
     alloc: Global,
     source: &mut S,
-    notes: &mut Reads,
+    read_set: &mut Reads,
     role: &Name,
     table: &TableDef,
     revoke: &RevokePrivileges,
 ) -> Result<Delta, Refusal>
-    ensures { Answers S.state S.after (revoke_on role.now table.now revoke.now) source.old source.new notes.old notes.new result }
+    ensures { Answers S.state S.after (revoke_on role.now table.now revoke.now) source.old source.new read_set.old read_set.new result }
 {
-    let grants = noted_grants(alloc, source, notes, &revoke.table)?;
-    let reach = noted_reach(alloc, source, notes, role)?;
-    let left = leave_grants(alloc, &reach, role, table, grants, revoke);
-    drop(reach);
+    let grants = noted_grants(alloc, source, read_set, &revoke.table)?;
+    let effective_roles = noted_effective_roles(alloc, source, read_set, role)?;
+    let left = leave_grants(alloc, &effective_roles, role, table, grants, revoke);
+    drop(effective_roles);
     left
 }
 
 #[tactic(auto, unfolding(crate::specs::Revoking::grants_revoked))]
 fn leave_grants(
     alloc: Global,
-    reach: &Reach,
+    effective_roles: &EffectiveRoles,
     role: &Name,
     table: &TableDef,
     grants: &[Grant],
     revoke: &RevokePrivileges,
 ) -> Result<Delta, Refusal>
-    ensures { Gives result (grants_revoked reach.now role.now table.now grants.now revoke.now) }
+    ensures { Gives result (grants_revoked effective_roles.now role.now table.now grants.now revoke.now) }
 {
     let named = &revoke.privileges;
-    let grantors = grantors_of(alloc, reach, role, &revoke.table, table, grants, named)?;
+    let grantors = grantors_of(
+        alloc,
+        effective_roles,
+        role,
+        &revoke.table,
+        table,
+        grants,
+        named,
+    )?;
     let left = revoke_by(alloc, table, grants, grantors.as_slice(), revoke);
     drop(grantors);
     left
@@ -94,7 +102,7 @@ fn revoke_by(
     Ok(write_grants(alloc, &revoke.table, left)?)
 }
 
-/// The grants without those that are taken, or without their marks.
+/// The grants without those that are taken, or without their grant options.
 fn rest_of(
     alloc: Global,
     option_only: bool,
@@ -105,29 +113,33 @@ fn rest_of(
     ensures { IfOk result (λ rest. rest ≡ without_taken option_only grantors.now grantees.now grants.now) }
 {
     if option_only {
-        unmark_taken(alloc, grantors, grantees, grants)
+        revoke_options(alloc, grantors, grantees, grants)
     } else {
         drop_taken(alloc, grantors, grantees, grants)
     }
 }
 
-fn unmark_taken(
+fn revoke_options(
     alloc: Global,
     grantors: &[Grantor],
     grantees: &[Grantee],
     grants: &[Grant],
 ) -> Result<Items<Grant>, AllocError>
-    ensures { IfOk result (λ rest. rest ≡ map (without_mark grantors.now grantees.now) grants.now) }
+    ensures { IfOk result (λ rest. rest ≡ map (without_grant_option grantors.now grantees.now) grants.now) }
 {
     let mut rest = Items::new(alloc);
     for grant in grants {
-        rest.push(unmark(grantors, grantees, grant)?)?;
+        rest.push(revoke_option(grantors, grantees, grant)?)?;
     }
     Ok(rest)
 }
 
-fn unmark(grantors: &[Grantor], grantees: &[Grantee], grant: &Grant) -> Result<Grant, AllocError>
-    ensures { IfOk result (λ rest. rest ≡ without_mark grantors.now grantees.now grant.now) }
+fn revoke_option(
+    grantors: &[Grantor],
+    grantees: &[Grantee],
+    grant: &Grant,
+) -> Result<Grant, AllocError>
+    ensures { IfOk result (λ rest. rest ≡ without_grant_option grantors.now grantees.now grant.now) }
 {
     let mut rest = grant.copy()?;
     if takes(grantors, grantees, grant) {

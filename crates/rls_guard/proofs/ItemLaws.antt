@@ -4,7 +4,7 @@ use Rattle.std.proofs.Common.{ap, sym, ◌∙◌}
 use Rattle.std.proofs.lemmas.Bool.{true≢false}
 use Rattle.rls_value.specs.{declared.value.Value.Value, declared.value.Value.TheVariants.Null, declared.value.Value.TheVariants.Text, declared.value.Value.TheVariants.Bool as Flag, declared.truth.Truth.Truth, declared.truth.Truth.TheVariants.True, declared.truth.Truth.TheVariants.False, Truths.negation_of, Values.value_of_truth, Values.truth_in, Values.is_null, Values.value_at}
 use Rattle.rls_expr.specs.declared.expr.Sign.{Sign}
-use Rattle.rls_expr.specs.Terms.{Term, Terms, Literal, Column, Place, CurrentUser, Compare, And, Or, Not, IsNull, IsNotNull, Among, NotAmong, Exists, Within, NotWithin, Scalar, Sum, End, More}
+use Rattle.rls_expr.specs.Terms.{Term, Terms, Literal, Column, Var, CurrentUser, Compare, And, Or, Not, IsNull, IsNotNull, InList, NotInList, Exists, InSubquery, NotInSubquery, Scalar, Sum, End, More}
 use Rattle.rls_expr.specs.Parts.{has_query, has_sum, have_query}
 use Rattle.rls_catalog.specs.State.{State}
 use Rattle.rls_source.specs.Readings.{Reading, unread, read_then}
@@ -38,7 +38,7 @@ mutual
   plain : (t : Term) (env : Environment) → has_query t ≡ false → (v : Value) × IsPlainly t env v
   plain (Literal v) env is = (v, λ sees s. refl)
   plain (Column name) env is = (Null, λ sees s. refl)
-  plain (Place at) env is = (value_at (row_at env.rows at.out) at.column, λ sees s. refl)
+  plain (Var at) env is = (value_at (row_at env.rows at.level) at.column, λ sees s. refl)
   plain CurrentUser env is = (Text env.user, λ sees s. refl)
   plain (Compare how a b) env is =
       let x = plain a env (neither_left (has_query a) (has_query b) is) in
@@ -49,7 +49,7 @@ mutual
   plain (Not t) env is = let x = plain t env is in (value_of_truth (negation_of (truth_in x.0)), λ sees s i. read_then (x.1 sees s i) (λ v. unread (Ok (value_of_truth (negation_of (truth_in v))))))
   plain (IsNull t) env is = let x = plain t env is in (Flag (is_null x.0), λ sees s i. read_then (x.1 sees s i) (λ v. unread (Ok (Flag (is_null v)))))
   plain (IsNotNull t) env is = let x = plain t env is in (Flag (not (is_null x.0)), λ sees s i. read_then (x.1 sees s i) (λ v. unread (Ok (Flag (not (is_null v))))))
-  plain (Among t ts) env is =
+  plain (InList t ts) env is =
       let x = plain t env (neither_left (has_query t) (have_query ts) is) in
       let y = plain_all (or_equal x.0) False ts env (neither_right (has_query t) (have_query ts) is) in (
         value_of_truth y.0,
@@ -57,7 +57,7 @@ mutual
             (λ i. read_then (x.1 sees s i) (λ v. read_then ((together (or_equal v) False ts sees env).in_state s) (λ truth. unread (Ok (value_of_truth truth)))))
             ∙ (λ i. read_then (y.1 sees s i) (λ truth. unread (Ok (value_of_truth truth)))),
       )
-  plain (NotAmong t ts) env is =
+  plain (NotInList t ts) env is =
       let x = plain t env (neither_left (has_query t) (have_query ts) is) in
       let y = plain_all (or_equal x.0) False ts env (neither_right (has_query t) (have_query ts) is) in (
         value_of_truth (negation_of y.0),
@@ -66,8 +66,8 @@ mutual
             ∙ (λ i. read_then (y.1 sees s i) (λ truth. unread (Ok (value_of_truth (negation_of truth))))),
       )
   plain (Exists q) env is = absurd (true≢false is)
-  plain (Within t q) env is = absurd (true≢false is)
-  plain (NotWithin t q) env is = absurd (true≢false is)
+  plain (InSubquery t q) env is = absurd (true≢false is)
+  plain (NotInSubquery t q) env is = absurd (true≢false is)
   plain (Scalar q) env is = absurd (true≢false is)
   plain (Sum signs ts) env is = plain_sum signs ts env is
 

@@ -2,6 +2,6 @@ pub mod ItemLaws
 pub mod PinnedLaws
 pub mod PinnedLemmas
 pub mod OneRowLaws
-pub mod PlacedLaws
-pub mod StandingLaws
+pub mod ResolvedLaws
+pub mod RolePrivilegesLaws
 pub mod SupportExamples

@@ -8,7 +8,7 @@ use Rattle.rls_expr.specs.{declared.expr.FromItem.FromItem, declared.expr.Select
 use Rattle.rls_catalog.specs.{declared.stored.Keyed.Keyed, declared.stored.Stored.Stored, InOrder.Ascend, SoundRows.AreSound, SoundRows.AreSoundIn, SoundRows.KeysAreUnique, SoundRows.RowsAreSound, SoundRows.StandsAt, State.entries_of, State.State, State.id_order, State.is_same_id, State.is_same_row, State.rows_with_key, State.stored_of, State.table_of, State.with_key}
 use Rattle.rls_catalog.proofs.SameRows.{same_row}
 use Rattle.rls_source.specs.{Asked.asked_key, Asked.keyed_at, Askings.Asking, Askings.asked_if, Askings.followed_by, Askings.known}
-use Rattle.rls_evaluation.specs.{declared.fence.Fence.Fence, declared.fence.Guard.Guard, Environments.Environment, Keys.key_of, Eval.Shows, Eval.ranged_over, Gathering.kept, Gathering.with_row, Showing.asked_for, Showing.is_allowed, Showing.shown, Showing.shows, Showing.values_of}
+use Rattle.rls_evaluation.specs.{declared.relation.SecuredRelation.SecuredRelation, declared.relation.SecurityQuals.SecurityQuals, Environments.Environment, Keys.key_of, Eval.Shows, Eval.ranged_over, Gathering.kept, Gathering.with_row, Showing.asked_for, Showing.is_allowed, Showing.shown, Showing.shows, Showing.values_of}
 use Rattle.rls_guard.specs.Support.{pins_key}
 use Rattle.rls_guard.proofs.PinnedLaws.{pinned_means}
 
@@ -124,20 +124,20 @@ kept_one : (s : State) (ask : List Value → Asking Bool) (rows : List (List Val
 kept_one s ask [] one = tt
 kept_one s ask (row ∷ rows) none = subst (λ more. GivesOne ((kept ask (row ∷ more)).in_state s).gives) (sym none) (kept_or_not row ((ask row).in_state s).gives)
 
-shown_one : (s : State) (guard : Guard) (sees : Shows) (user name : List ℕ) (key : List Value) → OneOrNone (rows_with_key s name key) → GivesOne ((shown guard sees user name (Some key)).in_state s).gives
-shown_one s guard sees user name key one =
-    one_then ((asked_for name (Some key)).in_state s).gives (λ rows. ((kept (is_allowed guard sees user) rows).in_state s).gives)
-    (asked_one s name key (list_any is_null key) one) (kept_one s (is_allowed guard sees user))
+shown_one : (s : State) (quals : SecurityQuals) (sees : Shows) (user name : List ℕ) (key : List Value) → OneOrNone (rows_with_key s name key) → GivesOne ((shown quals sees user name (Some key)).in_state s).gives
+shown_one s quals sees user name key one =
+    one_then ((asked_for name (Some key)).in_state s).gives (λ rows. ((kept (is_allowed quals sees user) rows).in_state s).gives)
+    (asked_one s name key (list_any is_null key) one) (kept_one s (is_allowed quals sees user))
 
 either_one : (s : State) (b : Bool) (here there : Asking (List (List Value))) → GivesOne (here.in_state s).gives → GivesOne (there.in_state s).gives → GivesOne ((asked_if b here there).in_state s).gives
 either_one s true here there one other = one
 either_one s false here there one other = other
 
-shows_one : (s : State) (fences : List Fence) (user name : List ℕ) (key : List Value) → OneOrNone (rows_with_key s name key) → GivesOne ((shows fences user name (Some key)).in_state s).gives
+shows_one : (s : State) (relations : List SecuredRelation) (user name : List ℕ) (key : List Value) → OneOrNone (rows_with_key s name key) → GivesOne ((shows relations user name (Some key)).in_state s).gives
 shows_one s [] user name key one = tt
-shows_one s (fence ∷ fences) user name key one =
-    either_one s (bytes_eq fence.table name) (shown fence.guard (shows fences user) user name (Some key)) (shows fences user name (Some key))
-    (shown_one s fence.guard (shows fences user) user name key one) (shows_one s fences user name key one)
+shows_one s (relation ∷ relations) user name key one =
+    either_one s (bytes_eq relation.table name) (shown relation.quals (shows relations user) user name (Some key)) (shows relations user name (Some key))
+    (shown_one s relation.quals (shows relations user) user name key one) (shows_one s relations user name key one)
 
 -- ---- a subquery
 
@@ -152,20 +152,20 @@ has_column columns End is = no is
 has_column [] (More t ts) is = no is
 has_column (column ∷ columns) (More t ts) is = λ none. no (ap is_longer (sym none))
 
-ranged_one : (s : State) (fences : List Fence) (user name : List ℕ) (key : Option (List Value)) → is_some key ≡ true → ((values : List Value) → OneOrNone (rows_with_key s name values))
-    → GivesOne ((shows fences user name key).in_state s).gives
-ranged_one s fences user name (Some key) is one = shows_one s fences user name key (one key)
-ranged_one s fences user name None is one = no is
+ranged_one : (s : State) (relations : List SecuredRelation) (user name : List ℕ) (key : Option (List Value)) → is_some key ≡ true → ((values : List Value) → OneOrNone (rows_with_key s name values))
+    → GivesOne ((shows relations user name key).in_state s).gives
+ranged_one s relations user name (Some key) is one = shows_one s relations user name key (one key)
+ranged_one s relations user name None is one = no is
 
 at_most_one : (given : Result (List (List Value)) Refusal) → GivesOne given → IfOk given (λ rows. length rows ≤ 1)
 at_most_one (Ok rows) one = within_one rows one
 at_most_one (Err refusal) one = tt
 
 -- a subquery that pins the key of its table ranges over one row, or none
-pub one_row : (s : State) (fences : List Fence) (user : List ℕ) (env : Environment) (from : FromItem) (table : TableDef) (selects : Selects) (items condition : Terms)
+pub one_row : (s : State) (relations : List SecuredRelation) (user : List ℕ) (env : Environment) (from : FromItem) (table : TableDef) (selects : Selects) (items condition : Terms)
     → RowsAreSound s → table_of s from.table ≡ Some table → pins_key table.key condition ≡ true
-    → IfOk ((ranged_over (Select from table.key selects items condition) (shows fences user) env).in_state s).gives (λ rows. length rows ≤ 1)
-one_row s fences user env from table selects items condition sound there pins =
-    at_most_one ((shows fences user from.table (key_of table.key condition env)).in_state s).gives
-    (ranged_one s fences user from.table (key_of table.key condition env) (pinned_means table.key condition env ∙ pins)
+    → IfOk ((ranged_over (Select from table.key selects items condition) (shows relations user) env).in_state s).gives (λ rows. length rows ≤ 1)
+one_row s relations user env from table selects items condition sound there pins =
+    at_most_one ((shows relations user from.table (key_of table.key condition env)).in_state s).gives
+    (ranged_one s relations user from.table (key_of table.key condition env) (pinned_means table.key condition env ∙ pins)
     (λ values. one_keyed s from.table table values sound there (has_column table.key condition pins)))

@@ -4,21 +4,21 @@ use Rattle.std.proofs.Common.{sym, ◌∙◌}
 use Rattle.std.proofs.lemmas.Bool.{true≢false}
 use Rattle.rls_expr.specs.declared.expr.Comparison.TheVariants as c
 use Rattle.rls_expr.specs.{declared.expr.FromItem.FromItem, declared.expr.Selects.Selects}
-use Rattle.rls_expr.specs.Terms.{Term, Terms, Literal, Place, CurrentUser, Compare, And, Scalar, End, More, Select}
+use Rattle.rls_expr.specs.Terms.{Term, Terms, Literal, Var, CurrentUser, Compare, And, Scalar, End, More, Select}
 use Rattle.rls_evaluation.specs.Environments.{Environment}
 use Rattle.rls_evaluation.specs.Keys.{is_column, key_of, known_value, outer_value, pin_among, pin_by, pin_in, pin_of, pinned}
 use Rattle.rls_guard.specs.Support.{is_unsupported, nowhere, pins_key, query_unsupported}
 use Rattle.rls_guard.proofs.PinnedLemmas.{if_there, or_there, with_there}
 
 -- a column further out has a value in each environment
-outer_alike : (out column : ℕ) (a b : Environment) → is_some (outer_value out column a) ≡ is_some (outer_value out column b)
+outer_alike : (level column : ℕ) (a b : Environment) → is_some (outer_value level column a) ≡ is_some (outer_value level column b)
 outer_alike zero column a b = refl
-outer_alike (suc out) column a b = refl
+outer_alike (suc level) column a b = refl
 
 -- what is known is so in each
 known_alike : (t : Term) (a b : Environment) → is_some (known_value t a) ≡ is_some (known_value t b)
 known_alike (Literal v) a b = refl
-known_alike (Place at) a b = outer_alike at.out at.column a b
+known_alike (Var at) a b = outer_alike at.level at.column a b
 known_alike CurrentUser a b = refl
 known_alike t a b = refl
 

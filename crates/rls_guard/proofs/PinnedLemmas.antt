@@ -6,9 +6,9 @@ use Rattle.rls_value.specs.declared.value.Value.{Value}
 use Rattle.rls_evaluation.specs.{Environments.Environment, Keys.or_else, Keys.outer_value, Keys.with_pin}
 
 -- a column further out has a value, one of the subquery's own has none
-pub outer_there : (out column : ℕ) (env : Environment) → is_some (outer_value out column env) ≡ not (nat_eq out 0)
+pub outer_there : (level column : ℕ) (env : Environment) → is_some (outer_value level column env) ≡ not (nat_eq level 0)
 outer_there zero column env = refl
-outer_there (suc out) column env = sym (ap not (eqb-suc-zero out))
+outer_there (suc level) column env = sym (ap not (eqb-suc-zero level))
 
 pub if_there : (b : Bool) (o : Option Value) → is_some (if b then o else None) ≡ (b && is_some o)
 if_there true o = refl

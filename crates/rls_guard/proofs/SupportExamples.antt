@@ -6,16 +6,16 @@ use Rattle.rls_expr.specs.declared.expr.Comparison.TheVariants.{Equal, Less}
 use Rattle.rls_expr.specs.declared.expr.FromItem.{FromItem}
 use Rattle.rls_expr.specs.declared.expr.Selects.TheVariants as s
 use Rattle.rls_expr.specs.declared.expr.Sign.TheVariants.{Plus}
-use Rattle.rls_expr.specs.Terms.{Term, Terms, Literal, Place, CurrentUser, Compare, And, Or, Exists, Scalar, Sum, End, More, Select}
+use Rattle.rls_expr.specs.Terms.{Term, Terms, Literal, Var, CurrentUser, Compare, And, Or, Exists, Scalar, Sum, End, More, Select}
 use Rattle.rls_guard.specs.Support.{is_unsupported}
 
--- a column of the innermost table, by its place
+-- a column of the innermost table, resolved
 abbrev inner : ℕ → Term
-inner column = Place (record { out = 0; column = column; kind = c.Number })
+inner column = Var (record { level = 0; column = column; kind = c.Number })
 
 -- a column of the table around it
 abbrev outer : ℕ → Term
-outer column = Place (record { out = 1; column = column; kind = c.Number })
+outer column = Var (record { level = 1; column = column; kind = c.Number })
 
 -- the literal 7
 abbrev seven : Term

@@ -1,7 +1,7 @@
 pub mod Support
 pub mod Checks
 pub mod Naming
-pub mod Standings
-pub mod Guards
+pub mod RolePrivileges
+pub mod SecurityQuals
 pub mod Effects
 pub mod Keeping

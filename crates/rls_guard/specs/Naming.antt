@@ -4,25 +4,25 @@ use Rattle.std.specs.Prelude.{◌≡◌, List, [], ◌∷◌, ◌++◌, drop, So
 use Rattle.std.specs.List.{AllByRecursion}
 use Rattle.rls_value.specs.declared.refusal.Refusal.{Refusal}
 use Rattle.rls_value.specs.declared.refusal.Refusal.TheVariants.{Undefined}
-use Rattle.rls_expr.specs.declared.expr.Place.{Place}
+use Rattle.rls_expr.specs.declared.expr.Var.{Var}
 use Rattle.rls_expr.specs.Naming.{Step, Look, Enter, Leave}
-use Rattle.rls_expr.specs.Scopes.{InScope, Unknown, place_in}
-use Rattle.rls_expr.specs.Placing.{Names}
+use Rattle.rls_expr.specs.Scopes.{InScope, Unknown, var_in}
+use Rattle.rls_expr.specs.Resolving.{Names}
 use Rattle.rls_expr.specs.Terms.{qualifier_of}
 use Rattle.rls_catalog.specs.State.{State, table_of}
 use Rattle.rls_source.specs.Askings.{Asking, known, followed_by}
 use Rattle.rls_source.specs.Named.{table_or_undefined}
 
 -- the name means a column
-abbrev pub there_or_undefined : Result Place Unknown → Result (Unit {0}) Refusal
-there_or_undefined (Ok place) = Ok tt
+abbrev pub there_or_undefined : Result Var Unknown → Result (Unit {0}) Refusal
+there_or_undefined (Ok var) = Ok tt
 there_or_undefined (Err (kind, name)) = Err (Undefined kind name)
 
 -- each name is there, over these tables, the innermost first; the tables found for subqueries stand behind those found
 -- before
 abbrev pub named : List Step → List InScope → List InScope → Asking (List InScope)
 named [] tables found = known (Ok found)
-named (Look name ∷ steps) tables found = followed_by (known (there_or_undefined (place_in tables name))) (λ _. named steps tables found)
+named (Look name ∷ steps) tables found = followed_by (known (there_or_undefined (var_in tables name))) (λ _. named steps tables found)
 named (Enter from ∷ steps) tables found = followed_by (table_or_undefined from.table) (λ table. named steps ((qualifier_of from, table) ∷ tables) (found ++ (from.table, table) ∷ []))
 named (Leave ∷ steps) tables found = named steps (drop 1 tables) found
 

@@ -1,10 +1,10 @@
--- What isn't supported in a placed expression: sums outside the right side of SET, `count(*)` in a subquery, and a scalar
+-- What isn't supported in a resolved expression: sums outside the right side of SET, `count(*)` in a subquery, and a scalar
 -- subquery that may give more than one row, since its condition doesn't set each column of a primary key equal to what is
 -- known before a row is looked at.
 use Rattle.std.specs.Prelude.{ℕ, List, [], Bool, true, false, not, ◌||◌, is_some}
 use Rattle.rls_expr.specs.declared.expr.Selects.{Selects}
 use Rattle.rls_expr.specs.declared.expr.Selects.TheVariants as s
-use Rattle.rls_expr.specs.Terms.{Term, Terms, Query, Literal, Column, Place, CurrentUser, Compare, And, Or, Not, IsNull, IsNotNull, Among, NotAmong, Exists, Within, NotWithin, Scalar, Sum, End, More, Select}
+use Rattle.rls_expr.specs.Terms.{Term, Terms, Query, Literal, Column, Var, CurrentUser, Compare, And, Or, Not, IsNull, IsNotNull, InList, NotInList, Exists, InSubquery, NotInSubquery, Scalar, Sum, End, More, Select}
 use Rattle.rls_evaluation.specs.{Environments.Environment, Environments.alone, Keys.key_of}
 
 -- no row is in scope, and no role: which columns are pinned hangs on neither
@@ -30,7 +30,7 @@ abbrev mutual
   pub is_unsupported : Bool → Term → Bool
   is_unsupported sums (Literal v) = false
   is_unsupported sums (Column name) = false
-  is_unsupported sums (Place at) = false
+  is_unsupported sums (Var at) = false
   is_unsupported sums CurrentUser = false
   is_unsupported sums (Compare how a b) = is_unsupported sums a || is_unsupported sums b
   is_unsupported sums (And ts) = are_unsupported sums ts
@@ -38,11 +38,11 @@ abbrev mutual
   is_unsupported sums (Not t) = is_unsupported sums t
   is_unsupported sums (IsNull t) = is_unsupported sums t
   is_unsupported sums (IsNotNull t) = is_unsupported sums t
-  is_unsupported sums (Among t ts) = is_unsupported sums t || are_unsupported sums ts
-  is_unsupported sums (NotAmong t ts) = is_unsupported sums t || are_unsupported sums ts
+  is_unsupported sums (InList t ts) = is_unsupported sums t || are_unsupported sums ts
+  is_unsupported sums (NotInList t ts) = is_unsupported sums t || are_unsupported sums ts
   is_unsupported sums (Exists q) = query_unsupported sums q
-  is_unsupported sums (Within t q) = is_unsupported sums t || query_unsupported sums q
-  is_unsupported sums (NotWithin t q) = is_unsupported sums t || query_unsupported sums q
+  is_unsupported sums (InSubquery t q) = is_unsupported sums t || query_unsupported sums q
+  is_unsupported sums (NotInSubquery t q) = is_unsupported sums t || query_unsupported sums q
   is_unsupported sums (Scalar q) = not (is_pinned q) || query_unsupported sums q
   is_unsupported sums (Sum signs ts) = not sums || are_unsupported sums ts
 

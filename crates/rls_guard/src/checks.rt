@@ -15,13 +15,13 @@ use std::alloc::Global;
 pub fn require_superuser<'c, S: RowSource<'c>>(
     alloc: Global,
     source: &mut S,
-    notes: &mut Reads,
+    read_set: &mut Reads,
     role: &Name,
     managed: &Name,
 ) -> Result<(), Refusal>
-    ensures { Answers S.state S.after (superuser_or_denied role.now managed.now) source.old source.new notes.old notes.new result }
+    ensures { Answers S.state S.after (superuser_or_denied role.now managed.now) source.old source.new read_set.old read_set.new result }
 {
-    match noted_role(alloc, source, notes, role)? {
+    match noted_role(alloc, source, read_set, role)? {
         Some(def) if def.superuser => Ok(()),
         _ => Err(Refusal::Denied(Why::Admin(managed.copy()?))),
     }

@@ -3,14 +3,12 @@
 ghost use Rattle.std.specs.Prelude.{◌≡◌, [], ◌∷◌, ◌++◌, drop, map, None, Ok, IfOk, OnOk};
 ghost use Rattle.rls_value.specs.Giving.{Gives, and_then};
 ghost use Rattle.rls_expr.specs.Naming.{step_of};
-ghost use Rattle.rls_expr.specs.Scopes.{place_in, place_lent};
+ghost use Rattle.rls_expr.specs.Scopes.{var_in, var_borrowed};
 ghost use Rattle.rls_expr.specs.Terms.{qualifier_of};
 ghost use Rattle.rls_source.specs.Answering.{Answers};
 ghost use Rattle.rls_guard.specs.Naming as spec;
 
-use rls_expr::{
-    ColumnName, FromItem, NameStep, NamedTable, Place, TableDef, place_of, unqualified,
-};
+use rls_expr::{ColumnName, FromItem, NameStep, NamedTable, TableDef, Var, unqualified, var_of};
 use rls_source::{Reads, RowSource, table_named};
 use rls_value::{Items, Name, NameKind, Refusal};
 use std::alloc::{AllocError, Global};
@@ -23,16 +21,16 @@ pub type Found<'c> = Items<NamedTable<'c>>;
 pub fn named<'c, S: RowSource<'c>>(
     alloc: Global,
     source: &mut S,
-    notes: &mut Reads,
+    read_set: &mut Reads,
     steps: &[NameStep],
     tables: Vec<NamedTable<'c>>,
     found: Found<'c>,
 ) -> Result<Found<'c>, Refusal>
-    ensures { Answers S.state S.after (spec.named (map step_of steps.now) tables.entry.items found.entry) source.old source.new notes.old notes.new result }
+    ensures { Answers S.state S.after (spec.named (map step_of steps.now) tables.entry.items found.entry) source.old source.new read_set.old read_set.new result }
 {
     let mut found = found;
     let mut tables = tables;
-    let looked = look_for(alloc, source, notes, steps, &mut tables, &mut found);
+    let looked = look_for(alloc, source, read_set, steps, &mut tables, &mut found);
     drop(tables);
     match looked {
         Ok(()) => Ok(found),
@@ -47,19 +45,19 @@ pub fn named<'c, S: RowSource<'c>>(
 fn look_for<'c, S: RowSource<'c>>(
     alloc: Global,
     source: &mut S,
-    notes: &mut Reads,
+    read_set: &mut Reads,
     steps: &[NameStep],
     tables: &mut Vec<NamedTable<'c>>,
     found: &mut Found<'c>,
 ) -> Result<(), Refusal>
-    ensures { Answers S.state S.after (spec.named (map step_of steps.now) tables.old.items found.old) source.old source.new notes.old notes.new (and_then result (λ _. Ok found.new)) }
+    ensures { Answers S.state S.after (spec.named (map step_of steps.now) tables.old.items found.old) source.old source.new read_set.old read_set.new (and_then result (λ _. Ok found.new)) }
 {
     for step in steps {
         match step {
             NameStep::Column(name) => require_column(tables, name)?,
             NameStep::Target(name) => require_target(tables, name)?,
             NameStep::Begin(from) => {
-                let table = table_named(alloc, source, notes, &from.table)?;
+                let table = table_named(alloc, source, read_set, &from.table)?;
                 enter(tables, found, from, table)?;
             }
             NameStep::End => leave(tables),
@@ -69,21 +67,21 @@ fn look_for<'c, S: RowSource<'c>>(
 }
 
 fn require_column(tables: &[NamedTable], name: &ColumnName) -> Result<(), Refusal>
-    ensures { Gives result (spec.there_or_undefined (place_in tables.now name.now)) }
+    ensures { Gives result (spec.there_or_undefined (var_in tables.now name.now)) }
 {
-    require_place(place_of(tables, name))
+    require_var(var_of(tables, name))
 }
 
 fn require_target(tables: &[NamedTable], name: &Name) -> Result<(), Refusal>
-    ensures { Gives result (spec.there_or_undefined (place_in tables.now (record { qualifier = None; name = name.now }))) }
+    ensures { Gives result (spec.there_or_undefined (var_in tables.now (record { qualifier = None; name = name.now }))) }
 {
-    require_place(unqualified(tables, name))
+    require_var(unqualified(tables, name))
 }
 
-fn require_place(place: Result<Place, (NameKind, &Name)>) -> Result<(), Refusal>
-    ensures { Gives result (spec.there_or_undefined (place_lent place.entry)) }
+fn require_var(var: Result<Var, (NameKind, &Name)>) -> Result<(), Refusal>
+    ensures { Gives result (spec.there_or_undefined (var_borrowed var.entry)) }
 {
-    match place {
+    match var {
         Ok(_) => Ok(()),
         Err((kind, name)) => Err(Refusal::Undefined(kind, name.copy()?)),
     }
@@ -135,15 +133,15 @@ fn leave(tables: &mut Vec<NamedTable>)
 pub fn named_over<'c, S: RowSource<'c>>(
     alloc: Global,
     source: &mut S,
-    notes: &mut Reads,
+    read_set: &mut Reads,
     steps: &[NameStep],
     name: &Name,
     table: &'c TableDef,
 ) -> Result<Found<'c>, Refusal>
-    ensures { Answers S.state S.after (spec.named (map step_of steps.now) ((name.now, table.now) ∷ []) []) source.old source.new notes.old notes.new result }
+    ensures { Answers S.state S.after (spec.named (map step_of steps.now) ((name.now, table.now) ∷ []) []) source.old source.new read_set.old read_set.new result }
 {
     let tables = one_table(alloc, name, table)?;
-    named(alloc, source, notes, steps, tables, Items::new(alloc))
+    named(alloc, source, read_set, steps, tables, Items::new(alloc))
 }
 
 fn one_table<'c>(

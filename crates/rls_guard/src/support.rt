@@ -8,25 +8,25 @@ ghost use Rattle.rls_guard.specs.Support as spec;
 
 use rls_expr::{Comparison, Expr, Node, Selects, Subquery};
 
-/// Whether something stands in a placed expression, also inside a subquery, that isn't supported: a sum where none may
+/// Whether something stands in a resolved expression, also inside a subquery, that isn't supported: a sum where none may
 /// stand, a `count(*)` in a subquery, a scalar subquery whose condition doesn't pin the primary key of its table.
 #[cycle(support)]
 pub fn is_unsupported_with(expr: &Expr, sums: bool) -> bool
     ensures { result ≡ spec.is_unsupported sums expr.now }
 {
     match expr.node() {
-        Node::Literal(_) | Node::Column(_) | Node::Place(_) | Node::CurrentUser => false,
+        Node::Literal(_) | Node::Column(_) | Node::Var(_) | Node::CurrentUser => false,
         Node::Compare(_, left, right) => is_unsupported_with(left, sums)
             || is_unsupported_with(right, sums),
         Node::And(parts) | Node::Or(parts) => are_unsupported(parts, sums),
         Node::Not(operand) | Node::IsNull(operand) | Node::IsNotNull(operand) => {
             is_unsupported_with(operand, sums)
         }
-        Node::Among(left, list) | Node::NotAmong(left, list) => {
+        Node::InList(left, list) | Node::NotInList(left, list) => {
             is_unsupported_with(left, sums) || are_unsupported(list, sums)
         }
         Node::Exists(query) => query_unsupported(query, sums),
-        Node::Within(left, query) | Node::NotWithin(left, query) => {
+        Node::InSubquery(left, query) | Node::NotInSubquery(left, query) => {
             is_unsupported_with(left, sums) || query_unsupported(query, sums)
         }
         Node::Scalar(query) => !is_pinned(query) || query_unsupported(query, sums),
@@ -149,7 +149,7 @@ fn is_column(expr: &Expr, column: usize) -> bool
     ensures { result ≡ keys.is_column column expr.now }
 {
     match expr.node() {
-        Node::Place(place) => place.out == 0 && place.column == column,
+        Node::Var(var) => var.level == 0 && var.column == column,
         _ => false,
     }
 }
@@ -161,7 +161,7 @@ fn is_known(expr: &Expr) -> bool
 {
     match expr.node() {
         Node::Literal(_) | Node::CurrentUser => true,
-        Node::Place(place) => place.out != 0,
+        Node::Var(var) => var.level != 0,
         _ => false,
     }
 }

@@ -7,11 +7,11 @@ use Rattle.rls_value.specs.{declared.refusal.Refusal.Refusal, declared.row.RowId
 use Rattle.rls_expr.specs.Terms.{Terms}
 use Rattle.rls_catalog.specs.{State.State, declared.stored.Stored.Stored, declared.verdict.Verdict.Verdict}
 use Rattle.rls_source.specs.{Footprints.with_reads, Footprints.footprint_of, Footprints.IsInOrder, Readings.unread, Readings.next_reads, Once.each_once, Answering.Tells as Reading, Askings.Asking, Askings.known, Askings.followed_by}
-use Rattle.rls_evaluation.specs.{Eval.Shows, Showing.allows, Showing.verdict_on, Gathering.gathered, Holding.Tells}
+use Rattle.rls_evaluation.specs.{Eval.Shows, Showing.allows, Showing.verdict_on, Gathering.gathered, Holding.Evaluates}
 use Rattle.rls_evaluation.proofs.Telling.{Leads, turn, tells_then, tells_map, tells_known, leads_whole, leads_map, drop_at}
 use Rattle.rls_evaluation.proofs.Absorbing.{noted_absorbed}
-use Rattle.rls_guard.specs.{declared.guard.Watch.Watch, declared.reply.Decision.Decision}
-use Rattle.rls_judging.specs.{Alike.decided_by, Judging.decision_by, Judging.decisions_on, Judging.are_allowed, Judging.hit_if, Judging.judged_old, Judging.hit_row, Judging.with_judged, Handed.beside, Handed.allowing, Handed.behind}
+use Rattle.rls_guard.specs.{declared.quals.RowCheck.RowCheck, declared.reply.Decision.Decision}
+use Rattle.rls_judging.specs.{Alike.decided_by, Judging.decision_by, Judging.decisions_on, Judging.are_allowed, Judging.qualifies_if, Judging.judged_old, Judging.row_if_qualifying, Judging.with_judged, Handed.beside, Handed.allowing, Handed.behind}
 
 -- ---- what is told of a call, of which more is made
 
@@ -33,7 +33,7 @@ none_next (Err refusal) f = refl
 
 -- what was told before something was made of it
 pub told_before : {A B : Type 0} (first : Asking A) (f : A → B) (before after : State) (old new : List Object) (b : B)
-    → Tells (followed_by first (λ a. known (Ok (f a)))) before after old new (Ok b) → (a : A) × (Tells first before after old new (Ok a) × (f a ≡ b))
+    → Evaluates (followed_by first (λ a. known (Ok (f a)))) before after old new (Ok b) → (a : A) × (Evaluates first before after old new (Ok a) × (f a ≡ b))
 told_before first f before after old new b told =
     let parts = given_before (first.in_state before).gives f b told.given in (
       parts.0,
@@ -49,31 +49,31 @@ told_before first f before after old new b told =
 
 -- ---- one row
 
--- the decisions on a row, and then whether it is hit
-pub old_told : (watches : List Watch) (condition : Terms) (sees : Shows) (user : List ℕ) (stored : Stored) (decisions left : List Decision) (allowed : Bool)
+-- the decisions on a row, and then whether it qualifies
+pub old_told : (row_checks : List RowCheck) (condition : Terms) (sees : Shows) (user : List ℕ) (stored : Stored) (decisions left : List Decision) (allowed : Bool)
     (before mid after : State) (old between new : List Object) (result : Result Bool AllocError)
-    → Tells (followed_by (decisions_on watches sees user stored.id stored.row) (λ said. known (Ok (allowing decisions said)))) before mid old between (Ok (left, allowed))
-    → Tells (hit_if allowed condition sees user stored.row) mid after between new result
-    → Tells (followed_by (judged_old watches condition sees user stored) (λ judged. known (Ok (behind decisions judged)))) before after old new (beside left result)
-old_told watches condition sees user stored decisions left allowed before mid after old between new (Ok is) said hit =
-    let parts = told_before (decisions_on watches sees user stored.id stored.row) (allowing decisions) before mid old between (left, allowed) said in
-    let judged : Tells (judged_old watches condition sees user stored) before after old new (Ok (parts.0, is)) =
-    tells_then (decisions_on watches sees user stored.id stored.row) (λ decisions. followed_by (hit_if (are_allowed decisions) condition sees user stored.row) (λ is. known (Ok (decisions, is)))) before mid after old between new parts.0 (parts.0, is)
+    → Evaluates (followed_by (decisions_on row_checks sees user stored.id stored.row) (λ said. known (Ok (allowing decisions said)))) before mid old between (Ok (left, allowed))
+    → Evaluates (qualifies_if allowed condition sees user stored.row) mid after between new result
+    → Evaluates (followed_by (judged_old row_checks condition sees user stored) (λ judged. known (Ok (behind decisions judged)))) before after old new (beside left result)
+old_told row_checks condition sees user stored decisions left allowed before mid after old between new (Ok is) said qualifying_row =
+    let parts = told_before (decisions_on row_checks sees user stored.id stored.row) (allowing decisions) before mid old between (left, allowed) said in
+    let judged : Evaluates (judged_old row_checks condition sees user stored) before after old new (Ok (parts.0, is)) =
+    tells_then (decisions_on row_checks sees user stored.id stored.row) (λ decisions. followed_by (qualifies_if (are_allowed decisions) condition sees user stored.row) (λ is. known (Ok (decisions, is)))) before mid after old between new parts.0 (parts.0, is)
     parts.1.0
-    (tells_map (hit_if (are_allowed parts.0) condition sees user stored.row) (λ is. (parts.0, is)) mid after between new is
-    (subst (λ b. Tells (hit_if b condition sees user stored.row) mid after between new (Ok is)) (sym (ap (λ pair. pair.1) parts.1.1)) hit)) in
-    subst (λ left. Tells (followed_by (judged_old watches condition sees user stored) (λ judged. known (Ok (behind decisions judged)))) before after old new (Ok (left, is))) (ap (λ pair. pair.0) parts.1.1)
-    (tells_map (judged_old watches condition sees user stored) (behind decisions) before after old new (parts.0, is) judged)
-old_told watches condition sees user stored decisions left allowed before mid after old between new (Err refused) said hit = record { given = tt; noted = tt; stands = hit.stands ∙ said.stands }
+    (tells_map (qualifies_if (are_allowed parts.0) condition sees user stored.row) (λ is. (parts.0, is)) mid after between new is
+    (subst (λ b. Evaluates (qualifies_if b condition sees user stored.row) mid after between new (Ok is)) (sym (ap (λ pair. pair.1) parts.1.1)) qualifying_row)) in
+    subst (λ left. Evaluates (followed_by (judged_old row_checks condition sees user stored) (λ judged. known (Ok (behind decisions judged)))) before after old new (Ok (left, is))) (ap (λ pair. pair.0) parts.1.1)
+    (tells_map (judged_old row_checks condition sees user stored) (behind decisions) before after old new (parts.0, is) judged)
+old_told row_checks condition sees user stored decisions left allowed before mid after old between new (Err refused) said qualifying_row = record { given = tt; noted = tt; stands = qualifying_row.stands ∙ said.stands }
 
--- ---- two watches by one guard
+-- ---- two row checks by the same quals
 
 twice : (b : Bool) → (b && (b && true)) ≡ b
 twice true = refl
 twice false = refl
 
 -- what was told is told again, and nothing more is read
-told_again : {A : Type 0} (asking : Asking A) (before after : State) (old new : List Object) (a : A) → IsInOrder new → Tells asking before after old new (Ok a) → Tells asking after after new new (Ok a)
+told_again : {A : Type 0} (asking : Asking A) (before after : State) (old new : List Object) (a : A) → IsInOrder new → Evaluates asking before after old new (Ok a) → Evaluates asking after after new new (Ok a)
 told_again asking before after old new a ordered told =
     let reads : List Object = (asking.in_state before).reads in
     let absorbed : with_reads new reads ≡ new = subst (λ n. with_reads n reads ≡ n) (sym told.noted) (noted_absorbed old reads (subst IsInOrder told.noted ordered)) in
@@ -84,19 +84,19 @@ told_again asking before after old new a ordered told =
     }
 
 -- one verdict makes the decisions of both
-pub both_told : (first second : Watch) (sees : Shows) (user : List ℕ) (id : RowId) (row : List Value) (before after : State) (old new : List Object) (verdict : Verdict)
-    → second.guard ≡ first.guard → IsInOrder new → Tells (verdict_on first.guard sees user row) before after old new (Ok verdict)
-    → Tells (decisions_on (first ∷ second ∷ []) sees user id row) before after old new (Ok (decided_by id verdict first ∷ decided_by id verdict second ∷ []))
+pub both_told : (first second : RowCheck) (sees : Shows) (user : List ℕ) (id : RowId) (row : List Value) (before after : State) (old new : List Object) (verdict : Verdict)
+    → second.quals ≡ first.quals → IsInOrder new → Evaluates (verdict_on first.quals sees user row) before after old new (Ok verdict)
+    → Evaluates (decisions_on (first ∷ second ∷ []) sees user id row) before after old new (Ok (decided_by id verdict first ∷ decided_by id verdict second ∷ []))
 both_told first second sees user id row before after old new verdict alike ordered told =
     let by = decision_by sees user id row in
-    let again : Tells (verdict_on second.guard sees user row) after after new new (Ok verdict) =
-    subst (λ guard. Tells (verdict_on guard sees user row) after after new new (Ok verdict)) (sym alike) (told_again (verdict_on first.guard sees user row) before after old new verdict ordered told) in
-    let last : Tells (decisions_on (second ∷ []) sees user id row) after after new new (Ok (decided_by id verdict second ∷ [])) =
+    let again : Evaluates (verdict_on second.quals sees user row) after after new new (Ok verdict) =
+    subst (λ quals. Evaluates (verdict_on quals sees user row) after after new new (Ok verdict)) (sym alike) (told_again (verdict_on first.quals sees user row) before after old new verdict ordered told) in
+    let last : Evaluates (decisions_on (second ∷ []) sees user id row) after after new new (Ok (decided_by id verdict second ∷ [])) =
     tells_then (by second) (λ decision. followed_by (known (Ok [])) (λ rest. known (Ok (decision ∷ rest)))) after after after new new new (decided_by id verdict second) (decided_by id verdict second ∷ [])
-    (tells_map (verdict_on second.guard sees user row) (λ verdict. decided_by id verdict second) after after new new verdict again)
+    (tells_map (verdict_on second.quals sees user row) (λ verdict. decided_by id verdict second) after after new new verdict again)
     (tells_map (known (Ok [])) (λ rest. decided_by id verdict second ∷ rest) after after new new [] (tells_known after after new [] refl)) in
     tells_then (by first) (λ decision. followed_by (decisions_on (second ∷ []) sees user id row) (λ rest. known (Ok (decision ∷ rest)))) before after after old new new (decided_by id verdict first) (decided_by id verdict first ∷ decided_by id verdict second ∷ [])
-    (tells_map (verdict_on first.guard sees user row) (λ verdict. decided_by id verdict first) before after old new verdict told)
+    (tells_map (verdict_on first.quals sees user row) (λ verdict. decided_by id verdict first) before after old new verdict told)
     (tells_map (decisions_on (second ∷ []) sees user id row) (λ rest. decided_by id verdict first ∷ rest) after after new new (decided_by id verdict second ∷ []) last)
 
 -- a list of two
@@ -107,7 +107,7 @@ two_items (x ∷ y ∷ []) first second least most one other = λ i. sym one i �
 two_items (x ∷ y ∷ z ∷ xs) first second least most one other = absurd (omega (arith, most))
 
 -- what both say stands behind the others, and both allow the row or neither does
-pub both_put : (id : RowId) (verdict : Verdict) (first second : Watch) (decisions left : List Decision) (allowed : Bool)
+pub both_put : (id : RowId) (verdict : Verdict) (first second : RowCheck) (decisions left : List Decision) (allowed : Bool)
     → left ≡ decisions ++ decided_by id verdict first ∷ decided_by id verdict second ∷ [] → allowed ≡ allows verdict
     → ◌≡◌ {A = List Decision × Bool} (left, allowed) (allowing decisions (decided_by id verdict first ∷ decided_by id verdict second ∷ []))
 both_put id verdict first second decisions left allowed put is i = (put i, (is ∙ sym (twice (allows verdict))) i)
@@ -126,12 +126,12 @@ decided decisions next rest decision allowed both pushed is i = (
   (ap (λ b. b && are_allowed rest) is ∙ and_again allowed (allows decision.verdict) (are_allowed rest)) i,
 )
 
--- one candidate more
-pub found_more : (decisions left : List Decision) (hits now_hit : List Stored) (stored : Stored) (judged : List Decision × Bool) (is : Bool) (rest : List Decision × List Stored)
-    → behind decisions judged ≡ (left, is) → now_hit ≡ hits ++ hit_row is stored → ◌≡◌ {A = List Decision × List Stored} (left ++ rest.0, now_hit ++ rest.1) (decisions ++ (with_judged stored judged rest).0, hits ++ (with_judged stored judged rest).1)
-found_more decisions left hits now_hit stored judged is rest same grown i = (
+-- one scanned row more
+pub found_more : (decisions left : List Decision) (qualifying_rows now_qualifies : List Stored) (stored : Stored) (judged : List Decision × Bool) (is : Bool) (rest : List Decision × List Stored)
+    → behind decisions judged ≡ (left, is) → now_qualifies ≡ qualifying_rows ++ row_if_qualifying is stored → ◌≡◌ {A = List Decision × List Stored} (left ++ rest.0, now_qualifies ++ rest.1) (decisions ++ (with_judged stored judged rest).0, qualifying_rows ++ (with_judged stored judged rest).1)
+found_more decisions left qualifying_rows now_qualifies stored judged is rest same grown i = (
   (ap (λ pair. pair.0 ++ rest.0) (sym same) ∙ append_assoc decisions judged.0 rest.0) i,
-  (ap (λ n. n ++ rest.1) grown ∙ ap (λ pair. (hits ++ hit_row pair.1 stored) ++ rest.1) (sym same) ∙ append_assoc hits (hit_row judged.1 stored) rest.1) i,
+  (ap (λ n. n ++ rest.1) grown ∙ ap (λ pair. (qualifying_rows ++ row_if_qualifying pair.1 stored) ++ rest.1) (sym same) ∙ append_assoc qualifying_rows (row_if_qualifying judged.1 stored) rest.1) i,
 )
 
 -- the decisions on one new row more
@@ -140,12 +140,12 @@ said_more decisions left said allowed rest same = ap (λ pair. pair.0 ++ rest) (
 
 -- a turn over a list, each element of which stands for another
 pub mapped_turn : {X A B R V : Type 0} (whole : Asking V) (join next : R → V) (put : A → B → R → R) (none : R) (ask : A → Asking B) (f : X → A) (xs : List X) (i : ℕ) (x : X) (y : B)
-    (now mid after : State) (old notes new : List Object)
+    (now mid after : State) (old read_set new : List Object)
     → i < length xs → x ≡ get_or xs i x → ((rest : R) → next rest ≡ join (put (f x) y rest)) → mid ≡ now
-    → Leads whole (gathered put none ask (map f (drop i xs))) join now old notes → Tells (ask (f x)) mid after notes new (Ok y)
+    → Leads whole (gathered put none ask (map f (drop i xs))) join now old read_set → Evaluates (ask (f x)) mid after read_set new (Ok y)
     → Leads whole (gathered put none ask (map f (drop (i + 1) xs))) next now old new
-mapped_turn whole join next put none ask f xs i x y now mid after old notes new below is step same leads told =
-    turn whole join next (put (f x)) (gathered put none ask (map f (drop i xs))) (ask (f x)) (gathered put none ask (map f (drop (i + 1) xs))) now mid after old notes new y
+mapped_turn whole join next put none ask f xs i x y now mid after old read_set new below is step same leads told =
+    turn whole join next (put (f x)) (gathered put none ask (map f (drop i xs))) (ask (f x)) (gathered put none ask (map f (drop (i + 1) xs))) now mid after old read_set new y
     (ap (λ ys. gathered put none ask (map f ys)) (drop_at xs i x below is)) step same leads told
 
 -- one element more of a list
@@ -154,11 +154,11 @@ one_more xs next rest x added = ap (λ n. n ++ rest) added ∙ append_assoc xs (
 
 -- ---- what is read is read once
 
--- the whole of a phase: what was looked at is marked and noted
-pub once_told : {S A E : Type 0} (stands : S → State) (after : S → List Object → S) (asking : Asking A) (before now : S) (seen : State) (notes old new : List Object) (a : A)
-    → Tells asking (stands before) seen [] notes (Ok a) → new ≡ old ++ notes → now ≡ after before notes → stands now ≡ stands before
+-- the whole of a phase: what was looked at is marked and in the read set
+pub once_told : {S A E : Type 0} (stands : S → State) (after : S → List Object → S) (asking : Asking A) (before now : S) (seen : State) (read_set old new : List Object) (a : A)
+    → Evaluates asking (stands before) seen [] read_set (Ok a) → new ≡ old ++ read_set → now ≡ after before read_set → stands now ≡ stands before
     → Reading {E = E} stands after (each_once asking) before now old new (Ok a)
-once_told stands after asking before now seen notes old new a told noted read state = record {
+once_told stands after asking before now seen read_set old new a told noted read state = record {
   given = told.given;
   noted = noted ∙ ap (λ n. old ++ n) told.noted;
   read = read ∙ ap (after before) told.noted;

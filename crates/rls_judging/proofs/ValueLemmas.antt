@@ -9,7 +9,7 @@ use Rattle.rls_expr.specs.Terms.{Term}
 use Rattle.rls_catalog.specs.State.{State}
 use Rattle.rls_evaluation.specs.Environments.{Environment, over}
 use Rattle.rls_evaluation.specs.Eval.{Shows}
-use Rattle.rls_evaluation.specs.Holding.{Tells}
+use Rattle.rls_evaluation.specs.Holding.{Evaluates}
 use Rattle.rls_judging.specs.Valuing.{values_on}
 
 -- ---- loops
@@ -27,11 +27,11 @@ values_more values left given rest same = ap (λ n. n ++ rest) (sym same) ∙ ap
 
 -- what is told of a row over which nothing is in scope
 pub told_over : (terms : List Term) (sees : Shows) (user : List ℕ) (row stored : List Value) (outer : List (List Value)) (before after : State) (old new : List Object) (result : Result (List Value) AllocError)
-    → row ≡ stored → outer ≡ [] → Tells (values_on terms sees (record { user = user; rows = row ∷ outer })) before after old new result → Tells (values_on terms sees (over user stored)) before after old new result
+    → row ≡ stored → outer ≡ [] → Evaluates (values_on terms sees (record { user = user; rows = row ∷ outer })) before after old new result → Evaluates (values_on terms sees (over user stored)) before after old new result
 told_over terms sees user row stored outer before after old new result same none told =
-    subst (λ (rows : List (List Value)). Tells (values_on terms sees (record { user = user; rows = rows })) before after old new result) (λ i. same i ∷ none i) told
+    subst (λ (rows : List (List Value)). Evaluates (values_on terms sees (record { user = user; rows = rows })) before after old new result) (λ i. same i ∷ none i) told
 
 -- what is told of terms, by another name
 pub told_alike : (terms others : List Term) (sees : Shows) (env : Environment) (before after : State) (old new : List Object) (result : Result (List Value) AllocError)
-    → others ≡ terms → Tells (values_on others sees env) before after old new result → Tells (values_on terms sees env) before after old new result
-told_alike terms others sees env before after old new result same told = subst (λ ts. Tells (values_on ts sees env) before after old new result) same told
+    → others ≡ terms → Evaluates (values_on others sees env) before after old new result → Evaluates (values_on terms sees env) before after old new result
+told_alike terms others sees env before after old new result same told = subst (λ ts. Evaluates (values_on ts sees env) before after old new result) same told

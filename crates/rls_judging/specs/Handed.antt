@@ -6,10 +6,10 @@ use Rattle.std.proofs.Common.{Global}
 use Rattle.std.specs.declared.alloc.AllocError.{AllocError}
 use Rattle.rls_value.specs.{declared.object.Object.Object, declared.value.Value.Value}
 use Rattle.rls_catalog.specs.{State.State, declared.stored.Stored.Stored}
-use Rattle.rls_evaluation.specs.{Holding.Tells, declared.held.Held.Held, Eval.Shows, Scoping.held_value}
+use Rattle.rls_evaluation.specs.{Holding.Evaluates, declared.datum.Datum.Datum, Eval.Shows, Scoping.datum_value}
 use Rattle.rls_expr.specs.Terms.{Terms}
 use Rattle.rls_source.specs.Askings.{Asking, known, followed_by}
-use Rattle.rls_guard.specs.{declared.guard.Watch.Watch, declared.reply.Decision.Decision}
+use Rattle.rls_guard.specs.{declared.quals.RowCheck.RowCheck, declared.reply.Decision.Decision}
 use Rattle.rls_judging.specs.Judging.{decisions_on, judged_old, are_allowed}
 
 -- what a call leaves behind, beside what it gives
@@ -25,13 +25,13 @@ allowing before decisions = (before ++ decisions, are_allowed decisions)
 abbrev pub behind : List Decision → List Decision × Bool → List Decision × Bool
 behind before judged = (before ++ judged.0, judged.1)
 
--- the rows that are lent
-abbrev pub rows_lent : Vec (Bor Stored) Global → List Stored
-rows_lent rows = map (λ row. row.now) rows.items
+-- the borrowed rows
+abbrev pub rows_borrowed : Vec (Bor Stored) Global → List Stored
+rows_borrowed rows = map (λ row. row.now) rows.items
 
--- decisions and rows that are lent, of a call that may fail
+-- decisions and borrowed rows, of a call that may fail
 abbrev pub judged_now : {E : Type 0} → Result (Vec Decision Global × Vec (Bor Stored) Global) E → Result (List Decision × List Stored) E
-judged_now (Ok (decisions, hits)) = Ok (decisions.items, rows_lent hits)
+judged_now (Ok (decisions, qualifying_rows)) = Ok (decisions.items, rows_borrowed qualifying_rows)
 judged_now (Err refused) = Err refused
 
 -- a list, of a call that may fail
@@ -40,19 +40,19 @@ items_now (Ok xs) = Ok xs.items
 items_now (Err refused) = Err refused
 
 -- the values, wherever their texts stand
-abbrev pub values_held : Vec Held Global → List Value
-values_held held = map held_value held.items
+abbrev pub datum_values : Vec Datum Global → List Value
+datum_values datum = map datum_value datum.items
 
 -- the same of a call that may fail
-abbrev pub held_all : {E : Type 0} → Result (Vec Held Global) E → Result (List Value) E
-held_all (Ok held) = Ok (values_held held)
-held_all (Err refused) = Err refused
+abbrev pub datum_values_all : {E : Type 0} → Result (Vec Datum Global) E → Result (List Value) E
+datum_values_all (Ok datum) = Ok (datum_values datum)
+datum_values_all (Err refused) = Err refused
 
 -- the same of lists of them
-abbrev pub held_each : {E : Type 0} → Result (Vec (Vec Held Global) Global) E → Result (List (List Value)) E
-held_each (Ok held) = Ok (map values_held held.items)
-held_each (Err refused) = Err refused
+abbrev pub datum_values_each : {E : Type 0} → Result (Vec (Vec Datum Global) Global) E → Result (List (List Value)) E
+datum_values_each (Ok datum) = Ok (map datum_values datum.items)
+datum_values_each (Err refused) = Err refused
 
--- what is asked is told, and what is read for it is added to the notes, while the source is looked at
-abbrev pub TellsAt : {A : Type 0} → Asking A → State → List Object → List Object → Result A AllocError → Type 0
-TellsAt asking s old new result = (after : State) × Tells asking s after old new result
+-- what is asked is told, and what is read for it is added to the read set, while the source is looked at
+abbrev pub EvaluatesAt : {A : Type 0} → Asking A → State → List Object → List Object → Result A AllocError → Type 0
+EvaluatesAt asking s old new result = (after : State) × Evaluates asking s after old new result

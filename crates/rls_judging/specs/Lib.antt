@@ -1,5 +1,5 @@
 pub mod Alike
-pub mod Candidates
+pub mod ScannedRows
 pub mod Judging
 pub mod Valuing
 pub mod Handed

@@ -1,33 +1,33 @@
-//! Two watches by one guard, which say the same of a row.
+//! Two row checks by the same quals, which say the same of a row.
 
 ghost use Rattle.std.specs.Prelude.{◌≡◌, [], ◌∷◌, ◌++◌, IsTrue, OnOk};
 ghost use Rattle.rls_judging.specs.Alike.{AreAlike, decided_by};
 
 use rls_catalog::Verdict;
 use rls_equality::Same;
-use rls_evaluation::Guard;
+use rls_evaluation::SecurityQuals;
 use rls_expr::{Expr, Policy};
-use rls_guard::{Decision, Watch};
-use rls_value::{Loan, RowId};
+use rls_guard::{Decision, RowCheck};
+use rls_value::{Reference, RowId};
 use std::alloc::AllocError;
 
-/// Whether there are two watches, by the same guard: what a policy for all commands guards is seen and changed by one
+/// Whether there are two row checks, by the same quals: what a policy for all commands is for is seen and changed by one
 /// condition.
-pub(crate) fn are_alike(watches: &[Watch]) -> bool
-    ensures { IsTrue result → AreAlike watches.now }
+pub(crate) fn are_alike(row_checks: &[RowCheck]) -> bool
+    ensures { IsTrue result → AreAlike row_checks.now }
 {
-    match watches {
-        [first, second] => is_same_guard(&second.guard, &first.guard),
+    match row_checks {
+        [first, second] => is_same_quals(&second.quals, &first.quals),
         _ => false,
     }
 }
 
-fn is_same_guard(guard: &Guard, other: &Guard) -> bool
-    ensures { IsTrue result → guard.now ≡ other.now }
+fn is_same_quals(quals: &SecurityQuals, other: &SecurityQuals) -> bool
+    ensures { IsTrue result → quals.now ≡ other.now }
 {
-    match (guard, other) {
-        (Guard::Exempt, Guard::Exempt) => true,
-        (Guard::Policies(conditions), Guard::Policies(others)) => {
+    match (quals, other) {
+        (SecurityQuals::Exempt, SecurityQuals::Exempt) => true,
+        (SecurityQuals::Policies(conditions), SecurityQuals::Policies(others)) => {
             are_same_conditions(conditions.as_slice(), others.as_slice())
         }
         (_, _) => false,
@@ -35,8 +35,8 @@ fn is_same_guard(guard: &Guard, other: &Guard) -> bool
 }
 
 fn are_same_conditions(
-    mut left: &[(Loan<'_, Policy>, Expr)],
-    mut right: &[(Loan<'_, Policy>, Expr)],
+    mut left: &[(Reference<'_, Policy>, Expr)],
+    mut right: &[(Reference<'_, Policy>, Expr)],
 ) -> bool
     ensures { IsTrue result → left.entry.now ≡ right.entry.now }
 {
@@ -61,11 +61,11 @@ fn is_same_condition(policy: &Policy, condition: &Expr, other: &Policy, its: &Ex
     policy.is_same(other) && condition.is_same(its)
 }
 
-/// The decisions by both watches behind the others.
+/// The decisions by both row checks behind the others.
 pub(crate) fn put_both(
     decisions: &mut Vec<Decision>,
-    first: &Watch,
-    second: &Watch,
+    first: &RowCheck,
+    second: &RowCheck,
     id: RowId,
     verdict: Verdict,
 ) -> Result<(), AllocError>
@@ -82,30 +82,30 @@ pub(crate) fn put_both(
 
 fn put_one(
     decisions: &mut Vec<Decision>,
-    watch: &Watch,
+    row_check: &RowCheck,
     id: RowId,
     verdict: &Verdict,
 ) -> Result<(), AllocError>
-    ensures { OnOk result (decisions.new.items ≡ decisions.old.items ++ decided_by id verdict.now watch.now ∷ []) }
+    ensures { OnOk result (decisions.new.items ≡ decisions.old.items ++ decided_by id verdict.now row_check.now ∷ []) }
 {
     match verdict.copy() {
-        Ok(verdict) => put_last(decisions, watch, id, verdict),
+        Ok(verdict) => put_last(decisions, row_check, id, verdict),
         Err(refused) => Err(refused),
     }
 }
 
 fn put_last(
     decisions: &mut Vec<Decision>,
-    watch: &Watch,
+    row_check: &RowCheck,
     id: RowId,
     verdict: Verdict,
 ) -> Result<(), AllocError>
-    ensures { OnOk result (decisions.new.items ≡ decisions.old.items ++ decided_by id verdict watch.now ∷ []) }
+    ensures { OnOk result (decisions.new.items ≡ decisions.old.items ++ decided_by id verdict row_check.now ∷ []) }
 {
     decisions.push(Decision {
         id,
-        side: watch.side,
-        kind: watch.kind,
+        side: row_check.side,
+        kind: row_check.kind,
         verdict,
     })?;
     Ok(())

@@ -1,43 +1,50 @@
-//! What row security says of rows, and which rows a statement hits.
+//! What row security says of rows, and the qualifying rows of a statement.
 
 ghost use Rattle.std.specs.Prelude.{◌≡◌, [], ◌∷◌, ◌++◌, ◌&&◌, IsTrue, OnOk};
 ghost use Rattle.rls_expr.specs.Terms.{maybe_term};
 ghost use Rattle.rls_source.specs.{Answering.Tells as Reading, Askings.followed_by, Askings.known};
-ghost use Rattle.rls_evaluation.specs.{Holding.Holds, Holding.Tells, Showing.shows};
-ghost use Rattle.rls_judging.specs.Handed.{TellsAt, allowing, behind, beside, items_now, judged_now, rows_lent};
+ghost use Rattle.rls_evaluation.specs.{Holding.Holds, Holding.Evaluates, Showing.shows};
+ghost use Rattle.rls_judging.specs.Handed.{EvaluatesAt, allowing, behind, beside, items_now, judged_now, rows_borrowed};
 ghost use Rattle.rls_judging.specs.Alike.{AreAlike};
 ghost use Rattle.rls_judging.specs.Judging as spec;
 
 use crate::alike::{are_alike, put_both};
-use crate::sight::{Sight, mark_all};
-use rls_catalog::{Lent, Stored};
+use crate::check_context::{CheckContext, mark_all};
+use rls_catalog::{BorrowedRow, Stored};
 use rls_evaluation::{
-    Env, Looked, Scoped, Tables, View, Work, allows, meets_condition, verdict_on,
+    Env, ExecutionState, Looked, Scoped, Tables, VisibleRelations, allows, meets_condition,
+    verdict_on,
 };
 use rls_expr::Expr;
-use rls_guard::{Decision, Judgement, Watch};
+use rls_guard::{Decision, Judgement, RowCheck};
 use rls_source::{Reads, RowSource};
 use rls_value::{Row, RowId};
 use std::alloc::{AllocError, Global};
 
-/// Judges each candidate as it stands, and gives the decisions and those that are allowed and meet the condition. The
+/// Judges each scanned row as it stands, and gives the decisions and those that are allowed and meet the condition. The
 /// decisions have room for so many more on each.
-pub fn hits_of<'a, 'c, S: RowSource<'c>>(
+pub fn qualifying_rows_of<'a, 'c, S: RowSource<'c>>(
     alloc: Global,
     source: &mut S,
-    notes: &mut Reads,
-    sight: Sight<'a, 'c>,
+    read_set: &mut Reads,
+    check_context: CheckContext<'a, 'c>,
     condition: &'a Option<Expr>,
-    candidates: &'a [Lent<'c>],
+    scanned_rows: &'a [BorrowedRow<'c>],
     further: usize,
-) -> Result<(Vec<Decision>, Vec<&'a Lent<'c>>), AllocError>
-    ensures { Reading S.state S.after (spec.hits_of sight.entry.watches.now sight.entry.fences.now sight.entry.role.now condition.now candidates.now) source.old source.new notes.old notes.new (judged_now result) }
+) -> Result<(Vec<Decision>, Vec<&'a BorrowedRow<'c>>), AllocError>
+    ensures { Reading S.state S.after (spec.qualifying_rows_of check_context.entry.row_checks.now check_context.entry.relations.now check_context.entry.role.now condition.now scanned_rows.now) source.old source.new read_set.old read_set.new (judged_now result) }
 {
-    let mut work = Work::new(alloc);
+    let mut execution = ExecutionState::new(alloc);
     let found = judge_over(
-        alloc, &*source, &mut work, sight, condition, candidates, further,
+        alloc,
+        &*source,
+        &mut execution,
+        check_context,
+        condition,
+        scanned_rows,
+        further,
     )?;
-    match mark_all(alloc, source, notes, work) {
+    match mark_all(alloc, source, read_set, execution) {
         Ok(()) => Ok(found),
         Err(refused) => {
             drop(found);
@@ -50,15 +57,15 @@ pub fn hits_of<'a, 'c, S: RowSource<'c>>(
 pub fn judged<'a, 'c, S: RowSource<'c>>(
     alloc: Global,
     source: &mut S,
-    notes: &mut Reads,
-    sight: Sight<'a, 'c>,
+    read_set: &mut Reads,
+    check_context: CheckContext<'a, 'c>,
     rows: &'a [Stored],
 ) -> Result<Vec<Decision>, AllocError>
-    ensures { Reading S.state S.after (spec.decisions_of sight.entry.watches.now sight.entry.fences.now sight.entry.role.now rows.now) source.old source.new notes.old notes.new (items_now result) }
+    ensures { Reading S.state S.after (spec.decisions_of check_context.entry.row_checks.now check_context.entry.relations.now check_context.entry.role.now rows.now) source.old source.new read_set.old read_set.new (items_now result) }
 {
-    let mut work = Work::new(alloc);
-    let decisions = judge_new_over(alloc, &*source, &mut work, sight, rows)?;
-    match mark_all(alloc, source, notes, work) {
+    let mut execution = ExecutionState::new(alloc);
+    let decisions = judge_new_over(alloc, &*source, &mut execution, check_context, rows)?;
+    match mark_all(alloc, source, read_set, execution) {
         Ok(()) => Ok(decisions),
         Err(refused) => {
             drop(decisions);
@@ -67,27 +74,27 @@ pub fn judged<'a, 'c, S: RowSource<'c>>(
     }
 }
 
-/// Judges each candidate, while the source is looked at.
+/// Judges each scanned row, while the source is looked at.
 fn judge_over<'s, 'a, 'c, S: RowSource<'c>>(
     alloc: Global,
     source: &'s S,
-    work: &mut Work,
-    sight: Sight<'a, 'c>,
+    execution: &mut ExecutionState,
+    check_context: CheckContext<'a, 'c>,
     condition: &'a Option<Expr>,
-    candidates: &'a [Lent<'c>],
+    scanned_rows: &'a [BorrowedRow<'c>],
     further: usize,
-) -> Result<(Vec<Decision>, Vec<&'a Lent<'c>>), AllocError>
-    requires { Holds sight.fences.now sight.role.now (S.state source.now) work.old }
-    ensures { TellsAt (spec.judged_all sight.entry.watches.now sight.entry.fences.now sight.entry.role.now condition.now candidates.now) (S.state source.now) work.old.notes work.new.notes (judged_now result) }
+) -> Result<(Vec<Decision>, Vec<&'a BorrowedRow<'c>>), AllocError>
+    requires { Holds check_context.relations.now check_context.role.now (S.state source.now) execution.old }
+    ensures { EvaluatesAt (spec.judged_all check_context.entry.row_checks.now check_context.entry.relations.now check_context.entry.role.now condition.now scanned_rows.now) (S.state source.now) execution.old.read_set execution.new.read_set (judged_now result) }
 {
     let mut tables: Looked<'s, 'c, S> = Looked::new(source);
     judge_all(
         alloc,
         &mut tables,
-        work,
-        sight,
+        execution,
+        check_context,
         condition,
-        candidates,
+        scanned_rows,
         further,
     )
 }
@@ -96,64 +103,64 @@ fn judge_over<'s, 'a, 'c, S: RowSource<'c>>(
 fn judge_new_over<'a, 'c, S: RowSource<'c>>(
     alloc: Global,
     source: &S,
-    work: &mut Work,
-    sight: Sight<'a, 'c>,
+    execution: &mut ExecutionState,
+    check_context: CheckContext<'a, 'c>,
     rows: &'a [Stored],
 ) -> Result<Vec<Decision>, AllocError>
-    requires { Holds sight.fences.now sight.role.now (S.state source.now) work.old }
-    ensures { TellsAt (spec.judged_new sight.entry.watches.now sight.entry.fences.now sight.entry.role.now rows.now) (S.state source.now) work.old.notes work.new.notes (items_now result) }
+    requires { Holds check_context.relations.now check_context.role.now (S.state source.now) execution.old }
+    ensures { EvaluatesAt (spec.judged_new check_context.entry.row_checks.now check_context.entry.relations.now check_context.entry.role.now rows.now) (S.state source.now) execution.old.read_set execution.new.read_set (items_now result) }
 {
     let mut tables = Looked::new(source);
-    judge_new(alloc, &mut tables, work, sight, rows)
+    judge_new(alloc, &mut tables, execution, check_context, rows)
 }
 
-/// Judges each candidate. The buffer of judgements serves all rows.
+/// Judges each scanned row. The buffer of judgements serves all rows.
 fn judge_all<'a, 'c, T: Tables>(
     alloc: Global,
     tables: &mut T,
-    work: &mut Work,
-    sight: Sight<'a, 'c>,
+    execution: &mut ExecutionState,
+    check_context: CheckContext<'a, 'c>,
     condition: &'a Option<Expr>,
-    candidates: &'a [Lent<'c>],
+    scanned_rows: &'a [BorrowedRow<'c>],
     further: usize,
-) -> Result<(Vec<Decision>, Vec<&'a Lent<'c>>), AllocError>
-    requires { Holds sight.fences.now sight.role.now (T.state tables.old) work.old }
-    ensures { Tells (spec.judged_all sight.entry.watches.now sight.entry.fences.now sight.entry.role.now condition.now candidates.now) (T.state tables.old) (T.state tables.new) work.old.notes work.new.notes (judged_now result) }
+) -> Result<(Vec<Decision>, Vec<&'a BorrowedRow<'c>>), AllocError>
+    requires { Holds check_context.relations.now check_context.role.now (T.state tables.old) execution.old }
+    ensures { Evaluates (spec.judged_all check_context.entry.row_checks.now check_context.entry.relations.now check_context.entry.role.now condition.now scanned_rows.now) (T.state tables.old) (T.state tables.new) execution.old.read_set execution.new.read_set (judged_now result) }
 {
-    let alike = candidates.len() > 1 && are_alike(sight.watches);
-    let each = sight.watches.len().saturating_add(further);
-    let most = candidates.len().saturating_mul(each);
+    let alike = scanned_rows.len() > 1 && are_alike(check_context.row_checks);
+    let each = check_context.row_checks.len().saturating_add(further);
+    let most = scanned_rows.len().saturating_mul(each);
     let mut decisions = Vec::with_capacity(alloc, most)?;
-    let mut hits = Vec::with_capacity(alloc, candidates.len())?;
+    let mut qualifying_rows = Vec::with_capacity(alloc, scanned_rows.len())?;
     let mut judgements = Vec::new(alloc);
-    for stored in candidates {
+    for stored in scanned_rows {
         let is = judge_old(
             alloc,
             tables,
-            work,
+            execution,
             &mut judgements,
             &mut decisions,
-            sight,
+            check_context,
             alike,
             condition,
             stored,
         )?;
-        push_if(&mut hits, is, stored)?;
+        push_if(&mut qualifying_rows, is, stored)?;
     }
     drop(judgements);
-    Ok((decisions, hits))
+    Ok((decisions, qualifying_rows))
 }
 
-/// The row behind the others, if it is hit.
+/// The row behind the others, if it qualifies.
 fn push_if<'a, 'c>(
-    hits: &mut Vec<&'a Lent<'c>>,
+    qualifying_rows: &mut Vec<&'a BorrowedRow<'c>>,
     is: bool,
-    stored: &'a Lent<'c>,
+    stored: &'a BorrowedRow<'c>,
 ) -> Result<(), AllocError>
-    ensures { OnOk result (rows_lent hits.new ≡ rows_lent hits.old ++ spec.hit_row is stored.now) }
+    ensures { OnOk result (rows_borrowed qualifying_rows.new ≡ rows_borrowed qualifying_rows.old ++ spec.row_if_qualifying is stored.now) }
 {
     if is {
-        hits.push(stored)?;
+        qualifying_rows.push(stored)?;
     }
     Ok(())
 }
@@ -162,156 +169,189 @@ fn push_if<'a, 'c>(
 fn judge_old<'a, 'c, T: Tables>(
     alloc: Global,
     tables: &mut T,
-    work: &mut Work,
+    execution: &mut ExecutionState,
     judgements: &mut Vec<Judgement<'c>>,
     decisions: &mut Vec<Decision>,
-    sight: Sight<'a, 'c>,
+    check_context: CheckContext<'a, 'c>,
     alike: bool,
     condition: &'a Option<Expr>,
-    stored: &'a Lent<'c>,
+    stored: &'a BorrowedRow<'c>,
 ) -> Result<bool, AllocError>
-    requires holds { Holds sight.fences.now sight.role.now (T.state tables.old) work.old }
-    requires alike { IsTrue alike → AreAlike sight.watches.now }
-    ensures tells { Tells (followed_by (spec.judged_old sight.entry.watches.now (maybe_term condition.now) (shows sight.entry.fences.now sight.entry.role.now) sight.entry.role.now stored.now) (λ judged. known (Ok (behind decisions.old.items judged)))) (T.state tables.old) (T.state tables.new) work.old.notes work.new.notes (beside decisions.new.items result) }
-    ensures holds { OnOk result (Holds sight.entry.fences.now sight.entry.role.now (T.state tables.new) work.new) }
+    requires holds { Holds check_context.relations.now check_context.role.now (T.state tables.old) execution.old }
+    requires alike { IsTrue alike → AreAlike check_context.row_checks.now }
+    ensures tells { Evaluates (followed_by (spec.judged_old check_context.entry.row_checks.now (maybe_term condition.now) (shows check_context.entry.relations.now check_context.entry.role.now) check_context.entry.role.now stored.now) (λ judged. known (Ok (behind decisions.old.items judged)))) (T.state tables.old) (T.state tables.new) execution.old.read_set execution.new.read_set (beside decisions.new.items result) }
+    ensures holds { OnOk result (Holds check_context.entry.relations.now check_context.entry.role.now (T.state tables.new) execution.new) }
 {
     let row = stored.row();
     let allowed = judge(
         alloc,
         tables,
-        work,
+        execution,
         judgements,
         decisions,
-        sight,
+        check_context,
         alike,
         stored.id(),
         row,
     )?;
-    is_hit(alloc, tables, work, sight, condition, allowed, row)
+    qualifies(
+        alloc,
+        tables,
+        execution,
+        check_context,
+        condition,
+        allowed,
+        row,
+    )
 }
 
 /// Whether an allowed row meets the condition.
-fn is_hit<'a, 'c, T: Tables>(
+fn qualifies<'a, 'c, T: Tables>(
     alloc: Global,
     tables: &mut T,
-    work: &mut Work,
-    sight: Sight<'a, 'c>,
+    execution: &mut ExecutionState,
+    check_context: CheckContext<'a, 'c>,
     condition: &'a Option<Expr>,
     allowed: bool,
     row: &'a Row,
 ) -> Result<bool, AllocError>
-    requires { Holds sight.fences.now sight.role.now (T.state tables.old) work.old }
-    ensures tells { Tells (spec.hit_if allowed (maybe_term condition.now) (shows sight.entry.fences.now sight.entry.role.now) sight.entry.role.now row.now) (T.state tables.old) (T.state tables.new) work.old.notes work.new.notes result }
-    ensures holds { OnOk result (Holds sight.entry.fences.now sight.entry.role.now (T.state tables.new) work.new) }
+    requires { Holds check_context.relations.now check_context.role.now (T.state tables.old) execution.old }
+    ensures tells { Evaluates (spec.qualifies_if allowed (maybe_term condition.now) (shows check_context.entry.relations.now check_context.entry.role.now) check_context.entry.role.now row.now) (T.state tables.old) (T.state tables.new) execution.old.read_set execution.new.read_set result }
+    ensures holds { OnOk result (Holds check_context.entry.relations.now check_context.entry.role.now (T.state tables.new) execution.new) }
 {
     if !allowed {
         return Ok(false);
     }
     let nothing = Scoped::Nothing;
     let env = Env {
-        user: sight.role,
+        user: check_context.role,
         rows: Scoped::Over(row, &nothing),
     };
-    let view = View {
-        fences: sight.fences,
+    let visible = VisibleRelations {
+        relations: check_context.relations,
         from: 0,
     };
-    meets_condition(alloc, tables, work, view, condition, &env)
+    meets_condition(alloc, tables, execution, visible, condition, &env)
 }
 
 /// What row security says of the row for each type of command, put behind the decisions; whether all of them allow it.
-/// Watches that are alike are told one verdict.
+/// Row checks that are alike are told one verdict.
 fn judge<'a, 'c, T: Tables>(
     alloc: Global,
     tables: &mut T,
-    work: &mut Work,
+    execution: &mut ExecutionState,
     judgements: &mut Vec<Judgement<'c>>,
     decisions: &mut Vec<Decision>,
-    sight: Sight<'a, 'c>,
+    check_context: CheckContext<'a, 'c>,
     alike: bool,
     id: RowId,
     row: &'a Row,
 ) -> Result<bool, AllocError>
-    requires holds { Holds sight.fences.now sight.role.now (T.state tables.old) work.old }
-    requires alike { IsTrue alike → AreAlike sight.watches.now }
-    ensures tells { Tells (followed_by (spec.decisions_on sight.entry.watches.now (shows sight.entry.fences.now sight.entry.role.now) sight.entry.role.now id row.now) (λ said. known (Ok (allowing decisions.old.items said)))) (T.state tables.old) (T.state tables.new) work.old.notes work.new.notes (beside decisions.new.items result) }
-    ensures holds { OnOk result (Holds sight.entry.fences.now sight.entry.role.now (T.state tables.new) work.new) }
+    requires holds { Holds check_context.relations.now check_context.role.now (T.state tables.old) execution.old }
+    requires alike { IsTrue alike → AreAlike check_context.row_checks.now }
+    ensures tells { Evaluates (followed_by (spec.decisions_on check_context.entry.row_checks.now (shows check_context.entry.relations.now check_context.entry.role.now) check_context.entry.role.now id row.now) (λ said. known (Ok (allowing decisions.old.items said)))) (T.state tables.old) (T.state tables.new) execution.old.read_set execution.new.read_set (beside decisions.new.items result) }
+    ensures holds { OnOk result (Holds check_context.entry.relations.now check_context.entry.role.now (T.state tables.new) execution.new) }
 {
-    match sight.watches {
+    match check_context.row_checks {
         [first, second] if alike => judge_both(
-            alloc, tables, work, judgements, decisions, sight, first, second, id, row,
+            alloc,
+            tables,
+            execution,
+            judgements,
+            decisions,
+            check_context,
+            first,
+            second,
+            id,
+            row,
         ),
-        _ => judge_each(alloc, tables, work, judgements, decisions, sight, id, row),
+        _ => judge_each(
+            alloc,
+            tables,
+            execution,
+            judgements,
+            decisions,
+            check_context,
+            id,
+            row,
+        ),
     }
 }
 
-/// The same for two watches that are alike: the guard is asked once.
+/// The same for two row checks that are alike: the quals are asked once.
 fn judge_both<'a, 'c, T: Tables>(
     alloc: Global,
     tables: &mut T,
-    work: &mut Work,
+    execution: &mut ExecutionState,
     judgements: &mut Vec<Judgement<'c>>,
     decisions: &mut Vec<Decision>,
-    sight: Sight<'a, 'c>,
-    first: &'a Watch<'c>,
-    second: &Watch<'c>,
+    check_context: CheckContext<'a, 'c>,
+    first: &'a RowCheck<'c>,
+    second: &RowCheck<'c>,
     id: RowId,
     row: &'a Row,
 ) -> Result<bool, AllocError>
-    requires holds { Holds sight.fences.now sight.role.now (T.state tables.old) work.old }
-    requires alike { second.now.guard ≡ first.now.guard }
-    ensures tells { Tells (followed_by (spec.decisions_on (first.now ∷ second.now ∷ []) (shows sight.entry.fences.now sight.entry.role.now) sight.entry.role.now id row.now) (λ said. known (Ok (allowing decisions.old.items said)))) (T.state tables.old) (T.state tables.new) work.old.notes work.new.notes (beside decisions.new.items result) }
-    ensures holds { OnOk result (Holds sight.entry.fences.now sight.entry.role.now (T.state tables.new) work.new) }
+    requires holds { Holds check_context.relations.now check_context.role.now (T.state tables.old) execution.old }
+    requires alike { second.now.quals ≡ first.now.quals }
+    ensures tells { Evaluates (followed_by (spec.decisions_on (first.now ∷ second.now ∷ []) (shows check_context.entry.relations.now check_context.entry.role.now) check_context.entry.role.now id row.now) (λ said. known (Ok (allowing decisions.old.items said)))) (T.state tables.old) (T.state tables.new) execution.old.read_set execution.new.read_set (beside decisions.new.items result) }
+    ensures holds { OnOk result (Holds check_context.entry.relations.now check_context.entry.role.now (T.state tables.new) execution.new) }
 {
-    let view = View {
-        fences: sight.fences,
+    let visible = VisibleRelations {
+        relations: check_context.relations,
         from: 0,
     };
-    let guard = &first.guard;
+    let quals = &first.quals;
     let verdict = verdict_on(
-        alloc, tables, work, view, judgements, guard, sight.role, row,
+        alloc,
+        tables,
+        execution,
+        visible,
+        judgements,
+        quals,
+        check_context.role,
+        row,
     )?;
     let allowed = allows(&verdict);
     put_both(decisions, first, second, id, verdict)?;
     Ok(allowed)
 }
 
-/// The same for whatever watches: each is asked.
+/// The same for whatever row checks: each is asked.
 fn judge_each<'a, 'c, T: Tables>(
     alloc: Global,
     tables: &mut T,
-    work: &mut Work,
+    execution: &mut ExecutionState,
     judgements: &mut Vec<Judgement<'c>>,
     decisions: &mut Vec<Decision>,
-    sight: Sight<'a, 'c>,
+    check_context: CheckContext<'a, 'c>,
     id: RowId,
     row: &'a Row,
 ) -> Result<bool, AllocError>
-    requires { Holds sight.fences.now sight.role.now (T.state tables.old) work.old }
-    ensures tells { Tells (followed_by (spec.decisions_on sight.entry.watches.now (shows sight.entry.fences.now sight.entry.role.now) sight.entry.role.now id row.now) (λ said. known (Ok (allowing decisions.old.items said)))) (T.state tables.old) (T.state tables.new) work.old.notes work.new.notes (beside decisions.new.items result) }
-    ensures holds { OnOk result (Holds sight.entry.fences.now sight.entry.role.now (T.state tables.new) work.new) }
+    requires { Holds check_context.relations.now check_context.role.now (T.state tables.old) execution.old }
+    ensures tells { Evaluates (followed_by (spec.decisions_on check_context.entry.row_checks.now (shows check_context.entry.relations.now check_context.entry.role.now) check_context.entry.role.now id row.now) (λ said. known (Ok (allowing decisions.old.items said)))) (T.state tables.old) (T.state tables.new) execution.old.read_set execution.new.read_set (beside decisions.new.items result) }
+    ensures holds { OnOk result (Holds check_context.entry.relations.now check_context.entry.role.now (T.state tables.new) execution.new) }
 {
-    let view = View {
-        fences: sight.fences,
+    let visible = VisibleRelations {
+        relations: check_context.relations,
         from: 0,
     };
     let mut allowed = true;
-    for watch in sight.watches {
+    for row_check in check_context.row_checks {
         let verdict = verdict_on(
             alloc,
             tables,
-            work,
-            view,
+            execution,
+            visible,
             judgements,
-            &watch.guard,
-            sight.role,
+            &row_check.quals,
+            check_context.role,
             row,
         )?;
         allowed = both(allowed, allows(&verdict));
         decisions.push(Decision {
             id,
-            side: watch.side,
-            kind: watch.kind,
+            side: row_check.side,
+            kind: row_check.kind,
             verdict,
         })?;
     }
@@ -328,25 +368,25 @@ fn both(one: bool, other: bool) -> bool
 fn judge_new<'a, 'c, T: Tables>(
     alloc: Global,
     tables: &mut T,
-    work: &mut Work,
-    sight: Sight<'a, 'c>,
+    execution: &mut ExecutionState,
+    check_context: CheckContext<'a, 'c>,
     rows: &'a [Stored],
 ) -> Result<Vec<Decision>, AllocError>
-    requires { Holds sight.fences.now sight.role.now (T.state tables.old) work.old }
-    ensures { Tells (spec.judged_new sight.entry.watches.now sight.entry.fences.now sight.entry.role.now rows.now) (T.state tables.old) (T.state tables.new) work.old.notes work.new.notes (items_now result) }
+    requires { Holds check_context.relations.now check_context.role.now (T.state tables.old) execution.old }
+    ensures { Evaluates (spec.judged_new check_context.entry.row_checks.now check_context.entry.relations.now check_context.entry.role.now rows.now) (T.state tables.old) (T.state tables.new) execution.old.read_set execution.new.read_set (items_now result) }
 {
-    let alike = rows.len() > 1 && are_alike(sight.watches);
-    let most = rows.len().saturating_mul(sight.watches.len());
+    let alike = rows.len() > 1 && are_alike(check_context.row_checks);
+    let most = rows.len().saturating_mul(check_context.row_checks.len());
     let mut decisions = Vec::with_capacity(alloc, most)?;
     let mut judgements = Vec::new(alloc);
     for stored in rows {
         judge(
             alloc,
             tables,
-            work,
+            execution,
             &mut judgements,
             &mut decisions,
-            sight,
+            check_context,
             alike,
             stored.id,
             &stored.row,

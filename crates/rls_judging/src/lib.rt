@@ -2,12 +2,12 @@
 #![tactic(auto)]
 
 mod alike;
+mod check_context;
 mod judging;
 mod reading;
-mod sight;
 mod valuing;
 
-pub use judging::{hits_of, judged};
-pub use reading::candidates;
-pub use sight::Sight;
-pub use valuing::{settings_of, tuples_of};
+pub use check_context::CheckContext;
+pub use judging::{judged, qualifying_rows_of};
+pub use reading::scanned_rows;
+pub use valuing::{assignments_of, tuples_of};

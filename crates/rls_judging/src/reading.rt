@@ -4,9 +4,9 @@ ghost use Rattle.std.specs.Prelude.{◌≡◌, IfOk};
 ghost use Rattle.std.specs.List.{list_any};
 ghost use Rattle.rls_value.specs.Values.{is_null};
 ghost use Rattle.rls_source.specs.Answering.{Tells};
-ghost use Rattle.rls_judging.specs.Candidates as spec;
+ghost use Rattle.rls_judging.specs.ScannedRows as spec;
 
-use rls_catalog::Lent;
+use rls_catalog::BorrowedRow;
 use rls_evaluation::{Env, Scoped, key_of};
 use rls_expr::{Expr, FromTable};
 use rls_source::{Reads, RowSource, noted_key, noted_scan};
@@ -15,38 +15,38 @@ use std::alloc::{AllocError, Global};
 
 /// The rows with the key, where the condition pins the table's whole primary key by literals and the current role; else
 /// all rows of the table. A key with a null is nobody's, and nothing is read for it.
-pub fn candidates<'c, 'x, S: RowSource<'c>>(
+pub fn scanned_rows<'c, 'x, S: RowSource<'c>>(
     alloc: Global,
     source: &mut S,
-    notes: &mut Reads,
+    read_set: &mut Reads,
     role: &Name,
     from: FromTable<'x>,
     condition: &Option<Expr>,
-) -> Result<Items<Lent<'c>>, AllocError>
-    ensures { Tells S.state S.after (spec.candidates role.now from.entry.name.now from.entry.table.now condition.now) source.old source.new notes.old notes.new result }
+) -> Result<Items<BorrowedRow<'c>>, AllocError>
+    ensures { Tells S.state S.after (spec.scanned_rows role.now from.entry.name.now from.entry.table.now condition.now) source.old source.new read_set.old read_set.new result }
 {
     let key = pinned_key(alloc, from.table.key.as_slice(), condition, role)?;
-    let found = candidates_with(alloc, source, notes, from.name, &key);
+    let found = scanned_rows_with(alloc, source, read_set, from.name, &key);
     drop(key);
     found
 }
 
-fn candidates_with<'c, S: RowSource<'c>>(
+fn scanned_rows_with<'c, S: RowSource<'c>>(
     alloc: Global,
     source: &mut S,
-    notes: &mut Reads,
+    read_set: &mut Reads,
     name: &Name,
     key: &Option<Row>,
-) -> Result<Items<Lent<'c>>, AllocError>
-    ensures { Tells S.state S.after (spec.candidates_with name.now key.now) source.old source.new notes.old notes.new result }
+) -> Result<Items<BorrowedRow<'c>>, AllocError>
+    ensures { Tells S.state S.after (spec.scanned_rows_with name.now key.now) source.old source.new read_set.old read_set.new result }
 {
     match key {
-        None => noted_scan(alloc, source, notes, name),
+        None => noted_scan(alloc, source, read_set, name),
         Some(key) => {
             if has_null(key) {
                 Ok(Items::new(alloc))
             } else {
-                noted_key(alloc, source, notes, name, key)
+                noted_key(alloc, source, read_set, name, key)
             }
         }
     }

@@ -10,8 +10,8 @@ use Rattle.rls_value.specs.declared.refusal.DefinedKind.TheVariants as defined
 use Rattle.rls_value.specs.declared.refusal.NameKind.TheVariants as name_kind
 use Rattle.rls_value.specs.declared.refusal.Limit.TheVariants as limit
 use Rattle.rls_value.specs.declared.refusal.Why.TheVariants as why
-use Rattle.rls_expr.specs.{declared.expr.Place.Place, declared.policy.Grantee.Grantee, declared.policy.Grantee.TheVariants.Public, declared.policy.Grantee.TheVariants.Role, declared.policy.Policy.Policy, declared.table.Column.Column, declared.table.TableDef.TableDef, Naming.Step, Naming.Look, Naming.Enter, Naming.Leave, Placing.Names, Scopes.InScope, Scopes.Unknown, Scopes.place_in, Terms.Term, Terms.qualifier_of}
-use Rattle.rls_expr.specs.{Placing.placed, Typing.takes_boolean, Typing.type_of}
+use Rattle.rls_expr.specs.{declared.expr.Var.Var, declared.policy.Grantee.Grantee, declared.policy.Grantee.TheVariants.Public, declared.policy.Grantee.TheVariants.Role, declared.policy.Policy.Policy, declared.table.Column.Column, declared.table.TableDef.TableDef, Naming.Step, Naming.Look, Naming.Enter, Naming.Leave, Resolving.Names, Scopes.InScope, Scopes.Unknown, Scopes.var_in, Terms.Term, Terms.qualifier_of}
+use Rattle.rls_expr.specs.{Resolving.resolved, Typing.takes_boolean, Typing.type_of}
 use Rattle.rls_catalog.specs.{Membership.attributes_of, Membership.has_privileges_of, Paths.can_set, PolicyLists.has_policy, PolicyLists.is_named, PolicyLists.with_policy, PolicyLists.without_policy, SoundRows.takes_no_null, State.State, State.grants_of, State.policies_of, State.role_of, State.table_of}
 use Rattle.rls_catalog.specs.declared.change.Change.TheVariants as c
 use Rattle.rls_catalog.proofs.PolicyListLaws.{created_in_order, dropped_in_order}
@@ -46,13 +46,13 @@ grantees_give s [] = record { is = tt }
 grantees_give s (Public ∷ grantees) = grantees_give s grantees
 grantees_give s (Role name ∷ grantees) = after (role_gives s name) (λ _ _. grantees_give s grantees)
 
-there_gives : (found : Result Place Unknown) → Gives Any (there_or_undefined found)
+there_gives : (found : Result Var Unknown) → Gives Any (there_or_undefined found)
 there_gives (Ok place) = record { is = tt }
 there_gives (Err (kind, name)) = record { is = tt }
 
 pub named_gives : (s : State) (steps : List Step) (tables found : List InScope) → Gives Any (named_in s steps tables found)
 named_gives s [] tables found = record { is = tt }
-named_gives s (Look name ∷ steps) tables found = after (there_gives (place_in tables name)) (λ _ _. named_gives s steps tables found)
+named_gives s (Look name ∷ steps) tables found = after (there_gives (var_in tables name)) (λ _ _. named_gives s steps tables found)
 named_gives s (Enter from ∷ steps) tables found = after (table_gives s from.table) (λ table _. named_gives s steps ((qualifier_of from, table) ∷ tables) (found ++ (from.table, table) ∷ []))
 named_gives s (Leave ∷ steps) tables found = named_gives s steps (drop 1 tables) found
 
@@ -123,11 +123,11 @@ alter_table_gives Known s role asked =
 
 fits_gives : (names : Names) (condition : Option Term) → Gives Any (condition_fits names condition)
 fits_gives names None = record { is = tt }
-fits_gives names (Some term) = tested (takes_boolean (type_of (placed term names))) tt r.TypeFault tt
+fits_gives names (Some term) = tested (takes_boolean (type_of (resolved term names))) tt r.TypeFault tt
 
 supported_gives : (names : Names) (condition : Option Term) → Gives Any (is_supported names condition)
 supported_gives names None = record { is = tt }
-supported_gives names (Some term) = untested (is_unsupported (placed term names)) tt r.Unsupported tt
+supported_gives names (Some term) = untested (is_unsupported (resolved term names)) tt r.Unsupported tt
 
 both_give : (test : Option Term → Result (Unit {0}) Refusal) → ((condition : Option Term) → Gives Any (test condition)) → (using check : Option Term) → Gives Any (both_conditions test using check)
 both_give test all using check = after (all using) (λ _ _. all check)
@@ -157,15 +157,15 @@ grantees_if_give : (s : State) (to : Option (List Grantee)) → Gives Any (grant
 grantees_if_give s None = record { is = tt }
 grantees_if_give s (Some to) = grantees_give s to
 
-placed_if : (b : Bool) → Gives {A = Unit {0}} (λ _. b ≡ false) (if◌then◌else◌ {A = Result (Unit {0}) Refusal} b (Err r.Unsupported) (Ok tt))
-placed_if true = record { is = tt }
-placed_if false = record { is = refl }
+resolved_if : (b : Bool) → Gives {A = Unit {0}} (λ _. b ≡ false) (if◌then◌else◌ {A = Result (Unit {0}) Refusal} b (Err r.Unsupported) (Ok tt))
+resolved_if true = record { is = tt }
+resolved_if false = record { is = refl }
 
 conditions_give : (names : Names) (kind : PolicyKind) (asked : AlterPolicy) → Gives (λ _. has_no_place_for kind asked ≡ false) (conditions_or_refused names kind asked)
 conditions_give names kind asked =
     after (both_give (condition_fits names) (fits_gives names) asked.using asked.check) (λ _ _.
     after (both_give (is_supported names) (supported_gives names) asked.using asked.check) (λ _ _.
-    placed_if (has_no_place_for kind asked)))
+    resolved_if (has_no_place_for kind asked)))
 
 policy_gives : (policies : List Policy) (name : List ℕ) → Gives (λ policy. find (is_named name) policies ≡ Some policy) (policy_or_undefined policies name)
 policy_gives policies name = found_gives (r.Undefined name_kind.Policy name) (find (is_named name) policies) tt
@@ -176,10 +176,10 @@ alter_policy_gives s role asked =
     after (policy_gives (policies_of s asked.table) asked.name) (λ policy there.
     after (grantees_if_give s asked.to) (λ _ _.
     after (named_gives s (condition_names asked.using asked.check) ((asked.table, table) ∷ []) []) (λ found _.
-    after (conditions_give (names_over (asked.table, table) found) policy.kind asked) (λ _ placed.
+    after (conditions_give (names_over (asked.table, table) found) policy.kind asked) (λ _ resolved.
     after (owner_gives s role asked.table table) (λ _ _.
     gives (Ends (Fits s (IsSpellable (st.AlterPolicy asked)))) (writes (c.Policies asked.table (with_altered asked (policies_of s asked.table)) ∷ []))
-    (record { ordered = λ is. altered_in_order (policies_of s asked.table) asked (is.policies asked.table); told = λ _. tt; spelled = λ text is texts. altered_spelled asked policy (policies_of s asked.table) text (is.policies asked.table) there placed (texts asked.table) }, tt)))))))
+    (record { ordered = λ is. altered_in_order (policies_of s asked.table) asked (is.policies asked.table); told = λ _. tt; spelled = λ text is texts. altered_spelled asked policy (policies_of s asked.table) text (is.policies asked.table) there resolved (texts asked.table) }, tt)))))))
 
 pub drop_policy_gives : (Known : Type 0) (s : State) (role : List ℕ) (asked : DropPolicy) → Gives (Ends (Fits s Known)) (drop_policy_in s role asked)
 drop_policy_gives Known s role asked =

@@ -4,14 +4,14 @@ use Rattle.std.specs.List.{list_any}
 use Rattle.rls_value.specs.{declared.value.Value.Value, declared.value.Value.TheVariants.Null, declared.value.Value.TheVariants.Text, declared.truth.Truth.Truth, declared.truth.Truth.TheVariants.True, declared.truth.Truth.TheVariants.False, declared.row.RowId.RowId, Truths.negation_of, Truths.is_true, Values.is_null, Values.truth_in, Values.value_at, Values.value_of_truth}
 use Rattle.rls_value.specs.declared.value.Value.TheVariants.{Bool as Flag}
 use Rattle.rls_expr.specs.declared.expr.Sign.{Sign}
-use Rattle.rls_expr.specs.Terms.{Term, Terms, Query, Literal, Column, Place, CurrentUser, Compare, And, Or, Not, IsNull, IsNotNull, Among, NotAmong, Exists, Within, NotWithin, Scalar, Sum, End, More, Select}
+use Rattle.rls_expr.specs.Terms.{Term, Terms, Query, Literal, Column, Var, CurrentUser, Compare, And, Or, Not, IsNull, IsNotNull, InList, NotInList, Exists, InSubquery, NotInSubquery, Scalar, Sum, End, More, Select}
 use Rattle.rls_catalog.specs.{State.State, Verdict.verdict_of, declared.stored.Stored.Stored}
 use Rattle.rls_catalog.specs.declared.verdict.Verdict.TheVariants as verdict
 use Rattle.rls_source.specs.{Askings.Asking, Asked.asked_key, Asked.asked_rows}
-use Rattle.rls_evaluation.specs.{declared.fence.Guard.Guard, declared.fence.Guard.TheVariants.Exempt, declared.fence.Guard.TheVariants.Policies, Environments.Environment, Environments.compared, Environments.inside, Environments.joined, Environments.number_or_null, Environments.over, Environments.row_at, Gathering.with_row, Keys.key_of}
+use Rattle.rls_evaluation.specs.{declared.relation.SecurityQuals.SecurityQuals, declared.relation.SecurityQuals.TheVariants.Exempt, declared.relation.SecurityQuals.TheVariants.Policies, Environments.Environment, Environments.compared, Environments.inside, Environments.joined, Environments.number_or_null, Environments.over, Environments.row_at, Gathering.with_row, Keys.key_of}
 use Rattle.rls_evaluation.specs.Eval.{Shows, value_of, together, sum_of, sum_from, has_row, meets, among_items, first_item, item_of, item_if, item_or, or_item, and_value, or_value, or_equal}
 use Rattle.rls_evaluation.specs.Showing.{allows, asked_for, is_allowed, shown, values_of, verdict_on, with_judgement}
-use Rattle.rls_guard.specs.declared.guard.Watch.{Watch}
+use Rattle.rls_guard.specs.declared.quals.RowCheck.{RowCheck}
 use Rattle.rls_depth.specs.Deep.{shown_by, shows_deep}
 use Rattle.rls_judging.specs.Judging.{are_allowed, decision_by, decisions_on, judged_old, with_decision}
 use Rattle.rls_judging.specs.Valuing.{values_on, with_value}
@@ -30,7 +30,7 @@ mutual
   pub value_asks : (t : Term) (sees : Shows) (env : Environment) (s : State) → Show s sees → Asks s (value_of t sees env)
   value_asks (Literal v) sees env s shows = asks_known s v
   value_asks (Column name) sees env s shows = asks_known s Null
-  value_asks (Place at) sees env s shows = asks_known s (value_at (row_at env.rows at.out) at.column)
+  value_asks (Var at) sees env s shows = asks_known s (value_at (row_at env.rows at.level) at.column)
   value_asks CurrentUser sees env s shows = asks_known s (Text env.user)
   value_asks (Compare how a b) sees env s shows = asks_then (value_asks a sees env s shows) (λ x. asks_told (λ y. value_of_truth (compared how x y)) (value_asks b sees env s shows))
   value_asks (And ts) sees env s shows = asks_told value_of_truth (together_asks and_value True ts sees env s shows)
@@ -38,11 +38,11 @@ mutual
   value_asks (Not t) sees env s shows = asks_told (λ x. value_of_truth (negation_of (truth_in x))) (value_asks t sees env s shows)
   value_asks (IsNull t) sees env s shows = asks_told (λ x. Flag (is_null x)) (value_asks t sees env s shows)
   value_asks (IsNotNull t) sees env s shows = asks_told (λ x. Flag (not (is_null x))) (value_asks t sees env s shows)
-  value_asks (Among t ts) sees env s shows = asks_then (value_asks t sees env s shows) (λ x. asks_told value_of_truth (together_asks (or_equal x) False ts sees env s shows))
-  value_asks (NotAmong t ts) sees env s shows = asks_then (value_asks t sees env s shows) (λ x. asks_told (λ truth. value_of_truth (negation_of truth)) (together_asks (or_equal x) False ts sees env s shows))
+  value_asks (InList t ts) sees env s shows = asks_then (value_asks t sees env s shows) (λ x. asks_told value_of_truth (together_asks (or_equal x) False ts sees env s shows))
+  value_asks (NotInList t ts) sees env s shows = asks_then (value_asks t sees env s shows) (λ x. asks_told (λ truth. value_of_truth (negation_of truth)) (together_asks (or_equal x) False ts sees env s shows))
   value_asks (Exists q) sees env s shows = asks_told (λ is. Flag is) (has_row_asks q sees env s shows)
-  value_asks (Within t q) sees env s shows = asks_then (value_asks t sees env s shows) (λ x. asks_told value_of_truth (among_asks x q sees env s shows))
-  value_asks (NotWithin t q) sees env s shows = asks_then (value_asks t sees env s shows) (λ x. asks_told (λ truth. value_of_truth (negation_of truth)) (among_asks x q sees env s shows))
+  value_asks (InSubquery t q) sees env s shows = asks_then (value_asks t sees env s shows) (λ x. asks_told value_of_truth (among_asks x q sees env s shows))
+  value_asks (NotInSubquery t q) sees env s shows = asks_then (value_asks t sees env s shows) (λ x. asks_told (λ truth. value_of_truth (negation_of truth)) (among_asks x q sees env s shows))
   value_asks (Scalar q) sees env s shows = first_asks q sees env s shows
   value_asks (Sum signs ts) sees env s shows = sum_asks signs ts sees env s shows
 
@@ -96,33 +96,33 @@ asked_for_asks : (s : State) (table : List ℕ) (key : Option (List Value)) → 
 asked_for_asks s table None = asks_told (λ rows. values_of rows) (rows_told s table)
 asked_for_asks s table (Some key) = asks_if (list_any is_null key) (asks_known s []) (asks_told (λ rows. values_of rows) (key_told s table key))
 
-pub verdict_asks : (guard : Guard) (sees : Shows) (user : List ℕ) (row : List Value) (s : State) → Show s sees → Asks s (verdict_on guard sees user row)
+pub verdict_asks : (quals : SecurityQuals) (sees : Shows) (user : List ℕ) (row : List Value) (s : State) → Show s sees → Asks s (verdict_on quals sees user row)
 verdict_asks Exempt sees user row s shows = asks_known s verdict.Exempt
 verdict_asks (Policies conditions) sees user row s shows =
     asks_told (λ judgements. verdict_of judgements) (asks_each s with_judgement [] (λ condition. value_of condition.1 sees (over user row)) (λ condition. value_asks condition.1 sees (over user row) s shows) conditions)
 
-shown_asks : (guard : Guard) (sees : Shows) (user table : List ℕ) (key : Option (List Value)) (s : State) → Show s sees → Asks s (shown guard sees user table key)
-shown_asks guard sees user table key s shows =
+shown_asks : (quals : SecurityQuals) (sees : Shows) (user table : List ℕ) (key : Option (List Value)) (s : State) → Show s sees → Asks s (shown quals sees user table key)
+shown_asks quals sees user table key s shows =
     asks_then (asked_for_asks s table key) (λ rows.
-    asks_each s with_row [] (is_allowed guard sees user) (λ row. asks_told (λ verdict. allows verdict) (verdict_asks guard sees user row s shows)) rows)
+    asks_each s with_row [] (is_allowed quals sees user) (λ row. asks_told (λ verdict. allows verdict) (verdict_asks quals sees user row s shows)) rows)
 
-shown_by_asks : (guard : Option Guard) (sees : Shows) (user table : List ℕ) (key : Option (List Value)) (s : State) → Show s sees → Asks s (shown_by guard sees user table key)
+shown_by_asks : (quals : Option SecurityQuals) (sees : Shows) (user table : List ℕ) (key : Option (List Value)) (s : State) → Show s sees → Asks s (shown_by quals sees user table key)
 shown_by_asks None sees user table key s shows = asks_known s []
-shown_by_asks (Some guard) sees user table key s shows = shown_asks guard sees user table key s shows
+shown_by_asks (Some quals) sees user table key s shows = shown_asks quals sees user table key s shows
 
-pub deep_shows : (n : ℕ) (guards : List ℕ → Option Guard) (user : List ℕ) (s : State) → Show s (shows_deep n guards user)
-deep_shows zero guards user s table key = asks_known s []
-deep_shows (suc n) guards user s table key = shown_by_asks (guards table) (shows_deep n guards user) user table key s (deep_shows n guards user s)
+pub deep_shows : (n : ℕ) (quals_for : List ℕ → Option SecurityQuals) (user : List ℕ) (s : State) → Show s (shows_deep n quals_for user)
+deep_shows zero quals_for user s table key = asks_known s []
+deep_shows (suc n) quals_for user s table key = shown_by_asks (quals_for table) (shows_deep n quals_for user) user table key s (deep_shows n quals_for user s)
 
 -- ---- rows
 
-pub decisions_ask : (watches : List Watch) (sees : Shows) (user : List ℕ) (id : RowId) (row : List Value) (s : State) → Show s sees → Asks s (decisions_on watches sees user id row)
-decisions_ask watches sees user id row s shows =
-    asks_each s with_decision [] (decision_by sees user id row) (λ watch. asks_told (λ verdict. record { id = id; side = watch.side; kind = watch.kind; verdict = verdict }) (verdict_asks watch.guard sees user row s shows)) watches
+pub decisions_ask : (row_checks : List RowCheck) (sees : Shows) (user : List ℕ) (id : RowId) (row : List Value) (s : State) → Show s sees → Asks s (decisions_on row_checks sees user id row)
+decisions_ask row_checks sees user id row s shows =
+    asks_each s with_decision [] (decision_by sees user id row) (λ row_check. asks_told (λ verdict. record { id = id; side = row_check.side; kind = row_check.kind; verdict = verdict }) (verdict_asks row_check.quals sees user row s shows)) row_checks
 
-pub judged_asks : (watches : List Watch) (condition : Terms) (sees : Shows) (user : List ℕ) (stored : Stored) (s : State) → Show s sees → Asks s (judged_old watches condition sees user stored)
-judged_asks watches condition sees user stored s shows =
-    asks_then (decisions_ask watches sees user stored.id stored.row s shows) (λ decisions.
+pub judged_asks : (row_checks : List RowCheck) (condition : Terms) (sees : Shows) (user : List ℕ) (stored : Stored) (s : State) → Show s sees → Asks s (judged_old row_checks condition sees user stored)
+judged_asks row_checks condition sees user stored s shows =
+    asks_then (decisions_ask row_checks sees user stored.id stored.row s shows) (λ decisions.
     asks_told (λ is. (decisions, is)) (asks_if (are_allowed decisions) (meets_asks condition sees (over user stored.row) s shows) (asks_known s false)))
 
 pub values_ask : (terms : List Term) (sees : Shows) (env : Environment) (s : State) → Show s sees → Asks s (values_on terms sees env)

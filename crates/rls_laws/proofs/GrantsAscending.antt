@@ -6,7 +6,7 @@ use Rattle.std.proofs.lemmas.{Cmp.nat_cmp_total, Cmp.nat_list_cmp_total, Cmp.on_
 use Rattle.rls_expr.specs.declared.policy.Grantee.{Grantee}
 use Rattle.rls_catalog.specs.declared.grant.Grant.{Grant}
 use Rattle.rls_source.specs.Sequences.{put_before}
-use Rattle.rls_grant.specs.{declared.grantors.Grantor.Grantor, Granting.grant_order, Granting.grantee_order, Granting.is_there, Granting.place_of, Granting.with_grant, Granting.with_grants, Granting.with_mark, Revoking.is_taken, Revoking.without_mark, Revoking.without_taken}
+use Rattle.rls_grant.specs.{declared.grantors.Grantor.Grantor, Granting.grant_order, Granting.grantee_order, Granting.is_there, Granting.place_of, Granting.with_grant, Granting.with_grants, Granting.with_grant_option, Revoking.is_taken, Revoking.without_grant_option, Revoking.without_taken}
 use Rattle.rls_laws.specs.InOrder.{GrantsAscend}
 use Rattle.rls_laws.proofs.Ascending.{mapped_ascends, put_ascends}
 
@@ -39,9 +39,9 @@ grantee_total = record { antisymm = grantee_turned; trans = grantee_further; con
 grant_total : IsTotalOrder grant_order
 grant_total = then_total (on_total (λ g. place_of g.privilege) nat_cmp_total) (then_total (on_total (λ g. g.grantee) grantee_total) (on_total (λ g. g.grantor) nat_list_cmp_total))
 
--- ---- marks
+-- ---- grant options
 
--- whatever becomes of marks, grants stand as they stood
+-- whatever becomes of grant options, grants stand as they stood
 marked_alike : (b d : Bool) (x y : Grant) (o p : Bool) → grant_order (if b then record x { option = o } else x) (if d then record y { option = p } else y) ≡ grant_order x y
 marked_alike true true x y o p = refl
 marked_alike true false x y o p = refl
@@ -50,9 +50,9 @@ marked_alike false false x y o p = refl
 
 -- ---- GRANT
 
-with_grant_if : (b : Bool) (grants : List Grant) (grant : Grant) → is_there grants grant ≡ b → GrantsAscend grants → GrantsAscend (if b then map (with_mark grant) grants else put_before (λ other. is_lt (grant_order grant other)) grant grants)
+with_grant_if : (b : Bool) (grants : List Grant) (grant : Grant) → is_there grants grant ≡ b → GrantsAscend grants → GrantsAscend (if b then map (with_grant_option grant) grants else put_before (λ other. is_lt (grant_order grant other)) grant grants)
 with_grant_if true grants grant is up =
-    mapped_ascends grant_order (with_mark grant) (λ x y. marked_alike (is_eq (grant_order x grant)) (is_eq (grant_order y grant)) x y (x.option || grant.option) (y.option || grant.option)) grants up
+    mapped_ascends grant_order (with_grant_option grant) (λ x y. marked_alike (is_eq (grant_order x grant)) (is_eq (grant_order y grant)) x y (x.option || grant.option) (y.option || grant.option)) grants up
 with_grant_if false grants grant is up = put_ascends grant_total grant grants is up
 
 pub with_grants_ascend : (grants more : List Grant) → GrantsAscend grants → GrantsAscend (with_grants grants more)
@@ -63,5 +63,5 @@ with_grants_ascend grants (grant ∷ more) up = with_grants_ascend (with_grant g
 
 pub without_taken_ascend : (option_only : Bool) (by : List Grantor) (grantees : List Grantee) (grants : List Grant) → GrantsAscend grants → GrantsAscend (without_taken option_only by grantees grants)
 without_taken_ascend true by grantees grants up =
-    mapped_ascends grant_order (without_mark by grantees) (λ x y. marked_alike (is_taken by grantees x) (is_taken by grantees y) x y false false) grants up
+    mapped_ascends grant_order (without_grant_option by grantees) (λ x y. marked_alike (is_taken by grantees x) (is_taken by grantees y) x y false false) grants up
 without_taken_ascend false by grantees grants up = IsStrictlySortedBy-filter grant_order (λ grant. not (is_taken by grantees grant)) grants up

@@ -6,7 +6,7 @@ use Rattle.rls_value.specs.declared.refusal.Limit.{Limit}
 use Rattle.rls_expr.specs.{Terms.Term, Terms.maybe_term, declared.policy.Policy.Policy}
 use Rattle.rls_statement.specs.{declared.statement.AlterPolicy.AlterPolicy, declared.statement.CreatePolicy.CreatePolicy, declared.statement.Statement.Statement}
 use Rattle.rls_statement.specs.declared.statement.Statement.TheVariants as st
-use Rattle.rls_text.specs.{declared.token.Token.Token, declared.token.Token.TheVariants.Word, Answers.IsSpelled, Answers.limit_at, Answers.limit_from, Answers.open_behind, Answers.or_next, Cut.Cut, Cutting.tree_of, FirstSets.expr_heads, FirstSets.expr_more, Heights.height_if, Heights.height_of, Nested.deepest_query, Nested.subqueries_of, Lang.only, Lang.Both, Lang.Mapped, Lang.Perhaps, Lang.Checked, Lang.After, Lang.Before}
+use Rattle.rls_text.specs.{declared.token.Token.Token, declared.token.Token.TheVariants.Word, ParseResults.IsSpelled, ParseResults.limit_at, ParseResults.limit_from, ParseResults.open_behind, ParseResults.or_next, Cut.Cut, Cutting.tree_of, FirstSets.expr_heads, FirstSets.expr_more, Heights.height_if, Heights.height_of, Nested.deepest_query, Nested.subqueries_of, Lang.only, Lang.Both, Lang.Mapped, Lang.Perhaps, Lang.Checked, Lang.After, Lang.Before}
 use Rattle.rls_text.specs.Values as v
 use Rattle.rls_text.specs.Grammar as g
 use Rattle.rls_text.proofs.Laws.{Within, or_within, spelled_few, spelled_low}

@@ -39,15 +39,15 @@ none_written (Some term) old h = cc
 
 -- a policy of its type of command may have them
 still_fits : (of : PolicyKind) (asked : AlterPolicy) (using check : Option Term) → has_no_place_for of asked ≡ false → may_have of (is_some using) (is_some check) ≡ true → may_have of (is_some (option_or asked.using using)) (is_some (option_or asked.check check)) ≡ true
-still_fits kind.All asked using check placed fits = refl
-still_fits (kind.Only k.Select) asked using check placed fits = ap not (none_written asked.check check placed) ∙ fits
-still_fits (kind.Only k.Insert) asked using check placed fits = ap not (none_written asked.using using placed) ∙ fits
-still_fits (kind.Only k.Update) asked using check placed fits = refl
-still_fits (kind.Only k.Delete) asked using check placed fits = ap not (none_written asked.check check placed) ∙ fits
+still_fits kind.All asked using check resolved fits = refl
+still_fits (kind.Only k.Select) asked using check resolved fits = ap not (none_written asked.check check resolved) ∙ fits
+still_fits (kind.Only k.Insert) asked using check resolved fits = ap not (none_written asked.using using resolved) ∙ fits
+still_fits (kind.Only k.Update) asked using check resolved fits = refl
+still_fits (kind.Only k.Delete) asked using check resolved fits = ap not (none_written asked.check check resolved) ∙ fits
 
 -- A policy that a text creates is one, too, with what a text alters.
 pub one_altered : (asked : AlterPolicy) (policy : Policy) → IsSpellable (st.AlterPolicy asked) → has_no_place_for policy.kind asked ≡ false → IsPolicySpellable asked.table policy → IsPolicySpellable asked.table (altered asked policy)
-one_altered asked policy text placed texts =
+one_altered asked policy text resolved texts =
     let new : ChangeParts asked = altered_parts asked text.0 text.1 in
     let old : PolicyParts asked.table policy = created_parts (record { table = asked.table; policy = policy }) texts.0 texts.1 in
     parts_spell asked.table (altered asked policy) (record {
@@ -56,7 +56,7 @@ one_altered asked policy text placed texts =
       to = roles_phrase asked.to policy.to new.to old.to;
       using = one_condition _ asked.using policy.using new.using old.using;
       check = one_condition _ asked.check policy.check new.check old.check;
-      fits = still_fits policy.kind asked policy.using policy.check placed old.fits;
+      fits = still_fits policy.kind asked policy.using policy.check resolved old.fits;
     })
 
 -- ---- lists
@@ -99,10 +99,10 @@ created_spelled asked policies text texts =
 
 pub altered_spelled : (asked : AlterPolicy) (policy : Policy) (policies : List Policy) → IsSpellable (st.AlterPolicy asked) → InNameOrder policies → find (is_named asked.name) policies ≡ Some policy → has_no_place_for policy.kind asked ≡ false
     → All (IsPolicySpellable asked.table) policies → All (IsPolicySpellable asked.table) (with_altered asked policies)
-altered_spelled asked policy policies text order there placed texts =
+altered_spelled asked policy policies text order there resolved texts =
     let Is : Policy → Type 0 = IsPolicySpellable asked.table in
     let all = recursion_from_All Is policies texts in
-    let one = one_altered asked policy text placed (found_is Is (is_named asked.name) policies policy all there) in
+    let one = one_altered asked policy text resolved (found_is Is (is_named asked.name) policies policy all there) in
     subst (All Is) (altered_is_replaced policies asked policy order there) (All-from_recursion Is (with_replaced policies (altered asked policy)) (all_replaced Is (altered asked policy) policies one all))
 
 pub dropped_spelled : (table : List ℕ) (policies : List Policy) (name : List ℕ) → All (IsPolicySpellable table) policies → All (IsPolicySpellable table) (without_policy policies name)

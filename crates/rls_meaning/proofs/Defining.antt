@@ -9,7 +9,7 @@ use Rattle.rls_catalog.specs.declared.change.Change.TheVariants as change
 use Rattle.rls_source.specs.{Asked.grants_at, Asked.policies_at, Asked.role_at, Asked.table_at, Askings.Asking, Askings.asked_if, Askings.known}
 use Rattle.rls_statement.specs.{declared.statement.AlterPolicy.AlterPolicy, declared.statement.AlterRole.AlterRole, declared.statement.AlterTable.AlterTable, declared.statement.CreatePolicy.CreatePolicy, declared.statement.CreateRole.CreateRole, declared.statement.CreateTable.CreateTable, declared.statement.DropPolicy.DropPolicy, declared.statement.SetRole.SetRole}
 use Rattle.rls_statement.specs.declared.statement.SetRole.TheVariants as set
-use Rattle.rls_guard.specs.{declared.context.Ctx.Ctx, Checks.superuser_or_denied, Effects.writes, Naming.names_over, Standings.ownership, Standings.standing_in}
+use Rattle.rls_guard.specs.{declared.context.Ctx.Ctx, Checks.superuser_or_denied, Effects.writes, Naming.names_over, RolePrivileges.ownership, RolePrivileges.role_privileges_in}
 use Rattle.rls_ddl.specs.{AlteringPolicies.alter_policy, AlteringPolicies.alteration_made, AlteringPolicies.alteration_of, AlteringPolicies.alteration_on, AlteringPolicies.alteration_over, AlteringPolicies.conditions_or_refused, AlteringPolicies.roles_or_undefined, AlteringPolicies.with_altered, AlteringRoles.alter_role, AlteringRoles.role_altered, AlteringRoles.role_changed, AlteringTables.alter_table, AlteringTables.altered, Conditions.condition_names}
 use Rattle.rls_ddl.specs.{CreatingPolicies.create_policy, CreatingPolicies.policy_added, CreatingPolicies.policy_made, CreatingPolicies.policy_on, CreatingPolicies.policy_or_refused, CreatingRoles.create_role, CreatingRoles.role_made, CreatingTables.create_table, CreatingTables.key_or_undefined, CreatingTables.table_made, CreatingTables.table_unless_taken, DroppingPolicies.drop_on, DroppingPolicies.drop_policy, DroppingPolicies.policy_dropped, NamedPolicies.policy_or_undefined, SettingRoles.may_set, SettingRoles.role_set, SettingRoles.set_or_denied, SettingRoles.set_role, SettingRoles.sets}
 use Rattle.rls_meaning.specs.{Naming.provided, Policies.alter_policy_in, Policies.create_policy_in, Policies.drop_policy_in, Policies.grantees_if, Roles.alter_role_in, Roles.create_role_in, Roles.set_role_in, Roles.superuser_in, Tables.alter_table_in, Tables.create_table_in, Tables.owner_in}
@@ -27,7 +27,7 @@ unfolding role_at
 superuser_told s role managed = refl
 
 owner_told : (s : State) (role name : List ℕ) (table : TableDef) → ((ownership role name table).in_state s).gives ≡ owner_in s role name table
-unfolding ownership standing_in
+unfolding ownership role_privileges_in
 owner_told s role name table = refl
 
 -- ---- roles

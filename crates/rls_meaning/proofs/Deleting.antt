@@ -8,19 +8,19 @@ use Rattle.rls_catalog.specs.State.{State}
 use Rattle.rls_statement.specs.declared.changing.Delete.{Delete}
 use Rattle.rls_guard.specs.{Effects.shown}
 use Rattle.rls_expansion.specs.Used.{tables_if}
-use Rattle.rls_dml.specs.{declared.deleting.Removal.Removal, Deleting.delete_as, Deleting.delete_from, Deleting.delete_guarded, Deleting.delete_hits, Deleting.deleted, Deleting.removal_for, Deleting.removal_in, Deleting.removal_names, Deleting.removal_reads}
+use Rattle.rls_dml.specs.{declared.deleting.AnalysedDelete.AnalysedDelete, Deleting.delete_as, Deleting.delete_from, Deleting.delete_with_quals, Deleting.delete_qualifying_rows, Deleting.deleted, Deleting.analysed_delete_for, Deleting.analysed_delete_in, Deleting.analysed_delete_names, Deleting.analysed_delete_reads}
 use Rattle.rls_access.specs.Statements.{mode_or_refused}
-use Rattle.rls_meaning.specs.{Commands.Command, Deleting.DeleteMeans, Deleting.delete_parts, Deleting.delete_rows, Protecting.IsExpanded}
-use Rattle.rls_meaning.proofs.{Hitting.done_told, Naming.named_told, Naming.table_told}
+use Rattle.rls_meaning.specs.{Commands.Command, Deleting.DeleteMeans, Deleting.delete_parts, Deleting.delete_rows, Expanding.IsExpanded}
+use Rattle.rls_meaning.proofs.{Qualifying.done_told, Naming.named_told, Naming.table_told}
 
-parts_told : (s : State) (asked : Delete) (table : TableDef) → ((removal_for asked table).in_state s).gives ≡ delete_parts s asked table
-parts_told s asked table = ap (λ given. and_then given (removal_in asked (asked.table, table))) (named_told s (removal_names asked) ((asked.table, table) ∷ []) [])
+parts_told : (s : State) (asked : Delete) (table : TableDef) → ((analysed_delete_for asked table).in_state s).gives ≡ delete_parts s asked table
+parts_told s asked table = ap (λ given. and_then given (analysed_delete_in asked (asked.table, table))) (named_told s (analysed_delete_names asked) ((asked.table, table) ∷ []) [])
 
-from_told : ((s : State) (c : Command) → IsExpanded s c) → (s : State) (role name : List ℕ) (table : TableDef) (parts : Removal)
-    → ((delete_from role name table parts).in_state s).gives ≡ delete_rows s parts (record { role = role; name = name; table = table; kind = k.Delete; reads = removal_reads parts; queries = tables_if parts.condition })
-unfolding delete_from delete_as delete_guarded delete_hits
+from_told : ((s : State) (c : Command) → IsExpanded s c) → (s : State) (role name : List ℕ) (table : TableDef) (parts : AnalysedDelete)
+    → ((delete_from role name table parts).in_state s).gives ≡ delete_rows s parts (record { role = role; name = name; table = table; kind = k.Delete; reads = analysed_delete_reads parts; queries = tables_if parts.condition })
+unfolding delete_from delete_as delete_with_quals delete_qualifying_rows
 from_told expanded s role name table parts =
-    let c : Command = record { role = role; name = name; table = table; kind = k.Delete; reads = removal_reads parts; queries = tables_if parts.condition } in
+    let c : Command = record { role = role; name = name; table = table; kind = k.Delete; reads = analysed_delete_reads parts; queries = tables_if parts.condition } in
     done_told s c parts.condition (deleted name parts role) refl (λ other is. is) (expanded s c)
 
 pub delete_told : ((s : State) (c : Command) → IsExpanded s c) → DeleteMeans

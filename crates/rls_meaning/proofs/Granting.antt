@@ -6,22 +6,22 @@ use Rattle.rls_expr.specs.declared.table.TableDef.{TableDef}
 use Rattle.rls_catalog.specs.{GrantOptions.grantor_of, State.State, State.grants_of}
 use Rattle.rls_source.specs.{Asked.grants_at, Sequences.each_of}
 use Rattle.rls_statement.specs.{declared.statement.GrantPrivileges.GrantPrivileges, declared.statement.Privileges.Privileges, declared.statement.RevokePrivileges.RevokePrivileges}
-use Rattle.rls_role.specs.Reaching.{reach_in}
+use Rattle.rls_role.specs.Reaching.{effective_roles_in}
 use Rattle.rls_grant.specs.{Granting.grant, Granting.grant_on, Granting.granted, Granting.grants_made, Granting.grants_with, Granting.grants_written, Granting.options_or_refused, Grantors.all_privileges, Grantors.granted_by, Grantors.grantor_by, Grantors.grantor_or_denied, Grantors.grantors, Grantors.is_named, Holders.holders_of, Revoking.grants_revoked, Revoking.left_after, Revoking.revoke, Revoking.revoke_on, Revoking.revoked, Revoking.without_taken}
 use Rattle.rls_meaning.specs.Privileges.{grant_in, grantor_in, grantors_in, revoke_in}
 use Rattle.rls_meaning.proofs.Naming.{grantees_told, table_told}
 
 -- who is chosen by whose privileges a role has is who the rule over a state says
 abbrev pub GrantorMeans : Type 0
-GrantorMeans = (s : State) (role owner : List ℕ) (holders : List (List ℕ)) → grantor_by (reach_in s role) role owner (one_of holders) ≡ grantor_of s role owner holders
+GrantorMeans = (s : State) (role owner : List ℕ) (holders : List (List ℕ)) → grantor_by (effective_roles_in s role) role owner (one_of holders) ≡ grantor_of s role owner holders
 
 each_same : {A B : Type 0} (one other : A → Result B Refusal) (xs : List A) → ((x : A) → one x ≡ other x) → each_of one xs ≡ each_of other xs
 each_same one other xs same = λ i. each_of (λ x. same x i) xs
 
-grantors_told : GrantorMeans → (s : State) (role name : List ℕ) (table : TableDef) (named : Privileges) → grantors (reach_in s role) role name table (grants_of s name) named ≡ grantors_in s role name table named
+grantors_told : GrantorMeans → (s : State) (role name : List ℕ) (table : TableDef) (named : Privileges) → grantors (effective_roles_in s role) role name table (grants_of s name) named ≡ grantors_in s role name table named
 unfolding grantors
 grantors_told means s role name table named =
-    each_same (granted_by (reach_in s role) role name table (grants_of s name)) (grantor_in s role name table) (filter (is_named named) all_privileges)
+    each_same (granted_by (effective_roles_in s role) role name table (grants_of s name)) (grantor_in s role name table) (filter (is_named named) all_privileges)
     (λ privilege. ap (grantor_or_denied name privilege) (means s role table.owner (holders_of table.owner (grants_of s name) privilege)))
 
 pub grant_told : GrantorMeans → (s : State) (role : List ℕ) (asked : GrantPrivileges) → ((grant role asked).in_state s).gives ≡ grant_in s role asked

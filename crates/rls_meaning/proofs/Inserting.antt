@@ -8,14 +8,14 @@ use Rattle.rls_catalog.specs.{Membership.Within, State.State}
 use Rattle.rls_source.specs.Readings.{read_then, unread}
 use Rattle.rls_statement.specs.declared.statement.Insert.{Insert}
 use Rattle.rls_evaluation.specs.{Environments.Environment, Environments.alone, Eval.Shows, Eval.value_of, Gathering.gathered, Showing.shows}
-use Rattle.rls_guard.specs.{declared.context.Ctx.Ctx, declared.effect.Effect.Effect, Effects.shown, Standings.standing_in}
-use Rattle.rls_expansion.specs.{declared.protection.Protection.Protection, Used.all_tables, Used.tables_of}
+use Rattle.rls_guard.specs.{declared.context.Ctx.Ctx, declared.effect.Effect.Effect, Effects.shown, RolePrivileges.role_privileges_in}
+use Rattle.rls_expansion.specs.{declared.expansion.PolicyExpansion.PolicyExpansion, Used.all_tables, Used.tables_of}
 use Rattle.rls_depth.proofs.Tables.{within_first, within_last}
 use Rattle.rls_judging.specs.Valuing.{values_on, values_put, with_values}
-use Rattle.rls_dml.specs.{declared.addition.Addition.Addition, Checking.returning_names, Checking.returning_reads, Inserting.addition_for, Inserting.addition_in, Inserting.insert_as, Inserting.insert_guarded, Inserting.insert_into, Inserting.insert_judged, Inserting.insert_made, Inserting.insert_rows as insert_new, Inserting.insert_values, Inserting.inserted, Inserting.new_rows, Inserting.places_of, Inserting.tuples_names, Inserting.tuples_tables, Writing.order_of}
+use Rattle.rls_dml.specs.{declared.analysed_insert.AnalysedInsert.AnalysedInsert, Checking.returning_names, Checking.returning_reads, Inserting.analysed_insert_for, Inserting.analysed_insert_in, Inserting.insert_as, Inserting.insert_with_quals, Inserting.insert_into, Inserting.insert_judged, Inserting.insert_made, Inserting.insert_rows as insert_new, Inserting.insert_values, Inserting.inserted, Inserting.new_rows, Inserting.places_of, Inserting.tuples_names, Inserting.tuples_tables, Writing.order_of}
 use Rattle.rls_access.specs.Statements.{mode_or_refused}
-use Rattle.rls_meaning.specs.{Commands.Command, Constraints.allowed_in, Inserting.InsertMeans, Inserting.insert_parts, Inserting.insert_rows, Inserting.tuple_values, Protecting.IsExpanded, Protecting.IsProtected, Rows.decisions_in, Rows.sees}
-use Rattle.rls_meaning.proofs.{Constraining.allowed_told, Hitting.decisions_told, Hitting.privileges_told, Hitting.queries_asked, Hitting.under_told, Naming.named_told, Naming.table_told}
+use Rattle.rls_meaning.specs.{Commands.Command, Constraints.allowed_in, Inserting.InsertMeans, Inserting.insert_parts, Inserting.insert_rows, Inserting.tuple_values, Expanding.IsExpanded, Expanding.IsExpansionIn, Rows.decisions_in, Rows.sees}
+use Rattle.rls_meaning.proofs.{Constraining.allowed_told, Qualifying.decisions_told, Qualifying.privileges_told, Qualifying.queries_checked, Qualifying.under_told, Naming.named_told, Naming.table_told}
 
 -- ---- values
 
@@ -36,33 +36,33 @@ tuples_same (tuple ∷ tuples) one other user all s alike within =
     λ i. read_then (values_same tuple one other (alone user) all s alike (within_first (all_tables tuple) (tuples_tables tuples) all within) i)
     (λ values. read_then (tuples_same tuples one other user all s alike (within_last (all_tables tuple) (tuples_tables tuples) all within) i) (λ rest. unread (Ok (values ∷ rest))))
 
-tuples_told : (s : State) (c : Command) (p : Protection) (tuples : List (List Term)) → Within (tuples_tables tuples) c.queries → IsProtected s c p → ((values_put p.fences c.role tuples).in_state s).gives ≡ tuple_values s c tuples
+tuples_told : (s : State) (c : Command) (p : PolicyExpansion) (tuples : List (List Term)) → Within (tuples_tables tuples) c.queries → IsExpansionIn s c p → ((values_put p.relations c.role tuples).in_state s).gives ≡ tuple_values s c tuples
 tuples_told s c p tuples within protects =
-    ap (λ reading. reading.gives) (tuples_same tuples (shows p.fences c.role) (sees s c) c.role p.asked s protects.value (λ name is. queries_asked s c p protects name (within name is)))
+    ap (λ reading. reading.gives) (tuples_same tuples (shows p.relations c.role) (sees s c) c.role p.permission_checks s protects.value (λ name is. queries_checked s c p protects name (within name is)))
 
 -- ---- the statement
 
-parts_told : (s : State) (ctx : Ctx) (asked : Insert) (table : TableDef) → ((addition_for ctx asked table).in_state s).gives ≡ insert_parts s ctx asked table
+parts_told : (s : State) (ctx : Ctx) (asked : Insert) (table : TableDef) → ((analysed_insert_for ctx asked table).in_state s).gives ≡ insert_parts s ctx asked table
 parts_told s ctx asked table =
-    ap (λ named. and_then (places_of table.columns asked.columns) (λ places. and_then named (λ found. addition_in ctx.next asked (asked.table, table) places found)))
+    ap (λ named. and_then (places_of table.columns asked.columns) (λ places. and_then named (λ found. analysed_insert_in ctx.next asked (asked.table, table) places found)))
     (λ i. and_then (named_told s (tuples_names asked.tuples) [] [] i) (λ found. named_told s (returning_names asked.returning) ((asked.table, table) ∷ []) found i))
 
 -- what comes behind the privileges
-abbrev rest_in : State → Ctx → Addition → Command → Result Effect Refusal
+abbrev rest_in : State → Ctx → AnalysedInsert → Command → Result Effect Refusal
 rest_in s ctx parts c =
     and_then (tuple_values s c parts.tuples) (λ values.
     and_then (new_rows ctx c.table parts values) (λ rows.
     and_then (decisions_in s c rows) (λ decided.
     Ok (inserted c.name parts.returning c.role decided rows (allowed_in s c.name c.table.columns (order_of parts.places c.table.columns) decided [] rows)))))
 
-from_told : ((s : State) (c : Command) → IsExpanded s c) → (s : State) (ctx : Ctx) (name : List ℕ) (table : TableDef) (parts : Addition)
+from_told : ((s : State) (c : Command) → IsExpanded s c) → (s : State) (ctx : Ctx) (name : List ℕ) (table : TableDef) (parts : AnalysedInsert)
     → ((insert_into ctx name table parts).in_state s).gives
     ≡ insert_rows s ctx parts (record { role = ctx.role; name = name; table = table; kind = k.Insert; reads = returning_reads parts.returning; queries = tuples_tables parts.tuples })
-unfolding insert_into insert_as insert_guarded insert_values insert_made insert_new insert_judged
+unfolding insert_into insert_as insert_with_quals insert_values insert_made insert_new insert_judged
 from_told expanded s ctx name table parts =
     let c : Command = record { role = ctx.role; name = name; table = table; kind = k.Insert; reads = returning_reads parts.returning; queries = tuples_tables parts.tuples } in
-    under_told s c (λ p. ((insert_guarded ctx name table (standing_in s ctx.role) p parts).in_state s).gives) (rest_in s ctx parts c)
-    (λ p protects. λ i. and_then (privileges_told s ctx.role Privilege.Insert (returning_reads parts.returning) name p.asked i) (λ _.
+    under_told s c (λ p. ((insert_with_quals ctx name table (role_privileges_in s ctx.role) p parts).in_state s).gives) (rest_in s ctx parts c)
+    (λ p protects. λ i. and_then (privileges_told s ctx.role Privilege.Insert (returning_reads parts.returning) name p.permission_checks i) (λ _.
     and_then (tuples_told s c p parts.tuples (λ other is. is) protects i) (λ values.
     and_then (new_rows ctx table parts values) (λ rows.
     and_then (decisions_told s c p refl protects rows i) (λ decided.

@@ -13,15 +13,15 @@ use Rattle.rls_catalog.proofs.{ContentsLaws.members_of_changed, Inheriting.fresh
 use Rattle.rls_recursion.proofs.Closing.{not_true, one_first, one_further}
 use Rattle.rls_source.specs.Sequences.{each_or_refused}
 use Rattle.rls_statement.specs.{declared.statement.GrantRoles.GrantRoles, declared.statement.MembershipOptions.MembershipOptions, declared.statement.RevokeRoles.RevokeRoles}
-use Rattle.rls_role.specs.{declared.holding.Held.Held, Granting.each_granted, Granting.grant_member, Granting.granted_to, Granting.held_at, Granting.held_in, Granting.held_one, Granting.joined, Granting.joined_in as joined_held, Granting.managed_in as managed_at, Granting.managed_or_refused, Granting.each_managed, Granting.members_written, Granting.memberships_granted, Granting.pair_granted, Granting.pair_or_refused, Granting.path_in, Granting.role_granted, Granting.roles_granted}
-use Rattle.rls_role.specs.{Holdings.held_as, Holdings.listed, Holdings.managed_by, Holdings.members_held, Holdings.with_held, Reaching.reach_in, Revoking.memberships_revoked, Revoking.revoke_member, Revoking.roles_revoked, Revoking.taken_from, Revoking.taken_in}
+use Rattle.rls_role.specs.{declared.holding.HeldMembership.HeldMembership, Granting.each_granted, Granting.grant_member, Granting.granted_to, Granting.held_at, Granting.held_in, Granting.held_one, Granting.joined, Granting.joined_in as joined_held, Granting.managed_in as managed_at, Granting.managed_or_refused, Granting.each_managed, Granting.members_written, Granting.memberships_granted, Granting.pair_granted, Granting.pair_or_refused, Granting.path_in, Granting.role_granted, Granting.roles_granted}
+use Rattle.rls_role.specs.{Holdings.held_as, Holdings.listed, Holdings.managed_by, Holdings.members_held, Holdings.with_held, Reaching.effective_roles_in, Revoking.memberships_revoked, Revoking.revoke_member, Revoking.roles_revoked, Revoking.taken_from, Revoking.taken_in}
 use Rattle.rls_meaning.specs.{Memberships.grant_roles_in, Memberships.in_turn, Memberships.joined_in, Memberships.managed_in, Memberships.revoke_roles_in, Naming.provided}
 use Rattle.rls_meaning.proofs.Naming.{roles_told}
 
 -- who may grant, and what closes a circle, told by lists of memberships, is what the rules over a state say
 pub record MembershipsMean : Type 0 where
-  pub managed : (s : State) (role granted : List ℕ) → ((reach_in s role).superuser || one_of (managed_by s (reach_in s role).names) granted) ≡ may_grant s role granted
-  pub circle : (held : List Held) (s : State) (role member : List ℕ) → (one_of (reached_where is_any (with_held held s) role) member ≡ true) ↔ (closes_circle (with_held held s) role member ≡ true)
+  pub managed : (s : State) (role granted : List ℕ) → ((effective_roles_in s role).superuser || one_of (managed_by s (effective_roles_in s role).names) granted) ≡ may_grant s role granted
+  pub circle : (held : List HeldMembership) (s : State) (role member : List ℕ) → (one_of (reached_where is_any (with_held held s) role) member ≡ true) ↔ (closes_circle (with_held held s) role member ≡ true)
 
 -- ---- who may
 
@@ -103,7 +103,7 @@ abbrev LeftIf : State → List (List ℕ) → Result State Refusal → Type 0
 LeftIf s members (Ok t) = Left s t members
 LeftIf s members (Err refusal) = Unit {0}
 
-record Follows (s : State) (members : List (List ℕ)) (found : Result (List Held) Refusal) (plain : Result State Refusal) : Type 0 where
+record Follows (s : State) (members : List (List ℕ)) (found : Result (List HeldMembership) Refusal) (plain : Result State Refusal) : Type 0 where
   pub same : found ≡ and_then plain (λ t. Ok (held_in t members))
   pub left : LeftIf s members plain
 
@@ -123,7 +123,7 @@ pair_follows mean s t members written role member left there =
     subst (λ b. Follows s members (pair_or_refused written role member (held_in t members) b) (joined_in written role member t)) (sym (circle_told mean s t members role member left))
     (pair_if (closes_circle t role member) s t members written role member left there)
 
-then_follows : (s : State) (members : List (List ℕ)) (found : Result (List Held) Refusal) (plain : Result State Refusal) (f : List Held → Result (List Held) Refusal) (g : State → Result State Refusal) → Follows s members found plain
+then_follows : (s : State) (members : List (List ℕ)) (found : Result (List HeldMembership) Refusal) (plain : Result State Refusal) (f : List HeldMembership → Result (List HeldMembership) Refusal) (g : State → Result State Refusal) → Follows s members found plain
     → ((t : State) → Left s t members → Follows s members (f (held_in t members)) (g t)) → Follows s members (and_then found f) (and_then plain g)
 then_follows s members found (Ok t) f g one next = record { same = ap (λ all. and_then all f) one.same ∙ (next t one.left).same; left = (next t one.left).left }
 then_follows s members found (Err refusal) f g one next = record { same = ap (λ all. and_then all f) one.same; left = tt }
@@ -150,7 +150,7 @@ written_same : (t : State) (members : List (List ℕ)) → members_written (held
 written_same t [] = refl
 written_same t (m ∷ members) = ap (λ rest. change.Members m (members_of t m) ∷ rest) (written_same t members)
 
-written_told : (s : State) (members : List (List ℕ)) (found : Result (List Held) Refusal) (plain : Result State Refusal) → Follows s members found plain
+written_told : (s : State) (members : List (List ℕ)) (found : Result (List HeldMembership) Refusal) (plain : Result State Refusal) → Follows s members found plain
     → and_then found (λ held. Ok (members_written held)) ≡ and_then plain (λ after. Ok (map (λ member. change.Members member (members_of after member)) members))
 written_told s members found (Ok t) one = ap (λ all. and_then all (λ held. Ok (members_written held))) one.same ∙ ap Ok (written_same t members)
 written_told s members found (Err refusal) one = ap (λ all. and_then all (λ held. Ok (members_written held))) one.same

@@ -1,9 +1,9 @@
 pub mod Naming
 pub mod Listing
 pub mod States
-pub mod Rooms
-pub mod Protecting
-pub mod Hitting
+pub mod Dependencies
+pub mod Expanding
+pub mod Qualifying
 pub mod Constraining
 pub mod Selecting
 pub mod Inserting

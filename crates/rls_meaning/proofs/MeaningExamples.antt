@@ -2,7 +2,7 @@
 use Rattle.std.specs.Prelude.{◌≡◌, refl, ℕ, pos, List, [], ◌∷◌, true, false, Some, None, codes}
 use Rattle.rls_value.specs.{declared.refusal.GrantFault.TheVariants.Cycle, declared.refusal.Refusal.TheVariants.Denied, declared.refusal.Refusal.TheVariants.GrantOp, declared.refusal.Refusal.TheVariants.Recursion, declared.refusal.Refusal.TheVariants.TxnState, declared.refusal.TxnState.TheVariants.ReadOnly, declared.tag.Tag.Tag, declared.value.ColType.ColType, declared.value.Value.TheVariants.Int, declared.value.Value.TheVariants.Text, declared.verb.Kind.Kind, declared.verb.PolicyKind.PolicyKind, declared.verb.Privilege.Privilege}
 use Rattle.rls_value.specs.declared.refusal.Why.TheVariants as why
-use Rattle.rls_expr.specs.{declared.expr.Comparison.TheVariants.Equal, declared.expr.Selects.Selects, declared.policy.Policy.Policy, declared.table.TableDef.TableDef, Terms.Column, Terms.Compare, Terms.CurrentUser, Terms.End, Terms.Exists, Terms.More, Terms.Select, Terms.Term, Terms.Within}
+use Rattle.rls_expr.specs.{declared.expr.Comparison.TheVariants.Equal, declared.expr.Selects.Selects, declared.policy.Policy.Policy, declared.table.TableDef.TableDef, Terms.Column, Terms.Compare, Terms.CurrentUser, Terms.End, Terms.Exists, Terms.More, Terms.Select, Terms.Term, Terms.InSubquery}
 use Rattle.rls_expr.specs.declared.policy.Grantee.TheVariants as g
 use Rattle.rls_catalog.specs.{Membership.nobody, Membership.reached_of, State.State}
 use Rattle.rls_catalog.specs.declared.change.Change.TheVariants as change
@@ -41,7 +41,7 @@ column name = Column (record { qualifier = None; name = name })
 
 -- team IN (SELECT id FROM teams)
 abbrev of_team : Policy
-of_team = policy_of (codes "of_team") (Within (column (codes "team")) (Select (record { table = codes "teams"; alias = None }) [] Selects.Items (More (column (codes "id")) End) End))
+of_team = policy_of (codes "of_team") (InSubquery (column (codes "team")) (Select (record { table = codes "teams"; alias = None }) [] Selects.Items (More (column (codes "id")) End) End))
 
 -- lead = CURRENT_USER
 abbrev own : Policy

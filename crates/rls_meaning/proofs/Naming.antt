@@ -1,7 +1,7 @@
 -- What a statement names is looked for as its meaning says.
 use Rattle.std.specs.Prelude.{◌≡◌, refl, ℕ, List, [], ◌∷◌, ◌++◌, drop, Result}
 use Rattle.rls_value.specs.{declared.refusal.Refusal.Refusal, Giving.and_then}
-use Rattle.rls_expr.specs.{declared.policy.Grantee.Grantee, declared.policy.Grantee.TheVariants.Public, declared.policy.Grantee.TheVariants.Role, Naming.Step, Naming.Look, Naming.Enter, Naming.Leave, Scopes.InScope, Scopes.place_in, Terms.qualifier_of}
+use Rattle.rls_expr.specs.{declared.policy.Grantee.Grantee, declared.policy.Grantee.TheVariants.Public, declared.policy.Grantee.TheVariants.Role, Naming.Step, Naming.Look, Naming.Enter, Naming.Leave, Scopes.InScope, Scopes.var_in, Terms.qualifier_of}
 use Rattle.rls_catalog.specs.State.{State}
 use Rattle.rls_source.specs.{Asked.role_at, Asked.table_at, Named.grantees_or_undefined, Named.role_or_undefined, Named.roles_or_undefined, Named.table_or_undefined}
 use Rattle.rls_guard.specs.Naming.{named, there_or_undefined}
@@ -29,7 +29,7 @@ grantees_told s (Role name ∷ grantees) = λ i. and_then (role_told s name i) (
 
 pub named_told : (s : State) (steps : List Step) (tables found : List InScope) → ((named steps tables found).in_state s).gives ≡ named_in s steps tables found
 named_told s [] tables found = refl
-named_told s (Look name ∷ steps) tables found = λ i. and_then (there_or_undefined (place_in tables name)) (λ _. named_told s steps tables found i)
+named_told s (Look name ∷ steps) tables found = λ i. and_then (there_or_undefined (var_in tables name)) (λ _. named_told s steps tables found i)
 named_told s (Enter from ∷ steps) tables found =
     λ i. and_then (table_told s from.table i) (λ table. named_told s steps ((qualifier_of from, table) ∷ tables) (found ++ (from.table, table) ∷ []) i)
 named_told s (Leave ∷ steps) tables found = named_told s steps (drop 1 tables) found

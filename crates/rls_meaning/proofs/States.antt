@@ -1,4 +1,4 @@
--- What a room tells is what the state says.
+-- What a dependency tells is what the state says.
 use Rattle.std.specs.Prelude.{◌≡◌, refl, ℕ, List, [], ◌∷◌, ◌++◌, Bool, true, false, ◌&&◌, ◌||◌, Option, Some, None, filter, cond, is_some, if◌then◌else◌}
 use Rattle.std.specs.List.{list_any, flat_map}
 use Rattle.std.proofs.Common.{ap, sym, ◌∙◌, subst, append-nil}
@@ -6,13 +6,13 @@ use Rattle.std.proofs.lemmas.Bool.{true≢false}
 use Rattle.rls_value.specs.{declared.verb.Kind.Kind}
 use Rattle.rls_expr.specs.{declared.policy.Policy.Policy, declared.table.TableDef.TableDef, Terms.Term}
 use Rattle.rls_catalog.specs.{Applying.applying_on, declared.verdict.Side.Side, State.State, State.table_of, State.policies_of, Privileges.includes, Membership.Within, Verdict.chosen, Verdict.exempts, Verdict.is_asked, Verdict.is_for_kind}
-use Rattle.rls_guard.specs.{declared.standing.Standing.Standing, Standings.standing_in, Standings.has_owner}
-use Rattle.rls_recursion.specs.{declared.room.Room.Room, Searching.inner_of, Searching.next_of, Searching.next_in as next_at, Searching.inner_in as inner_at, Searching.room_in}
+use Rattle.rls_guard.specs.{declared.role_privileges.RolePrivileges.RolePrivileges, RolePrivileges.role_privileges_in, RolePrivileges.has_owner}
+use Rattle.rls_recursion.specs.{declared.dependency.PolicyDependency.PolicyDependency, Searching.has_subquery_of, Searching.subquery_tables_of, Searching.subquery_tables_in as subquery_tables_at, Searching.has_subquery_in as has_subquery_at, Searching.dependency_in}
 use Rattle.rls_recursion.proofs.Closing.{one_first}
-use Rattle.rls_expansion.specs.{Protecting.asks_of, Protecting.own_tables, Rooms.reading, Rooms.room_by, Used.Ask, Used.holds_subquery, Used.tables_asked, Used.tables_if, Used.tables_used, Used.tables_where}
+use Rattle.rls_expansion.specs.{Expanding.asks_of, Expanding.own_tables, Dependencies.reading, Dependencies.dependency_by, Used.Ask, Used.holds_subquery, Used.tables_asked, Used.tables_if, Used.tables_used, Used.tables_where}
 use Rattle.rls_depth.specs.{Deep.policies_in, Leading.using_tables}
-use Rattle.rls_depth.proofs.{RoomLaws.by_leads, Walking.room_at, Walking.room_for}
-use Rattle.rls_meaning.specs.Chains.{inner_in, next_in, own_in}
+use Rattle.rls_depth.proofs.{DependencyLaws.by_leads, Walking.dependency_at, Walking.dependency_for}
+use Rattle.rls_meaning.specs.Chains.{has_subquery_in, subquery_tables_in, own_in}
 
 -- ---- the tables that policies use
 
@@ -49,37 +49,37 @@ used_by superuser names asks (policy ∷ policies) =
     ap (λ rest. (if list_any (includes superuser names) policy.to then tables_asked asks policy else []) ++ rest) (used_by superuser names asks policies)
     ∙ used_if (list_any (includes superuser names) policy.to) asks policy (filter (λ policy. list_any (includes superuser names) policy.to) policies)
 
-own_if : (b : Bool) (standing : Standing) (kind : Kind) (reads : Bool) (policies : List Policy)
-    → own_tables standing kind reads (if b then None else Some policies) ≡ (if b then [] else flat_map (tables_asked (asks_of kind reads)) (filter (λ policy. list_any (includes standing.reach.superuser standing.reach.names) policy.to) policies))
-own_if true standing kind reads policies = refl
-own_if false standing kind reads policies = used_by standing.reach.superuser standing.reach.names (asks_of kind reads) policies
+own_if : (b : Bool) (role_privileges : RolePrivileges) (kind : Kind) (reads : Bool) (policies : List Policy)
+    → own_tables role_privileges kind reads (if b then None else Some policies) ≡ (if b then [] else flat_map (tables_asked (asks_of kind reads)) (filter (λ policy. list_any (includes role_privileges.effective_roles.superuser role_privileges.effective_roles.names) policy.to) policies))
+own_if true role_privileges kind reads policies = refl
+own_if false role_privileges kind reads policies = used_by role_privileges.effective_roles.superuser role_privileges.effective_roles.names (asks_of kind reads) policies
 
 -- the tables that the policies of the statement's table lead to
-pub own_told : (s : State) (role name : List ℕ) (table : TableDef) (kind : Kind) (reads : Bool) → own_tables (standing_in s role) kind reads (policies_in s (standing_in s role) name table) ≡ own_in s role name table kind reads
-unfolding standing_in
-own_told s role name table kind reads = own_if (exempts (standing_in s role).attributes table (has_owner (standing_in s role) table)) (standing_in s role) kind reads (policies_of s name)
+pub own_told : (s : State) (role name : List ℕ) (table : TableDef) (kind : Kind) (reads : Bool) → own_tables (role_privileges_in s role) kind reads (policies_in s (role_privileges_in s role) name table) ≡ own_in s role name table kind reads
+unfolding role_privileges_in
+own_told s role name table kind reads = own_if (exempts (role_privileges_in s role).attributes table (has_owner (role_privileges_in s role) table)) (role_privileges_in s role) kind reads (policies_of s name)
 
--- ---- a room
+-- ---- a dependency
 
-inner_if : (b : Bool) (standing : Standing) (name : List ℕ) (def : TableDef) (policies : List Policy)
-    → (room_by standing name def (if b then None else Some policies)).inner ≡ list_any holds_subquery (if b then [] else chosen standing.reach.superuser standing.reach.names Kind.Select Side.Old policies)
-inner_if true standing name def policies = refl
-inner_if false standing name def policies = refl
+has_subquery_if : (b : Bool) (role_privileges : RolePrivileges) (name : List ℕ) (def : TableDef) (policies : List Policy)
+    → (dependency_by role_privileges name def (if b then None else Some policies)).has_subquery ≡ list_any holds_subquery (if b then [] else chosen role_privileges.effective_roles.superuser role_privileges.effective_roles.names Kind.Select Side.Old policies)
+has_subquery_if true role_privileges name def policies = refl
+has_subquery_if false role_privileges name def policies = refl
 
-next_if : (b : Bool) (standing : Standing) (name : List ℕ) (def : TableDef) (policies : List Policy)
-    → (room_by standing name def (if b then None else Some policies)).next ≡ flat_map using_tables (if b then [] else chosen standing.reach.superuser standing.reach.names Kind.Select Side.Old policies)
-next_if true standing name def policies = refl
-next_if false standing name def policies = used_chosen standing.reach.superuser standing.reach.names policies
+subquery_tables_if : (b : Bool) (role_privileges : RolePrivileges) (name : List ℕ) (def : TableDef) (policies : List Policy)
+    → (dependency_by role_privileges name def (if b then None else Some policies)).subquery_tables ≡ flat_map using_tables (if b then [] else chosen role_privileges.effective_roles.superuser role_privileges.effective_roles.names Kind.Select Side.Old policies)
+subquery_tables_if true role_privileges name def policies = refl
+subquery_tables_if false role_privileges name def policies = used_chosen role_privileges.effective_roles.superuser role_privileges.effective_roles.names policies
 
-inner_told : (s : State) (role name : List ℕ) (found : Option TableDef) → (room_for s (standing_in s role) name found).inner ≡ list_any holds_subquery (applying_on found s role name Kind.Select Side.Old)
-unfolding standing_in
-inner_told s role name None = refl
-inner_told s role name (Some def) = inner_if (exempts (standing_in s role).attributes def (has_owner (standing_in s role) def)) (standing_in s role) name def (policies_of s name)
+has_subquery_told : (s : State) (role name : List ℕ) (found : Option TableDef) → (dependency_for s (role_privileges_in s role) name found).has_subquery ≡ list_any holds_subquery (applying_on found s role name Kind.Select Side.Old)
+unfolding role_privileges_in
+has_subquery_told s role name None = refl
+has_subquery_told s role name (Some def) = has_subquery_if (exempts (role_privileges_in s role).attributes def (has_owner (role_privileges_in s role) def)) (role_privileges_in s role) name def (policies_of s name)
 
-next_told : (s : State) (role name : List ℕ) (found : Option TableDef) → (room_for s (standing_in s role) name found).next ≡ flat_map using_tables (applying_on found s role name Kind.Select Side.Old)
-unfolding standing_in
-next_told s role name None = refl
-next_told s role name (Some def) = next_if (exempts (standing_in s role).attributes def (has_owner (standing_in s role) def)) (standing_in s role) name def (policies_of s name)
+subquery_tables_told : (s : State) (role name : List ℕ) (found : Option TableDef) → (dependency_for s (role_privileges_in s role) name found).subquery_tables ≡ flat_map using_tables (applying_on found s role name Kind.Select Side.Old)
+unfolding role_privileges_in
+subquery_tables_told s role name None = refl
+subquery_tables_told s role name (Some def) = subquery_tables_if (exempts (role_privileges_in s role).attributes def (has_owner (role_privileges_in s role) def)) (role_privileges_in s role) name def (policies_of s name)
 
 -- ---- where no policy holds a subquery they lead to no table
 
@@ -87,26 +87,26 @@ within_empty : (xs : List (List ℕ)) → Within xs [] → xs ≡ []
 within_empty [] within = refl
 within_empty (x ∷ xs) within = absurd (true≢false (sym (within x (one_first x xs))))
 
-none_lead : (b : Bool) (standing : Standing) (name : List ℕ) (def : TableDef) (policies : List Policy)
-    → list_any holds_subquery (if b then [] else chosen standing.reach.superuser standing.reach.names Kind.Select Side.Old policies) ≡ false
-    → flat_map using_tables (if b then [] else chosen standing.reach.superuser standing.reach.names Kind.Select Side.Old policies) ≡ []
-none_lead true standing name def policies is = refl
-none_lead false standing name def policies is =
-    within_empty (flat_map using_tables (chosen standing.reach.superuser standing.reach.names Kind.Select Side.Old policies))
-    (subst (λ b. Within (flat_map using_tables (chosen standing.reach.superuser standing.reach.names Kind.Select Side.Old policies)) (if b then (room_by standing name def (Some policies)).next else [])) is (by_leads standing name def (Some policies)))
+none_lead : (b : Bool) (role_privileges : RolePrivileges) (name : List ℕ) (def : TableDef) (policies : List Policy)
+    → list_any holds_subquery (if b then [] else chosen role_privileges.effective_roles.superuser role_privileges.effective_roles.names Kind.Select Side.Old policies) ≡ false
+    → flat_map using_tables (if b then [] else chosen role_privileges.effective_roles.superuser role_privileges.effective_roles.names Kind.Select Side.Old policies) ≡ []
+none_lead true role_privileges name def policies is = refl
+none_lead false role_privileges name def policies is =
+    within_empty (flat_map using_tables (chosen role_privileges.effective_roles.superuser role_privileges.effective_roles.names Kind.Select Side.Old policies))
+    (subst (λ b. Within (flat_map using_tables (chosen role_privileges.effective_roles.superuser role_privileges.effective_roles.names Kind.Select Side.Old policies)) (if b then (dependency_by role_privileges name def (Some policies)).subquery_tables else [])) is (by_leads role_privileges name def (Some policies)))
 
 none_at : (s : State) (role name : List ℕ) (found : Option TableDef) → list_any holds_subquery (applying_on found s role name Kind.Select Side.Old) ≡ false → flat_map using_tables (applying_on found s role name Kind.Select Side.Old) ≡ []
-unfolding standing_in
+unfolding role_privileges_in
 none_at s role name None is = refl
-none_at s role name (Some def) is = none_lead (exempts (standing_in s role).attributes def (has_owner (standing_in s role) def)) (standing_in s role) name def (policies_of s name) is
+none_at s role name (Some def) is = none_lead (exempts (role_privileges_in s role).attributes def (has_owner (role_privileges_in s role) def)) (role_privileges_in s role) name def (policies_of s name) is
 
-pub leaf_leads : (s : State) (role name : List ℕ) → inner_in s role name ≡ false → next_in s role name ≡ []
+pub leaf_leads : (s : State) (role name : List ℕ) → has_subquery_in s role name ≡ false → subquery_tables_in s role name ≡ []
 leaf_leads s role name is = none_at s role name (table_of s name) is
 
 -- ---- by names
 
-pub inner_same : (s : State) (role : List ℕ) (rooms : List Room) (name : List ℕ) → room_in rooms name ≡ Some (room_at s (standing_in s role) name) → inner_of rooms name ≡ inner_in s role name
-inner_same s role rooms name found = ap inner_at found ∙ inner_told s role name (table_of s name)
+pub has_subquery_same : (s : State) (role : List ℕ) (dependencies : List PolicyDependency) (name : List ℕ) → dependency_in dependencies name ≡ Some (dependency_at s (role_privileges_in s role) name) → has_subquery_of dependencies name ≡ has_subquery_in s role name
+has_subquery_same s role dependencies name found = ap has_subquery_at found ∙ has_subquery_told s role name (table_of s name)
 
-pub next_same : (s : State) (role : List ℕ) (rooms : List Room) (name : List ℕ) → room_in rooms name ≡ Some (room_at s (standing_in s role) name) → next_of rooms name ≡ next_in s role name
-next_same s role rooms name found = ap next_at found ∙ next_told s role name (table_of s name)
+pub subquery_tables_same : (s : State) (role : List ℕ) (dependencies : List PolicyDependency) (name : List ℕ) → dependency_in dependencies name ≡ Some (dependency_at s (role_privileges_in s role) name) → subquery_tables_of dependencies name ≡ subquery_tables_in s role name
+subquery_tables_same s role dependencies name found = ap subquery_tables_at found ∙ subquery_tables_told s role name (table_of s name)

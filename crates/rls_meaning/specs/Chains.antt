@@ -8,21 +8,21 @@ use Rattle.rls_expr.specs.{declared.policy.Policy.Policy, declared.table.TableDe
 use Rattle.rls_catalog.specs.{Applying.applying_to, State.State, State.policies_of, Verdict.is_exempt, Verdict.is_to}
 use Rattle.rls_catalog.specs.declared.verdict.Side.TheVariants as side
 use Rattle.rls_recursion.specs.Searching.{or_next, first_closed}
-use Rattle.rls_expansion.specs.{Leading.named, Protecting.asks_of, Used.holds_subquery, Used.tables_asked, Used.tables_if}
+use Rattle.rls_expansion.specs.{Leading.named, Expanding.asks_of, Used.holds_subquery, Used.tables_asked, Used.tables_if}
 
--- the policies for SELECT that guard the table's rows from the role: none where it is exempt, or no table is there
-abbrev pub guarding : State → List ℕ → List ℕ → List Policy
-guarding s role name = applying_to s role name k.Select side.Old
+-- the policies for SELECT of the table that apply to the role: none where it is exempt, or no table is there
+abbrev pub select_policies : State → List ℕ → List ℕ → List Policy
+select_policies s role name = applying_to s role name k.Select side.Old
 
 -- one of them holds a subquery
-abbrev pub inner_in : State → List ℕ → List ℕ → Bool
-inner_in s role name = list_any holds_subquery (guarding s role name)
+abbrev pub has_subquery_in : State → List ℕ → List ℕ → Bool
+has_subquery_in s role name = list_any holds_subquery (select_policies s role name)
 
 -- the tables that they lead to: those of the subqueries in their USING
-abbrev pub next_in : State → List ℕ → List ℕ → List (List ℕ)
-next_in s role name = flat_map (λ policy. tables_if policy.using) (guarding s role name)
+abbrev pub subquery_tables_in : State → List ℕ → List ℕ → List (List ℕ)
+subquery_tables_in s role name = flat_map (λ policy. tables_if policy.using) (select_policies s role name)
 
--- the tables that the policies lead to which guard the rows that a command on the table judges
+-- the tables that the policies lead to by which a command on the table judges rows
 abbrev pub own_in : State → List ℕ → List ℕ → TableDef → Kind → Bool → List (List ℕ)
 own_in s role name table kind reads = if is_exempt s role table then [] else flat_map (tables_asked (asks_of kind reads)) (filter (is_to s role) (policies_of s name))
 
@@ -33,7 +33,7 @@ depth s tables = suc (length tables + length (named s))
 -- the table that a chain on from this one closes on first: one that the chain meets again and whose policies hold a subquery
 abbrev pub closes : ℕ → State → List ℕ → List (List ℕ) → List ℕ → Option (List ℕ)
 closes zero s role chain t = None
-closes (suc n) s role chain t = if inner_in s role t then (if one_of chain t then Some t else first_closed (closes n s role (t ∷ chain)) (next_in s role t)) else None
+closes (suc n) s role chain t = if has_subquery_in s role t then (if one_of chain t then Some t else first_closed (closes n s role (t ∷ chain)) (subquery_tables_in s role t)) else None
 
 -- the table that a statement's chains close on first: those from its target, then those from the tables of its subqueries
 abbrev pub first_closing : ℕ → State → List ℕ → List ℕ → List (List ℕ) → List (List ℕ) → Option (List ℕ)

@@ -6,7 +6,7 @@ use Rattle.rls_value.specs.declared.refusal.Why.TheVariants as why
 use Rattle.rls_value.specs.declared.verb.Kind.TheVariants as k
 use Rattle.rls_expr.specs.declared.table.TableDef.{TableDef}
 use Rattle.rls_catalog.specs.{Membership.fresh, Privileges.holds, State.State}
-use Rattle.rls_meaning.specs.{Chains.depth, Chains.first_closing, Chains.next_in, Chains.own_in, Naming.provided, Needing.needs}
+use Rattle.rls_meaning.specs.{Chains.depth, Chains.first_closing, Chains.subquery_tables_in, Chains.own_in, Naming.provided, Needing.needs}
 
 -- who asks, the table with its name, and the type of the command; whether it reads the table; the tables of its own subqueries
 pub record Command : Type 0 where
@@ -19,7 +19,7 @@ pub record Command : Type 0 where
 
 -- ---- chains of policies
 
--- the tables that the policies lead to which guard the rows that it judges
+-- the tables that the policies lead to by which it judges rows
 abbrev pub own_of : State → Command → List (List ℕ)
 own_of s c = own_in s c.role c.name c.table c.kind c.reads
 
@@ -40,7 +40,7 @@ unless_closed (Some table) = Err (Recursion table)
 
 -- the tables that its subqueries look at: its own, then those of policies, each once
 abbrev pub needed_in : State → Command → List (List ℕ)
-needed_in s c = c.queries ++ fresh [] (needs (depth_of s c) (next_in s c.role) (own_of s c ++ c.queries))
+needed_in s c = c.queries ++ fresh [] (needs (depth_of s c) (subquery_tables_in s c.role) (own_of s c ++ c.queries))
 
 -- the privilege that a command of that type needs on its table
 abbrev pub privilege_of : Kind → Privilege

@@ -1,4 +1,4 @@
--- DELETE (PostgreSQL manual, DELETE): names, then types, then support; then the rows that it hits, which go.
+-- DELETE (PostgreSQL manual, DELETE): names, then types, then support; then the qualifying rows, which go.
 use Rattle.std.specs.Prelude.{◌≡◌, [], ◌∷◌, Result, Ok}
 use Rattle.rls_value.specs.{declared.refusal.Refusal.Refusal, declared.tag.Tag.Tag, Giving.and_then}
 use Rattle.rls_value.specs.declared.verb.Kind.TheVariants as k
@@ -8,19 +8,19 @@ use Rattle.rls_statement.specs.declared.changing.Delete.{Delete}
 use Rattle.rls_statement.specs.declared.statement.Statement.TheVariants as statement
 use Rattle.rls_guard.specs.{declared.context.Ctx.Ctx, declared.effect.Effect.Effect, Effects.shown}
 use Rattle.rls_expansion.specs.Used.{tables_if}
-use Rattle.rls_dml.specs.{declared.deleting.Removal.Removal, Deleting.deleted, Deleting.removal_in, Deleting.removal_names, Deleting.removal_reads}
+use Rattle.rls_dml.specs.{declared.deleting.AnalysedDelete.AnalysedDelete, Deleting.deleted, Deleting.analysed_delete_in, Deleting.analysed_delete_names, Deleting.analysed_delete_reads}
 use Rattle.rls_access.specs.Statements.{effect_in, mode_or_refused}
-use Rattle.rls_meaning.specs.{Commands.Command, Commands.permitted_in, Naming.named_in, Naming.table_in, Rows.hits_in}
+use Rattle.rls_meaning.specs.{Commands.Command, Commands.permitted_in, Naming.named_in, Naming.table_in, Rows.qualifying_rows_in}
 
 -- the parts of the statement: names, then types, then support
-abbrev pub delete_parts : State → Delete → TableDef → Result Removal Refusal
-delete_parts s asked table = and_then (named_in s (removal_names asked) ((asked.table, table) ∷ []) []) (removal_in asked (asked.table, table))
+abbrev pub delete_parts : State → Delete → TableDef → Result AnalysedDelete Refusal
+delete_parts s asked table = and_then (named_in s (analysed_delete_names asked) ((asked.table, table) ∷ []) []) (analysed_delete_in asked (asked.table, table))
 
--- the rows that are hit go, and are answered
-abbrev pub delete_rows : State → Removal → Command → Result Effect Refusal
+-- the qualifying rows go, and are answered
+abbrev pub delete_rows : State → AnalysedDelete → Command → Result Effect Refusal
 delete_rows s parts c =
     and_then (permitted_in s c) (λ _.
-    and_then (hits_in s c parts.condition) (λ judged.
+    and_then (qualifying_rows_in s c parts.condition) (λ judged.
     Ok (deleted c.name parts c.role judged)))
 
 -- the table, the parts, and then the rows
@@ -28,7 +28,7 @@ abbrev pub delete_in : State → Ctx → Delete → Result Effect Refusal
 delete_in s ctx asked =
     and_then (table_in s asked.table) (λ table.
     and_then (delete_parts s asked table) (λ parts.
-    delete_rows s parts (record { role = ctx.role; name = asked.table; table = table; kind = k.Delete; reads = removal_reads parts; queries = tables_if parts.condition })))
+    delete_rows s parts (record { role = ctx.role; name = asked.table; table = table; kind = k.Delete; reads = analysed_delete_reads parts; queries = tables_if parts.condition })))
 
 -- what DELETE means, once its transaction may run it
 abbrev pub effect_of_delete : State → Ctx → Delete → Effect

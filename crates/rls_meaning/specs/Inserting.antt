@@ -10,23 +10,23 @@ use Rattle.rls_statement.specs.declared.statement.Statement.TheVariants as state
 use Rattle.rls_evaluation.specs.{Environments.alone, Gathering.gathered}
 use Rattle.rls_guard.specs.{declared.context.Ctx.Ctx, declared.effect.Effect.Effect, Effects.shown}
 use Rattle.rls_judging.specs.Valuing.{values_on, with_values}
-use Rattle.rls_dml.specs.{declared.addition.Addition.Addition, Checking.returning_names, Checking.returning_reads, Inserting.addition_in, Inserting.inserted, Inserting.new_rows, Inserting.places_of, Inserting.tuples_names, Inserting.tuples_tables, Writing.order_of}
+use Rattle.rls_dml.specs.{declared.analysed_insert.AnalysedInsert.AnalysedInsert, Checking.returning_names, Checking.returning_reads, Inserting.analysed_insert_in, Inserting.inserted, Inserting.new_rows, Inserting.places_of, Inserting.tuples_names, Inserting.tuples_tables, Writing.order_of}
 use Rattle.rls_access.specs.Statements.{effect_in, mode_or_refused}
 use Rattle.rls_meaning.specs.{Commands.Command, Commands.permitted_in, Constraints.allowed_in, Naming.named_in, Naming.table_in, Rows.decisions_in, Rows.sees}
 
 -- the parts of the statement: names, then types, then support, then how many rows
-abbrev pub insert_parts : State → Ctx → Insert → TableDef → Result Addition Refusal
+abbrev pub insert_parts : State → Ctx → Insert → TableDef → Result AnalysedInsert Refusal
 insert_parts s ctx asked table =
     and_then (places_of table.columns asked.columns) (λ places.
     and_then (and_then (named_in s (tuples_names asked.tuples) [] []) (named_in s (returning_names asked.returning) ((asked.table, table) ∷ []))) (λ found.
-    addition_in ctx.next asked (asked.table, table) places found))
+    analysed_insert_in ctx.next asked (asked.table, table) places found))
 
 -- the values of the tuples, over no row
 abbrev pub tuple_values : State → Command → List (List Term) → Result (List (List Value)) Refusal
 tuple_values s c tuples = ((gathered with_values [] (λ tuple. values_on tuple (sees s c) (alone c.role)) tuples).in_state s).gives
 
 -- the new rows, and what they are refused for
-abbrev pub insert_rows : State → Ctx → Addition → Command → Result Effect Refusal
+abbrev pub insert_rows : State → Ctx → AnalysedInsert → Command → Result Effect Refusal
 insert_rows s ctx parts c =
     and_then (permitted_in s c) (λ _.
     and_then (tuple_values s c parts.tuples) (λ values.

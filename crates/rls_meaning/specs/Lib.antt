@@ -14,4 +14,4 @@ pub mod Policies
 pub mod Privileges
 pub mod Memberships
 pub mod Meaning
-pub mod Protecting
+pub mod Expanding

@@ -3,7 +3,7 @@
 use Rattle.std.specs.Prelude.{ℕ, List, [], ◌∷◌, ◌++◌, drop, Bool, Result, Ok, Err, if◌then◌else◌}
 use Rattle.rls_value.specs.{declared.refusal.Refusal.Refusal, declared.refusal.Refusal.TheVariants.Undefined, Giving.and_then}
 use Rattle.rls_value.specs.declared.refusal.NameKind.TheVariants as kind
-use Rattle.rls_expr.specs.{declared.policy.Grantee.Grantee, declared.policy.Grantee.TheVariants.Public, declared.policy.Grantee.TheVariants.Role, declared.table.TableDef.TableDef, Naming.Step, Naming.Look, Naming.Enter, Naming.Leave, Scopes.InScope, Scopes.place_in, Terms.qualifier_of}
+use Rattle.rls_expr.specs.{declared.policy.Grantee.Grantee, declared.policy.Grantee.TheVariants.Public, declared.policy.Grantee.TheVariants.Role, declared.table.TableDef.TableDef, Naming.Step, Naming.Look, Naming.Enter, Naming.Leave, Scopes.InScope, Scopes.var_in, Terms.qualifier_of}
 use Rattle.rls_catalog.specs.{declared.role.RoleDef.RoleDef, State.State, State.role_of, State.table_of}
 use Rattle.rls_source.specs.Named.{found_or}
 use Rattle.rls_guard.specs.Naming.{there_or_undefined}
@@ -34,6 +34,6 @@ grantees_in s (Role name ∷ grantees) = and_then (role_in s name) (λ _. grante
 -- each name has to be there, in text order, over the tables in scope; the tables of subqueries, as they are met
 abbrev pub named_in : State → List Step → List InScope → List InScope → Result (List InScope) Refusal
 named_in s [] tables found = Ok found
-named_in s (Look name ∷ steps) tables found = and_then (there_or_undefined (place_in tables name)) (λ _. named_in s steps tables found)
+named_in s (Look name ∷ steps) tables found = and_then (there_or_undefined (var_in tables name)) (λ _. named_in s steps tables found)
 named_in s (Enter from ∷ steps) tables found = and_then (table_in s from.table) (λ table. named_in s steps ((qualifier_of from, table) ∷ tables) (found ++ (from.table, table) ∷ []))
 named_in s (Leave ∷ steps) tables found = named_in s steps (drop 1 tables) found

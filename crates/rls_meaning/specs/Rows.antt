@@ -1,4 +1,4 @@
--- The rows that a command looks at, hits and puts (PostgreSQL manual, 5.8, "Row Security Policies", and CREATE POLICY, "Policies
+-- The rows that a command scans, those that qualify and those that it puts (PostgreSQL manual, 5.8, "Row Security Policies", and CREATE POLICY, "Policies
 -- Applied by Command Type").
 use Rattle.std.specs.Prelude.{ℕ, List, [], ◌∷◌, Option, Some, None, Result, if◌then◌else◌}
 use Rattle.std.specs.List.{list_any}
@@ -8,28 +8,28 @@ use Rattle.rls_value.specs.declared.verb.Kind.TheVariants as k
 use Rattle.rls_expr.specs.Terms.{Term, maybe_term}
 use Rattle.rls_catalog.specs.{declared.stored.Stored.Stored, declared.verdict.Side.Side, State.State, State.rows_of, State.rows_with_key, State.table_of}
 use Rattle.rls_catalog.specs.declared.verdict.Side.TheVariants as side
-use Rattle.rls_evaluation.specs.{declared.fence.Guard.Guard, Eval.Shows, Gathering.gathered}
-use Rattle.rls_guard.specs.{declared.guard.Watch.Watch, declared.reply.Decision.Decision}
+use Rattle.rls_evaluation.specs.{declared.relation.SecurityQuals.SecurityQuals, Eval.Shows, Gathering.gathered}
+use Rattle.rls_guard.specs.{declared.quals.RowCheck.RowCheck, declared.reply.Decision.Decision}
 use Rattle.rls_depth.specs.Deep.{ruled, shows_deep}
-use Rattle.rls_judging.specs.{Candidates.pinned_key, Judging.decisions_on, Judging.judged_old, Judging.with_decisions, Judging.with_judged}
+use Rattle.rls_judging.specs.{ScannedRows.pinned_key, Judging.decisions_on, Judging.judged_old, Judging.with_decisions, Judging.with_judged}
 use Rattle.rls_meaning.specs.Commands.{Command, depth_of}
 
 -- ---- what row security says
 
 -- the security quals of each table that subqueries look at
-abbrev pub quals : State → List ℕ → List ℕ → Option Guard
-quals s role name = option_map (λ table. ruled s role k.Select side.Old (name, table)) (table_of s name)
+abbrev pub select_quals : State → List ℕ → List ℕ → Option SecurityQuals
+select_quals s role name = option_map (λ table. ruled s role k.Select side.Old (name, table)) (table_of s name)
 
 -- what tables show to the role, in its subqueries and in those of policies
 abbrev pub sees : State → Command → Shows
-sees s c = shows_deep (depth_of s c) (quals s c.role) c.role
+sees s c = shows_deep (depth_of s c) (select_quals s c.role) c.role
 
 -- one check of a row: by the policies that apply to the role for that type of command
-abbrev pub check : State → Command → Side → Kind → Watch
-check s c which kind = record { kind = kind; side = which; guard = ruled s c.role kind which (c.name, c.table) }
+abbrev pub check : State → Command → Side → Kind → RowCheck
+check s c which kind = record { kind = kind; side = which; quals = ruled s c.role kind which (c.name, c.table) }
 
 -- what a row is checked for: the command and, where it reads the table, SELECT
-abbrev pub checks : State → Command → Side → List Watch
+abbrev pub checks : State → Command → Side → List RowCheck
 checks s c which = check s c which c.kind ∷ (if c.reads then check s c which k.Select ∷ [] else [])
 
 -- ---- rows
@@ -39,9 +39,9 @@ abbrev pub rows_at_key : State → List ℕ → Option (List Value) → List Sto
 rows_at_key s name None = rows_of s name
 rows_at_key s name (Some key) = if list_any is_null key then [] else rows_with_key s name key
 
--- the decisions on them, and those that it hits: allowed by each check, and WHERE is true
-abbrev pub hits_in : State → Command → Option Term → Result (List Decision × List Stored) Refusal
-hits_in s c condition =
+-- the decisions on them, and those that qualify: allowed by each check, and WHERE is true
+abbrev pub qualifying_rows_in : State → Command → Option Term → Result (List Decision × List Stored) Refusal
+qualifying_rows_in s c condition =
     ((gathered with_judged ([], []) (judged_old (checks s c side.Old) (maybe_term condition) (sees s c) c.role) (rows_at_key s c.name (pinned_key c.role c.table.key condition))).in_state s).gives
 
 -- the decisions on new rows

@@ -1,4 +1,4 @@
--- SELECT (PostgreSQL manual, SELECT): names, then types, then support; then the rows that it hits, which are answered.
+-- SELECT (PostgreSQL manual, SELECT): names, then types, then support; then the qualifying rows, which are answered.
 use Rattle.std.specs.Prelude.{◌≡◌, [], ◌∷◌, false, Result, Ok}
 use Rattle.rls_value.specs.{declared.refusal.Refusal.Refusal, declared.tag.Tag.Tag, Giving.and_then}
 use Rattle.rls_value.specs.declared.verb.Kind.TheVariants as k
@@ -8,19 +8,19 @@ use Rattle.rls_statement.specs.declared.statement.Select.{Select}
 use Rattle.rls_statement.specs.declared.statement.Statement.TheVariants as statement
 use Rattle.rls_guard.specs.{declared.context.Ctx.Ctx, declared.effect.Effect.Effect, Effects.shown}
 use Rattle.rls_expansion.specs.Used.{tables_if}
-use Rattle.rls_dml.specs.{declared.selecting.Query.Query, Selecting.listed_by, Selecting.qualifier_of, Selecting.query_in, Selecting.query_names}
+use Rattle.rls_dml.specs.{declared.selecting.AnalysedSelect.AnalysedSelect, Selecting.listed_by, Selecting.qualifier_of, Selecting.analysed_select_in, Selecting.analysed_select_names}
 use Rattle.rls_access.specs.Statements.{effect_in, mode_or_refused}
-use Rattle.rls_meaning.specs.{Commands.Command, Commands.permitted_in, Naming.named_in, Naming.table_in, Rows.hits_in}
+use Rattle.rls_meaning.specs.{Commands.Command, Commands.permitted_in, Naming.named_in, Naming.table_in, Rows.qualifying_rows_in}
 
 -- the parts of the statement: names, then types, then support
-abbrev pub select_parts : State → Select → TableDef → Result Query Refusal
-select_parts s asked table = and_then (named_in s (query_names asked) ((qualifier_of asked, table) ∷ []) []) (query_in asked (qualifier_of asked, table))
+abbrev pub select_parts : State → Select → TableDef → Result AnalysedSelect Refusal
+select_parts s asked table = and_then (named_in s (analysed_select_names asked) ((qualifier_of asked, table) ∷ []) []) (analysed_select_in asked (qualifier_of asked, table))
 
--- the rows that are hit are answered
-abbrev pub select_rows : State → Query → Command → Result Effect Refusal
+-- the qualifying rows are answered
+abbrev pub select_rows : State → AnalysedSelect → Command → Result Effect Refusal
 select_rows s parts c =
     and_then (permitted_in s c) (λ _.
-    and_then (hits_in s c parts.condition) (λ judged.
+    and_then (qualifying_rows_in s c parts.condition) (λ judged.
     Ok (listed_by parts c.role judged)))
 
 -- the table, the parts, and then the rows

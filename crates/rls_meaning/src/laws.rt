@@ -7,10 +7,10 @@ ghost use Rattle.rls_catalog.specs.{declared.grant.Grant.Grant, State.State, Has
 ghost use Rattle.rls_catalog.specs.Paths.{IsMember, MayGrant, MaySet, can_set, closes_circle, may_grant};
 ghost use Rattle.rls_catalog.specs.GrantOptions.{GoesBack, HasDependents, LeftAfterRevoke};
 ghost use Rattle.rls_grant.specs.{Granting.goes_back, Holders.holders_of, Revoking.stays};
-ghost use Rattle.rls_meaning.specs.{Commands.Command, Needing.AskedInOrder, Protecting.IsExpanded};
+ghost use Rattle.rls_meaning.specs.{Commands.Command, Needing.ChecksInOrder, Expanding.IsExpanded};
 ghost use Rattle.rls_meaning.specs.{Deleting.DeleteMeans, Inserting.InsertMeans, Meaning.StatementMeans, Selecting.SelectMeans, Updating.UpdateMeans};
 
-use rls_depth::{protection_means, role_means};
+use rls_depth::{policy_expansion_means, role_means};
 use rls_grant::grantor_means;
 use rls_recursion::search_means;
 use rls_role::memberships_mean;
@@ -56,19 +56,19 @@ pub fn delete_means()
 }
 
 /// The expansion of a command's policies, in the words of a state: it is refused just where the state's chains close; else it
-/// asks for the privileges that are needed, and protects rows as the state says.
+/// asks for the privileges that are needed, and expands policies as the state says.
 pub fn expansion_means()
     ensures { (s : State) (c : Command) → IsExpanded s c }
 {
     search_means();
-    protection_means();
+    policy_expansion_means();
     role_means()
 }
 
 /// The privilege is asked of each table that is needed, in order.
-#[tactic(auto, using(crate::proofs::Listing::asked_in_order))]
+#[tactic(auto, using(crate::proofs::Listing::checks_in_order))]
 pub fn needed_means()
-    ensures { AskedInOrder }
+    ensures { ChecksInOrder }
 {}
 
 /// The tests that the meaning asks of a state are the rules of the manual, as least relations: whose privileges a role has,

@@ -5,7 +5,7 @@ ghost use Rattle.rls_catalog.specs.declared.stored.Stored.{Stored as Seen};
 ghost use Rattle.rls_overlay.specs.Merged.{merged};
 
 use crate::own_row::OwnRow;
-use rls_catalog::Lent;
+use rls_catalog::BorrowedRow;
 use rls_value::Items;
 use std::alloc::{AllocError, Global};
 use std::cmp::Ordering;
@@ -13,13 +13,13 @@ use std::cmp::Ordering;
 /// Rows that were put together, and the own rows that are left.
 #[derive(Drop)]
 struct Merging<'o, 'c> {
-    all: Vec<Lent<'c>>,
+    all: Vec<BorrowedRow<'c>>,
     own: &'o [OwnRow<'c>],
 }
 
 impl<'o, 'c> Merging<'o, 'c> {
     /// Puts the own rows up to the row's number, and the row unless one of them stands for it.
-    fn put(&mut self, row: Lent<'c>) -> Result<(), AllocError>
+    fn put(&mut self, row: BorrowedRow<'c>) -> Result<(), AllocError>
         ensures { OnOk result ((rows : List Seen) → self.new.all.items ++ merged rows self.new.own.now ≡ self.old.all.items ++ merged (row.entry ∷ rows) self.old.own.now) }
     {
         let id = row.id();
@@ -42,7 +42,7 @@ impl<'o, 'c> Merging<'o, 'c> {
     }
 
     /// Puts the own rows that are left.
-    fn finish(self) -> Result<Items<Lent<'c>>, AllocError>
+    fn finish(self) -> Result<Items<BorrowedRow<'c>>, AllocError>
         ensures { IfOk result (λ rows. rows ≡ self.entry.all.items ++ merged [] self.entry.own.now) }
     {
         let Merging { mut all, own } = self;
@@ -56,9 +56,9 @@ impl<'o, 'c> Merging<'o, 'c> {
 /// The rows with those that were written, in order of numbers. It takes time linear in both.
 pub(crate) fn merge<'c>(
     alloc: Global,
-    rows: Items<Lent<'c>>,
+    rows: Items<BorrowedRow<'c>>,
     own: &[OwnRow<'c>],
-) -> Result<Items<Lent<'c>>, AllocError>
+) -> Result<Items<BorrowedRow<'c>>, AllocError>
     ensures { IfOk result (λ all. all ≡ merged rows.entry own.now) }
 {
     let mut merging = Merging {

@@ -3,14 +3,14 @@
 ghost use Rattle.std.specs.Prelude.{◌≡◌, IfOk};
 
 use crate::own_changes::OwnChanges;
-use rls_catalog::{Change, Grant, Lent, Membership, RoleDef};
+use rls_catalog::{BorrowedRow, Change, Grant, Membership, RoleDef};
 use rls_expr::{Policy, TableDef};
 use rls_source::RowSource;
 use rls_value::{Items, Name, Object, Row};
 use std::alloc::{AllocError, Global};
 
 /// A source, and changes that are put on it one after another: it stands for the state behind them. Each look-up is one of
-/// the source. What the changes wrote is lent from them, all else from the source.
+/// the source. What the changes wrote is borrowed from them, all else from the source.
 #[derive(Drop)]
 pub struct Overlay<'c, S> {
     pub source: S,
@@ -73,7 +73,7 @@ impl<'c, S: RowSource<'c>> RowSource<'c> for Overlay<'c, S> {
     }
 
     #[tactic(auto, using(crate::proofs::Laws::rows_behind, crate::proofs::Laws::in_order_behind))]
-    fn scan(&mut self, alloc: Global, table: &Name) -> Result<Items<Lent<'c>>, AllocError> {
+    fn scan(&mut self, alloc: Global, table: &Name) -> Result<Items<BorrowedRow<'c>>, AllocError> {
         let found = self.source.scan(alloc, table)?;
         self.changes.rows_over(alloc, found, table)
     }
@@ -84,13 +84,13 @@ impl<'c, S: RowSource<'c>> RowSource<'c> for Overlay<'c, S> {
         alloc: Global,
         table: &Name,
         key: &Row,
-    ) -> Result<Items<Lent<'c>>, AllocError> {
+    ) -> Result<Items<BorrowedRow<'c>>, AllocError> {
         let found = self.source.by_key(alloc, table, key)?;
         self.changes.keyed_over(alloc, found, table, key)
     }
 
     #[tactic(auto, using(crate::proofs::Laws::rows_behind, crate::proofs::Laws::in_order_behind))]
-    fn look(&self, alloc: Global, table: &Name) -> Result<Items<Lent<'c>>, AllocError> {
+    fn look(&self, alloc: Global, table: &Name) -> Result<Items<BorrowedRow<'c>>, AllocError> {
         let found = self.source.look(alloc, table)?;
         self.changes.rows_over(alloc, found, table)
     }
@@ -101,7 +101,7 @@ impl<'c, S: RowSource<'c>> RowSource<'c> for Overlay<'c, S> {
         alloc: Global,
         table: &Name,
         key: &Row,
-    ) -> Result<Items<Lent<'c>>, AllocError> {
+    ) -> Result<Items<BorrowedRow<'c>>, AllocError> {
         let found = self.source.look_by_key(alloc, table, key)?;
         self.changes.keyed_over(alloc, found, table, key)
     }

@@ -8,13 +8,13 @@ ghost use Rattle.rls_overlay.specs.Merged.{merged};
 ghost use Rattle.rls_overlay.specs.Written.{written as what_they_wrote, rows_written, over, list_over};
 
 use crate::written::Written;
-use rls_catalog::{Change, Grant, Lent, Membership, RoleDef};
+use rls_catalog::{BorrowedRow, Change, Grant, Membership, RoleDef};
 use rls_expr::{Policy, TableDef};
 use rls_value::{Items, Name, Row};
 use std::alloc::{AllocError, Global};
 use std::marker::Model;
 
-/// Changes that are lent, with an index of what they wrote; seen as the changes.
+/// Changes that are borrowed, with an index of what they wrote; seen as the changes.
 #[derive(Drop)]
 pub struct OwnChanges<'c> {
     changes: &'c [Change],
@@ -92,9 +92,9 @@ impl<'c> OwnChanges<'c> {
     pub(crate) fn rows_over(
         &self,
         alloc: Global,
-        found: Items<Lent<'c>>,
+        found: Items<BorrowedRow<'c>>,
         table: &Name,
-    ) -> Result<Items<Lent<'c>>, AllocError>
+    ) -> Result<Items<BorrowedRow<'c>>, AllocError>
         ensures { IfOk result (λ rows. rows ≡ merged found.entry (rows_written self.now table.now)) }
     {
         self.written.rows_over(alloc, found, table)
@@ -104,10 +104,10 @@ impl<'c> OwnChanges<'c> {
     pub(crate) fn keyed_over(
         &self,
         alloc: Global,
-        found: Items<Lent<'c>>,
+        found: Items<BorrowedRow<'c>>,
         table: &Name,
         key: &Row,
-    ) -> Result<Items<Lent<'c>>, AllocError>
+    ) -> Result<Items<BorrowedRow<'c>>, AllocError>
         ensures { IfOk result (λ rows. rows ≡ merged (not_written (rows_written self.now table.now) found.entry) (own_with_key key.now (rows_written self.now table.now))) }
     {
         self.written.keyed_over(alloc, found, table, key)

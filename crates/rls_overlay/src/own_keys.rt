@@ -9,14 +9,14 @@ ghost use Rattle.rls_overlay.specs.Indexed.{Indexes, under};
 
 use crate::own_row::OwnRow;
 use rls_catalog::Keyed;
-use rls_value::{Items, Loan, Row, RowId};
+use rls_value::{Items, Reference, Row, RowId};
 use std::alloc::{AllocError, Global};
 use std::collections::BTreeMap;
 
 /// The rows under their keys, in order of their numbers.
 pub(crate) fn keys_of<'c>(
     alloc: Global,
-    rows: &BTreeMap<RowId, Loan<'c, Option<Keyed>>>,
+    rows: &BTreeMap<RowId, Reference<'c, Option<Keyed>>>,
 ) -> Result<BTreeMap<Row, Items<OwnRow<'c>>>, AllocError>
     ensures { IfOk result (λ keys. Indexes keys.entries rows.now.entries) }
 {

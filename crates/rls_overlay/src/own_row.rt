@@ -3,7 +3,7 @@
 ghost use Rattle.std.specs.Prelude.{◌≡◌, ◌++◌, Some, OnOk};
 ghost use Rattle.rls_overlay.specs.Merged.{own_row};
 
-use rls_catalog::{Keyed, Lent};
+use rls_catalog::{BorrowedRow, Keyed};
 use rls_value::RowId;
 use std::alloc::AllocError;
 use std::marker::Model;
@@ -58,11 +58,11 @@ impl<'c> OwnRow<'c> {
     }
 
     /// Puts the row behind the rows, if it is there.
-    pub(crate) fn put(&self, rows: &mut Vec<Lent<'c>>) -> Result<(), AllocError>
+    pub(crate) fn put(&self, rows: &mut Vec<BorrowedRow<'c>>) -> Result<(), AllocError>
         ensures { OnOk result (rows.new.items ≡ rows.old.items ++ own_row self.now.0 self.now.1) }
     {
         if let Some(keyed) = self.content {
-            rows.push(Lent::new(self.id, keyed))?;
+            rows.push(BorrowedRow::new(self.id, keyed))?;
         }
         Ok(())
     }

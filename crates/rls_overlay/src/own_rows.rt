@@ -8,8 +8,8 @@ ghost use Rattle.rls_overlay.specs.{Merged.merged, Written.with_own};
 use crate::merging::merge;
 use crate::own_keys::keys_of;
 use crate::own_row::OwnRow;
-use rls_catalog::{Keyed, Lent, RowChange, is_same_row};
-use rls_value::{Items, Loan, Row, RowId};
+use rls_catalog::{BorrowedRow, Keyed, RowChange, is_same_row};
+use rls_value::{Items, Reference, Row, RowId};
 use std::alloc::{AllocError, Global};
 use std::collections::BTreeMap;
 use std::marker::Model;
@@ -17,7 +17,7 @@ use std::marker::Model;
 /// The rows that were written in a table, by number, each with its last content; seen as their list.
 #[derive(Drop)]
 pub(crate) struct OwnRows<'c> {
-    rows: BTreeMap<RowId, Loan<'c, Option<Keyed>>>,
+    rows: BTreeMap<RowId, Reference<'c, Option<Keyed>>>,
     keys: BTreeMap<Row, Items<OwnRow<'c>>>,
     /// Whether `keys` has the rows. If not, all of them are looked at.
     indexed: bool,
@@ -45,7 +45,7 @@ impl<'c> OwnRows<'c> {
         ensures { IfOk result (λ own. own ≡ (change.now.id, change.now.after) ∷ []) }
     {
         let mut rows = BTreeMap::new(alloc);
-        rows.insert(change.id, Loan::new(&change.after))?;
+        rows.insert(change.id, Reference::new(&change.after))?;
         Ok(OwnRows {
             rows,
             keys: BTreeMap::new(alloc),
@@ -58,7 +58,7 @@ impl<'c> OwnRows<'c> {
         ensures { OnOk result (self.new ≡ with_own change.now.id change.now.after self.old) }
     {
         self.indexed = false;
-        self.rows.insert(change.id, Loan::new(&change.after))?;
+        self.rows.insert(change.id, Reference::new(&change.after))?;
         Ok(())
     }
 
@@ -77,8 +77,8 @@ impl<'c> OwnRows<'c> {
     pub(crate) fn over(
         &self,
         alloc: Global,
-        found: Items<Lent<'c>>,
-    ) -> Result<Items<Lent<'c>>, AllocError>
+        found: Items<BorrowedRow<'c>>,
+    ) -> Result<Items<BorrowedRow<'c>>, AllocError>
         ensures { IfOk result (λ rows. rows ≡ merged found.entry self.now) }
     {
         let own = list(alloc, &self.rows)?;
@@ -90,9 +90,9 @@ impl<'c> OwnRows<'c> {
     pub(crate) fn over_with_key(
         &self,
         alloc: Global,
-        found: Items<Lent<'c>>,
+        found: Items<BorrowedRow<'c>>,
         key: &Row,
-    ) -> Result<Items<Lent<'c>>, AllocError>
+    ) -> Result<Items<BorrowedRow<'c>>, AllocError>
         ensures { IfOk result (λ rows. rows ≡ merged (not_written self.now found.entry) (own_with_key key.now self.now)) }
     {
         let others = others(alloc, &self.rows, found)?;
@@ -110,7 +110,7 @@ impl<'c> OwnRows<'c> {
 /// The rows, in order of their numbers.
 fn list<'c>(
     alloc: Global,
-    rows: &BTreeMap<RowId, Loan<'c, Option<Keyed>>>,
+    rows: &BTreeMap<RowId, Reference<'c, Option<Keyed>>>,
 ) -> Result<Items<OwnRow<'c>>, AllocError>
     ensures { IfOk result (λ listed. listed ≡ rows.now.entries) }
 {
@@ -124,7 +124,7 @@ fn list<'c>(
 /// The rows that have the key, in order of their numbers. It looks at each.
 fn seek<'c>(
     alloc: Global,
-    rows: &BTreeMap<RowId, Loan<'c, Option<Keyed>>>,
+    rows: &BTreeMap<RowId, Reference<'c, Option<Keyed>>>,
     key: &Row,
 ) -> Result<Items<OwnRow<'c>>, AllocError>
     ensures { IfOk result (λ listed. listed ≡ own_with_key key.now rows.now.entries) }
@@ -141,9 +141,9 @@ fn seek<'c>(
 /// The rows that were found and weren't written.
 fn others<'c>(
     alloc: Global,
-    own: &BTreeMap<RowId, Loan<'_, Option<Keyed>>>,
-    found: Items<Lent<'c>>,
-) -> Result<Items<Lent<'c>>, AllocError>
+    own: &BTreeMap<RowId, Reference<'_, Option<Keyed>>>,
+    found: Items<BorrowedRow<'c>>,
+) -> Result<Items<BorrowedRow<'c>>, AllocError>
     ensures { IfOk result (λ rows. rows ≡ not_written own.now.entries found.entry) }
 {
     let mut others = Vec::with_capacity(alloc, found.len())?;
@@ -155,7 +155,7 @@ fn others<'c>(
     Ok(Items::from_vec(others))
 }
 
-fn is_other(own: &BTreeMap<RowId, Loan<'_, Option<Keyed>>>, id: RowId) -> bool
+fn is_other(own: &BTreeMap<RowId, Reference<'_, Option<Keyed>>>, id: RowId) -> bool
     ensures { result ≡ not (is_written own.now.entries id) }
 {
     !own.contains_key(&id)

@@ -7,9 +7,9 @@ ghost use Rattle.rls_catalog.specs.{State.at, State.name_order, State.or_none, P
 ghost use Rattle.rls_overlay.specs.{Indexed.own_with_key, Indexed.not_written, Merged.merged, Written.with_change, Written.with_changes, Written.with_own_row, Written.unwritten, Written.over, Written.list_over};
 
 use crate::own_rows::OwnRows;
-use rls_catalog::{Change, Grant, Lent, Membership, PolicyList, RoleDef, RowChange};
+use rls_catalog::{BorrowedRow, Change, Grant, Membership, PolicyList, RoleDef, RowChange};
 use rls_expr::{Policy, TableDef};
-use rls_value::{Items, Loan, Name, Row};
+use rls_value::{Items, Name, Reference, Row};
 use std::alloc::{AllocError, Global};
 use std::collections::BTreeMap;
 use std::marker::Model;
@@ -17,11 +17,11 @@ use std::marker::Model;
 /// The last content of each object that was written, found in logarithmic time; seen as `Own`.
 #[derive(Drop)]
 pub(crate) struct Written<'c> {
-    roles: BTreeMap<Name, Loan<'c, RoleDef>>,
-    members: BTreeMap<Name, Loan<'c, Items<Membership>>>,
-    tables: BTreeMap<Name, Loan<'c, TableDef>>,
-    grants: BTreeMap<Name, Loan<'c, Items<Grant>>>,
-    policies: BTreeMap<Name, Loan<'c, PolicyList>>,
+    roles: BTreeMap<Name, Reference<'c, RoleDef>>,
+    members: BTreeMap<Name, Reference<'c, Items<Membership>>>,
+    tables: BTreeMap<Name, Reference<'c, TableDef>>,
+    grants: BTreeMap<Name, Reference<'c, Items<Grant>>>,
+    policies: BTreeMap<Name, Reference<'c, PolicyList>>,
     rows: BTreeMap<Name, OwnRows<'c>>,
 }
 
@@ -84,11 +84,19 @@ impl<'c> Written<'c> {
         ensures { OnOk result (self.new ≡ with_change self.old change.now) }
     {
         match change {
-            Change::Role(name, def) => note(&mut self.roles, name, Loan::new(def)),
-            Change::Members(name, content) => note(&mut self.members, name, Loan::new(content)),
-            Change::Table(name, def) => note(&mut self.tables, name, Loan::new(def)),
-            Change::Grants(name, content) => note(&mut self.grants, name, Loan::new(content)),
-            Change::Policies(name, content) => note(&mut self.policies, name, Loan::new(content)),
+            Change::Role(name, def) => note(&mut self.roles, name, Reference::new(def)),
+            Change::Members(name, content) => note(
+                &mut self.members,
+                name,
+                Reference::new(content),
+            ),
+            Change::Table(name, def) => note(&mut self.tables, name, Reference::new(def)),
+            Change::Grants(name, content) => note(&mut self.grants, name, Reference::new(content)),
+            Change::Policies(name, content) => note(
+                &mut self.policies,
+                name,
+                Reference::new(content),
+            ),
             Change::Row(row) => put_row(&mut self.rows, alloc, row),
         }
     }
@@ -149,9 +157,9 @@ impl<'c> Written<'c> {
     pub(crate) fn rows_over(
         &self,
         alloc: Global,
-        found: Items<Lent<'c>>,
+        found: Items<BorrowedRow<'c>>,
         table: &Name,
-    ) -> Result<Items<Lent<'c>>, AllocError>
+    ) -> Result<Items<BorrowedRow<'c>>, AllocError>
         ensures { IfOk result (λ rows. rows ≡ merged found.entry (or_none (at table.now self.now.rows))) }
     {
         match self.rows.get(table) {
@@ -165,10 +173,10 @@ impl<'c> Written<'c> {
     pub(crate) fn keyed_over(
         &self,
         alloc: Global,
-        found: Items<Lent<'c>>,
+        found: Items<BorrowedRow<'c>>,
         table: &Name,
         key: &Row,
-    ) -> Result<Items<Lent<'c>>, AllocError>
+    ) -> Result<Items<BorrowedRow<'c>>, AllocError>
         ensures { IfOk result (λ rows. rows ≡ merged (not_written (or_none (at table.now self.now.rows)) found.entry) (own_with_key key.now (or_none (at table.now self.now.rows)))) }
     {
         match self.rows.get(table) {

@@ -9,9 +9,9 @@ ghost use Rattle.rls_catalog.specs.Verdict as spec;
 use crate::exemption::is_exempt;
 use rls_catalog::Side;
 use rls_expr::{Expr, Grantee, Policy, TableDef};
-use rls_role::{Reach, reach_of};
+use rls_role::{EffectiveRoles, effective_roles_of};
 use rls_source::RowSource;
-use rls_value::{Items, Kind, Loan, Name, PolicyKind};
+use rls_value::{Items, Kind, Name, PolicyKind, Reference};
 use std::alloc::{AllocError, Global};
 
 /// The expression that the policy is asked for: USING for SELECT, DELETE and the old row of UPDATE; else WITH CHECK or,
@@ -72,14 +72,14 @@ fn is_to_everyone(policy: &Policy) -> bool
         .any(|grantee| matches!(grantee, Grantee::Public))
 }
 
-fn is_to(policy: &Policy, reach: &Reach) -> bool
-    ensures { result ≡ list_any (includes reach.now.superuser reach.now.names) policy.now.to }
+fn is_to(policy: &Policy, effective_roles: &EffectiveRoles) -> bool
+    ensures { result ≡ list_any (includes effective_roles.now.superuser effective_roles.now.names) policy.now.to }
 {
     policy
         .to
         .as_slice()
         .iter()
-        .any(|grantee| reach.includes(grantee))
+        .any(|grantee| effective_roles.includes(grantee))
 }
 
 /// The policies of the table that apply to the role for that type of command and that row: none where row security
@@ -95,7 +95,7 @@ pub fn applying<'c, S: RowSource<'c>>(
     table: &Name,
     kind: Kind,
     side: Side,
-) -> Result<Items<Loan<'c, Policy>>, AllocError>
+) -> Result<Items<Reference<'c, Policy>>, AllocError>
     ensures policies { IfOk result (λ policies. policies ≡ applying_to (S.state source.old) role.now table.now kind side) }
     ensures frame { (other : State) → AgreesOn (S.state source.old) other (applying_to_reads (S.state source.old) role.now table.now kind side) → applying_to other role.now table.now kind side ≡ applying_to (S.state source.old) role.now table.now kind side }
     ensures read { OnOk result (source.new ≡ S.after source.old (applying_to_reads (S.state source.old) role.now table.now kind side)) }
@@ -116,7 +116,7 @@ fn applying_on<'c, S: RowSource<'c>>(
     def: &TableDef,
     kind: Kind,
     side: Side,
-) -> Result<Items<Loan<'c, Policy>>, AllocError>
+) -> Result<Items<Reference<'c, Policy>>, AllocError>
     ensures policies { IfOk result (λ policies. policies ≡ applying_on (Some def.now) (S.state source.old) role.now table.now kind side) }
     ensures read { OnOk result (source.new ≡ S.after source.old (applying_on_reads (Some def.now) (S.state source.old) role.now table.now kind side)) }
     ensures state { S.state source.new ≡ S.state source.old }
@@ -135,7 +135,7 @@ fn applying_unless_exempt<'c, S: RowSource<'c>>(
     table: &Name,
     kind: Kind,
     side: Side,
-) -> Result<Items<Loan<'c, Policy>>, AllocError>
+) -> Result<Items<Reference<'c, Policy>>, AllocError>
     ensures policies { IfOk result (λ policies. policies ≡ spec.applying_of (S.state source.old) role.now table.now kind side) }
     ensures read { OnOk result (source.new ≡ S.after source.old (spec.applying_reads (S.state source.old) role.now table.now kind side)) }
     ensures state { S.state source.new ≡ S.state source.old }
@@ -145,22 +145,22 @@ fn applying_unless_exempt<'c, S: RowSource<'c>>(
     if are_to_everyone(kept.as_slice()) {
         return Ok(kept);
     }
-    let reach = reach_of(alloc, source, role)?;
-    Ok(concerned(kept, &reach))
+    let effective_roles = effective_roles_of(alloc, source, role)?;
+    Ok(concerned(kept, &effective_roles))
 }
 
 /// Of the policies of a table those that apply to a role that isn't exempt, by whose privileges the role has.
 pub fn chosen<'c>(
     alloc: Global,
     policies: &'c [Policy],
-    reach: &Reach,
+    effective_roles: &EffectiveRoles,
     kind: Kind,
     side: Side,
-) -> Result<Items<Loan<'c, Policy>>, AllocError>
-    ensures { IfOk result (λ chosen. chosen ≡ spec.chosen reach.now.superuser reach.now.names kind side policies.now) }
+) -> Result<Items<Reference<'c, Policy>>, AllocError>
+    ensures { IfOk result (λ chosen. chosen ≡ spec.chosen effective_roles.now.superuser effective_roles.now.names kind side policies.now) }
 {
     let asked = asked(alloc, policies, kind, side)?;
-    Ok(concerned(asked, reach))
+    Ok(concerned(asked, effective_roles))
 }
 
 fn asked<'c>(
@@ -168,28 +168,31 @@ fn asked<'c>(
     policies: &'c [Policy],
     kind: Kind,
     side: Side,
-) -> Result<Items<Loan<'c, Policy>>, AllocError>
+) -> Result<Items<Reference<'c, Policy>>, AllocError>
     ensures { IfOk result (λ asked. asked ≡ filter (spec.is_asked kind side) policies.now) }
 {
     let mut kept = Vec::new(alloc);
     for policy in policies {
         if is_asked(policy, kind, side) {
-            kept.push(Loan::new(policy))?;
+            kept.push(Reference::new(policy))?;
         }
     }
     Ok(Items::from_vec(kept))
 }
 
-fn are_to_everyone(policies: &[Loan<'_, Policy>]) -> bool
+fn are_to_everyone(policies: &[Reference<'_, Policy>]) -> bool
     ensures { result ≡ list_all spec.is_to_everyone policies.now }
 {
     policies.iter().all(|policy| is_to_everyone(policy.get()))
 }
 
-fn concerned<'c>(policies: Items<Loan<'c, Policy>>, reach: &Reach) -> Items<Loan<'c, Policy>>
-    ensures { result ≡ filter (λ policy. list_any (includes reach.now.superuser reach.now.names) policy.to) policies.entry }
+fn concerned<'c>(
+    policies: Items<Reference<'c, Policy>>,
+    effective_roles: &EffectiveRoles,
+) -> Items<Reference<'c, Policy>>
+    ensures { result ≡ filter (λ policy. list_any (includes effective_roles.now.superuser effective_roles.now.names) policy.to) policies.entry }
 {
     let mut kept = policies.into_vec();
-    kept.retain(|policy| is_to(policy.get(), reach));
+    kept.retain(|policy| is_to(policy.get(), effective_roles));
     Items::from_vec(kept)
 }

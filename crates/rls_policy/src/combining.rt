@@ -7,11 +7,11 @@ ghost use Rattle.rls_catalog.specs.Verdict.{verdict_of, names_where, least};
 use rls_catalog::Verdict;
 use rls_expr::Policy;
 use rls_role::lesser_name;
-use rls_value::{Loan, Name, Truth};
+use rls_value::{Name, Reference, Truth};
 use std::alloc::AllocError;
 
 /// A policy, and what its condition says of a row.
-pub type Judgement<'c> = (Loan<'c, Policy>, Truth);
+pub type Judgement<'c> = (Reference<'c, Policy>, Truth);
 
 /// What policies say of a row together, by what each of them says: some permissive one must be true, and every
 /// restrictive one (PostgreSQL manual, CREATE POLICY). False and null are not true.

@@ -102,7 +102,7 @@ module _ (inner : Cut tree_of expr_heads expr_more false) where
   update_flat : (x : Update) → There ((g.update inner).rule.prints.writes (st.Update x)) → returned_height x.returning ≤ 1
   unfolding g.update
   update_flat x h =
-      let sets = (g.set_columns inner).rule.prints.writes x.settings in
+      let sets = (g.set_columns inner).rule.prints.writes x.assignments in
       let ending = (g.ending inner).rule.prints.writes (x.condition, x.returning) in
       let a = there_parts (Some (t.Word (codes "update") ∷ [])) (joined (g.name.prints.writes x.table) (joined (Some (t.Word (codes "set") ∷ [])) (joined sets ending))) h in
       let b = there_parts (g.name.prints.writes x.table) (joined (Some (t.Word (codes "set") ∷ [])) (joined sets ending)) a.1 in

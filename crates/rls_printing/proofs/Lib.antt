@@ -1,4 +1,4 @@
-pub mod SheetLemmas
+pub mod OutputLemmas
 pub mod Reading
 pub mod Writing
 pub mod Stating

@@ -6,10 +6,10 @@ use Rattle.rls_value.specs.declared.refusal.Refusal.TheVariants as refusal
 use Rattle.rls_statement.specs.{declared.command.AccessMode.AccessMode, declared.command.Command.Command, declared.statement.Statement.Statement}
 use Rattle.rls_statement.specs.declared.command.AccessMode.TheVariants as mode
 use Rattle.rls_statement.specs.declared.command.Command.TheVariants as c
-use Rattle.rls_text.specs.{declared.token.Token.Token, declared.token.Token.TheVariants.Word, Writes.some_is, Answers.first_limit, Answers.limited}
+use Rattle.rls_text.specs.{declared.token.Token.Token, declared.token.Token.TheVariants.Word, Writes.some_is, ParseResults.first_limit, ParseResults.limited}
 use Rattle.rls_text.specs.Commands.{SpellsCommand, IsCommandWritten, IsCommandSpelled, AnswersCommand, run, limited_command, run_is_spelled}
 use Rattle.rls_text.specs.Transactions as t
-use Rattle.rls_printing.specs.{Pieces.tokens_of, ReadBack.IsReadAs, CommandForms.IsCommandReadAs, Sheets.are_fit}
+use Rattle.rls_printing.specs.{OutputTokens.tokens_of, ReadBack.IsReadAs, CommandForms.IsCommandReadAs, Outputs.are_fit}
 use Rattle.rls_printing.specs.CommandForms as form
 use Rattle.rls_printing.proofs.{Printed.tokens_spell, Printed.limited_read, Shallow.within_words, Stating.written_told}
 

@@ -9,7 +9,7 @@ use Rattle.std.proofs.lemmas.Str.Parse.{IsNumeralModel, numerals_by_fold}
 use lib.Utf8.{encodes}
 use Rattle.rls_value.specs.Names.{folded, is_word, is_name_text, is_letter, is_letter_or_digit, is_between}
 use Rattle.rls_text.specs.{declared.token.Symbol.Symbol, declared.token.Token.Token, Writes.joined, Writes.some_is, Words.words_of, Words.words_in, Words.next_word, Words.word_from, Words.word_of, Words.word_and_more, Words.is_bad, Words.is_blank, Words.begins_comment, Words.letters, Words.behind_letters, Words.is_digit, Words.number_from, Words.quoted, Words.quoted_in, Words.text_from, Words.next_quoted, Words.with_content, Words.behind_quote, Words.single, Words.double}
-use Rattle.rls_printing.specs.{declared.page.Mark.Mark, Pieces.Piece, Pieces.Word, Pieces.Qualified, Pieces.Number, Pieces.Text, Pieces.Marked, Pieces.Count, Pieces.piece_text, Pieces.piece_tokens, Pieces.word_token, Pieces.tokens_of, Pieces.doubled, Pieces.mark_text, Pieces.symbol_of, Sheets.Sheet, Sheets.space, Sheets.opens, Sheets.closes, Sheets.is_fit, Sheets.are_fit, Sheets.pieces_text, Sheets.put, Sheets.put_all, Sheets.with_piece}
+use Rattle.rls_printing.specs.{declared.buffer.Mark.Mark, OutputTokens.OutputToken, OutputTokens.Word, OutputTokens.Qualified, OutputTokens.Number, OutputTokens.Text, OutputTokens.Marked, OutputTokens.Count, OutputTokens.output_token_text, OutputTokens.tokens_read_of, OutputTokens.word_token, OutputTokens.tokens_of, OutputTokens.doubled, OutputTokens.mark_text, OutputTokens.symbol_of, Outputs.Output, Outputs.space, Outputs.opens, Outputs.closes, Outputs.is_fit, Outputs.are_fit, Outputs.output_tokens_text, Outputs.put, Outputs.put_all, Outputs.with_output_token}
 
 -- ---- words with enough turns
 
@@ -349,7 +349,7 @@ mark_longer Mark.LessOrEqual rest = omega arith
 mark_longer Mark.Greater rest = omega arith
 mark_longer Mark.GreaterOrEqual rest = omega arith
 
--- ---- pieces
+-- ---- output tokens
 
 reads_negative : (n : ℕ) (rest : List ℕ) (ts : List Token) → suc n ≤ 2 ^ 63 → ends rest ≡ true → Reads rest ts → Reads ((45 ∷ decimal (suc n)) ++ rest) (Token.Symbol Symbol.Minus ∷ Token.Number (suc n) ∷ ts)
 reads_negative n rest ts h e again =
@@ -366,33 +366,33 @@ reads_column q n rest us h k e again =
     (reads_name q (46 ∷ (n ++ rest)) (Token.Symbol Symbol.Dot ∷ Token.Word (folded n) ∷ us) h refl
     (reads_sign 46 (n ++ rest) (Token.Symbol Symbol.Dot) (Token.Word (folded n) ∷ us) (dot_next (n ++ rest)) refl (reads_name n rest us k (ends_no_letter rest e) again)))
 
-piece_reads : (p : Piece) (ts us : List Token) (rest : List ℕ) → piece_tokens p ≡ Some ts → is_fit p ≡ true → opens p ≡ false → ends rest ≡ true → Reads rest us → Reads (piece_text p ++ rest) (ts ++ us)
-piece_reads (Word w) ts us rest h f o e again = go (is_name_text w) refl h
+output_token_reads : (p : OutputToken) (ts us : List Token) (rest : List ℕ) → tokens_read_of p ≡ Some ts → is_fit p ≡ true → opens p ≡ false → ends rest ≡ true → Reads rest us → Reads (output_token_text p ++ rest) (ts ++ us)
+output_token_reads (Word w) ts us rest h f o e again = go (is_name_text w) refl h
   where
     go : (b : Bool) → is_name_text w ≡ b → (if b then Some (Token.Word (folded w) ∷ []) else None) ≡ Some ts → Reads (chars w ++ rest) (ts ++ us)
     go true k i = rw (chars_name w k) (subst (λ z. Reads (w ++ rest) (z ++ us)) (some_is (Token.Word (folded w) ∷ []) ts i) (reads_name w rest us k (ends_no_letter rest e) again))
     go false k i = cc
-piece_reads (Qualified q n) ts us rest h f o e again = go (is_name_text q) (is_name_text n) refl refl h
+output_token_reads (Qualified q n) ts us rest h f o e again = go (is_name_text q) (is_name_text n) refl refl h
   where
     go : (a b : Bool) → is_name_text q ≡ a → is_name_text n ≡ b
         → joined (if a then Some (Token.Word (folded q) ∷ []) else None) (joined (Some (Token.Symbol Symbol.Dot ∷ [])) (if b then Some (Token.Word (folded n) ∷ []) else None)) ≡ Some ts → Reads ((chars q ++ 46 ∷ chars n) ++ rest) (ts ++ us)
     go true true k l i = subst (λ z. Reads ((chars q ++ 46 ∷ chars n) ++ rest) (z ++ us)) (some_is (Token.Word (folded q) ∷ Token.Symbol Symbol.Dot ∷ Token.Word (folded n) ∷ []) ts i) (reads_column q n rest us k l e again)
     go true false k l i = cc
     go false b k l i = cc
-piece_reads (Number (pos n)) ts us rest h f o e again = go (nat_le n (2 ^ 63 - 1)) refl h
+output_token_reads (Number (pos n)) ts us rest h f o e again = go (nat_le n (2 ^ 63 - 1)) refl h
   where
     go : (b : Bool) → nat_le n (2 ^ 63 - 1) ≡ b → (if b then Some (Token.Number n ∷ []) else None) ≡ Some ts → Reads (decimal n ++ rest) (ts ++ us)
     go true k i = subst (λ z. Reads (decimal n ++ rest) (z ++ us)) (some_is (Token.Number n ∷ []) ts i) (reads_decimal n rest us (omega (arith, leb-true n (2 ^ 63 - 1) k)) e again)
     go false k i = cc
-piece_reads (Number (negsuc n)) ts us rest h f o e again = go (nat_le (suc n) (2 ^ 63)) refl h
+output_token_reads (Number (negsuc n)) ts us rest h f o e again = go (nat_le (suc n) (2 ^ 63)) refl h
   where
     go : (b : Bool) → nat_le (suc n) (2 ^ 63) ≡ b → (if b then Some (Token.Symbol Symbol.Minus ∷ Token.Number (suc n) ∷ []) else None) ≡ Some ts → Reads ((45 ∷ decimal (suc n)) ++ rest) (ts ++ us)
     go true k i = subst (λ z. Reads ((45 ∷ decimal (suc n)) ++ rest) (z ++ us)) (some_is (Token.Symbol Symbol.Minus ∷ Token.Number (suc n) ∷ []) ts i) (reads_negative n rest us (leb-true (suc n) (2 ^ 63) k) e again)
     go false k i = cc
-piece_reads (Text x) ts us rest h f o e again = subst (λ z. Reads (piece_text (Text x) ++ rest) (z ++ us)) (some_is (Token.Text x ∷ []) ts h) (reads_text x rest us f e again)
-piece_reads (Marked m) ts us rest h f o e again =
+output_token_reads (Text x) ts us rest h f o e again = subst (λ z. Reads (output_token_text (Text x) ++ rest) (z ++ us)) (some_is (Token.Text x ∷ []) ts h) (reads_text x rest us f e again)
+output_token_reads (Marked m) ts us rest h f o e again =
     subst (λ z. Reads (mark_text m ++ rest) (z ++ us)) (some_is (Token.Symbol (symbol_of m) ∷ []) ts h) (reads_word (mark_text m ++ rest) rest (Token.Symbol (symbol_of m)) us (mark_next m rest e) refl (mark_longer m rest) again)
-piece_reads Count ts us rest h f o e again =
+output_token_reads Count ts us rest h f o e again =
     subst (λ z. Reads (codes "COUNT(*)" ++ rest) (z ++ us)) (some_is (Token.Word (codes "count") ∷ Token.Symbol Symbol.LParen ∷ Token.Symbol Symbol.Star ∷ Token.Symbol Symbol.RParen ∷ []) ts h)
     (reads_name (codes "COUNT") (40 ∷ 42 ∷ 41 ∷ rest) (Token.Symbol Symbol.LParen ∷ Token.Symbol Symbol.Star ∷ Token.Symbol Symbol.RParen ∷ us) refl refl
     (reads_sign 40 (42 ∷ 41 ∷ rest) (Token.Symbol Symbol.LParen) (Token.Symbol Symbol.Star ∷ Token.Symbol Symbol.RParen ∷ us) (open_next (42 ∷ 41 ∷ rest)) refl
@@ -400,7 +400,7 @@ piece_reads Count ts us rest h f o e again =
     (reads_sign 41 rest (Token.Symbol Symbol.RParen) us (close_next rest) refl again))))
 
 -- what follows a word begins with a space, or closes
-ends_next : (ps : List Piece) → ends (pieces_text false ps) ≡ true
+ends_next : (ps : List OutputToken) → ends (output_tokens_text false ps) ≡ true
 ends_next [] = refl
 ends_next (Word w ∷ ps) = refl
 ends_next (Qualified q n ∷ ps) = refl
@@ -421,78 +421,78 @@ ends_next (Marked Mark.Greater ∷ ps) = refl
 ends_next (Marked Mark.GreaterOrEqual ∷ ps) = refl
 
 -- a word and those behind it
-word_and_others : (p : Piece) (ps : List Piece) (ts us : List Token) → piece_tokens p ≡ Some ts → is_fit p ≡ true → ((tight : Bool) → Reads (pieces_text tight ps) us) → Reads (piece_text p ++ pieces_text (opens p) ps) (ts ++ us)
+word_and_others : (p : OutputToken) (ps : List OutputToken) (ts us : List Token) → tokens_read_of p ≡ Some ts → is_fit p ≡ true → ((tight : Bool) → Reads (output_tokens_text tight ps) us) → Reads (output_token_text p ++ output_tokens_text (opens p) ps) (ts ++ us)
 word_and_others (Marked Mark.Open) ps ts us h f again =
-    subst (λ z. Reads (40 ∷ pieces_text true ps) (z ++ us)) (some_is (Token.Symbol Symbol.LParen ∷ []) ts h) (reads_sign 40 (pieces_text true ps) (Token.Symbol Symbol.LParen) us (open_next (pieces_text true ps)) refl (again true))
-word_and_others (Word w) ps ts us h f again = piece_reads (Word w) ts us (pieces_text false ps) h f refl (ends_next ps) (again false)
-word_and_others (Qualified q n) ps ts us h f again = piece_reads (Qualified q n) ts us (pieces_text false ps) h f refl (ends_next ps) (again false)
-word_and_others (Number z) ps ts us h f again = piece_reads (Number z) ts us (pieces_text false ps) h f refl (ends_next ps) (again false)
-word_and_others (Text x) ps ts us h f again = piece_reads (Text x) ts us (pieces_text false ps) h f refl (ends_next ps) (again false)
-word_and_others Count ps ts us h f again = piece_reads Count ts us (pieces_text false ps) h f refl (ends_next ps) (again false)
-word_and_others (Marked Mark.Close) ps ts us h f again = piece_reads (Marked Mark.Close) ts us (pieces_text false ps) h f refl (ends_next ps) (again false)
-word_and_others (Marked Mark.Comma) ps ts us h f again = piece_reads (Marked Mark.Comma) ts us (pieces_text false ps) h f refl (ends_next ps) (again false)
-word_and_others (Marked Mark.Star) ps ts us h f again = piece_reads (Marked Mark.Star) ts us (pieces_text false ps) h f refl (ends_next ps) (again false)
-word_and_others (Marked Mark.Plus) ps ts us h f again = piece_reads (Marked Mark.Plus) ts us (pieces_text false ps) h f refl (ends_next ps) (again false)
-word_and_others (Marked Mark.Minus) ps ts us h f again = piece_reads (Marked Mark.Minus) ts us (pieces_text false ps) h f refl (ends_next ps) (again false)
-word_and_others (Marked Mark.Equal) ps ts us h f again = piece_reads (Marked Mark.Equal) ts us (pieces_text false ps) h f refl (ends_next ps) (again false)
-word_and_others (Marked Mark.NotEqual) ps ts us h f again = piece_reads (Marked Mark.NotEqual) ts us (pieces_text false ps) h f refl (ends_next ps) (again false)
-word_and_others (Marked Mark.Less) ps ts us h f again = piece_reads (Marked Mark.Less) ts us (pieces_text false ps) h f refl (ends_next ps) (again false)
-word_and_others (Marked Mark.LessOrEqual) ps ts us h f again = piece_reads (Marked Mark.LessOrEqual) ts us (pieces_text false ps) h f refl (ends_next ps) (again false)
-word_and_others (Marked Mark.Greater) ps ts us h f again = piece_reads (Marked Mark.Greater) ts us (pieces_text false ps) h f refl (ends_next ps) (again false)
-word_and_others (Marked Mark.GreaterOrEqual) ps ts us h f again = piece_reads (Marked Mark.GreaterOrEqual) ts us (pieces_text false ps) h f refl (ends_next ps) (again false)
+    subst (λ z. Reads (40 ∷ output_tokens_text true ps) (z ++ us)) (some_is (Token.Symbol Symbol.LParen ∷ []) ts h) (reads_sign 40 (output_tokens_text true ps) (Token.Symbol Symbol.LParen) us (open_next (output_tokens_text true ps)) refl (again true))
+word_and_others (Word w) ps ts us h f again = output_token_reads (Word w) ts us (output_tokens_text false ps) h f refl (ends_next ps) (again false)
+word_and_others (Qualified q n) ps ts us h f again = output_token_reads (Qualified q n) ts us (output_tokens_text false ps) h f refl (ends_next ps) (again false)
+word_and_others (Number z) ps ts us h f again = output_token_reads (Number z) ts us (output_tokens_text false ps) h f refl (ends_next ps) (again false)
+word_and_others (Text x) ps ts us h f again = output_token_reads (Text x) ts us (output_tokens_text false ps) h f refl (ends_next ps) (again false)
+word_and_others Count ps ts us h f again = output_token_reads Count ts us (output_tokens_text false ps) h f refl (ends_next ps) (again false)
+word_and_others (Marked Mark.Close) ps ts us h f again = output_token_reads (Marked Mark.Close) ts us (output_tokens_text false ps) h f refl (ends_next ps) (again false)
+word_and_others (Marked Mark.Comma) ps ts us h f again = output_token_reads (Marked Mark.Comma) ts us (output_tokens_text false ps) h f refl (ends_next ps) (again false)
+word_and_others (Marked Mark.Star) ps ts us h f again = output_token_reads (Marked Mark.Star) ts us (output_tokens_text false ps) h f refl (ends_next ps) (again false)
+word_and_others (Marked Mark.Plus) ps ts us h f again = output_token_reads (Marked Mark.Plus) ts us (output_tokens_text false ps) h f refl (ends_next ps) (again false)
+word_and_others (Marked Mark.Minus) ps ts us h f again = output_token_reads (Marked Mark.Minus) ts us (output_tokens_text false ps) h f refl (ends_next ps) (again false)
+word_and_others (Marked Mark.Equal) ps ts us h f again = output_token_reads (Marked Mark.Equal) ts us (output_tokens_text false ps) h f refl (ends_next ps) (again false)
+word_and_others (Marked Mark.NotEqual) ps ts us h f again = output_token_reads (Marked Mark.NotEqual) ts us (output_tokens_text false ps) h f refl (ends_next ps) (again false)
+word_and_others (Marked Mark.Less) ps ts us h f again = output_token_reads (Marked Mark.Less) ts us (output_tokens_text false ps) h f refl (ends_next ps) (again false)
+word_and_others (Marked Mark.LessOrEqual) ps ts us h f again = output_token_reads (Marked Mark.LessOrEqual) ts us (output_tokens_text false ps) h f refl (ends_next ps) (again false)
+word_and_others (Marked Mark.Greater) ps ts us h f again = output_token_reads (Marked Mark.Greater) ts us (output_tokens_text false ps) h f refl (ends_next ps) (again false)
+word_and_others (Marked Mark.GreaterOrEqual) ps ts us h f again = output_token_reads (Marked Mark.GreaterOrEqual) ts us (output_tokens_text false ps) h f refl (ends_next ps) (again false)
 
 spaced_reads : (none : Bool) (cs : List ℕ) (ts : List Token) → Reads cs ts → Reads (space none ++ cs) ts
 spaced_reads true cs ts h = h
 spaced_reads false cs ts h = reads_space cs ts h
 
-pub pieces_read : (ps : List Piece) (ts : List Token) → tokens_of ps ≡ Some ts → are_fit ps ≡ true → (tight : Bool) → Reads (pieces_text tight ps) ts
-pieces_read [] ts h f tight = subst (λ z. Reads [] z) (some_is [] ts h) reads_none
-pieces_read (p ∷ ps) ts h f tight = go (piece_tokens p) refl (tokens_of ps) refl h (λ us e. pieces_read ps us e fit.1)
+pub output_tokens_read : (ps : List OutputToken) (ts : List Token) → tokens_of ps ≡ Some ts → are_fit ps ≡ true → (tight : Bool) → Reads (output_tokens_text tight ps) ts
+output_tokens_read [] ts h f tight = subst (λ z. Reads [] z) (some_is [] ts h) reads_none
+output_tokens_read (p ∷ ps) ts h f tight = go (tokens_read_of p) refl (tokens_of ps) refl h (λ us e. output_tokens_read ps us e fit.1)
   where
     fit : (is_fit p ≡ true) × (are_fit ps ≡ true)
     fit = and_parts (is_fit p) (are_fit ps) f
 
-    go : (o : Option (List Token)) → piece_tokens p ≡ o → (u : Option (List Token)) → tokens_of ps ≡ u → joined o u ≡ Some ts
-        → ((us : List Token) → tokens_of ps ≡ Some us → (tight : Bool) → Reads (pieces_text tight ps) us) → Reads (pieces_text tight (p ∷ ps)) ts
+    go : (o : Option (List Token)) → tokens_read_of p ≡ o → (u : Option (List Token)) → tokens_of ps ≡ u → joined o u ≡ Some ts
+        → ((us : List Token) → tokens_of ps ≡ Some us → (tight : Bool) → Reads (output_tokens_text tight ps) us) → Reads (output_tokens_text tight (p ∷ ps)) ts
     go None a u b i again = cc
     go (Some x) a None b i again = cc
     go (Some x) a (Some y) b i again =
-        subst (λ z. Reads (pieces_text tight (p ∷ ps)) z) (some_is (x ++ y) ts i)
-        (spaced_reads (tight || closes p) (piece_text p ++ pieces_text (opens p) ps) (x ++ y) (word_and_others p ps x y a fit.0 (again y b)))
+        subst (λ z. Reads (output_tokens_text tight (p ∷ ps)) z) (some_is (x ++ y) ts i)
+        (spaced_reads (tight || closes p) (output_token_text p ++ output_tokens_text (opens p) ps) (x ++ y) (word_and_others p ps x y a fit.0 (again y b)))
 
 -- The words of a text of printed words are their tokens.
-pub words_told : (bytes : List ℕ) (ps : List Piece) (ts : List Token) → chars bytes ≡ pieces_text true ps → are_fit ps ≡ true → tokens_of ps ≡ Some ts → words_of bytes ≡ ts
-words_told bytes ps ts e f h = rw e (pieces_read ps ts h f true (length (pieces_text true ps)) (omega arith))
+pub words_told : (bytes : List ℕ) (ps : List OutputToken) (ts : List Token) → chars bytes ≡ output_tokens_text true ps → are_fit ps ≡ true → tokens_of ps ≡ Some ts → words_of bytes ≡ ts
+words_told bytes ps ts e f h = rw e (output_tokens_read ps ts h f true (length (output_tokens_text true ps)) (omega arith))
 
 -- a word's token
 fit_word : (w : List ℕ) → is_word w ≡ true → word_token w ≡ Some (Token.Word (folded w) ∷ [])
 fit_word w f = rw ((and_parts (is_name_text w) (nat_le (length w) 63) f).0) refl
 
 -- what is fit has tokens
-fit_piece : (p : Piece) → is_fit p ≡ true → (ts : List Token) × (piece_tokens p ≡ Some ts)
-fit_piece (Word w) f = (Token.Word (folded w) ∷ [], fit_word w f)
-fit_piece (Qualified q n) f = (
+fit_output_token : (p : OutputToken) → is_fit p ≡ true → (ts : List Token) × (tokens_read_of p ≡ Some ts)
+fit_output_token (Word w) f = (Token.Word (folded w) ∷ [], fit_word w f)
+fit_output_token (Qualified q n) f = (
   Token.Word (folded q) ∷ Token.Symbol Symbol.Dot ∷ Token.Word (folded n) ∷ [],
   let both = and_parts (is_word q) (is_word n) f in rw (fit_word q both.0, fit_word n both.1) refl,
 )
-fit_piece (Number (pos n)) f = (Token.Number n ∷ [], rw f refl)
-fit_piece (Number (negsuc n)) f = (Token.Symbol Symbol.Minus ∷ Token.Number (suc n) ∷ [], rw f refl)
-fit_piece (Text x) f = (Token.Text x ∷ [], refl)
-fit_piece (Marked m) f = (Token.Symbol (symbol_of m) ∷ [], refl)
-fit_piece Count f = (Token.Word (codes "count") ∷ Token.Symbol Symbol.LParen ∷ Token.Symbol Symbol.Star ∷ Token.Symbol Symbol.RParen ∷ [], refl)
+fit_output_token (Number (pos n)) f = (Token.Number n ∷ [], rw f refl)
+fit_output_token (Number (negsuc n)) f = (Token.Symbol Symbol.Minus ∷ Token.Number (suc n) ∷ [], rw f refl)
+fit_output_token (Text x) f = (Token.Text x ∷ [], refl)
+fit_output_token (Marked m) f = (Token.Symbol (symbol_of m) ∷ [], refl)
+fit_output_token Count f = (Token.Word (codes "count") ∷ Token.Symbol Symbol.LParen ∷ Token.Symbol Symbol.Star ∷ Token.Symbol Symbol.RParen ∷ [], refl)
 
 -- so have all of them
-pub fit_tokens : (ps : List Piece) → are_fit ps ≡ true → (ts : List Token) × (tokens_of ps ≡ Some ts)
+pub fit_tokens : (ps : List OutputToken) → are_fit ps ≡ true → (ts : List Token) × (tokens_of ps ≡ Some ts)
 fit_tokens [] f = ([], refl)
 fit_tokens (p ∷ ps) f =
     let parts = and_parts (is_fit p) (are_fit ps) f in
-    let first = fit_piece p parts.0 in
+    let first = fit_output_token p parts.0 in
     let others = fit_tokens ps parts.1 in
     (first.0 ++ others.0, rw (first.1, others.1) refl)
 
--- ---- what is put on a page
+-- ---- what is put into a buffer
 
-none_stays : (ps : List Piece) → put_all None ps ≡ None
+none_stays : (ps : List OutputToken) → put_all None ps ≡ None
 unfolding put
 none_stays [] = refl
 none_stays (p ∷ ps) = none_stays ps
@@ -504,20 +504,20 @@ some_same : {A : Type 0} (x y : A) → ◌≡◌ {A = Option A} (Some x) (Some y
 some_same x y h = sym (some_is x y h)
 
 -- the text of words that were put
-pub record IsText (ps : List Piece) (s u : Sheet) : Type 0 where
+pub record IsText (ps : List OutputToken) (s u : Output) : Type 0 where
   pub fit : are_fit ps ≡ true
-  pub text : u.0 ≡ s.0 ++ pieces_text s.1 ps
+  pub text : u.0 ≡ s.0 ++ output_tokens_text s.1 ps
 
-pub put_text : (ps : List Piece) (s u : Sheet) → put_all (Some s) ps ≡ Some u → IsText ps s u
-unfolding put with_piece
+pub put_text : (ps : List OutputToken) (s u : Output) → put_all (Some s) ps ≡ Some u → IsText ps s u
+unfolding put with_output_token
 put_text [] s u h = record { fit = refl; text = ap (λ z. z.0) (some_same s u h) ∙ sym (append-nil s.0) }
-put_text (p ∷ ps) s u h = go (λ e. put_text ps (with_piece s p) u e) (is_fit p) refl h
+put_text (p ∷ ps) s u h = go (λ e. put_text ps (with_output_token s p) u e) (is_fit p) refl h
   where
-    go : (put_all (Some (with_piece s p)) ps ≡ Some u → IsText ps (with_piece s p) u) → (b : Bool) → is_fit p ≡ b → put_all (if b then Some (with_piece s p) else None) ps ≡ Some u → IsText (p ∷ ps) s u
+    go : (put_all (Some (with_output_token s p)) ps ≡ Some u → IsText ps (with_output_token s p) u) → (b : Bool) → is_fit p ≡ b → put_all (if b then Some (with_output_token s p) else None) ps ≡ Some u → IsText (p ∷ ps) s u
     go again true f k =
         let x = again k in
         record {
           fit = rw f (x.fit);
-          text = x.text ∙ append_assoc (s.0 ++ space (s.1 || closes p)) (piece_text p) (pieces_text (opens p) ps) ∙ append_assoc s.0 (space (s.1 || closes p)) (piece_text p ++ pieces_text (opens p) ps);
+          text = x.text ∙ append_assoc (s.0 ++ space (s.1 || closes p)) (output_token_text p) (output_tokens_text (opens p) ps) ∙ append_assoc s.0 (space (s.1 || closes p)) (output_token_text p ++ output_tokens_text (opens p) ps);
         }
     go again false f k = absurd (none_some (sym (none_stays ps) ∙ k))

@@ -3,16 +3,16 @@ use Rattle.std.proofs.{Common.◌≡◌, Common.ℕ, Common.◌+◌, Common.◌-
 use Rattle.std.specs.Prelude.{codes, is_some, max, ℤ, pos, negsuc, suc, ◌^◌, ◌||◌}
 use Rattle.std.specs.Char.{to_ascii_lowercase}
 use Rattle.rls_value.specs.{Names.folded, Names.is_name_text, Names.is_word, declared.refusal.Limit.Limit, declared.refusal.Refusal.Refusal, declared.value.ColType.ColType, declared.value.Value.Value, declared.verb.PolicyKind.PolicyKind, declared.verb.Kind.Kind}
-use Rattle.rls_expr.specs.{Terms.Term, Terms.Terms, Terms.Query, Terms.Literal, Terms.Column, Terms.Place, Terms.CurrentUser, Terms.Compare, Terms.And, Terms.Or, Terms.Not, Terms.IsNull, Terms.IsNotNull, Terms.Among, Terms.NotAmong, Terms.Exists, Terms.Within, Terms.NotWithin, Terms.Scalar, Terms.Sum, Terms.End, Terms.More, Terms.Select, Terms.terms_of, Terms.maybe_term, declared.expr.Comparison.Comparison, declared.expr.Selects.Selects, declared.expr.Sign.Sign, declared.policy.Grantee.Grantee, declared.policy.Policy.Policy}
-use Rattle.rls_statement.specs.{declared.changing.Setting.Setting, declared.statement.Attributes.Attributes, declared.statement.MarkedColumn.MarkedColumn, declared.statement.MembershipOption.MembershipOption, declared.statement.MembershipOptions.MembershipOptions, declared.statement.Privileges.Privileges, declared.statement.RowSecurity.RowSecurity, declared.statement.Selected.Selected, declared.statement.SetRole.SetRole, declared.statement.Statement.Statement}
-use Rattle.rls_text.specs.{declared.token.Symbol.Symbol, declared.token.Token.Token, Grammar.Spells, Nested.subqueries_of, Writes.joined, Writes.some_is, Answers.limit_from, Answers.first_limit, Answers.or_next, Answers.limited, Answers.columns_of, Heights.height, Heights.heights, Heights.query_height, Heights.height_if, Heights.highest, Heights.set_values, Heights.height_of}
-use Rattle.rls_printing.specs.{declared.page.Mark.Mark, Sheets.is_fit, Sheets.are_fit, Pieces.Piece, Pieces.Word, Pieces.Qualified, Pieces.Number, Pieces.Text, Pieces.Marked, Pieces.Count, Pieces.piece_tokens, Pieces.tokens_of, Pieces.word_token}
+use Rattle.rls_expr.specs.{Terms.Term, Terms.Terms, Terms.Query, Terms.Literal, Terms.Column, Terms.Var, Terms.CurrentUser, Terms.Compare, Terms.And, Terms.Or, Terms.Not, Terms.IsNull, Terms.IsNotNull, Terms.InList, Terms.NotInList, Terms.Exists, Terms.InSubquery, Terms.NotInSubquery, Terms.Scalar, Terms.Sum, Terms.End, Terms.More, Terms.Select, Terms.terms_of, Terms.maybe_term, declared.expr.Comparison.Comparison, declared.expr.Selects.Selects, declared.expr.Sign.Sign, declared.policy.Grantee.Grantee, declared.policy.Policy.Policy}
+use Rattle.rls_statement.specs.{declared.changing.Assignment.Assignment, declared.statement.Attributes.Attributes, declared.statement.MarkedColumn.MarkedColumn, declared.statement.MembershipOption.MembershipOption, declared.statement.MembershipOptions.MembershipOptions, declared.statement.Privileges.Privileges, declared.statement.RowSecurity.RowSecurity, declared.statement.Selected.Selected, declared.statement.SetRole.SetRole, declared.statement.Statement.Statement}
+use Rattle.rls_text.specs.{declared.token.Symbol.Symbol, declared.token.Token.Token, Grammar.Spells, Nested.subqueries_of, Writes.joined, Writes.some_is, ParseResults.limit_from, ParseResults.first_limit, ParseResults.or_next, ParseResults.limited, ParseResults.columns_of, Heights.height, Heights.heights, Heights.query_height, Heights.height_if, Heights.highest, Heights.set_values, Heights.height_of}
+use Rattle.rls_printing.specs.{declared.buffer.Mark.Mark, Outputs.is_fit, Outputs.are_fit, OutputTokens.OutputToken, OutputTokens.Word, OutputTokens.Qualified, OutputTokens.Number, OutputTokens.Text, OutputTokens.Marked, OutputTokens.Count, OutputTokens.tokens_read_of, OutputTokens.tokens_of, OutputTokens.word_token}
 use Rattle.rls_printing.specs.ExprForms as expr_form
 use Rattle.rls_printing.specs.StatementForms as form
 use Rattle.rls_printing.proofs.FlatItems.{chosen_height, returned_height, items_height, items_flat}
 
 -- The words pass no limit where so many more parentheses may be open, and close those that they open.
-pub record StaysLow (room : ℕ) (ps : List Piece) : Type 0 where
+pub record StaysLow (room : ℕ) (ps : List OutputToken) : Type 0 where
   pub passes : (unclosed : ℕ) (tokens rest : List Token) → unclosed + room ≤ 256 → are_fit ps ≡ true → tokens_of ps ≡ Some tokens → limit_from unclosed (tokens ++ rest) ≡ limit_from unclosed rest
 
 -- ---- what is joined
@@ -33,20 +33,20 @@ parts (Some x) (Some y) ts h = record { front = x; behind = y; first = refl; sec
 joined_are : (o u : Option (List Token)) (x y : List Token) → o ≡ Some x → u ≡ Some y → joined o u ≡ Some (x ++ y)
 joined_are o u x y h k = rw (h, k) refl
 
-tokens_parts : (ps qs : List Piece) (ts : List Token) → tokens_of (ps ++ qs) ≡ Some ts → Parts (tokens_of ps) (tokens_of qs) ts
+tokens_parts : (ps qs : List OutputToken) (ts : List Token) → tokens_of (ps ++ qs) ≡ Some ts → Parts (tokens_of ps) (tokens_of qs) ts
 tokens_parts [] qs ts h = record { front = []; behind = ts; first = refl; second = h; whole = refl }
 tokens_parts (p ∷ ps) qs ts h =
-    let a = parts (piece_tokens p) (tokens_of (ps ++ qs)) ts h in
+    let a = parts (tokens_read_of p) (tokens_of (ps ++ qs)) ts h in
     let b = tokens_parts ps qs a.behind a.second in
     record {
       front = a.front ++ b.front;
       behind = b.behind;
-      first = joined_are (piece_tokens p) (tokens_of ps) a.front b.front a.first b.first;
+      first = joined_are (tokens_read_of p) (tokens_of ps) a.front b.front a.first b.first;
       second = b.second;
       whole = append_assoc a.front b.front b.behind ∙ ap (λ z. a.front ++ z) b.whole ∙ a.whole;
     }
 
-fit_parts : (ps qs : List Piece) → are_fit (ps ++ qs) ≡ true → (are_fit ps ≡ true) × (are_fit qs ≡ true)
+fit_parts : (ps qs : List OutputToken) → are_fit (ps ++ qs) ≡ true → (are_fit ps ≡ true) × (are_fit qs ≡ true)
 fit_parts [] qs h = (refl, h)
 fit_parts (p ∷ ps) qs h =
     let a = and_parts (is_fit p) (are_fit (ps ++ qs)) h in
@@ -95,7 +95,7 @@ none_low : (room : ℕ) → StaysLow room []
 none_low room = record { passes = λ unclosed tokens rest low f e. given unclosed [] tokens rest e }
 
 -- one behind the other
-pub both_low : (room : ℕ) (ps qs : List Piece) → StaysLow room ps → StaysLow room qs → StaysLow room (ps ++ qs)
+pub both_low : (room : ℕ) (ps qs : List OutputToken) → StaysLow room ps → StaysLow room qs → StaysLow room (ps ++ qs)
 both_low room ps qs h k = record {
   passes = λ unclosed tokens rest low f e.
       let a = tokens_parts ps qs tokens e in
@@ -104,11 +104,11 @@ both_low room ps qs h k = record {
 }
 
 -- where there is more room
-pub roomier : (less more : ℕ) (ps : List Piece) → less ≤ more → StaysLow less ps → StaysLow more ps
+pub roomier : (less more : ℕ) (ps : List OutputToken) → less ≤ more → StaysLow less ps → StaysLow more ps
 roomier less more ps le h = record { passes = λ unclosed tokens rest low f e. h.passes unclosed tokens rest (omega (arith, le, low)) f e }
 
 -- between parentheses
-pub enclosed_low : (inner room : ℕ) (ps : List Piece) → inner + 1 ≤ room → StaysLow inner ps → StaysLow room (expr_form.enclosed ps)
+pub enclosed_low : (inner room : ℕ) (ps : List OutputToken) → inner + 1 ≤ room → StaysLow inner ps → StaysLow room (expr_form.enclosed ps)
 enclosed_low inner room ps le h = record { passes = λ unclosed tokens rest low f e. go unclosed tokens rest low f e }
   where
     go : (unclosed : ℕ) (tokens rest : List Token) → unclosed + room ≤ 256 → are_fit (expr_form.enclosed ps) ≡ true → tokens_of (expr_form.enclosed ps) ≡ Some tokens → limit_from unclosed (tokens ++ rest) ≡ limit_from unclosed rest
@@ -125,8 +125,8 @@ enclosed_low inner room ps le h = record { passes = λ unclosed tokens rest low 
         ∙ closed_again unclosed rest
 
 -- one word
-one_low : (room : ℕ) (p : Piece) → ((unclosed : ℕ) (tokens rest : List Token) → unclosed + room ≤ 256 → is_fit p ≡ true → piece_tokens p ≡ Some tokens → limit_from unclosed (tokens ++ rest) ≡ limit_from unclosed rest) → StaysLow room (p ∷ [])
-one_low room p h = record { passes = λ unclosed tokens rest low f e. h unclosed tokens rest low (and_parts (is_fit p) true f).0 (joined_alone (piece_tokens p) tokens e) }
+one_low : (room : ℕ) (p : OutputToken) → ((unclosed : ℕ) (tokens rest : List Token) → unclosed + room ≤ 256 → is_fit p ≡ true → tokens_read_of p ≡ Some tokens → limit_from unclosed (tokens ++ rest) ≡ limit_from unclosed rest) → StaysLow room (p ∷ [])
+one_low room p h = record { passes = λ unclosed tokens rest low f e. h unclosed tokens rest low (and_parts (is_fit p) true f).0 (joined_alone (tokens_read_of p) tokens e) }
 
 word_low : (room : ℕ) (w : List ℕ) → StaysLow room (Word w ∷ [])
 word_low room w = one_low room (Word w) (λ unclosed tokens rest low f e. word_passes w unclosed tokens rest f e)
@@ -180,11 +180,11 @@ count_low room le = one_low room Count (λ unclosed tokens rest low f e.
     ∙ closed_again unclosed rest)
 
 -- behind a word
-behind_word : (room : ℕ) (w : List ℕ) (ps : List Piece) → StaysLow room ps → StaysLow room (Word w ∷ ps)
+behind_word : (room : ℕ) (w : List ℕ) (ps : List OutputToken) → StaysLow room ps → StaysLow room (Word w ∷ ps)
 behind_word room w ps h = both_low room (Word w ∷ []) ps (word_low room w) h
 
 -- behind a mark
-behind_mark : (room : ℕ) (x : Mark) (ps : List Piece) → is_flat x ≡ true → StaysLow room ps → StaysLow room (Marked x ∷ ps)
+behind_mark : (room : ℕ) (x : Mark) (ps : List OutputToken) → is_flat x ≡ true → StaysLow room ps → StaysLow room (Marked x ∷ ps)
 behind_mark room x ps e h = both_low room (Marked x ∷ []) ps (mark_low room x e) h
 
 -- ---- expressions
@@ -212,7 +212,7 @@ sign_flat : (x : Sign) → is_flat (expr_form.sign x) ≡ true
 sign_flat Sign.Plus = refl
 sign_flat Sign.Minus = refl
 
-bare_low : (b : Bool) (inner room : ℕ) (ps : List Piece) → inner + 1 ≤ room → StaysLow inner ps → StaysLow room (expr_form.bare_if b ps)
+bare_low : (b : Bool) (inner room : ℕ) (ps : List OutputToken) → inner + 1 ≤ room → StaysLow inner ps → StaysLow room (expr_form.bare_if b ps)
 bare_low true inner room ps le h = roomier inner room ps (omega (arith, le)) h
 bare_low false inner room ps le h = enclosed_low inner room ps le h
 
@@ -223,13 +223,13 @@ alias_low room (Some x) = behind_word room (codes "AS") (Word x ∷ []) (word_lo
 from_low : (room : ℕ) (table : List ℕ) (x : Option (List ℕ)) → StaysLow room (expr_form.from_ table x)
 from_low room table x = behind_word room (codes "FROM") (Word table ∷ expr_form.alias x) (behind_word room table (expr_form.alias x) (alias_low room x))
 
-selected_low : (room : ℕ) (x : Selects) (items : List Piece) → 1 ≤ room → StaysLow room items → StaysLow room (expr_form.selected x items)
+selected_low : (room : ℕ) (x : Selects) (items : List OutputToken) → 1 ≤ room → StaysLow room items → StaysLow room (expr_form.selected x items)
 selected_low room Selects.All items le h = mark_low room Mark.Star refl
 selected_low room Selects.Count items le h = count_low room le
 selected_low room Selects.Items items le h = h
 
 -- where an expression stays low, so do it as an operand, the list between parentheses, and the subquery
-abbrev operand : Term → List Piece
+abbrev operand : Term → List OutputToken
 operand x = expr_form.bare_if (expr_form.stands_alone x) (expr_form.expr x)
 
 operand_low : (x : Term) (room : ℕ) → ((inner : ℕ) → 2 * height x + 1 ≤ inner → StaysLow inner (expr_form.expr x)) → 2 * height x + 2 ≤ room → StaysLow room (operand x)
@@ -246,7 +246,7 @@ mutual
   pub expr_low : (x : Term) (room : ℕ) → 2 * height x + 1 ≤ room → StaysLow room (expr_form.expr x)
   expr_low (Literal x) room le = literal_low room x
   expr_low (Column x) room le = named_low room x.qualifier x.name
-  expr_low (Place x) room le = none_low room
+  expr_low (Var x) room le = none_low room
   expr_low CurrentUser room le = word_low room (codes "CURRENT_USER")
   expr_low (Compare how a b) room le =
       both_low room (operand a) (Marked (expr_form.comparison how) ∷ operand b) (operand_low a room (expr_low a) (omega (arith, le)))
@@ -259,18 +259,18 @@ mutual
   expr_low (IsNotNull a) room le =
       both_low room (operand a) (Word (codes "IS") ∷ Word (codes "NOT") ∷ Word (codes "NULL") ∷ []) (operand_low a room (expr_low a) (omega (arith, le)))
       (behind_word room (codes "IS") (Word (codes "NOT") ∷ Word (codes "NULL") ∷ []) (behind_word room (codes "NOT") (Word (codes "NULL") ∷ []) (word_low room (codes "NULL"))))
-  expr_low (Among a ts) room le =
+  expr_low (InList a ts) room le =
       both_low room (operand a) (Word (codes "IN") ∷ expr_form.enclosed (expr_form.list ts)) (operand_low a room (expr_low a) (omega (arith, le)))
       (behind_word room (codes "IN") (expr_form.enclosed (expr_form.list ts)) (choices_low ts room (list_low ts) (omega (arith, le))))
-  expr_low (NotAmong a ts) room le =
+  expr_low (NotInList a ts) room le =
       both_low room (operand a) (Word (codes "NOT") ∷ Word (codes "IN") ∷ expr_form.enclosed (expr_form.list ts)) (operand_low a room (expr_low a) (omega (arith, le)))
       (behind_word room (codes "NOT") (Word (codes "IN") ∷ expr_form.enclosed (expr_form.list ts))
       (behind_word room (codes "IN") (expr_form.enclosed (expr_form.list ts)) (choices_low ts room (list_low ts) (omega (arith, le)))))
   expr_low (Exists q) room le = behind_word room (codes "EXISTS") (expr_form.enclosed (expr_form.query q)) (subquery_low q room (query_low q) (omega (arith, le)))
-  expr_low (Within a q) room le =
+  expr_low (InSubquery a q) room le =
       both_low room (operand a) (Word (codes "IN") ∷ expr_form.enclosed (expr_form.query q)) (operand_low a room (expr_low a) (omega (arith, le)))
       (behind_word room (codes "IN") (expr_form.enclosed (expr_form.query q)) (subquery_low q room (query_low q) (omega (arith, le))))
-  expr_low (NotWithin a q) room le =
+  expr_low (NotInSubquery a q) room le =
       both_low room (operand a) (Word (codes "NOT") ∷ Word (codes "IN") ∷ expr_form.enclosed (expr_form.query q)) (operand_low a room (expr_low a) (omega (arith, le)))
       (behind_word room (codes "NOT") (Word (codes "IN") ∷ expr_form.enclosed (expr_form.query q))
       (behind_word room (codes "IN") (expr_form.enclosed (expr_form.query q)) (subquery_low q room (query_low q) (omega (arith, le)))))
@@ -326,11 +326,11 @@ condition_low (Some x) room le = behind_word room (codes "WHERE") (expr_form.exp
 
 -- ---- lists
 
-also_low : {A : Type 0} (room : ℕ) (item : A → List Piece) → ((x : A) → StaysLow room (item x)) → (xs : List A) → StaysLow room (form.also item xs)
+also_low : {A : Type 0} (room : ℕ) (item : A → List OutputToken) → ((x : A) → StaysLow room (item x)) → (xs : List A) → StaysLow room (form.also item xs)
 also_low room item h [] = none_low room
 also_low room item h (x ∷ xs) = behind_mark room Mark.Comma (item x ++ form.also item xs) refl (both_low room (item x) (form.also item xs) (h x) (also_low room item h xs))
 
-listed_low : {A : Type 0} (room : ℕ) (item : A → List Piece) → ((x : A) → StaysLow room (item x)) → (xs : List A) → StaysLow room (form.listed item xs)
+listed_low : {A : Type 0} (room : ℕ) (item : A → List OutputToken) → ((x : A) → StaysLow room (item x)) → (xs : List A) → StaysLow room (form.listed item xs)
 listed_low room item h [] = none_low room
 listed_low room item h (x ∷ xs) = both_low room (item x) (form.also item xs) (h x) (also_low room item h xs)
 
@@ -362,17 +362,17 @@ tuples_low : (xs : List (List Term)) (room : ℕ) → 2 * highest xs + 2 ≤ roo
 tuples_low [] room le = none_low room
 tuples_low (x ∷ xs) room le = both_low room (form.tuple x) (form.also form.tuple xs) (tuple_low x room (omega (arith, le))) (more_tuples xs room (omega (arith, le)))
 
-setting_low : (x : Setting) (room : ℕ) → 2 * height x.value + 1 ≤ room → StaysLow room (form.setting x)
-setting_low x room le = behind_word room x.column (Marked Mark.Equal ∷ expr_form.expr x.value) (behind_mark room Mark.Equal (expr_form.expr x.value) refl (expr_low x.value room le))
+assignment_low : (x : Assignment) (room : ℕ) → 2 * height x.value + 1 ≤ room → StaysLow room (form.assignment x)
+assignment_low x room le = behind_word room x.column (Marked Mark.Equal ∷ expr_form.expr x.value) (behind_mark room Mark.Equal (expr_form.expr x.value) refl (expr_low x.value room le))
 
-more_settings : (xs : List Setting) (room : ℕ) → 2 * heights (terms_of (set_values xs)) + 1 ≤ room → StaysLow room (form.also form.setting xs)
-more_settings [] room le = none_low room
-more_settings (x ∷ xs) room le =
-    behind_mark room Mark.Comma (form.setting x ++ form.also form.setting xs) refl (both_low room (form.setting x) (form.also form.setting xs) (setting_low x room (omega (arith, le))) (more_settings xs room (omega (arith, le))))
+more_assignments : (xs : List Assignment) (room : ℕ) → 2 * heights (terms_of (set_values xs)) + 1 ≤ room → StaysLow room (form.also form.assignment xs)
+more_assignments [] room le = none_low room
+more_assignments (x ∷ xs) room le =
+    behind_mark room Mark.Comma (form.assignment x ++ form.also form.assignment xs) refl (both_low room (form.assignment x) (form.also form.assignment xs) (assignment_low x room (omega (arith, le))) (more_assignments xs room (omega (arith, le))))
 
-settings_low : (xs : List Setting) (room : ℕ) → 2 * heights (terms_of (set_values xs)) + 1 ≤ room → StaysLow room (form.listed form.setting xs)
-settings_low [] room le = none_low room
-settings_low (x ∷ xs) room le = both_low room (form.setting x) (form.also form.setting xs) (setting_low x room (omega (arith, le))) (more_settings xs room (omega (arith, le)))
+assignments_low : (xs : List Assignment) (room : ℕ) → 2 * heights (terms_of (set_values xs)) + 1 ≤ room → StaysLow room (form.listed form.assignment xs)
+assignments_low [] room le = none_low room
+assignments_low (x ∷ xs) room le = both_low room (form.assignment x) (form.also form.assignment xs) (assignment_low x room (omega (arith, le))) (more_assignments xs room (omega (arith, le)))
 
 items_low : (x : Selected) (room : ℕ) → 2 * chosen_height x + 1 ≤ room → StaysLow room (form.selected_items x)
 items_low Selected.All room le = mark_low room Mark.Star refl
@@ -502,7 +502,7 @@ some_privileges_low room x =
     (privilege_low room x.update (x.select || x.insert) (codes "UPDATE")) (privilege_low room x.delete (x.select || (x.insert || x.update)) (codes "DELETE"))))
 
 -- one of two, by a test
-if_low : (room : ℕ) (b : Bool) (ps qs : List Piece) → StaysLow room ps → StaysLow room qs → StaysLow room (if b then ps else qs)
+if_low : (room : ℕ) (b : Bool) (ps qs : List OutputToken) → StaysLow room ps → StaysLow room qs → StaysLow room (if b then ps else qs)
 if_low room true ps qs h k = h
 if_low room false ps qs h k = k
 
@@ -556,11 +556,11 @@ set_role_low room SetRole.Reset = behind_word room (codes "RESET") (Word (codes 
 -- ---- statements
 
 -- two words before others
-behind_two : (room : ℕ) (w u : List ℕ) (ps : List Piece) → StaysLow room ps → StaysLow room (Word w ∷ Word u ∷ ps)
+behind_two : (room : ℕ) (w u : List ℕ) (ps : List OutputToken) → StaysLow room ps → StaysLow room (Word w ∷ Word u ∷ ps)
 behind_two room w u ps h = behind_word room w (Word u ∷ ps) (behind_word room u ps h)
 
 -- three words before others
-behind_three : (room : ℕ) (w u x : List ℕ) (ps : List Piece) → StaysLow room ps → StaysLow room (Word w ∷ Word u ∷ Word x ∷ ps)
+behind_three : (room : ℕ) (w u x : List ℕ) (ps : List OutputToken) → StaysLow room ps → StaysLow room (Word w ∷ Word u ∷ Word x ∷ ps)
 behind_three room w u x ps h = behind_word room w (Word u ∷ Word x ∷ ps) (behind_two room u x ps h)
 
 -- The words of a statement whose expressions are no higher than 64, and whose items are leaves.
@@ -575,8 +575,8 @@ statement_low (Statement.Insert x) room le flat =
     (behind_word room (codes "VALUES") (form.listed form.tuple x.tuples ++ form.returning x.returning)
     (both_low room (form.listed form.tuple x.tuples) (form.returning x.returning) (tuples_low x.tuples room (omega (arith, le))) (returning_low x.returning room (omega (arith, le, flat))))))
 statement_low (Statement.Update x) room le flat =
-    behind_three room (codes "UPDATE") x.table (codes "SET") (form.listed form.setting x.settings ++ (expr_form.where_ (maybe_term x.condition) ++ form.returning x.returning))
-    (both_low room (form.listed form.setting x.settings) (expr_form.where_ (maybe_term x.condition) ++ form.returning x.returning) (settings_low x.settings room (omega (arith, le)))
+    behind_three room (codes "UPDATE") x.table (codes "SET") (form.listed form.assignment x.assignments ++ (expr_form.where_ (maybe_term x.condition) ++ form.returning x.returning))
+    (both_low room (form.listed form.assignment x.assignments) (expr_form.where_ (maybe_term x.condition) ++ form.returning x.returning) (assignments_low x.assignments room (omega (arith, le)))
     (both_low room (expr_form.where_ (maybe_term x.condition)) (form.returning x.returning) (condition_low x.condition room (omega (arith, le))) (returning_low x.returning room (omega (arith, le, flat)))))
 statement_low (Statement.Delete x) room le flat =
     behind_three room (codes "DELETE") (codes "FROM") x.table (expr_form.where_ (maybe_term x.condition) ++ form.returning x.returning)

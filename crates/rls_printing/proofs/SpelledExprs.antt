@@ -1,7 +1,7 @@
 -- What is spelled as an expression is written, within as many parentheses as it is high.
 use Rattle.std.proofs.Common.{◌≡◌, ℕ, zero, suc, ◌+◌, ◌≤◌, false, List, [], ◌∷◌, Option, Some, None, refl, ap, sym, inl, inr, subst, arith, le_refl}
 use Rattle.std.specs.Prelude.{codes}
-use Rattle.rls_expr.specs.{Terms.Term, Terms.Literal, Terms.Column, Terms.CurrentUser, Terms.Compare, Terms.And, Terms.Or, Terms.Not, Terms.IsNull, Terms.IsNotNull, Terms.Among, Terms.NotAmong, Terms.Exists, Terms.Within, Terms.NotWithin, Terms.Scalar, Terms.Select, Terms.terms_of, declared.expr.Comparison.Comparison, declared.expr.Sign.Sign}
+use Rattle.rls_expr.specs.{Terms.Term, Terms.Literal, Terms.Column, Terms.CurrentUser, Terms.Compare, Terms.And, Terms.Or, Terms.Not, Terms.IsNull, Terms.IsNotNull, Terms.InList, Terms.NotInList, Terms.Exists, Terms.InSubquery, Terms.NotInSubquery, Terms.Scalar, Terms.Select, Terms.terms_of, declared.expr.Comparison.Comparison, declared.expr.Sign.Sign}
 use Rattle.rls_statement.specs.declared.statement.Selected.TheVariants as chosen
 use Rattle.rls_text.specs.declared.token.Symbol.TheVariants as s
 use Rattle.rls_text.specs.{declared.token.Token.Token, Cut.Cut, Cutting.tree_of, FirstSets.expr_heads, FirstSets.expr_more, Values.SelectParts, Values.Choices, Heights.height, Heights.heights, Heights.query_height, Heights.height_if, Writes.joined, Writes.or_else, Writes.written_if, Writes.many_writes, Writes.perhaps_writes, Lang.only, Lang.Both, Lang.Mapped, Lang.Either, Lang.Perhaps, Lang.Many, Lang.After, Lang.Before, Lang.put_in}
@@ -237,11 +237,11 @@ within_there o a r m h k x y =
 among_reached : (a : Term) (r : Option (Option (Unit {0}) × Choices)) → Reached a → If (λ z. Unit {0} × ChoicesReached z.1) r → Reached (values.among a r)
 among_reached a None x y = x
 among_reached a (Some (None, inl xs)) x y =
-    own_reached (Among a (terms_of xs)) (λ m k. there_both (P (g.expr m) a) ((g.in_choices (g.expr m)).rule.prints.writes (None, inl (back.list_of (terms_of xs)))) (operand a m (omega (arith, k)) x) (listed_there None xs m (omega (arith, k)) y.1))
+    own_reached (InList a (terms_of xs)) (λ m k. there_both (P (g.expr m) a) ((g.in_choices (g.expr m)).rule.prints.writes (None, inl (back.list_of (terms_of xs)))) (operand a m (omega (arith, k)) x) (listed_there None xs m (omega (arith, k)) y.1))
 among_reached a (Some (Some z, inl xs)) x y =
-    own_reached (NotAmong a (terms_of xs)) (λ m k. there_both (P (g.expr m) a) ((g.in_choices (g.expr m)).rule.prints.writes (Some tt, inl (back.list_of (terms_of xs)))) (operand a m (omega (arith, k)) x) (listed_there (Some tt) xs m (omega (arith, k)) y.1))
-among_reached a (Some (None, inr r)) x y = own_reached (Within a (values.query_of r)) (λ m k. let high = condition_high r in within_there None a r m (omega (arith, k)) (omega (arith, k, high)) x y.1)
-among_reached a (Some (Some z, inr r)) x y = own_reached (NotWithin a (values.query_of r)) (λ m k. let high = condition_high r in within_there (Some tt) a r m (omega (arith, k)) (omega (arith, k, high)) x y.1)
+    own_reached (NotInList a (terms_of xs)) (λ m k. there_both (P (g.expr m) a) ((g.in_choices (g.expr m)).rule.prints.writes (Some tt, inl (back.list_of (terms_of xs)))) (operand a m (omega (arith, k)) x) (listed_there (Some tt) xs m (omega (arith, k)) y.1))
+among_reached a (Some (None, inr r)) x y = own_reached (InSubquery a (values.query_of r)) (λ m k. let high = condition_high r in within_there None a r m (omega (arith, k)) (omega (arith, k, high)) x y.1)
+among_reached a (Some (Some z, inr r)) x y = own_reached (NotInSubquery a (values.query_of r)) (λ m k. let high = condition_high r in within_there (Some tt) a r m (omega (arith, k)) (omega (arith, k, high)) x y.1)
 
 -- ---- comparisons, IS NULL, NOT
 

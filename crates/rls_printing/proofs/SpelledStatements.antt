@@ -2,7 +2,7 @@
 use Rattle.std.proofs.Common.{◌≡◌, ℕ, ◌≤◌, true, false, List, [], ◌∷◌, Option, Some, None, refl, sym, inl, inr, subst, arith, le_refl}
 use Rattle.std.specs.Prelude.{codes, max}
 use Rattle.rls_expr.specs.Terms.{Term, terms_of}
-use Rattle.rls_statement.specs.{declared.changing.Setting.Setting, declared.statement.Statement.Statement}
+use Rattle.rls_statement.specs.{declared.changing.Assignment.Assignment, declared.statement.Statement.Statement}
 use Rattle.rls_text.specs.declared.token.Symbol.TheVariants as s
 use Rattle.rls_text.specs.{declared.token.Token.Token, Cut.Cut, Cutting.tree_of, Printing.IsWritten, FirstSets.expr_heads, FirstSets.expr_more, Lang.only, Lang.After, Writes.joined, Writes.or_else, Writes.many_writes, Heights.height, Heights.heights, Heights.height_if, Heights.highest, Heights.set_values, Heights.height_of}
 use Rattle.rls_text.specs.declared.token.Token.TheVariants as t
@@ -37,28 +37,28 @@ tuples_there x xs n h r more =
 -- ---- UPDATE
 
 -- a column that is set, and its expression
-abbrev SettingReached : Setting → Type 0
-SettingReached = WrittenFrom (λ x. height x.value) (λ n. (g.set_column (g.expr n)).rule.prints.writes)
+abbrev AssignmentReached : Assignment → Type 0
+AssignmentReached = WrittenFrom (λ x. height x.value) (λ n. (g.set_column (g.expr n)).rule.prints.writes)
 
-setting_there : (r : List ℕ × Term) → There (g.name.prints.writes r.0) → Reached r.1 → SettingReached (values.set_column_of r)
+assignment_there : (r : List ℕ × Term) → There (g.name.prints.writes r.0) → Reached r.1 → AssignmentReached (values.set_column_of r)
 unfolding g.set_column
-setting_there r named h = record {
+assignment_there r named h = record {
   within = λ n k.
       there_both (g.name.prints.writes r.0) (joined (Some (t.Symbol s.Equal ∷ [])) (w (g.expr n) r.1)) named (there_both (Some (t.Symbol s.Equal ∷ [])) (w (g.expr n) r.1) tt (h.within n k));
 }
 
-more_settings : (xs : List Setting) (n : ℕ) → heights (terms_of (set_values xs)) ≤ n → Each SettingReached xs → There (many_writes (cut.with_comma (g.set_column (g.expr n))).rule.spells (cut.with_comma (g.set_column (g.expr n))).rule.prints xs)
+more_assignments : (xs : List Assignment) (n : ℕ) → heights (terms_of (set_values xs)) ≤ n → Each AssignmentReached xs → There (many_writes (cut.with_comma (g.set_column (g.expr n))).rule.spells (cut.with_comma (g.set_column (g.expr n))).rule.prints xs)
 unfolding cut.with_comma
-more_settings [] n h r = tt
-more_settings (x ∷ xs) n h r =
+more_assignments [] n h r = tt
+more_assignments (x ∷ xs) n h r =
     there_both (joined (Some (t.Symbol s.Comma ∷ [])) ((g.set_column (g.expr n)).rule.prints.writes x)) (many_writes (cut.with_comma (g.set_column (g.expr n))).rule.spells (cut.with_comma (g.set_column (g.expr n))).rule.prints xs)
-    (there_both (Some (t.Symbol s.Comma ∷ [])) ((g.set_column (g.expr n)).rule.prints.writes x) tt (r.0.within n (omega (arith, h)))) (more_settings xs n (omega (arith, h)) r.1)
+    (there_both (Some (t.Symbol s.Comma ∷ [])) ((g.set_column (g.expr n)).rule.prints.writes x) tt (r.0.within n (omega (arith, h)))) (more_assignments xs n (omega (arith, h)) r.1)
 
-settings_there : (x : Setting) (xs : List Setting) (n : ℕ) → heights (terms_of (set_values (x ∷ xs))) ≤ n → SettingReached x → Each SettingReached xs → There ((g.all_set_columns (g.expr n)).rule.prints.writes (x ∷ xs))
+assignments_there : (x : Assignment) (xs : List Assignment) (n : ℕ) → heights (terms_of (set_values (x ∷ xs))) ≤ n → AssignmentReached x → Each AssignmentReached xs → There ((g.all_set_columns (g.expr n)).rule.prints.writes (x ∷ xs))
 unfolding g.all_set_columns
-settings_there x xs n h r more =
+assignments_there x xs n h r more =
     there_both ((g.set_column (g.expr n)).rule.prints.writes x) (many_writes (cut.with_comma (g.set_column (g.expr n))).rule.spells (cut.with_comma (g.set_column (g.expr n))).rule.prints xs)
-    (r.within n (omega (arith, h))) (more_settings xs n (omega (arith, h)) more)
+    (r.within n (omega (arith, h))) (more_assignments xs n (omega (arith, h)) more)
 
 -- ---- policies
 
@@ -141,25 +141,25 @@ module _ (inner : Cut tree_of expr_heads expr_more false) (ih : Says inner.rule.
       (both_say g.name.spells _ (λ z. There (g.name.prints.writes z)) _ (record { says = λ ts z x. name_full.written ts z x })
       (both_say (g.proper_rows inner).rule.spells g.returning.spells (WrittenFrom (λ z. highest z.1) (λ n. (g.proper_rows (g.expr n)).rule.prints.writes)) (λ z. There (g.returning.prints.writes z)) rows_say (record { says = λ ts z x. returning_full.written ts z x })))))
 
-  setting_says : Says (g.set_column inner).rule.spells SettingReached
+  assignment_says : Says (g.set_column inner).rule.spells AssignmentReached
   unfolding g.set_column
-  setting_says =
-      mapped_says values.set_column_of _ (λ r. There (g.name.prints.writes r.0) × Reached r.1) SettingReached (λ r h. setting_there r h.0 h.1)
+  assignment_says =
+      mapped_says values.set_column_of _ (λ r. There (g.name.prints.writes r.0) × Reached r.1) AssignmentReached (λ r h. assignment_there r h.0 h.1)
       (both_say g.name.spells _ (λ z. There (g.name.prints.writes z)) Reached (record { says = λ ts z x. name_full.written ts z x }) (after_says (only (t.Symbol s.Equal)) inner.rule.spells Reached ih))
 
-  all_settings_say : Says (g.all_set_columns inner).rule.spells (WrittenFrom (λ xs. heights (terms_of (set_values xs))) (λ n. (g.all_set_columns (g.expr n)).rule.prints.writes))
+  all_assignments_say : Says (g.all_set_columns inner).rule.spells (WrittenFrom (λ xs. heights (terms_of (set_values xs))) (λ n. (g.all_set_columns (g.expr n)).rule.prints.writes))
   unfolding g.all_set_columns cut.with_comma
-  all_settings_say =
-      mapped_says (λ r. r.0 ∷ r.1) _ (λ r. SettingReached r.0 × Each SettingReached r.1) (WrittenFrom (λ xs. heights (terms_of (set_values xs))) (λ n. (g.all_set_columns (g.expr n)).rule.prints.writes))
-      (λ r h. record { within = λ n k. settings_there r.0 r.1 n k h.0 h.1 })
-      (both_say (g.set_column inner).rule.spells _ SettingReached (Each SettingReached) setting_says
-      (many_say (After (only (t.Symbol s.Comma)) (g.set_column inner).rule.spells) SettingReached (after_says (only (t.Symbol s.Comma)) (g.set_column inner).rule.spells SettingReached setting_says)))
+  all_assignments_say =
+      mapped_says (λ r. r.0 ∷ r.1) _ (λ r. AssignmentReached r.0 × Each AssignmentReached r.1) (WrittenFrom (λ xs. heights (terms_of (set_values xs))) (λ n. (g.all_set_columns (g.expr n)).rule.prints.writes))
+      (λ r h. record { within = λ n k. assignments_there r.0 r.1 n k h.0 h.1 })
+      (both_say (g.set_column inner).rule.spells _ AssignmentReached (Each AssignmentReached) assignment_says
+      (many_say (After (only (t.Symbol s.Comma)) (g.set_column inner).rule.spells) AssignmentReached (after_says (only (t.Symbol s.Comma)) (g.set_column inner).rule.spells AssignmentReached assignment_says)))
 
-  settings_say : Says (g.set_columns inner).rule.spells (WrittenFrom (λ xs. heights (terms_of (set_values xs))) (λ n. (g.set_columns (g.expr n)).rule.prints.writes))
+  assignments_say : Says (g.set_columns inner).rule.spells (WrittenFrom (λ xs. heights (terms_of (set_values xs))) (λ n. (g.set_columns (g.expr n)).rule.prints.writes))
   unfolding g.set_columns
-  settings_say = record {
+  assignments_say = record {
     says = λ ts xs h. record {
-      within = λ n k. there_if (values.are_distinct (values.set_names xs)) ((g.all_set_columns (g.expr n)).rule.prints.writes xs) h.passes ((all_settings_say.says ts xs h.spelled).within n k);
+      within = λ n k. there_if (values.are_distinct (values.set_names xs)) ((g.all_set_columns (g.expr n)).rule.prints.writes xs) h.passes ((all_assignments_say.says ts xs h.spelled).within n k);
     };
   }
 
@@ -189,7 +189,7 @@ module _ (inner : Cut tree_of expr_heads expr_more false) (ih : Says inner.rule.
       (after_says (only (t.Word (codes "update"))) _ _
       (both_say g.name.spells _ (λ z. There (g.name.prints.writes z)) _ (record { says = λ ts z x. name_full.written ts z x })
       (after_says (only (t.Word (codes "set"))) _ _
-      (both_say (g.set_columns inner).rule.spells (g.ending inner).rule.spells (WrittenFrom (λ xs. heights (terms_of (set_values xs))) (λ n. (g.set_columns (g.expr n)).rule.prints.writes)) (WrittenFrom (λ z. height_if z.0) (λ n. (g.ending (g.expr n)).rule.prints.writes)) settings_say ending_says))))
+      (both_say (g.set_columns inner).rule.spells (g.ending inner).rule.spells (WrittenFrom (λ xs. heights (terms_of (set_values xs))) (λ n. (g.set_columns (g.expr n)).rule.prints.writes)) (WrittenFrom (λ z. height_if z.0) (λ n. (g.ending (g.expr n)).rule.prints.writes)) assignments_say ending_says))))
 
   -- DELETE
   delete_full : Says (g.delete inner).rule.spells (WrittenFrom height_of (λ n. (g.delete (g.expr n)).rule.prints.writes))

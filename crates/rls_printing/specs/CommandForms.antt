@@ -5,11 +5,11 @@ use Rattle.rls_value.specs.declared.refusal.Refusal.TheVariants as refusal
 use Rattle.rls_statement.specs.declared.command.Command.{Command}
 use Rattle.rls_statement.specs.declared.command.AccessMode.TheVariants as mode
 use Rattle.rls_statement.specs.declared.command.Command.TheVariants as c
-use Rattle.rls_printing.specs.Pieces.{Piece, Word}
+use Rattle.rls_printing.specs.OutputTokens.{OutputToken, Word}
 use Rattle.rls_printing.specs.StatementForms as form
 
 -- BEGIN, COMMIT, ROLLBACK, or a statement; READ WRITE isn't printed
-abbrev pub command : Command → List Piece
+abbrev pub command : Command → List OutputToken
 command (c.Begin mode.ReadWrite) = Word (codes "BEGIN") ∷ []
 command (c.Begin mode.ReadOnly) = Word (codes "BEGIN") ∷ Word (codes "READ") ∷ Word (codes "ONLY") ∷ []
 command c.Commit = Word (codes "COMMIT") ∷ []

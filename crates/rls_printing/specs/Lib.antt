@@ -1,5 +1,5 @@
-pub mod Pieces
-pub mod Sheets
+pub mod OutputTokens
+pub mod Outputs
 pub mod ExprForms
 pub mod StatementForms
 pub mod ReadBack

@@ -7,18 +7,18 @@ ghost use Rattle.rls_statement.specs.declared.command.Command.{Command};
 ghost use Rattle.rls_statement.specs.declared.command.Command.TheVariants as c;
 ghost use Rattle.rls_text.specs.{Words.words_of, declared.token.Token.Token};
 ghost use Rattle.rls_text.specs.Commands.{AnswersCommand, IsCommandSpelled, IsCommandWritten, SpellsCommand};
-ghost use Rattle.rls_printing.specs.{Pieces.tokens_of, Sheets.pieces_text, Sheets.put_all, Sheets.sheet_of};
+ghost use Rattle.rls_printing.specs.{OutputTokens.tokens_of, Outputs.output_tokens_text, Outputs.put_all, Outputs.output_of};
 ghost use Rattle.rls_printing.specs.CommandForms.{IsCommandReadAs};
 ghost use Rattle.rls_printing.specs.CommandForms as form;
 
-use crate::page::Page;
+use crate::buffer::OutputBuffer;
 use crate::printing::put_statement;
 use rls_statement::{AccessMode, Command};
 use std::alloc::{AllocError, Global};
 
 /// The text of the command: BEGIN, BEGIN READ ONLY, COMMIT, ROLLBACK, or that of its statement, as `print` gives it.
 pub fn print_command(alloc: Global, command: &Command) -> Result<String, AllocError>
-    ensures text { IfOk result (λ text. chars (string_bytes text) ≡ pieces_text true (form.command command.now)) }
+    ensures text { IfOk result (λ text. chars (string_bytes text) ≡ output_tokens_text true (form.command command.now)) }
 
     // The words of the text are the tokens of that form.
     ensures tokens { IfOk result (λ text. tokens_of (form.command command.now) ≡ Some (words_of (string_bytes text))) }
@@ -35,31 +35,31 @@ pub fn print_command(alloc: Global, command: &Command) -> Result<String, AllocEr
     // Where some text within the limits spells the command, it is the command.
     ensures again { IfOk result (λ text. (tokens : List Token) (answer : Result Command Refusal) → IsCommandSpelled tokens command.now → AnswersCommand (words_of (string_bytes text)) answer → answer ≡ Ok command.now) }
 {
-    let mut page = Page::new(alloc);
-    put_command(&mut page, command)?;
-    Ok(page.into_text())
+    let mut buffer = OutputBuffer::new(alloc);
+    put_command(&mut buffer, command)?;
+    Ok(buffer.into_text())
 }
 
-fn put_command(page: &mut Page, command: &Command) -> Result<(), AllocError>
-    ensures { OnOk result (put_all (Some (sheet_of page.old)) (form.command command.now) ≡ Some (sheet_of page.new)) }
+fn put_command(buffer: &mut OutputBuffer, command: &Command) -> Result<(), AllocError>
+    ensures { OnOk result (put_all (Some (output_of buffer.old)) (form.command command.now) ≡ Some (output_of buffer.new)) }
 {
     match command {
-        Command::Begin(mode) => put_begin(page, *mode),
-        Command::Commit => page.word("COMMIT"),
-        Command::Rollback => page.word("ROLLBACK"),
-        Command::Run(statement) => put_statement(page, statement),
+        Command::Begin(mode) => put_begin(buffer, *mode),
+        Command::Commit => buffer.word("COMMIT"),
+        Command::Rollback => buffer.word("ROLLBACK"),
+        Command::Run(statement) => put_statement(buffer, statement),
     }
 }
 
-fn put_begin(page: &mut Page, mode: AccessMode) -> Result<(), AllocError>
-    ensures { OnOk result (put_all (Some (sheet_of page.old)) (form.command (c.Begin mode)) ≡ Some (sheet_of page.new)) }
+fn put_begin(buffer: &mut OutputBuffer, mode: AccessMode) -> Result<(), AllocError>
+    ensures { OnOk result (put_all (Some (output_of buffer.old)) (form.command (c.Begin mode)) ≡ Some (output_of buffer.new)) }
 {
-    page.word("BEGIN")?;
+    buffer.word("BEGIN")?;
     match mode {
         AccessMode::ReadWrite => Ok(()),
         AccessMode::ReadOnly => {
-            page.word("READ")?;
-            page.word("ONLY")
+            buffer.word("READ")?;
+            buffer.word("ONLY")
         }
     }
 }

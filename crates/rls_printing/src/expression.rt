@@ -6,60 +6,60 @@ ghost use Rattle.rls_expr.specs.ExprTerms.{query_of};
 ghost use Rattle.rls_expr.specs.Terms.{maybe_term, terms_of};
 ghost use Rattle.rls_expr.specs.Terms as t;
 ghost use Rattle.rls_printing.specs.ExprForms as form;
-ghost use Rattle.rls_printing.specs.Pieces.{Word};
-ghost use Rattle.rls_printing.specs.Sheets.{put, put_all, sheet_of};
+ghost use Rattle.rls_printing.specs.OutputTokens.{Word};
+ghost use Rattle.rls_printing.specs.Outputs.{put, put_all, output_of};
 
-use crate::page::{Mark, Page};
+use crate::buffer::{Mark, OutputBuffer};
 use rls_expr::{ColumnName, Comparison, Expr, FromItem, Node, Selects, Sign, Subquery};
 use rls_value::{Name, Value};
 use std::alloc::AllocError;
 
 /// An expression.
 #[cycle(printing)]
-pub fn put_expr(page: &mut Page, expr: &Expr) -> Result<(), AllocError>
-    ensures { OnOk result (put_all (Some (sheet_of page.old)) (form.expr expr.now) ≡ Some (sheet_of page.new)) }
+pub fn put_expr(buffer: &mut OutputBuffer, expr: &Expr) -> Result<(), AllocError>
+    ensures { OnOk result (put_all (Some (output_of buffer.old)) (form.expr expr.now) ≡ Some (output_of buffer.new)) }
 {
     match expr.node() {
-        Node::Literal(value) => put_literal(page, value),
-        Node::Column(column) => put_column(page, column),
-        Node::Place(_) => Ok(()),
-        Node::CurrentUser => page.word("CURRENT_USER"),
-        Node::Compare(how, left, right) => put_comparison(page, *how, left, right),
-        Node::And(parts) => put_operands(page, "AND", parts),
-        Node::Or(parts) => put_operands(page, "OR", parts),
-        Node::Not(operand) => put_negation(page, operand),
-        Node::IsNull(operand) => put_null_test(page, operand),
-        Node::IsNotNull(operand) => put_not_null_test(page, operand),
-        Node::Among(left, list) => put_among(page, left, list),
-        Node::NotAmong(left, list) => put_not_among(page, left, list),
-        Node::Exists(query) => put_exists(page, query),
-        Node::Within(left, query) => put_within(page, left, query),
-        Node::NotWithin(left, query) => put_not_within(page, left, query),
-        Node::Scalar(query) => put_enclosed_query(page, query),
-        Node::Sum(signs, parts) => put_sum(page, signs, parts),
+        Node::Literal(value) => put_literal(buffer, value),
+        Node::Column(column) => put_column(buffer, column),
+        Node::Var(_) => Ok(()),
+        Node::CurrentUser => buffer.word("CURRENT_USER"),
+        Node::Compare(how, left, right) => put_comparison(buffer, *how, left, right),
+        Node::And(parts) => put_operands(buffer, "AND", parts),
+        Node::Or(parts) => put_operands(buffer, "OR", parts),
+        Node::Not(operand) => put_negation(buffer, operand),
+        Node::IsNull(operand) => put_null_test(buffer, operand),
+        Node::IsNotNull(operand) => put_not_null_test(buffer, operand),
+        Node::InList(left, list) => put_among(buffer, left, list),
+        Node::NotInList(left, list) => put_not_among(buffer, left, list),
+        Node::Exists(query) => put_exists(buffer, query),
+        Node::InSubquery(left, query) => put_within(buffer, left, query),
+        Node::NotInSubquery(left, query) => put_not_within(buffer, left, query),
+        Node::Scalar(query) => put_enclosed_query(buffer, query),
+        Node::Sum(signs, parts) => put_sum(buffer, signs, parts),
     }
 }
 
 /// A value.
-pub fn put_literal(page: &mut Page, value: &Value) -> Result<(), AllocError>
-    ensures { OnOk result (put (Some (sheet_of page.old)) (form.literal value.now) ≡ Some (sheet_of page.new)) }
+pub fn put_literal(buffer: &mut OutputBuffer, value: &Value) -> Result<(), AllocError>
+    ensures { OnOk result (put (Some (output_of buffer.old)) (form.literal value.now) ≡ Some (output_of buffer.new)) }
 {
     match value {
-        Value::Null => page.word("NULL"),
-        Value::Int(number) => page.number(*number),
-        Value::Text(text) => page.quoted(text.as_str()),
-        Value::Bool(true) => page.word("TRUE"),
-        Value::Bool(false) => page.word("FALSE"),
+        Value::Null => buffer.word("NULL"),
+        Value::Int(number) => buffer.number(*number),
+        Value::Text(text) => buffer.quoted(text.as_str()),
+        Value::Bool(true) => buffer.word("TRUE"),
+        Value::Bool(false) => buffer.word("FALSE"),
     }
 }
 
 /// A column, with what qualifies it.
-pub fn put_column(page: &mut Page, column: &ColumnName) -> Result<(), AllocError>
-    ensures { OnOk result (put (Some (sheet_of page.old)) (form.named column.now.qualifier column.now.name) ≡ Some (sheet_of page.new)) }
+pub fn put_column(buffer: &mut OutputBuffer, column: &ColumnName) -> Result<(), AllocError>
+    ensures { OnOk result (put (Some (output_of buffer.old)) (form.named column.now.qualifier column.now.name) ≡ Some (output_of buffer.new)) }
 {
     match &column.qualifier {
-        Some(qualifier) => page.qualified(qualifier.as_str(), column.name.as_str()),
-        None => page.word(column.name.as_str()),
+        Some(qualifier) => buffer.qualified(qualifier.as_str(), column.name.as_str()),
+        None => buffer.word(column.name.as_str()),
     }
 }
 
@@ -107,165 +107,169 @@ fn stands_alone(expr: &Expr) -> bool
 
 /// An operand, in parentheses unless it stands alone.
 #[cycle(printing)]
-fn put_operand(page: &mut Page, operand: &Expr) -> Result<(), AllocError>
-    ensures { OnOk result (put_all (Some (sheet_of page.old)) (form.bare_if (form.stands_alone operand.now) (form.expr operand.now)) ≡ Some (sheet_of page.new)) }
+fn put_operand(buffer: &mut OutputBuffer, operand: &Expr) -> Result<(), AllocError>
+    ensures { OnOk result (put_all (Some (output_of buffer.old)) (form.bare_if (form.stands_alone operand.now) (form.expr operand.now)) ≡ Some (output_of buffer.new)) }
 {
     if stands_alone(operand) {
-        put_expr(page, operand)
+        put_expr(buffer, operand)
     } else {
-        put_enclosed(page, operand)
+        put_enclosed(buffer, operand)
     }
 }
 
 /// An expression in parentheses.
 #[cycle(printing)]
-pub fn put_enclosed(page: &mut Page, expr: &Expr) -> Result<(), AllocError>
-    ensures { OnOk result (put_all (Some (sheet_of page.old)) (form.enclosed (form.expr expr.now)) ≡ Some (sheet_of page.new)) }
+pub fn put_enclosed(buffer: &mut OutputBuffer, expr: &Expr) -> Result<(), AllocError>
+    ensures { OnOk result (put_all (Some (output_of buffer.old)) (form.enclosed (form.expr expr.now)) ≡ Some (output_of buffer.new)) }
 {
-    page.mark(Mark::Open)?;
-    put_expr(page, expr)?;
-    page.mark(Mark::Close)
+    buffer.mark(Mark::Open)?;
+    put_expr(buffer, expr)?;
+    buffer.mark(Mark::Close)
 }
 
 #[cycle(printing)]
 fn put_comparison(
-    page: &mut Page,
+    buffer: &mut OutputBuffer,
     how: Comparison,
     left: &Expr,
     right: &Expr,
 ) -> Result<(), AllocError>
-    ensures { OnOk result (put_all (Some (sheet_of page.old)) (form.expr (t.Compare how left.now right.now)) ≡ Some (sheet_of page.new)) }
+    ensures { OnOk result (put_all (Some (output_of buffer.old)) (form.expr (t.Compare how left.now right.now)) ≡ Some (output_of buffer.new)) }
 {
-    put_operand(page, left)?;
-    page.mark(mark_of(how))?;
-    put_operand(page, right)
+    put_operand(buffer, left)?;
+    buffer.mark(mark_of(how))?;
+    put_operand(buffer, right)
 }
 
 /// Operands with the word between them.
 #[cycle(printing)]
-fn put_operands(page: &mut Page, word: &str, parts: &[Expr]) -> Result<(), AllocError>
+fn put_operands(buffer: &mut OutputBuffer, word: &str, parts: &[Expr]) -> Result<(), AllocError>
     requires { is_word word.now ≡ true }
-    ensures { OnOk result (put_all (Some (sheet_of page.old)) (form.operands (Word word.now) (terms_of parts.now)) ≡ Some (sheet_of page.new)) }
+    ensures { OnOk result (put_all (Some (output_of buffer.old)) (form.operands (Word word.now) (terms_of parts.now)) ≡ Some (output_of buffer.new)) }
 {
     match parts {
         [] => Ok(()),
         [first, rest @ ..] => {
-            put_operand(page, first)?;
-            put_further(page, word, rest)
+            put_operand(buffer, first)?;
+            put_further(buffer, word, rest)
         }
     }
 }
 
 #[cycle(printing)]
-fn put_further(page: &mut Page, word: &str, parts: &[Expr]) -> Result<(), AllocError>
+fn put_further(buffer: &mut OutputBuffer, word: &str, parts: &[Expr]) -> Result<(), AllocError>
     requires { is_word word.now ≡ true }
-    ensures { OnOk result (put_all (Some (sheet_of page.old)) (form.further (Word word.now) (terms_of parts.now)) ≡ Some (sheet_of page.new)) }
+    ensures { OnOk result (put_all (Some (output_of buffer.old)) (form.further (Word word.now) (terms_of parts.now)) ≡ Some (output_of buffer.new)) }
 {
     for part in parts {
-        page.word(word)?;
-        put_operand(page, part)?;
+        buffer.word(word)?;
+        put_operand(buffer, part)?;
     }
     Ok(())
 }
 
 #[cycle(printing)]
-fn put_negation(page: &mut Page, operand: &Expr) -> Result<(), AllocError>
-    ensures { OnOk result (put_all (Some (sheet_of page.old)) (form.expr (t.Not operand.now)) ≡ Some (sheet_of page.new)) }
+fn put_negation(buffer: &mut OutputBuffer, operand: &Expr) -> Result<(), AllocError>
+    ensures { OnOk result (put_all (Some (output_of buffer.old)) (form.expr (t.Not operand.now)) ≡ Some (output_of buffer.new)) }
 {
-    page.word("NOT")?;
-    put_operand(page, operand)
+    buffer.word("NOT")?;
+    put_operand(buffer, operand)
 }
 
 #[cycle(printing)]
-fn put_null_test(page: &mut Page, operand: &Expr) -> Result<(), AllocError>
-    ensures { OnOk result (put_all (Some (sheet_of page.old)) (form.expr (t.IsNull operand.now)) ≡ Some (sheet_of page.new)) }
+fn put_null_test(buffer: &mut OutputBuffer, operand: &Expr) -> Result<(), AllocError>
+    ensures { OnOk result (put_all (Some (output_of buffer.old)) (form.expr (t.IsNull operand.now)) ≡ Some (output_of buffer.new)) }
 {
-    put_operand(page, operand)?;
-    page.word("IS")?;
-    page.word("NULL")
+    put_operand(buffer, operand)?;
+    buffer.word("IS")?;
+    buffer.word("NULL")
 }
 
 #[cycle(printing)]
-fn put_not_null_test(page: &mut Page, operand: &Expr) -> Result<(), AllocError>
-    ensures { OnOk result (put_all (Some (sheet_of page.old)) (form.expr (t.IsNotNull operand.now)) ≡ Some (sheet_of page.new)) }
+fn put_not_null_test(buffer: &mut OutputBuffer, operand: &Expr) -> Result<(), AllocError>
+    ensures { OnOk result (put_all (Some (output_of buffer.old)) (form.expr (t.IsNotNull operand.now)) ≡ Some (output_of buffer.new)) }
 {
-    put_operand(page, operand)?;
-    page.word("IS")?;
-    page.word("NOT")?;
-    page.word("NULL")
+    put_operand(buffer, operand)?;
+    buffer.word("IS")?;
+    buffer.word("NOT")?;
+    buffer.word("NULL")
 }
 
 #[cycle(printing)]
-fn put_among(page: &mut Page, left: &Expr, list: &[Expr]) -> Result<(), AllocError>
-    ensures { OnOk result (put_all (Some (sheet_of page.old)) (form.expr (t.Among left.now (terms_of list.now))) ≡ Some (sheet_of page.new)) }
+fn put_among(buffer: &mut OutputBuffer, left: &Expr, list: &[Expr]) -> Result<(), AllocError>
+    ensures { OnOk result (put_all (Some (output_of buffer.old)) (form.expr (t.InList left.now (terms_of list.now))) ≡ Some (output_of buffer.new)) }
 {
-    put_operand(page, left)?;
-    page.word("IN")?;
-    put_tuple(page, list)
+    put_operand(buffer, left)?;
+    buffer.word("IN")?;
+    put_tuple(buffer, list)
 }
 
 #[cycle(printing)]
-fn put_not_among(page: &mut Page, left: &Expr, list: &[Expr]) -> Result<(), AllocError>
-    ensures { OnOk result (put_all (Some (sheet_of page.old)) (form.expr (t.NotAmong left.now (terms_of list.now))) ≡ Some (sheet_of page.new)) }
+fn put_not_among(buffer: &mut OutputBuffer, left: &Expr, list: &[Expr]) -> Result<(), AllocError>
+    ensures { OnOk result (put_all (Some (output_of buffer.old)) (form.expr (t.NotInList left.now (terms_of list.now))) ≡ Some (output_of buffer.new)) }
 {
-    put_operand(page, left)?;
-    page.word("NOT")?;
-    page.word("IN")?;
-    put_tuple(page, list)
+    put_operand(buffer, left)?;
+    buffer.word("NOT")?;
+    buffer.word("IN")?;
+    put_tuple(buffer, list)
 }
 
 #[cycle(printing)]
-fn put_exists(page: &mut Page, query: &Subquery) -> Result<(), AllocError>
-    ensures { OnOk result (put_all (Some (sheet_of page.old)) (form.expr (t.Exists (query_of query.now))) ≡ Some (sheet_of page.new)) }
+fn put_exists(buffer: &mut OutputBuffer, query: &Subquery) -> Result<(), AllocError>
+    ensures { OnOk result (put_all (Some (output_of buffer.old)) (form.expr (t.Exists (query_of query.now))) ≡ Some (output_of buffer.new)) }
 {
-    page.word("EXISTS")?;
-    put_enclosed_query(page, query)
+    buffer.word("EXISTS")?;
+    put_enclosed_query(buffer, query)
 }
 
 #[cycle(printing)]
-fn put_within(page: &mut Page, left: &Expr, query: &Subquery) -> Result<(), AllocError>
-    ensures { OnOk result (put_all (Some (sheet_of page.old)) (form.expr (t.Within left.now (query_of query.now))) ≡ Some (sheet_of page.new)) }
+fn put_within(buffer: &mut OutputBuffer, left: &Expr, query: &Subquery) -> Result<(), AllocError>
+    ensures { OnOk result (put_all (Some (output_of buffer.old)) (form.expr (t.InSubquery left.now (query_of query.now))) ≡ Some (output_of buffer.new)) }
 {
-    put_operand(page, left)?;
-    page.word("IN")?;
-    put_enclosed_query(page, query)
+    put_operand(buffer, left)?;
+    buffer.word("IN")?;
+    put_enclosed_query(buffer, query)
 }
 
 #[cycle(printing)]
-fn put_not_within(page: &mut Page, left: &Expr, query: &Subquery) -> Result<(), AllocError>
-    ensures { OnOk result (put_all (Some (sheet_of page.old)) (form.expr (t.NotWithin left.now (query_of query.now))) ≡ Some (sheet_of page.new)) }
+fn put_not_within(
+    buffer: &mut OutputBuffer,
+    left: &Expr,
+    query: &Subquery,
+) -> Result<(), AllocError>
+    ensures { OnOk result (put_all (Some (output_of buffer.old)) (form.expr (t.NotInSubquery left.now (query_of query.now))) ≡ Some (output_of buffer.new)) }
 {
-    put_operand(page, left)?;
-    page.word("NOT")?;
-    page.word("IN")?;
-    put_enclosed_query(page, query)
+    put_operand(buffer, left)?;
+    buffer.word("NOT")?;
+    buffer.word("IN")?;
+    put_enclosed_query(buffer, query)
 }
 
 /// A sum: its parts, with the signs between them.
 #[cycle(printing)]
-fn put_sum(page: &mut Page, signs: &[Sign], parts: &[Expr]) -> Result<(), AllocError>
-    ensures { OnOk result (put_all (Some (sheet_of page.old)) (form.sum signs.now (terms_of parts.now)) ≡ Some (sheet_of page.new)) }
+fn put_sum(buffer: &mut OutputBuffer, signs: &[Sign], parts: &[Expr]) -> Result<(), AllocError>
+    ensures { OnOk result (put_all (Some (output_of buffer.old)) (form.sum signs.now (terms_of parts.now)) ≡ Some (output_of buffer.new)) }
 {
     match parts {
         [] => Ok(()),
         [first, rest @ ..] => {
-            put_operand(page, first)?;
-            put_summands(page, signs, rest)
+            put_operand(buffer, first)?;
+            put_summands(buffer, signs, rest)
         }
     }
 }
 
 #[cycle(printing)]
-fn put_summands(page: &mut Page, signs: &[Sign], parts: &[Expr]) -> Result<(), AllocError>
-    ensures { OnOk result (put_all (Some (sheet_of page.old)) (form.summands signs.now (terms_of parts.now)) ≡ Some (sheet_of page.new)) }
+fn put_summands(buffer: &mut OutputBuffer, signs: &[Sign], parts: &[Expr]) -> Result<(), AllocError>
+    ensures { OnOk result (put_all (Some (output_of buffer.old)) (form.summands signs.now (terms_of parts.now)) ≡ Some (output_of buffer.new)) }
 {
     let mut left = signs;
     for part in parts {
         let Some((sign, rest)) = first_sign(left) else {
             return Ok(());
         };
-        page.mark(mark_of_sign(sign))?;
-        put_operand(page, part)?;
+        buffer.mark(mark_of_sign(sign))?;
+        put_operand(buffer, part)?;
         left = rest;
     }
     Ok(())
@@ -273,91 +277,99 @@ fn put_summands(page: &mut Page, signs: &[Sign], parts: &[Expr]) -> Result<(), A
 
 /// Expressions in parentheses, with commas between them.
 #[cycle(printing)]
-pub fn put_tuple(page: &mut Page, list: &[Expr]) -> Result<(), AllocError>
-    ensures { OnOk result (put_all (Some (sheet_of page.old)) (form.enclosed (form.list (terms_of list.now))) ≡ Some (sheet_of page.new)) }
+pub fn put_tuple(buffer: &mut OutputBuffer, list: &[Expr]) -> Result<(), AllocError>
+    ensures { OnOk result (put_all (Some (output_of buffer.old)) (form.enclosed (form.list (terms_of list.now))) ≡ Some (output_of buffer.new)) }
 {
-    page.mark(Mark::Open)?;
-    put_list(page, list)?;
-    page.mark(Mark::Close)
+    buffer.mark(Mark::Open)?;
+    put_list(buffer, list)?;
+    buffer.mark(Mark::Close)
 }
 
 /// Expressions with commas between them.
 #[cycle(printing)]
-pub fn put_list(page: &mut Page, list: &[Expr]) -> Result<(), AllocError>
-    ensures { OnOk result (put_all (Some (sheet_of page.old)) (form.list (terms_of list.now)) ≡ Some (sheet_of page.new)) }
+pub fn put_list(buffer: &mut OutputBuffer, list: &[Expr]) -> Result<(), AllocError>
+    ensures { OnOk result (put_all (Some (output_of buffer.old)) (form.list (terms_of list.now)) ≡ Some (output_of buffer.new)) }
 {
     match list {
         [] => Ok(()),
         [first, rest @ ..] => {
-            put_expr(page, first)?;
-            put_more(page, rest)
+            put_expr(buffer, first)?;
+            put_more(buffer, rest)
         }
     }
 }
 
 #[cycle(printing)]
-fn put_more(page: &mut Page, list: &[Expr]) -> Result<(), AllocError>
-    ensures { OnOk result (put_all (Some (sheet_of page.old)) (form.more (terms_of list.now)) ≡ Some (sheet_of page.new)) }
+fn put_more(buffer: &mut OutputBuffer, list: &[Expr]) -> Result<(), AllocError>
+    ensures { OnOk result (put_all (Some (output_of buffer.old)) (form.more (terms_of list.now)) ≡ Some (output_of buffer.new)) }
 {
     for expr in list {
-        page.mark(Mark::Comma)?;
-        put_expr(page, expr)?;
+        buffer.mark(Mark::Comma)?;
+        put_expr(buffer, expr)?;
     }
     Ok(())
 }
 
 #[cycle(printing)]
-fn put_enclosed_query(page: &mut Page, query: &Subquery) -> Result<(), AllocError>
-    ensures { OnOk result (put_all (Some (sheet_of page.old)) (form.enclosed (form.query (query_of query.now))) ≡ Some (sheet_of page.new)) }
+fn put_enclosed_query(buffer: &mut OutputBuffer, query: &Subquery) -> Result<(), AllocError>
+    ensures { OnOk result (put_all (Some (output_of buffer.old)) (form.enclosed (form.query (query_of query.now))) ≡ Some (output_of buffer.new)) }
 {
-    page.mark(Mark::Open)?;
-    put_query(page, query)?;
-    page.mark(Mark::Close)
+    buffer.mark(Mark::Open)?;
+    put_query(buffer, query)?;
+    buffer.mark(Mark::Close)
 }
 
 #[cycle(printing)]
-fn put_query(page: &mut Page, query: &Subquery) -> Result<(), AllocError>
-    ensures { OnOk result (put_all (Some (sheet_of page.old)) (form.query (query_of query.now)) ≡ Some (sheet_of page.new)) }
+fn put_query(buffer: &mut OutputBuffer, query: &Subquery) -> Result<(), AllocError>
+    ensures { OnOk result (put_all (Some (output_of buffer.old)) (form.query (query_of query.now)) ≡ Some (output_of buffer.new)) }
 {
-    page.word("SELECT")?;
-    put_selected(page, query.selects, &query.items)?;
-    put_from(page, &query.from)?;
-    put_where(page, &query.condition)
+    buffer.word("SELECT")?;
+    put_selected(buffer, query.selects, &query.items)?;
+    put_from(buffer, &query.from)?;
+    put_where(buffer, &query.condition)
 }
 
 #[cycle(printing)]
-fn put_selected(page: &mut Page, selects: Selects, items: &[Expr]) -> Result<(), AllocError>
-    ensures { OnOk result (put_all (Some (sheet_of page.old)) (form.selected selects (form.list (terms_of items.now))) ≡ Some (sheet_of page.new)) }
+fn put_selected(
+    buffer: &mut OutputBuffer,
+    selects: Selects,
+    items: &[Expr],
+) -> Result<(), AllocError>
+    ensures { OnOk result (put_all (Some (output_of buffer.old)) (form.selected selects (form.list (terms_of items.now))) ≡ Some (output_of buffer.new)) }
 {
     match selects {
-        Selects::All => page.mark(Mark::Star),
-        Selects::Count => page.count(),
-        Selects::Items => put_list(page, items),
+        Selects::All => buffer.mark(Mark::Star),
+        Selects::Count => buffer.count(),
+        Selects::Items => put_list(buffer, items),
     }
 }
 
-fn put_from(page: &mut Page, from: &FromItem) -> Result<(), AllocError>
-    ensures { OnOk result (put_all (Some (sheet_of page.old)) (form.from_ from.now.table from.now.alias) ≡ Some (sheet_of page.new)) }
+fn put_from(buffer: &mut OutputBuffer, from: &FromItem) -> Result<(), AllocError>
+    ensures { OnOk result (put_all (Some (output_of buffer.old)) (form.from_ from.now.table from.now.alias) ≡ Some (output_of buffer.new)) }
 {
-    put_table(page, &from.table, &from.alias)
+    put_table(buffer, &from.table, &from.alias)
 }
 
 /// FROM, the table and its alias.
-pub fn put_table(page: &mut Page, table: &Name, alias: &Option<Name>) -> Result<(), AllocError>
-    ensures { OnOk result (put_all (Some (sheet_of page.old)) (form.from_ table.now alias.now) ≡ Some (sheet_of page.new)) }
+pub fn put_table(
+    buffer: &mut OutputBuffer,
+    table: &Name,
+    alias: &Option<Name>,
+) -> Result<(), AllocError>
+    ensures { OnOk result (put_all (Some (output_of buffer.old)) (form.from_ table.now alias.now) ≡ Some (output_of buffer.new)) }
 {
-    page.word("FROM")?;
-    page.word(table.as_str())?;
-    put_alias(page, alias)
+    buffer.word("FROM")?;
+    buffer.word(table.as_str())?;
+    put_alias(buffer, alias)
 }
 
-fn put_alias(page: &mut Page, alias: &Option<Name>) -> Result<(), AllocError>
-    ensures { OnOk result (put_all (Some (sheet_of page.old)) (form.alias alias.now) ≡ Some (sheet_of page.new)) }
+fn put_alias(buffer: &mut OutputBuffer, alias: &Option<Name>) -> Result<(), AllocError>
+    ensures { OnOk result (put_all (Some (output_of buffer.old)) (form.alias alias.now) ≡ Some (output_of buffer.new)) }
 {
     match alias {
         Some(alias) => {
-            page.word("AS")?;
-            page.word(alias.as_str())
+            buffer.word("AS")?;
+            buffer.word(alias.as_str())
         }
         None => Ok(()),
     }
@@ -365,13 +377,13 @@ fn put_alias(page: &mut Page, alias: &Option<Name>) -> Result<(), AllocError>
 
 /// WHERE, if there is a condition.
 #[cycle(printing)]
-pub fn put_where(page: &mut Page, condition: &Option<Expr>) -> Result<(), AllocError>
-    ensures { OnOk result (put_all (Some (sheet_of page.old)) (form.where_ (maybe_term condition.now)) ≡ Some (sheet_of page.new)) }
+pub fn put_where(buffer: &mut OutputBuffer, condition: &Option<Expr>) -> Result<(), AllocError>
+    ensures { OnOk result (put_all (Some (output_of buffer.old)) (form.where_ (maybe_term condition.now)) ≡ Some (output_of buffer.new)) }
 {
     match condition {
         Some(condition) => {
-            page.word("WHERE")?;
-            put_expr(page, condition)
+            buffer.word("WHERE")?;
+            put_expr(buffer, condition)
         }
         None => Ok(()),
     }

@@ -5,18 +5,18 @@ ghost use Rattle.std.specs.Str.{chars};
 ghost use Rattle.rls_expr.specs.Terms.{Term};
 ghost use Rattle.rls_statement.specs.declared.statement.Statement.{Statement};
 ghost use Rattle.rls_value.specs.declared.refusal.Refusal.{Refusal};
-ghost use Rattle.rls_text.specs.Answers.{Answers, IsSpelled, first_limit, limited};
+ghost use Rattle.rls_text.specs.ParseResults.{IsParseResult, IsSpelled, first_limit, limited};
 ghost use Rattle.rls_text.specs.Grammar as g;
 ghost use Rattle.rls_text.specs.{Grammar.Spells, Heights.height, Printing.IsWritten, Words.words_of, declared.token.Token.Token};
 ghost use Rattle.rls_printing.specs.ExprForms as expr_form;
-ghost use Rattle.rls_printing.specs.Pieces.{Piece, tokens_of};
+ghost use Rattle.rls_printing.specs.OutputTokens.{OutputToken, tokens_of};
 ghost use Rattle.rls_printing.specs.StatementForms as form;
-ghost use Rattle.rls_printing.specs.Sheets.{are_fit, pieces_text};
+ghost use Rattle.rls_printing.specs.Outputs.{are_fit, output_tokens_text};
 
 /// The words of a text of printed words are their tokens.
 #[tactic(auto, using(crate::proofs::Reading::words_told))]
 pub fn printed_words()
-    ensures { (bytes : List ℕ) (pieces : List Piece) (tokens : List Token) → chars bytes ≡ pieces_text true pieces → are_fit pieces ≡ true → tokens_of pieces ≡ Some tokens → words_of bytes ≡ tokens }
+    ensures { (bytes : List ℕ) (output_tokens : List OutputToken) (tokens : List Token) → chars bytes ≡ output_tokens_text true output_tokens → are_fit output_tokens ≡ true → tokens_of output_tokens ≡ Some tokens → words_of bytes ≡ tokens }
 {}
 
 /// What the grammar writes for an expression are the tokens of the words of which it is printed.
@@ -48,5 +48,5 @@ pub fn printed_within()
 
 /// Where a text within the limits spells a statement, the words that are printed for it are answered with it.
 pub fn read_again()
-    ensures { (x : Statement) (original words : List Token) (answer : Result Statement Refusal) → IsSpelled original x → are_fit (form.statement x) ≡ true → tokens_of (form.statement x) ≡ Some words → Answers words answer → answer ≡ Ok x }
+    ensures { (x : Statement) (original words : List Token) (answer : Result Statement Refusal) → IsSpelled original x → are_fit (form.statement x) ≡ true → tokens_of (form.statement x) ≡ Some words → IsParseResult words answer → answer ≡ Ok x }
 {}

@@ -1,11 +1,11 @@
 //! Statements of SQL as texts.
 #![tactic(auto)]
 
+mod buffer;
 mod commands;
 mod expression;
 mod laws;
 mod lists;
-mod page;
 mod policies;
 mod printing;
 mod statements;

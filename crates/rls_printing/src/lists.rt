@@ -1,166 +1,172 @@
 //! Lists, printed.
 
 ghost use Rattle.std.specs.Prelude.{◌≡◌, Some, OnOk};
-ghost use Rattle.rls_printing.specs.Sheets.{put_all, sheet_of};
+ghost use Rattle.rls_printing.specs.Outputs.{put_all, output_of};
 ghost use Rattle.rls_printing.specs.StatementForms as form;
 
+use crate::buffer::{Mark, OutputBuffer};
 use crate::expression::{put_expr, put_tuple};
-use crate::page::{Mark, Page};
 use crate::words::{put_column_type, put_is_key, put_not_null};
 use rls_expr::{Expr, Grantee};
-use rls_statement::{MarkedColumn, Setting};
+use rls_statement::{Assignment, MarkedColumn};
 use rls_value::{Items, Name};
 use std::alloc::AllocError;
 
 /// Names with commas between them.
-pub fn put_names(page: &mut Page, names: &[Name]) -> Result<(), AllocError>
-    ensures { OnOk result (put_all (Some (sheet_of page.old)) (form.listed form.name names.now) ≡ Some (sheet_of page.new)) }
+pub fn put_names(buffer: &mut OutputBuffer, names: &[Name]) -> Result<(), AllocError>
+    ensures { OnOk result (put_all (Some (output_of buffer.old)) (form.listed form.name names.now) ≡ Some (output_of buffer.new)) }
 {
     match names {
         [] => Ok(()),
         [first, rest @ ..] => {
-            put_name(page, first)?;
-            put_more_names(page, rest)
+            put_name(buffer, first)?;
+            put_more_names(buffer, rest)
         }
     }
 }
 
-fn put_more_names(page: &mut Page, names: &[Name]) -> Result<(), AllocError>
-    ensures { OnOk result (put_all (Some (sheet_of page.old)) (form.also form.name names.now) ≡ Some (sheet_of page.new)) }
+fn put_more_names(buffer: &mut OutputBuffer, names: &[Name]) -> Result<(), AllocError>
+    ensures { OnOk result (put_all (Some (output_of buffer.old)) (form.also form.name names.now) ≡ Some (output_of buffer.new)) }
 {
     for name in names {
-        page.mark(Mark::Comma)?;
-        put_name(page, name)?;
+        buffer.mark(Mark::Comma)?;
+        put_name(buffer, name)?;
     }
     Ok(())
 }
 
 /// Grantees with commas between them.
-pub fn put_grantees(page: &mut Page, grantees: &[Grantee]) -> Result<(), AllocError>
-    ensures { OnOk result (put_all (Some (sheet_of page.old)) (form.listed form.grantee grantees.now) ≡ Some (sheet_of page.new)) }
+pub fn put_grantees(buffer: &mut OutputBuffer, grantees: &[Grantee]) -> Result<(), AllocError>
+    ensures { OnOk result (put_all (Some (output_of buffer.old)) (form.listed form.grantee grantees.now) ≡ Some (output_of buffer.new)) }
 {
     match grantees {
         [] => Ok(()),
         [first, rest @ ..] => {
-            put_grantee(page, first)?;
-            put_more_grantees(page, rest)
+            put_grantee(buffer, first)?;
+            put_more_grantees(buffer, rest)
         }
     }
 }
 
-fn put_more_grantees(page: &mut Page, grantees: &[Grantee]) -> Result<(), AllocError>
-    ensures { OnOk result (put_all (Some (sheet_of page.old)) (form.also form.grantee grantees.now) ≡ Some (sheet_of page.new)) }
+fn put_more_grantees(buffer: &mut OutputBuffer, grantees: &[Grantee]) -> Result<(), AllocError>
+    ensures { OnOk result (put_all (Some (output_of buffer.old)) (form.also form.grantee grantees.now) ≡ Some (output_of buffer.new)) }
 {
     for grantee in grantees {
-        page.mark(Mark::Comma)?;
-        put_grantee(page, grantee)?;
+        buffer.mark(Mark::Comma)?;
+        put_grantee(buffer, grantee)?;
     }
     Ok(())
 }
 
 /// Rows of INSERT with commas between them.
-pub fn put_tuples(page: &mut Page, tuples: &[Items<Expr>]) -> Result<(), AllocError>
-    ensures { OnOk result (put_all (Some (sheet_of page.old)) (form.listed form.tuple tuples.now) ≡ Some (sheet_of page.new)) }
+pub fn put_tuples(buffer: &mut OutputBuffer, tuples: &[Items<Expr>]) -> Result<(), AllocError>
+    ensures { OnOk result (put_all (Some (output_of buffer.old)) (form.listed form.tuple tuples.now) ≡ Some (output_of buffer.new)) }
 {
     match tuples {
         [] => Ok(()),
         [first, rest @ ..] => {
-            put_row(page, first)?;
-            put_more_tuples(page, rest)
+            put_row(buffer, first)?;
+            put_more_tuples(buffer, rest)
         }
     }
 }
 
-fn put_more_tuples(page: &mut Page, tuples: &[Items<Expr>]) -> Result<(), AllocError>
-    ensures { OnOk result (put_all (Some (sheet_of page.old)) (form.also form.tuple tuples.now) ≡ Some (sheet_of page.new)) }
+fn put_more_tuples(buffer: &mut OutputBuffer, tuples: &[Items<Expr>]) -> Result<(), AllocError>
+    ensures { OnOk result (put_all (Some (output_of buffer.old)) (form.also form.tuple tuples.now) ≡ Some (output_of buffer.new)) }
 {
     for tuple in tuples {
-        page.mark(Mark::Comma)?;
-        put_row(page, tuple)?;
+        buffer.mark(Mark::Comma)?;
+        put_row(buffer, tuple)?;
     }
     Ok(())
 }
 
 /// What columns are set to, with commas between them.
-pub fn put_settings(page: &mut Page, settings: &[Setting]) -> Result<(), AllocError>
-    ensures { OnOk result (put_all (Some (sheet_of page.old)) (form.listed form.setting settings.now) ≡ Some (sheet_of page.new)) }
+pub fn put_assignments(
+    buffer: &mut OutputBuffer,
+    assignments: &[Assignment],
+) -> Result<(), AllocError>
+    ensures { OnOk result (put_all (Some (output_of buffer.old)) (form.listed form.assignment assignments.now) ≡ Some (output_of buffer.new)) }
 {
-    match settings {
+    match assignments {
         [] => Ok(()),
         [first, rest @ ..] => {
-            put_setting(page, first)?;
-            put_more_settings(page, rest)
+            put_assignment(buffer, first)?;
+            put_more_assignments(buffer, rest)
         }
     }
 }
 
-fn put_more_settings(page: &mut Page, settings: &[Setting]) -> Result<(), AllocError>
-    ensures { OnOk result (put_all (Some (sheet_of page.old)) (form.also form.setting settings.now) ≡ Some (sheet_of page.new)) }
+fn put_more_assignments(
+    buffer: &mut OutputBuffer,
+    assignments: &[Assignment],
+) -> Result<(), AllocError>
+    ensures { OnOk result (put_all (Some (output_of buffer.old)) (form.also form.assignment assignments.now) ≡ Some (output_of buffer.new)) }
 {
-    for setting in settings {
-        page.mark(Mark::Comma)?;
-        put_setting(page, setting)?;
+    for assignment in assignments {
+        buffer.mark(Mark::Comma)?;
+        put_assignment(buffer, assignment)?;
     }
     Ok(())
 }
 
 /// Columns of a new table with commas between them.
-pub fn put_columns(page: &mut Page, columns: &[MarkedColumn]) -> Result<(), AllocError>
-    ensures { OnOk result (put_all (Some (sheet_of page.old)) (form.listed form.column columns.now) ≡ Some (sheet_of page.new)) }
+pub fn put_columns(buffer: &mut OutputBuffer, columns: &[MarkedColumn]) -> Result<(), AllocError>
+    ensures { OnOk result (put_all (Some (output_of buffer.old)) (form.listed form.column columns.now) ≡ Some (output_of buffer.new)) }
 {
     match columns {
         [] => Ok(()),
         [first, rest @ ..] => {
-            put_column_definition(page, first)?;
-            put_more_columns(page, rest)
+            put_column_definition(buffer, first)?;
+            put_more_columns(buffer, rest)
         }
     }
 }
 
-fn put_more_columns(page: &mut Page, columns: &[MarkedColumn]) -> Result<(), AllocError>
-    ensures { OnOk result (put_all (Some (sheet_of page.old)) (form.also form.column columns.now) ≡ Some (sheet_of page.new)) }
+fn put_more_columns(buffer: &mut OutputBuffer, columns: &[MarkedColumn]) -> Result<(), AllocError>
+    ensures { OnOk result (put_all (Some (output_of buffer.old)) (form.also form.column columns.now) ≡ Some (output_of buffer.new)) }
 {
     for column in columns {
-        page.mark(Mark::Comma)?;
-        put_column_definition(page, column)?;
+        buffer.mark(Mark::Comma)?;
+        put_column_definition(buffer, column)?;
     }
     Ok(())
 }
 
-fn put_name(page: &mut Page, name: &Name) -> Result<(), AllocError>
-    ensures { OnOk result (put_all (Some (sheet_of page.old)) (form.name name.now) ≡ Some (sheet_of page.new)) }
+fn put_name(buffer: &mut OutputBuffer, name: &Name) -> Result<(), AllocError>
+    ensures { OnOk result (put_all (Some (output_of buffer.old)) (form.name name.now) ≡ Some (output_of buffer.new)) }
 {
-    page.word(name.as_str())
+    buffer.word(name.as_str())
 }
 
-fn put_grantee(page: &mut Page, grantee: &Grantee) -> Result<(), AllocError>
-    ensures { OnOk result (put_all (Some (sheet_of page.old)) (form.grantee grantee.now) ≡ Some (sheet_of page.new)) }
+fn put_grantee(buffer: &mut OutputBuffer, grantee: &Grantee) -> Result<(), AllocError>
+    ensures { OnOk result (put_all (Some (output_of buffer.old)) (form.grantee grantee.now) ≡ Some (output_of buffer.new)) }
 {
     match grantee {
-        Grantee::Public => page.word("PUBLIC"),
-        Grantee::Role(role) => page.word(role.as_str()),
+        Grantee::Public => buffer.word("PUBLIC"),
+        Grantee::Role(role) => buffer.word(role.as_str()),
     }
 }
 
-fn put_row(page: &mut Page, tuple: &Items<Expr>) -> Result<(), AllocError>
-    ensures { OnOk result (put_all (Some (sheet_of page.old)) (form.tuple tuple.now) ≡ Some (sheet_of page.new)) }
+fn put_row(buffer: &mut OutputBuffer, tuple: &Items<Expr>) -> Result<(), AllocError>
+    ensures { OnOk result (put_all (Some (output_of buffer.old)) (form.tuple tuple.now) ≡ Some (output_of buffer.new)) }
 {
-    put_tuple(page, tuple.as_slice())
+    put_tuple(buffer, tuple.as_slice())
 }
 
-fn put_setting(page: &mut Page, setting: &Setting) -> Result<(), AllocError>
-    ensures { OnOk result (put_all (Some (sheet_of page.old)) (form.setting setting.now) ≡ Some (sheet_of page.new)) }
+fn put_assignment(buffer: &mut OutputBuffer, assignment: &Assignment) -> Result<(), AllocError>
+    ensures { OnOk result (put_all (Some (output_of buffer.old)) (form.assignment assignment.now) ≡ Some (output_of buffer.new)) }
 {
-    page.word(setting.column.as_str())?;
-    page.mark(Mark::Equal)?;
-    put_expr(page, &setting.value)
+    buffer.word(assignment.column.as_str())?;
+    buffer.mark(Mark::Equal)?;
+    put_expr(buffer, &assignment.value)
 }
 
-fn put_column_definition(page: &mut Page, column: &MarkedColumn) -> Result<(), AllocError>
-    ensures { OnOk result (put_all (Some (sheet_of page.old)) (form.column column.now) ≡ Some (sheet_of page.new)) }
+fn put_column_definition(buffer: &mut OutputBuffer, column: &MarkedColumn) -> Result<(), AllocError>
+    ensures { OnOk result (put_all (Some (output_of buffer.old)) (form.column column.now) ≡ Some (output_of buffer.new)) }
 {
-    page.word(column.column.name.as_str())?;
-    put_column_type(page, column.column.kind)?;
-    put_not_null(page, column.column.not_null)?;
-    put_is_key(page, column.is_key)
+    buffer.word(column.column.name.as_str())?;
+    put_column_type(buffer, column.column.kind)?;
+    put_not_null(buffer, column.column.not_null)?;
+    put_is_key(buffer, column.is_key)
 }

@@ -1,13 +1,13 @@
 //! Policies, GRANT and REVOKE, printed.
 
 ghost use Rattle.std.specs.Prelude.{◌≡◌, Some, OnOk};
-ghost use Rattle.rls_printing.specs.Sheets.{put_all, sheet_of};
+ghost use Rattle.rls_printing.specs.Outputs.{put_all, output_of};
 ghost use Rattle.rls_printing.specs.StatementForms as form;
 ghost use Rattle.rls_statement.specs.declared.statement.Statement.TheVariants as st;
 
+use crate::buffer::OutputBuffer;
 use crate::expression::put_enclosed;
 use crate::lists::{put_grantees, put_names};
-use crate::page::Page;
 use crate::words::{
     put_cascade, put_option_for, put_option_only, put_options, put_permissive, put_policy_kind,
     put_privileges, put_with_option,
@@ -20,134 +20,144 @@ use rls_value::{Items, Name};
 use std::alloc::AllocError;
 
 /// A policy of the table, as CREATE POLICY.
-pub fn put_policy(page: &mut Page, table: &Name, policy: &Policy) -> Result<(), AllocError>
-    ensures { OnOk result (put_all (Some (sheet_of page.old)) (form.policy table.now policy.now) ≡ Some (sheet_of page.new)) }
+pub fn put_policy(
+    buffer: &mut OutputBuffer,
+    table: &Name,
+    policy: &Policy,
+) -> Result<(), AllocError>
+    ensures { OnOk result (put_all (Some (output_of buffer.old)) (form.policy table.now policy.now) ≡ Some (output_of buffer.new)) }
 {
-    page.word("CREATE")?;
-    page.word("POLICY")?;
-    put_policy_on(page, &policy.name, table)?;
-    put_description(page, policy)
+    buffer.word("CREATE")?;
+    buffer.word("POLICY")?;
+    put_policy_on(buffer, &policy.name, table)?;
+    put_description(buffer, policy)
 }
 
-fn put_policy_on(page: &mut Page, policy: &Name, table: &Name) -> Result<(), AllocError>
-    ensures { OnOk result (put_all (Some (sheet_of page.old)) (form.policy_on policy.now table.now) ≡ Some (sheet_of page.new)) }
+fn put_policy_on(buffer: &mut OutputBuffer, policy: &Name, table: &Name) -> Result<(), AllocError>
+    ensures { OnOk result (put_all (Some (output_of buffer.old)) (form.policy_on policy.now table.now) ≡ Some (output_of buffer.new)) }
 {
-    page.word(policy.as_str())?;
-    page.word("ON")?;
-    page.word(table.as_str())
+    buffer.word(policy.as_str())?;
+    buffer.word("ON")?;
+    buffer.word(table.as_str())
 }
 
-fn put_description(page: &mut Page, policy: &Policy) -> Result<(), AllocError>
-    ensures { OnOk result (put_all (Some (sheet_of page.old)) (form.description policy.now) ≡ Some (sheet_of page.new)) }
+fn put_description(buffer: &mut OutputBuffer, policy: &Policy) -> Result<(), AllocError>
+    ensures { OnOk result (put_all (Some (output_of buffer.old)) (form.description policy.now) ≡ Some (output_of buffer.new)) }
 {
-    page.word("AS")?;
-    put_permissive(page, policy.permissive)?;
-    page.word("FOR")?;
-    put_policy_kind(page, policy.kind)?;
-    page.word("TO")?;
-    put_grantees(page, policy.to.as_slice())?;
-    put_using(page, &policy.using)?;
-    put_check(page, &policy.check)
+    buffer.word("AS")?;
+    put_permissive(buffer, policy.permissive)?;
+    buffer.word("FOR")?;
+    put_policy_kind(buffer, policy.kind)?;
+    buffer.word("TO")?;
+    put_grantees(buffer, policy.to.as_slice())?;
+    put_using(buffer, &policy.using)?;
+    put_check(buffer, &policy.check)
 }
 
-fn put_using(page: &mut Page, using: &Option<Expr>) -> Result<(), AllocError>
-    ensures { OnOk result (put_all (Some (sheet_of page.old)) (form.using_ using.now) ≡ Some (sheet_of page.new)) }
+fn put_using(buffer: &mut OutputBuffer, using: &Option<Expr>) -> Result<(), AllocError>
+    ensures { OnOk result (put_all (Some (output_of buffer.old)) (form.using_ using.now) ≡ Some (output_of buffer.new)) }
 {
     match using {
         None => Ok(()),
         Some(expr) => {
-            page.word("USING")?;
-            put_enclosed(page, expr)
+            buffer.word("USING")?;
+            put_enclosed(buffer, expr)
         }
     }
 }
 
-fn put_check(page: &mut Page, check: &Option<Expr>) -> Result<(), AllocError>
-    ensures { OnOk result (put_all (Some (sheet_of page.old)) (form.check_ check.now) ≡ Some (sheet_of page.new)) }
+fn put_check(buffer: &mut OutputBuffer, check: &Option<Expr>) -> Result<(), AllocError>
+    ensures { OnOk result (put_all (Some (output_of buffer.old)) (form.check_ check.now) ≡ Some (output_of buffer.new)) }
 {
     match check {
         None => Ok(()),
         Some(expr) => {
-            page.word("WITH")?;
-            page.word("CHECK")?;
-            put_enclosed(page, expr)
+            buffer.word("WITH")?;
+            buffer.word("CHECK")?;
+            put_enclosed(buffer, expr)
         }
     }
 }
 
-fn put_to_if_any(page: &mut Page, to: &Option<Items<Grantee>>) -> Result<(), AllocError>
-    ensures { OnOk result (put_all (Some (sheet_of page.old)) (form.to_if_any to.now) ≡ Some (sheet_of page.new)) }
+fn put_to_if_any(buffer: &mut OutputBuffer, to: &Option<Items<Grantee>>) -> Result<(), AllocError>
+    ensures { OnOk result (put_all (Some (output_of buffer.old)) (form.to_if_any to.now) ≡ Some (output_of buffer.new)) }
 {
     match to {
         None => Ok(()),
         Some(to) => {
-            page.word("TO")?;
-            put_grantees(page, to.as_slice())
+            buffer.word("TO")?;
+            put_grantees(buffer, to.as_slice())
         }
     }
 }
 
-pub fn put_alter_policy(page: &mut Page, statement: &AlterPolicy) -> Result<(), AllocError>
-    ensures { OnOk result (put_all (Some (sheet_of page.old)) (form.statement (st.AlterPolicy statement.now)) ≡ Some (sheet_of page.new)) }
+pub fn put_alter_policy(
+    buffer: &mut OutputBuffer,
+    statement: &AlterPolicy,
+) -> Result<(), AllocError>
+    ensures { OnOk result (put_all (Some (output_of buffer.old)) (form.statement (st.AlterPolicy statement.now)) ≡ Some (output_of buffer.new)) }
 {
-    page.word("ALTER")?;
-    page.word("POLICY")?;
-    put_policy_on(page, &statement.name, &statement.table)?;
-    put_to_if_any(page, &statement.to)?;
-    put_using(page, &statement.using)?;
-    put_check(page, &statement.check)
+    buffer.word("ALTER")?;
+    buffer.word("POLICY")?;
+    put_policy_on(buffer, &statement.name, &statement.table)?;
+    put_to_if_any(buffer, &statement.to)?;
+    put_using(buffer, &statement.using)?;
+    put_check(buffer, &statement.check)
 }
 
-pub fn put_drop_policy(page: &mut Page, statement: &DropPolicy) -> Result<(), AllocError>
-    ensures { OnOk result (put_all (Some (sheet_of page.old)) (form.statement (st.DropPolicy statement.now)) ≡ Some (sheet_of page.new)) }
+pub fn put_drop_policy(buffer: &mut OutputBuffer, statement: &DropPolicy) -> Result<(), AllocError>
+    ensures { OnOk result (put_all (Some (output_of buffer.old)) (form.statement (st.DropPolicy statement.now)) ≡ Some (output_of buffer.new)) }
 {
-    page.word("DROP")?;
-    page.word("POLICY")?;
-    put_policy_on(page, &statement.name, &statement.table)
+    buffer.word("DROP")?;
+    buffer.word("POLICY")?;
+    put_policy_on(buffer, &statement.name, &statement.table)
 }
 
-pub fn put_grant(page: &mut Page, statement: &GrantPrivileges) -> Result<(), AllocError>
-    ensures { OnOk result (put_all (Some (sheet_of page.old)) (form.statement (st.Grant statement.now)) ≡ Some (sheet_of page.new)) }
+pub fn put_grant(buffer: &mut OutputBuffer, statement: &GrantPrivileges) -> Result<(), AllocError>
+    ensures { OnOk result (put_all (Some (output_of buffer.old)) (form.statement (st.Grant statement.now)) ≡ Some (output_of buffer.new)) }
 {
-    page.word("GRANT")?;
-    put_privileges(page, statement.privileges)?;
-    page.word("ON")?;
-    page.word(statement.table.as_str())?;
-    page.word("TO")?;
-    put_grantees(page, statement.to.as_slice())?;
-    put_with_option(page, statement.with_option)
+    buffer.word("GRANT")?;
+    put_privileges(buffer, statement.privileges)?;
+    buffer.word("ON")?;
+    buffer.word(statement.table.as_str())?;
+    buffer.word("TO")?;
+    put_grantees(buffer, statement.to.as_slice())?;
+    put_with_option(buffer, statement.with_option)
 }
 
-pub fn put_revoke(page: &mut Page, statement: &RevokePrivileges) -> Result<(), AllocError>
-    ensures { OnOk result (put_all (Some (sheet_of page.old)) (form.statement (st.Revoke statement.now)) ≡ Some (sheet_of page.new)) }
+pub fn put_revoke(buffer: &mut OutputBuffer, statement: &RevokePrivileges) -> Result<(), AllocError>
+    ensures { OnOk result (put_all (Some (output_of buffer.old)) (form.statement (st.Revoke statement.now)) ≡ Some (output_of buffer.new)) }
 {
-    page.word("REVOKE")?;
-    put_option_only(page, statement.option_only)?;
-    put_privileges(page, statement.privileges)?;
-    page.word("ON")?;
-    page.word(statement.table.as_str())?;
-    page.word("FROM")?;
-    put_grantees(page, statement.from.as_slice())?;
-    put_cascade(page, statement.cascade)
+    buffer.word("REVOKE")?;
+    put_option_only(buffer, statement.option_only)?;
+    put_privileges(buffer, statement.privileges)?;
+    buffer.word("ON")?;
+    buffer.word(statement.table.as_str())?;
+    buffer.word("FROM")?;
+    put_grantees(buffer, statement.from.as_slice())?;
+    put_cascade(buffer, statement.cascade)
 }
 
-pub fn put_grant_roles(page: &mut Page, statement: &GrantRoles) -> Result<(), AllocError>
-    ensures { OnOk result (put_all (Some (sheet_of page.old)) (form.statement (st.GrantRoles statement.now)) ≡ Some (sheet_of page.new)) }
+pub fn put_grant_roles(buffer: &mut OutputBuffer, statement: &GrantRoles) -> Result<(), AllocError>
+    ensures { OnOk result (put_all (Some (output_of buffer.old)) (form.statement (st.GrantRoles statement.now)) ≡ Some (output_of buffer.new)) }
 {
-    page.word("GRANT")?;
-    put_names(page, statement.roles.as_slice())?;
-    page.word("TO")?;
-    put_names(page, statement.to.as_slice())?;
-    put_options(page, statement.options)
+    buffer.word("GRANT")?;
+    put_names(buffer, statement.roles.as_slice())?;
+    buffer.word("TO")?;
+    put_names(buffer, statement.to.as_slice())?;
+    put_options(buffer, statement.options)
 }
 
-pub fn put_revoke_roles(page: &mut Page, statement: &RevokeRoles) -> Result<(), AllocError>
-    ensures { OnOk result (put_all (Some (sheet_of page.old)) (form.statement (st.RevokeRoles statement.now)) ≡ Some (sheet_of page.new)) }
+pub fn put_revoke_roles(
+    buffer: &mut OutputBuffer,
+    statement: &RevokeRoles,
+) -> Result<(), AllocError>
+    ensures { OnOk result (put_all (Some (output_of buffer.old)) (form.statement (st.RevokeRoles statement.now)) ≡ Some (output_of buffer.new)) }
 {
-    page.word("REVOKE")?;
-    put_option_for(page, statement.option)?;
-    put_names(page, statement.roles.as_slice())?;
-    page.word("FROM")?;
-    put_names(page, statement.from.as_slice())?;
-    put_cascade(page, statement.cascade)
+    buffer.word("REVOKE")?;
+    put_option_for(buffer, statement.option)?;
+    put_names(buffer, statement.roles.as_slice())?;
+    buffer.word("FROM")?;
+    put_names(buffer, statement.from.as_slice())?;
+    put_cascade(buffer, statement.cascade)
 }

@@ -5,14 +5,14 @@ ghost use Rattle.std.specs.{Str.chars, String.string_bytes};
 ghost use Rattle.rls_value.specs.declared.refusal.Refusal.{Refusal};
 ghost use Rattle.rls_statement.specs.declared.statement.Statement.{Statement};
 ghost use Rattle.rls_statement.specs.declared.statement.Statement.TheVariants as st;
-ghost use Rattle.rls_text.specs.{Answers.Answers, Answers.IsSpelled, Grammar.Spells, Heights.height, Printing.IsWritten, Words.words_of, declared.token.Token.Token};
+ghost use Rattle.rls_text.specs.{ParseResults.IsParseResult, ParseResults.IsSpelled, Grammar.Spells, Heights.height, Printing.IsWritten, Words.words_of, declared.token.Token.Token};
 ghost use Rattle.rls_text.specs.Grammar as g;
 ghost use Rattle.rls_printing.specs.ExprForms as expr_form;
-ghost use Rattle.rls_printing.specs.{Pieces.tokens_of, ReadBack.IsReadAs, Sheets.pieces_text, Sheets.put_all, Sheets.sheet_of};
+ghost use Rattle.rls_printing.specs.{OutputTokens.tokens_of, ReadBack.IsReadAs, Outputs.output_tokens_text, Outputs.put_all, Outputs.output_of};
 ghost use Rattle.rls_printing.specs.StatementForms as form;
 
+use crate::buffer::OutputBuffer;
 use crate::expression::put_expr;
-use crate::page::Page;
 use crate::policies::{
     put_alter_policy, put_drop_policy, put_grant, put_grant_roles, put_policy, put_revoke,
     put_revoke_roles,
@@ -27,9 +27,9 @@ use rls_value::Name;
 use std::alloc::{AllocError, Global};
 
 /// The text of the statement, in its one written form. No text spells some statements, as one with a subquery whose key is
-/// placed, or a table without columns: of such a one `text` alone says what is printed.
+/// resolved, or a table without columns: of such a one `text` alone says what is printed.
 pub fn print(alloc: Global, statement: &Statement) -> Result<String, AllocError>
-    ensures text { IfOk result (λ text. chars (string_bytes text) ≡ pieces_text true (form.statement statement.now)) }
+    ensures text { IfOk result (λ text. chars (string_bytes text) ≡ output_tokens_text true (form.statement statement.now)) }
 
     // The words of the text are the tokens of that form.
     ensures tokens { IfOk result (λ text. tokens_of (form.statement statement.now) ≡ Some (words_of (string_bytes text))) }
@@ -41,19 +41,19 @@ pub fn print(alloc: Global, statement: &Statement) -> Result<String, AllocError>
     ensures spelled { IfOk result (λ text. (tokens : List Token) → Spells tokens statement.now → Spells (words_of (string_bytes text)) statement.now) }
 
     // What `parse` answers the text with is then the statement, or a limit that it passes.
-    ensures read { IfOk result (λ text. (tokens : List Token) (answer : Result Statement Refusal) → Spells tokens statement.now → Answers (words_of (string_bytes text)) answer → IsReadAs statement.now answer) }
+    ensures read { IfOk result (λ text. (tokens : List Token) (answer : Result Statement Refusal) → Spells tokens statement.now → IsParseResult (words_of (string_bytes text)) answer → IsReadAs statement.now answer) }
 
     // Where some text within the limits spells the statement, it is the statement.
-    ensures again { IfOk result (λ text. (tokens : List Token) (answer : Result Statement Refusal) → IsSpelled tokens statement.now → Answers (words_of (string_bytes text)) answer → answer ≡ Ok statement.now) }
+    ensures again { IfOk result (λ text. (tokens : List Token) (answer : Result Statement Refusal) → IsSpelled tokens statement.now → IsParseResult (words_of (string_bytes text)) answer → answer ≡ Ok statement.now) }
 {
-    let mut page = Page::new(alloc);
-    put_statement(&mut page, statement)?;
-    Ok(page.into_text())
+    let mut buffer = OutputBuffer::new(alloc);
+    put_statement(&mut buffer, statement)?;
+    Ok(buffer.into_text())
 }
 
 /// The text of the table's policy, as CREATE POLICY.
 pub fn print_policy(alloc: Global, table: &Name, policy: &Policy) -> Result<String, AllocError>
-    ensures text { IfOk result (λ text. chars (string_bytes text) ≡ pieces_text true (form.policy table.now policy.now)) }
+    ensures text { IfOk result (λ text. chars (string_bytes text) ≡ output_tokens_text true (form.policy table.now policy.now)) }
 
     // The words of the text are the tokens of that form.
     ensures tokens { IfOk result (λ text. tokens_of (form.policy table.now policy.now) ≡ Some (words_of (string_bytes text))) }
@@ -65,19 +65,19 @@ pub fn print_policy(alloc: Global, table: &Name, policy: &Policy) -> Result<Stri
     ensures spelled { IfOk result (λ text. (tokens : List Token) → Spells tokens (st.CreatePolicy record { table = table.now; policy = policy.now }) → Spells (words_of (string_bytes text)) (st.CreatePolicy record { table = table.now; policy = policy.now })) }
 
     // What `parse` answers the text with is then that statement, or a limit that it passes.
-    ensures read { IfOk result (λ text. (tokens : List Token) (answer : Result Statement Refusal) → Spells tokens (st.CreatePolicy record { table = table.now; policy = policy.now }) → Answers (words_of (string_bytes text)) answer → IsReadAs (st.CreatePolicy record { table = table.now; policy = policy.now }) answer) }
+    ensures read { IfOk result (λ text. (tokens : List Token) (answer : Result Statement Refusal) → Spells tokens (st.CreatePolicy record { table = table.now; policy = policy.now }) → IsParseResult (words_of (string_bytes text)) answer → IsReadAs (st.CreatePolicy record { table = table.now; policy = policy.now }) answer) }
 
     // Where some text within the limits spells that statement, it is that statement.
-    ensures again { IfOk result (λ text. (tokens : List Token) (answer : Result Statement Refusal) → IsSpelled tokens (st.CreatePolicy record { table = table.now; policy = policy.now }) → Answers (words_of (string_bytes text)) answer → answer ≡ Ok (st.CreatePolicy record { table = table.now; policy = policy.now })) }
+    ensures again { IfOk result (λ text. (tokens : List Token) (answer : Result Statement Refusal) → IsSpelled tokens (st.CreatePolicy record { table = table.now; policy = policy.now }) → IsParseResult (words_of (string_bytes text)) answer → answer ≡ Ok (st.CreatePolicy record { table = table.now; policy = policy.now })) }
 {
-    let mut page = Page::new(alloc);
-    put_policy(&mut page, table, policy)?;
-    Ok(page.into_text())
+    let mut buffer = OutputBuffer::new(alloc);
+    put_policy(&mut buffer, table, policy)?;
+    Ok(buffer.into_text())
 }
 
 /// The text of the expression.
 pub fn print_expr(alloc: Global, expr: &Expr) -> Result<String, AllocError>
-    ensures text { IfOk result (λ text. chars (string_bytes text) ≡ pieces_text true (expr_form.expr expr.now)) }
+    ensures text { IfOk result (λ text. chars (string_bytes text) ≡ output_tokens_text true (expr_form.expr expr.now)) }
 
     // The words of the text are the tokens of that form.
     ensures tokens { IfOk result (λ text. tokens_of (expr_form.expr expr.now) ≡ Some (words_of (string_bytes text))) }
@@ -88,30 +88,30 @@ pub fn print_expr(alloc: Global, expr: &Expr) -> Result<String, AllocError>
     // Where some text spells the expression, this text spells it, within as many parentheses as it is high.
     ensures spelled { IfOk result (λ text. (depth : ℕ) (tokens : List Token) → (g.expr depth).rule.spells tokens expr.now → (g.expr (height expr.now)).rule.spells (words_of (string_bytes text)) expr.now) }
 {
-    let mut page = Page::new(alloc);
-    put_expr(&mut page, expr)?;
-    Ok(page.into_text())
+    let mut buffer = OutputBuffer::new(alloc);
+    put_expr(&mut buffer, expr)?;
+    Ok(buffer.into_text())
 }
 
-pub fn put_statement(page: &mut Page, statement: &Statement) -> Result<(), AllocError>
-    ensures { OnOk result (put_all (Some (sheet_of page.old)) (form.statement statement.now) ≡ Some (sheet_of page.new)) }
+pub fn put_statement(buffer: &mut OutputBuffer, statement: &Statement) -> Result<(), AllocError>
+    ensures { OnOk result (put_all (Some (output_of buffer.old)) (form.statement statement.now) ≡ Some (output_of buffer.new)) }
 {
     match statement {
-        Statement::CreateRole(role) => put_create_role(page, role),
-        Statement::AlterRole(role) => put_alter_role(page, role),
-        Statement::CreateTable(table) => put_create_table(page, table),
-        Statement::AlterTable(change) => put_alter_table(page, change),
-        Statement::CreatePolicy(create) => put_policy(page, &create.table, &create.policy),
-        Statement::AlterPolicy(alter) => put_alter_policy(page, alter),
-        Statement::DropPolicy(drop) => put_drop_policy(page, drop),
-        Statement::Grant(grant) => put_grant(page, grant),
-        Statement::GrantRoles(grant) => put_grant_roles(page, grant),
-        Statement::Revoke(revoke) => put_revoke(page, revoke),
-        Statement::RevokeRoles(revoke) => put_revoke_roles(page, revoke),
-        Statement::SetRole(set) => put_set_role(page, set),
-        Statement::Insert(insert) => put_insert(page, insert),
-        Statement::Update(update) => put_update(page, update),
-        Statement::Delete(delete) => put_delete(page, delete),
-        Statement::Select(select) => put_select(page, select),
+        Statement::CreateRole(role) => put_create_role(buffer, role),
+        Statement::AlterRole(role) => put_alter_role(buffer, role),
+        Statement::CreateTable(table) => put_create_table(buffer, table),
+        Statement::AlterTable(change) => put_alter_table(buffer, change),
+        Statement::CreatePolicy(create) => put_policy(buffer, &create.table, &create.policy),
+        Statement::AlterPolicy(alter) => put_alter_policy(buffer, alter),
+        Statement::DropPolicy(drop) => put_drop_policy(buffer, drop),
+        Statement::Grant(grant) => put_grant(buffer, grant),
+        Statement::GrantRoles(grant) => put_grant_roles(buffer, grant),
+        Statement::Revoke(revoke) => put_revoke(buffer, revoke),
+        Statement::RevokeRoles(revoke) => put_revoke_roles(buffer, revoke),
+        Statement::SetRole(set) => put_set_role(buffer, set),
+        Statement::Insert(insert) => put_insert(buffer, insert),
+        Statement::Update(update) => put_update(buffer, update),
+        Statement::Delete(delete) => put_delete(buffer, delete),
+        Statement::Select(select) => put_select(buffer, select),
     }
 }

@@ -2,14 +2,14 @@
 
 ghost use Rattle.std.specs.Prelude.{◌≡◌, ◌∷◌, ◌++◌, [], codes, true, Some, OnOk};
 ghost use Rattle.rls_value.specs.Names.{is_word};
-ghost use Rattle.rls_printing.specs.{ExprForms.enclosed, Pieces.Word, Sheets.put_all, Sheets.sheet_of};
+ghost use Rattle.rls_printing.specs.{ExprForms.enclosed, OutputTokens.Word, Outputs.put_all, Outputs.output_of};
 ghost use Rattle.rls_printing.specs.StatementForms as form;
 ghost use Rattle.rls_statement.specs.declared.statement.SetRole.TheVariants as sr;
 ghost use Rattle.rls_statement.specs.declared.statement.Statement.TheVariants as st;
 
+use crate::buffer::{Mark, OutputBuffer};
 use crate::expression::{put_list, put_table, put_where};
-use crate::lists::{put_columns, put_names, put_settings, put_tuples};
-use crate::page::{Mark, Page};
+use crate::lists::{put_assignments, put_columns, put_names, put_tuples};
 use crate::words::{put_attributes, put_row_change};
 use rls_statement::{
     AlterRole, AlterTable, CreateRole, CreateTable, Delete, Insert, MarkedColumn, Select, Selected,
@@ -18,175 +18,181 @@ use rls_statement::{
 use rls_value::{Items, Name};
 use std::alloc::AllocError;
 
-fn put_selected_items(page: &mut Page, selected: &Selected) -> Result<(), AllocError>
-    ensures { OnOk result (put_all (Some (sheet_of page.old)) (form.selected_items selected.now) ≡ Some (sheet_of page.new)) }
+fn put_selected_items(buffer: &mut OutputBuffer, selected: &Selected) -> Result<(), AllocError>
+    ensures { OnOk result (put_all (Some (output_of buffer.old)) (form.selected_items selected.now) ≡ Some (output_of buffer.new)) }
 {
     match selected {
-        Selected::All => page.mark(Mark::Star),
-        Selected::Items(items) => put_list(page, items.as_slice()),
-        Selected::Count => page.count(),
+        Selected::All => buffer.mark(Mark::Star),
+        Selected::Items(items) => put_list(buffer, items.as_slice()),
+        Selected::Count => buffer.count(),
     }
 }
 
-fn put_returning(page: &mut Page, returning: &Option<Selected>) -> Result<(), AllocError>
-    ensures { OnOk result (put_all (Some (sheet_of page.old)) (form.returning returning.now) ≡ Some (sheet_of page.new)) }
+fn put_returning(buffer: &mut OutputBuffer, returning: &Option<Selected>) -> Result<(), AllocError>
+    ensures { OnOk result (put_all (Some (output_of buffer.old)) (form.returning returning.now) ≡ Some (output_of buffer.new)) }
 {
     match returning {
         None => Ok(()),
         Some(selected) => {
-            page.word("RETURNING")?;
-            put_selected_items(page, selected)
+            buffer.word("RETURNING")?;
+            put_selected_items(buffer, selected)
         }
     }
 }
 
-fn put_enclosed_names(page: &mut Page, names: &[Name]) -> Result<(), AllocError>
-    ensures { OnOk result (put_all (Some (sheet_of page.old)) (enclosed (form.listed form.name names.now)) ≡ Some (sheet_of page.new)) }
+fn put_enclosed_names(buffer: &mut OutputBuffer, names: &[Name]) -> Result<(), AllocError>
+    ensures { OnOk result (put_all (Some (output_of buffer.old)) (enclosed (form.listed form.name names.now)) ≡ Some (output_of buffer.new)) }
 {
-    page.mark(Mark::Open)?;
-    put_names(page, names)?;
-    page.mark(Mark::Close)
+    buffer.mark(Mark::Open)?;
+    put_names(buffer, names)?;
+    buffer.mark(Mark::Close)
 }
 
-fn put_columns_if_any(page: &mut Page, columns: &Option<Items<Name>>) -> Result<(), AllocError>
-    ensures { OnOk result (put_all (Some (sheet_of page.old)) (form.columns_if_any columns.now) ≡ Some (sheet_of page.new)) }
+fn put_columns_if_any(
+    buffer: &mut OutputBuffer,
+    columns: &Option<Items<Name>>,
+) -> Result<(), AllocError>
+    ensures { OnOk result (put_all (Some (output_of buffer.old)) (form.columns_if_any columns.now) ≡ Some (output_of buffer.new)) }
 {
     match columns {
         None => Ok(()),
-        Some(names) => put_enclosed_names(page, names.as_slice()),
+        Some(names) => put_enclosed_names(buffer, names.as_slice()),
     }
 }
 
-pub fn put_select(page: &mut Page, statement: &Select) -> Result<(), AllocError>
-    ensures { OnOk result (put_all (Some (sheet_of page.old)) (form.statement (st.Select statement.now)) ≡ Some (sheet_of page.new)) }
+pub fn put_select(buffer: &mut OutputBuffer, statement: &Select) -> Result<(), AllocError>
+    ensures { OnOk result (put_all (Some (output_of buffer.old)) (form.statement (st.Select statement.now)) ≡ Some (output_of buffer.new)) }
 {
-    page.word("SELECT")?;
-    put_selected_items(page, &statement.items)?;
-    put_table(page, &statement.table, &statement.alias)?;
-    put_where(page, &statement.condition)
+    buffer.word("SELECT")?;
+    put_selected_items(buffer, &statement.items)?;
+    put_table(buffer, &statement.table, &statement.alias)?;
+    put_where(buffer, &statement.condition)
 }
 
-pub fn put_insert(page: &mut Page, statement: &Insert) -> Result<(), AllocError>
-    ensures { OnOk result (put_all (Some (sheet_of page.old)) (form.statement (st.Insert statement.now)) ≡ Some (sheet_of page.new)) }
+pub fn put_insert(buffer: &mut OutputBuffer, statement: &Insert) -> Result<(), AllocError>
+    ensures { OnOk result (put_all (Some (output_of buffer.old)) (form.statement (st.Insert statement.now)) ≡ Some (output_of buffer.new)) }
 {
-    page.word("INSERT")?;
-    page.word("INTO")?;
-    page.word(statement.table.as_str())?;
-    put_columns_if_any(page, &statement.columns)?;
-    page.word("VALUES")?;
-    put_tuples(page, statement.tuples.as_slice())?;
-    put_returning(page, &statement.returning)
+    buffer.word("INSERT")?;
+    buffer.word("INTO")?;
+    buffer.word(statement.table.as_str())?;
+    put_columns_if_any(buffer, &statement.columns)?;
+    buffer.word("VALUES")?;
+    put_tuples(buffer, statement.tuples.as_slice())?;
+    put_returning(buffer, &statement.returning)
 }
 
-pub fn put_update(page: &mut Page, statement: &Update) -> Result<(), AllocError>
-    ensures { OnOk result (put_all (Some (sheet_of page.old)) (form.statement (st.Update statement.now)) ≡ Some (sheet_of page.new)) }
+pub fn put_update(buffer: &mut OutputBuffer, statement: &Update) -> Result<(), AllocError>
+    ensures { OnOk result (put_all (Some (output_of buffer.old)) (form.statement (st.Update statement.now)) ≡ Some (output_of buffer.new)) }
 {
-    page.word("UPDATE")?;
-    page.word(statement.table.as_str())?;
-    page.word("SET")?;
-    put_settings(page, statement.settings.as_slice())?;
-    put_where(page, &statement.condition)?;
-    put_returning(page, &statement.returning)
+    buffer.word("UPDATE")?;
+    buffer.word(statement.table.as_str())?;
+    buffer.word("SET")?;
+    put_assignments(buffer, statement.assignments.as_slice())?;
+    put_where(buffer, &statement.condition)?;
+    put_returning(buffer, &statement.returning)
 }
 
-pub fn put_delete(page: &mut Page, statement: &Delete) -> Result<(), AllocError>
-    ensures { OnOk result (put_all (Some (sheet_of page.old)) (form.statement (st.Delete statement.now)) ≡ Some (sheet_of page.new)) }
+pub fn put_delete(buffer: &mut OutputBuffer, statement: &Delete) -> Result<(), AllocError>
+    ensures { OnOk result (put_all (Some (output_of buffer.old)) (form.statement (st.Delete statement.now)) ≡ Some (output_of buffer.new)) }
 {
-    page.word("DELETE")?;
-    page.word("FROM")?;
-    page.word(statement.table.as_str())?;
-    put_where(page, &statement.condition)?;
-    put_returning(page, &statement.returning)
+    buffer.word("DELETE")?;
+    buffer.word("FROM")?;
+    buffer.word(statement.table.as_str())?;
+    put_where(buffer, &statement.condition)?;
+    put_returning(buffer, &statement.returning)
 }
 
-pub fn put_create_role(page: &mut Page, statement: &CreateRole) -> Result<(), AllocError>
-    ensures { OnOk result (put_all (Some (sheet_of page.old)) (form.statement (st.CreateRole statement.now)) ≡ Some (sheet_of page.new)) }
+pub fn put_create_role(buffer: &mut OutputBuffer, statement: &CreateRole) -> Result<(), AllocError>
+    ensures { OnOk result (put_all (Some (output_of buffer.old)) (form.statement (st.CreateRole statement.now)) ≡ Some (output_of buffer.new)) }
 {
-    page.word("CREATE")?;
-    page.word("ROLE")?;
-    page.word(statement.name.as_str())?;
-    put_attributes(page, statement.attributes)
+    buffer.word("CREATE")?;
+    buffer.word("ROLE")?;
+    buffer.word(statement.name.as_str())?;
+    put_attributes(buffer, statement.attributes)
 }
 
-pub fn put_alter_role(page: &mut Page, statement: &AlterRole) -> Result<(), AllocError>
-    ensures { OnOk result (put_all (Some (sheet_of page.old)) (form.statement (st.AlterRole statement.now)) ≡ Some (sheet_of page.new)) }
+pub fn put_alter_role(buffer: &mut OutputBuffer, statement: &AlterRole) -> Result<(), AllocError>
+    ensures { OnOk result (put_all (Some (output_of buffer.old)) (form.statement (st.AlterRole statement.now)) ≡ Some (output_of buffer.new)) }
 {
-    page.word("ALTER")?;
-    page.word("ROLE")?;
-    page.word(statement.name.as_str())?;
-    put_attributes(page, statement.attributes)
+    buffer.word("ALTER")?;
+    buffer.word("ROLE")?;
+    buffer.word(statement.name.as_str())?;
+    put_attributes(buffer, statement.attributes)
 }
 
-fn put_key(page: &mut Page, key: &Option<Items<Name>>) -> Result<(), AllocError>
-    ensures { OnOk result (put_all (Some (sheet_of page.old)) (form.key key.now) ≡ Some (sheet_of page.new)) }
+fn put_key(buffer: &mut OutputBuffer, key: &Option<Items<Name>>) -> Result<(), AllocError>
+    ensures { OnOk result (put_all (Some (output_of buffer.old)) (form.key key.now) ≡ Some (output_of buffer.new)) }
 {
     match key {
         None => Ok(()),
         Some(names) => {
-            page.mark(Mark::Comma)?;
-            page.word("PRIMARY")?;
-            page.word("KEY")?;
-            put_enclosed_names(page, names.as_slice())
+            buffer.mark(Mark::Comma)?;
+            buffer.word("PRIMARY")?;
+            buffer.word("KEY")?;
+            put_enclosed_names(buffer, names.as_slice())
         }
     }
 }
 
 fn put_elements(
-    page: &mut Page,
+    buffer: &mut OutputBuffer,
     columns: &[MarkedColumn],
     key: &Option<Items<Name>>,
 ) -> Result<(), AllocError>
-    ensures { OnOk result (put_all (Some (sheet_of page.old)) (enclosed (form.listed form.column columns.now ++ form.key key.now)) ≡ Some (sheet_of page.new)) }
+    ensures { OnOk result (put_all (Some (output_of buffer.old)) (enclosed (form.listed form.column columns.now ++ form.key key.now)) ≡ Some (output_of buffer.new)) }
 {
-    page.mark(Mark::Open)?;
-    put_columns(page, columns)?;
-    put_key(page, key)?;
-    page.mark(Mark::Close)
+    buffer.mark(Mark::Open)?;
+    put_columns(buffer, columns)?;
+    put_key(buffer, key)?;
+    buffer.mark(Mark::Close)
 }
 
-pub fn put_create_table(page: &mut Page, statement: &CreateTable) -> Result<(), AllocError>
-    ensures { OnOk result (put_all (Some (sheet_of page.old)) (form.statement (st.CreateTable statement.now)) ≡ Some (sheet_of page.new)) }
+pub fn put_create_table(
+    buffer: &mut OutputBuffer,
+    statement: &CreateTable,
+) -> Result<(), AllocError>
+    ensures { OnOk result (put_all (Some (output_of buffer.old)) (form.statement (st.CreateTable statement.now)) ≡ Some (output_of buffer.new)) }
 {
-    page.word("CREATE")?;
-    page.word("TABLE")?;
-    page.word(statement.name.as_str())?;
-    put_elements(page, statement.columns.as_slice(), &statement.key)
+    buffer.word("CREATE")?;
+    buffer.word("TABLE")?;
+    buffer.word(statement.name.as_str())?;
+    put_elements(buffer, statement.columns.as_slice(), &statement.key)
 }
 
-pub fn put_alter_table(page: &mut Page, statement: &AlterTable) -> Result<(), AllocError>
-    ensures { OnOk result (put_all (Some (sheet_of page.old)) (form.statement (st.AlterTable statement.now)) ≡ Some (sheet_of page.new)) }
+pub fn put_alter_table(buffer: &mut OutputBuffer, statement: &AlterTable) -> Result<(), AllocError>
+    ensures { OnOk result (put_all (Some (output_of buffer.old)) (form.statement (st.AlterTable statement.now)) ≡ Some (output_of buffer.new)) }
 {
-    page.word("ALTER")?;
-    page.word("TABLE")?;
-    page.word(statement.table.as_str())?;
-    put_row_change(page, statement.change)?;
-    page.word("ROW")?;
-    page.word("LEVEL")?;
-    page.word("SECURITY")
+    buffer.word("ALTER")?;
+    buffer.word("TABLE")?;
+    buffer.word(statement.table.as_str())?;
+    put_row_change(buffer, statement.change)?;
+    buffer.word("ROW")?;
+    buffer.word("LEVEL")?;
+    buffer.word("SECURITY")
 }
 
-pub fn put_set_role(page: &mut Page, statement: &SetRole) -> Result<(), AllocError>
-    ensures { OnOk result (put_all (Some (sheet_of page.old)) (form.set_role statement.now) ≡ Some (sheet_of page.new)) }
+pub fn put_set_role(buffer: &mut OutputBuffer, statement: &SetRole) -> Result<(), AllocError>
+    ensures { OnOk result (put_all (Some (output_of buffer.old)) (form.set_role statement.now) ≡ Some (output_of buffer.new)) }
 {
     match statement {
-        SetRole::To(role) => put_role(page, role.as_str()),
-        SetRole::None => put_role(page, "NONE"),
-        SetRole::Reset => put_reset(page),
+        SetRole::To(role) => put_role(buffer, role.as_str()),
+        SetRole::None => put_role(buffer, "NONE"),
+        SetRole::Reset => put_reset(buffer),
     }
 }
 
-fn put_role(page: &mut Page, role: &str) -> Result<(), AllocError>
+fn put_role(buffer: &mut OutputBuffer, role: &str) -> Result<(), AllocError>
     requires { is_word role.now ≡ true }
-    ensures { OnOk result (put_all (Some (sheet_of page.old)) (Word (codes "SET") ∷ Word (codes "ROLE") ∷ Word role.now ∷ []) ≡ Some (sheet_of page.new)) }
+    ensures { OnOk result (put_all (Some (output_of buffer.old)) (Word (codes "SET") ∷ Word (codes "ROLE") ∷ Word role.now ∷ []) ≡ Some (output_of buffer.new)) }
 {
-    page.word("SET")?;
-    page.word("ROLE")?;
-    page.word(role)
+    buffer.word("SET")?;
+    buffer.word("ROLE")?;
+    buffer.word(role)
 }
 
-fn put_reset(page: &mut Page) -> Result<(), AllocError>
-    ensures { OnOk result (put_all (Some (sheet_of page.old)) (form.set_role sr.Reset) ≡ Some (sheet_of page.new)) }
+fn put_reset(buffer: &mut OutputBuffer) -> Result<(), AllocError>
+    ensures { OnOk result (put_all (Some (output_of buffer.old)) (form.set_role sr.Reset) ≡ Some (output_of buffer.new)) }
 {
-    page.word("RESET")?;
-    page.word("ROLE")
+    buffer.word("RESET")?;
+    buffer.word("ROLE")
 }

@@ -4,9 +4,9 @@ use Rattle.std.specs.Str.{bytes_eq}
 use Rattle.std.proofs.Common.{arith, ap, sym, ◌∙◌}
 use Rattle.std.proofs.lemmas.Bool.{true≢false, or_left, or_right}
 use Rattle.rls_value.specs.Names.{one_of}
-use Rattle.rls_recursion.specs.declared.room.Room.{Room}
+use Rattle.rls_recursion.specs.declared.dependency.PolicyDependency.{PolicyDependency}
 use Rattle.rls_recursion.specs.declared.progress.Progress.{Progress}
-use Rattle.rls_recursion.specs.Searching.{room_in, inner_in, inner_of, next_of, put_listed, put_done, Found, Fits, Loops, Deep, found_then, visit_all, visit, cost, left, tables_in, IsEnough}
+use Rattle.rls_recursion.specs.Searching.{dependency_in, has_subquery_in, has_subquery_of, subquery_tables_of, put_listed, put_done, Found, Fits, Loops, Deep, found_then, visit_all, visit, cost, left, tables_in, IsEnough}
 use Rattle.rls_recursion.proofs.Closing.{one_cases, one_first}
 
 -- ---- a longer chain leaves fewer tables
@@ -37,24 +37,24 @@ cost_most : (b : Bool) → cost b ≤ 1
 cost_most true = omega arith
 cost_most false = omega arith
 
--- no chain leaves more than there are rooms
-pub left_most : (rooms : List Room) (chain : List (List ℕ)) → left (tables_in rooms) chain ≤ length rooms
+-- no chain leaves more than there are dependencies
+pub left_most : (dependencies : List PolicyDependency) (chain : List (List ℕ)) → left (tables_in dependencies) chain ≤ length dependencies
 left_most [] chain = omega arith
 left_most (r ∷ rs) chain = omega (arith, cost_most (one_of chain r.table), left_most rs chain)
 
-room_if : (b : Bool) (r : Room) (rs : List Room) (t : List ℕ) → bytes_eq r.table t ≡ b → inner_in (if b then Some r else room_in rs t) ≡ true → (inner_of rs t ≡ true → one_of (tables_in rs) t ≡ true)
+dependency_if : (b : Bool) (r : PolicyDependency) (rs : List PolicyDependency) (t : List ℕ) → bytes_eq r.table t ≡ b → has_subquery_in (if b then Some r else dependency_in rs t) ≡ true → (has_subquery_of rs t ≡ true → one_of (tables_in rs) t ≡ true)
     → one_of (r.table ∷ tables_in rs) t ≡ true
-room_if true r rs t same is later = or_left (bytes_eq r.table t) (one_of (tables_in rs) t) same
-room_if false r rs t same is later = or_right (bytes_eq r.table t) (one_of (tables_in rs) t) (later is)
+dependency_if true r rs t same is later = or_left (bytes_eq r.table t) (one_of (tables_in rs) t) same
+dependency_if false r rs t same is later = or_right (bytes_eq r.table t) (one_of (tables_in rs) t) (later is)
 
--- a table that holds a subquery has a room
-has_room : (rooms : List Room) (t : List ℕ) → inner_of rooms t ≡ true → one_of (tables_in rooms) t ≡ true
+-- a table that holds a subquery has a dependency
+has_room : (dependencies : List PolicyDependency) (t : List ℕ) → has_subquery_of dependencies t ≡ true → one_of (tables_in dependencies) t ≡ true
 has_room [] t is = absurd (true≢false (sym is))
-has_room (r ∷ rs) t is = room_if (bytes_eq r.table t) r rs t refl is (λ further. has_room rs t further)
+has_room (r ∷ rs) t is = dependency_if (bytes_eq r.table t) r rs t refl is (λ further. has_room rs t further)
 
 -- a longer chain leaves fewer tables
-pub chain_falls : (rooms : List Room) (chain : List (List ℕ)) (t : List ℕ) → inner_of rooms t ≡ true → one_of chain t ≡ false → suc (left (tables_in rooms) (t ∷ chain)) ≤ left (tables_in rooms) chain
-chain_falls rooms chain t inner off = left_falls (tables_in rooms) chain t (has_room rooms t inner) off
+pub chain_falls : (dependencies : List PolicyDependency) (chain : List (List ℕ)) (t : List ℕ) → has_subquery_of dependencies t ≡ true → one_of chain t ≡ false → suc (left (tables_in dependencies) (t ∷ chain)) ≤ left (tables_in dependencies) chain
+chain_falls dependencies chain t inner off = left_falls (tables_in dependencies) chain t (has_room dependencies t inner) off
 
 -- ---- a search that may go far enough isn't cut off
 
@@ -80,11 +80,11 @@ told_if false true true progress t below told = tt
 told_if false true false progress t below told = told_then below (λ more. Fits (put_done more t)) (told refl refl) (λ more. tt)
 told_if false false on progress t below told = tt
 
-pub visit_told : (n : ℕ) (rooms : List Room) (chain : List (List ℕ)) (progress : Progress) (t : List ℕ) → IsEnough rooms chain n → IsTold (visit n rooms chain progress t)
-visit_told zero rooms chain progress t enough = absurd (omega (arith, enough))
-visit_told (suc n) rooms chain progress t enough =
-    told_if (one_of progress.done t) (inner_of rooms t) (one_of chain t) progress t (visit_all (visit n rooms (t ∷ chain)) (put_listed progress t) (next_of rooms t))
-    (λ inner off. all_told (visit n rooms (t ∷ chain)) (λ more u. visit_told n rooms (t ∷ chain) more u (omega (arith, enough, chain_falls rooms chain t inner off))) (put_listed progress t) (next_of rooms t))
+pub visit_told : (n : ℕ) (dependencies : List PolicyDependency) (chain : List (List ℕ)) (progress : Progress) (t : List ℕ) → IsEnough dependencies chain n → IsTold (visit n dependencies chain progress t)
+visit_told zero dependencies chain progress t enough = absurd (omega (arith, enough))
+visit_told (suc n) dependencies chain progress t enough =
+    told_if (one_of progress.done t) (has_subquery_of dependencies t) (one_of chain t) progress t (visit_all (visit n dependencies (t ∷ chain)) (put_listed progress t) (subquery_tables_of dependencies t))
+    (λ inner off. all_told (visit n dependencies (t ∷ chain)) (λ more u. visit_told n dependencies (t ∷ chain) more u (omega (arith, enough, chain_falls dependencies chain t inner off))) (put_listed progress t) (subquery_tables_of dependencies t))
 
 -- ---- and finds the same
 
@@ -99,14 +99,14 @@ same_if false true true progress t one other same = refl
 same_if false true false progress t one other same = ap (λ found. found_then found (λ more. Fits (put_done more t))) (same refl refl)
 same_if false false on progress t one other same = refl
 
-pub visit_same : (n m : ℕ) (rooms : List Room) (chain : List (List ℕ)) (progress : Progress) (t : List ℕ) → IsEnough rooms chain n → IsEnough rooms chain m → visit n rooms chain progress t ≡ visit m rooms chain progress t
-visit_same zero m rooms chain progress t enough also = absurd (omega (arith, enough))
-visit_same (suc n) zero rooms chain progress t enough also = absurd (omega (arith, also))
-visit_same (suc n) (suc m) rooms chain progress t enough also =
-    same_if (one_of progress.done t) (inner_of rooms t) (one_of chain t) progress t (visit_all (visit n rooms (t ∷ chain)) (put_listed progress t) (next_of rooms t)) (visit_all (visit m rooms (t ∷ chain)) (put_listed progress t) (next_of rooms t))
-    (λ inner off. all_same (visit n rooms (t ∷ chain)) (visit m rooms (t ∷ chain))
-    (λ more u. visit_same n m rooms (t ∷ chain) more u (omega (arith, enough, chain_falls rooms chain t inner off)) (omega (arith, also, chain_falls rooms chain t inner off))) (put_listed progress t) (next_of rooms t))
+pub visit_same : (n m : ℕ) (dependencies : List PolicyDependency) (chain : List (List ℕ)) (progress : Progress) (t : List ℕ) → IsEnough dependencies chain n → IsEnough dependencies chain m → visit n dependencies chain progress t ≡ visit m dependencies chain progress t
+visit_same zero m dependencies chain progress t enough also = absurd (omega (arith, enough))
+visit_same (suc n) zero dependencies chain progress t enough also = absurd (omega (arith, also))
+visit_same (suc n) (suc m) dependencies chain progress t enough also =
+    same_if (one_of progress.done t) (has_subquery_of dependencies t) (one_of chain t) progress t (visit_all (visit n dependencies (t ∷ chain)) (put_listed progress t) (subquery_tables_of dependencies t)) (visit_all (visit m dependencies (t ∷ chain)) (put_listed progress t) (subquery_tables_of dependencies t))
+    (λ inner off. all_same (visit n dependencies (t ∷ chain)) (visit m dependencies (t ∷ chain))
+    (λ more u. visit_same n m dependencies (t ∷ chain) more u (omega (arith, enough, chain_falls dependencies chain t inner off)) (omega (arith, also, chain_falls dependencies chain t inner off))) (put_listed progress t) (subquery_tables_of dependencies t))
 
 -- and so for a list of tables
-pub visits_same : (n m : ℕ) (rooms : List Room) (chain : List (List ℕ)) (progress : Progress) (ts : List (List ℕ)) → IsEnough rooms chain n → IsEnough rooms chain m → visit_all (visit n rooms chain) progress ts ≡ visit_all (visit m rooms chain) progress ts
-visits_same n m rooms chain progress ts enough also = all_same (visit n rooms chain) (visit m rooms chain) (λ more t. visit_same n m rooms chain more t enough also) progress ts
+pub visits_same : (n m : ℕ) (dependencies : List PolicyDependency) (chain : List (List ℕ)) (progress : Progress) (ts : List (List ℕ)) → IsEnough dependencies chain n → IsEnough dependencies chain m → visit_all (visit n dependencies chain) progress ts ≡ visit_all (visit m dependencies chain) progress ts
+visits_same n m dependencies chain progress ts enough also = all_same (visit n dependencies chain) (visit m dependencies chain) (λ more t. visit_same n m dependencies chain more t enough also) progress ts

@@ -1,11 +1,11 @@
 //! Whether chains of policies close, and in which order their tables come.
 #![tactic(auto)]
 
+mod dependency;
 mod laws;
 mod progress;
-mod room;
 mod searching;
 
+pub use dependency::PolicyDependency;
 pub use laws::search_means;
-pub use room::Room;
-pub use searching::{Reached, room_in, search};
+pub use searching::{Reached, dependency_in, search};

@@ -8,8 +8,8 @@ ghost use Rattle.rls_recursion.specs.Chains.{chain_of};
 ghost use Rattle.rls_recursion.specs.Searching as spec;
 ghost use Rattle.rls_recursion.specs.Searching.{IsEnough, as_found, told_by, ordered_by};
 
+use crate::dependency::PolicyDependency;
 use crate::progress::{Progress, push_copy};
-use crate::room::Room;
 use rls_value::{Items, Name, Refusal};
 use std::alloc::{AllocError, Global};
 
@@ -17,9 +17,9 @@ use std::alloc::{AllocError, Global};
 #[derive(Drop)]
 pub struct Reached {
     /// Each once, in front of those that its policies lead to.
-    pub fenced: Items<Name>,
+    pub secured: Items<Name>,
     /// In the order in which the SELECT privilege is asked: those of the statement's subqueries, then each as it is met.
-    pub asked: Items<Name>,
+    pub permission_checks: Items<Name>,
 }
 
 /// The tables of a chain, the last first.
@@ -29,32 +29,35 @@ pub enum Chain<'a> {
     Over(&'a Name, &'a Chain<'a>),
 }
 
-/// The first room of the table.
-pub fn room_in<'x, 'c>(rooms: &'x [Room<'c>], table: &Name) -> Option<&'x Room<'c>>
-    ensures { option_copied result ≡ spec.room_in rooms.now table.now }
+/// The first dependency of the table.
+pub fn dependency_in<'x, 'c>(
+    dependencies: &'x [PolicyDependency<'c>],
+    table: &Name,
+) -> Option<&'x PolicyDependency<'c>>
+    ensures { option_copied result ≡ spec.dependency_in dependencies.now table.now }
 {
-    for room in rooms {
-        if room.table.is(table) {
-            return Some(room);
+    for dependency in dependencies {
+        if dependency.table.is(table) {
+            return Some(dependency);
         }
     }
     None
 }
 
-fn inner_of(rooms: &[Room], table: &Name) -> bool
-    ensures { result ≡ spec.inner_of rooms.now table.now }
+fn has_subquery_of(dependencies: &[PolicyDependency], table: &Name) -> bool
+    ensures { result ≡ spec.has_subquery_of dependencies.now table.now }
 {
-    match room_in(rooms, table) {
-        Some(room) => room.inner,
+    match dependency_in(dependencies, table) {
+        Some(dependency) => dependency.has_subquery,
         None => false,
     }
 }
 
-fn next_of<'x>(rooms: &'x [Room], table: &Name) -> &'x [Name]
-    ensures { result.now ≡ spec.next_of rooms.now table.now }
+fn subquery_tables_of<'x>(dependencies: &'x [PolicyDependency], table: &Name) -> &'x [Name]
+    ensures { result.now ≡ spec.subquery_tables_of dependencies.now table.now }
 {
-    match room_in(rooms, table) {
-        Some(room) => room.next.as_slice(),
+    match dependency_in(dependencies, table) {
+        Some(dependency) => dependency.subquery_tables.as_slice(),
         None => &[],
     }
 }
@@ -72,24 +75,24 @@ fn is_on(chain: &Chain, table: &Name) -> bool
 #[cycle(visit)]
 #[tactic(auto, using(crate::proofs::Steps::visit_was, crate::proofs::Steps::visit_leaf, crate::proofs::Steps::visit_loop))]
 fn visit<'x>(
-    rooms: &[Room],
+    dependencies: &[PolicyDependency],
     chain: &'x Chain<'x>,
     progress: &mut Progress,
     table: &'x Name,
 ) -> Result<Option<Name>, AllocError>
-    ensures { IfOk result (λ closed. (n : ℕ) → IsEnough rooms.now (chain_of chain.now) n → spec.visit n rooms.now (chain_of chain.now) progress.old table.now ≡ as_found closed progress.new) }
+    ensures { IfOk result (λ closed. (n : ℕ) → IsEnough dependencies.now (chain_of chain.now) n → spec.visit n dependencies.now (chain_of chain.now) progress.old table.now ≡ as_found closed progress.new) }
 {
     if progress.done.has(table) {
         return Ok(None);
     }
-    if !inner_of(rooms, table) {
+    if !has_subquery_of(dependencies, table) {
         progress.pass(table)?;
         return Ok(None);
     }
     if is_on(chain, table) {
         return met(table);
     }
-    visit_own(rooms, chain, progress, table)
+    visit_own(dependencies, chain, progress, table)
 }
 
 /// The chain closes on the table.
@@ -105,19 +108,24 @@ fn met(table: &Name) -> Result<Option<Name>, AllocError>
 /// Visits the tables that the policies of a new table lead to, which then is done.
 #[cycle(visit)]
 fn visit_own<'x>(
-    rooms: &[Room],
+    dependencies: &[PolicyDependency],
     chain: &'x Chain<'x>,
     progress: &mut Progress,
     table: &'x Name,
 ) -> Result<Option<Name>, AllocError>
     requires new { one_of progress.old.done table.now ≡ false }
-    requires inner { spec.inner_of rooms.now table.now ≡ true }
+    requires has_subquery { spec.has_subquery_of dependencies.now table.now ≡ true }
     requires off { one_of (chain_of chain.now) table.now ≡ false }
-    ensures { IfOk result (λ closed. (n : ℕ) → IsEnough rooms.now (chain_of chain.now) n → spec.visit n rooms.now (chain_of chain.now) progress.old table.now ≡ as_found closed progress.new) }
+    ensures { IfOk result (λ closed. (n : ℕ) → IsEnough dependencies.now (chain_of chain.now) n → spec.visit n dependencies.now (chain_of chain.now) progress.old table.now ≡ as_found closed progress.new) }
 {
     progress.list(table)?;
     let longer = Chain::Over(table, chain);
-    let closed = visit_all(rooms, &longer, progress, next_of(rooms, table))?;
+    let closed = visit_all(
+        dependencies,
+        &longer,
+        progress,
+        subquery_tables_of(dependencies, table),
+    )?;
     match closed {
         Some(met) => Ok(Some(met)),
         None => {
@@ -130,15 +138,15 @@ fn visit_own<'x>(
 /// Visits one table after the other.
 #[cycle(visit)]
 fn visit_all<'x>(
-    rooms: &[Room],
+    dependencies: &[PolicyDependency],
     chain: &'x Chain<'x>,
     progress: &mut Progress,
     tables: &'x [Name],
 ) -> Result<Option<Name>, AllocError>
-    ensures { IfOk result (λ closed. (n : ℕ) → IsEnough rooms.now (chain_of chain.now) n → spec.visit_all (spec.visit n rooms.now (chain_of chain.now)) progress.old tables.now ≡ as_found closed progress.new) }
+    ensures { IfOk result (λ closed. (n : ℕ) → IsEnough dependencies.now (chain_of chain.now) n → spec.visit_all (spec.visit n dependencies.now (chain_of chain.now)) progress.old tables.now ≡ as_found closed progress.new) }
 {
     for table in tables {
-        let closed = visit(rooms, chain, progress, table)?;
+        let closed = visit(dependencies, chain, progress, table)?;
         if let Some(met) = closed {
             return Ok(Some(met));
         }
@@ -151,15 +159,15 @@ fn visit_all<'x>(
 /// subqueries, in text order.
 pub fn search(
     alloc: Global,
-    rooms: &[Room],
+    dependencies: &[PolicyDependency],
     target: &Name,
     own: &[Name],
     queries: &[Name],
 ) -> Result<Reached, Refusal>
-    ensures { Gives result (ordered_by rooms.now target.now own.now queries.now) }
+    ensures { Gives result (ordered_by dependencies.now target.now own.now queries.now) }
 {
     let mut progress = Progress::new(alloc);
-    let closed = search_all(rooms, &mut progress, target, own, queries)?;
+    let closed = search_all(dependencies, &mut progress, target, own, queries)?;
     match closed {
         Some(met) => {
             drop(progress);
@@ -171,34 +179,34 @@ pub fn search(
 
 /// First the target's own tables, then those that begin chains.
 fn search_all(
-    rooms: &[Room],
+    dependencies: &[PolicyDependency],
     progress: &mut Progress,
     target: &Name,
     own: &[Name],
     queries: &[Name],
 ) -> Result<Option<Name>, AllocError>
-    ensures { IfOk result (λ closed. spec.searched_from (suc (length rooms.now)) rooms.now progress.old target.now own.now queries.now ≡ as_found closed progress.new) }
+    ensures { IfOk result (λ closed. spec.searched_from (suc (length dependencies.now)) dependencies.now progress.old target.now own.now queries.now ≡ as_found closed progress.new) }
 {
     let nothing = Chain::Nothing;
     let begun = Chain::Over(target, &nothing);
-    let closed = visit_from(rooms, &begun, progress, own)?;
+    let closed = visit_from(dependencies, &begun, progress, own)?;
     match closed {
         Some(met) => Ok(Some(met)),
-        None => visit_from(rooms, &nothing, progress, queries),
+        None => visit_from(dependencies, &nothing, progress, queries),
     }
 }
 
-/// Visits one table after the other, from the chain on; no chain gets longer than there are rooms.
-#[tactic(auto, using(crate::proofs::Steps::rooms_enough))]
+/// Visits one table after the other, from the chain on; no chain gets longer than there are dependencies.
+#[tactic(auto, using(crate::proofs::Steps::dependencies_enough))]
 fn visit_from<'x>(
-    rooms: &[Room],
+    dependencies: &[PolicyDependency],
     chain: &'x Chain<'x>,
     progress: &mut Progress,
     tables: &'x [Name],
 ) -> Result<Option<Name>, AllocError>
-    ensures { IfOk result (λ closed. spec.visit_all (spec.visit (suc (length rooms.now)) rooms.now (chain_of chain.now)) progress.old tables.now ≡ as_found closed progress.new) }
+    ensures { IfOk result (λ closed. spec.visit_all (spec.visit (suc (length dependencies.now)) dependencies.now (chain_of chain.now)) progress.old tables.now ≡ as_found closed progress.new) }
 {
-    let closed = visit_all(rooms, chain, progress, tables)?;
+    let closed = visit_all(dependencies, chain, progress, tables)?;
     Ok(closed)
 }
 
@@ -207,10 +215,10 @@ fn both_orders(alloc: Global, progress: Progress, queries: &[Name]) -> Result<Re
     ensures { Gives result (told_by queries.now (spec.Fits progress)) }
 {
     let Progress { done, listed } = progress;
-    let asked = in_front(alloc, queries, listed)?;
+    let permission_checks = in_front(alloc, queries, listed)?;
     Ok(Reached {
-        fenced: done.into_items(),
-        asked,
+        secured: done.into_items(),
+        permission_checks,
     })
 }
 

@@ -7,7 +7,7 @@ use Rattle.rls_catalog.specs.Membership.{fresh, inherited_by, walk, visit_reads,
 use Rattle.rls_catalog.specs.Paths.{granted_where, held_by, inheriting}
 use Rattle.rls_catalog.proofs.Reaching.{inherited_marked}
 use Rattle.rls_role.specs.declared.walking.Step.{Step}
-use Rattle.rls_role.specs.declared.holding.Held.{Held}
+use Rattle.rls_role.specs.declared.holding.HeldMembership.{HeldMembership}
 use Rattle.rls_role.specs.Holdings.{with_held}
 use Rattle.rls_role.specs.Steps.{takes}
 use Rattle.rls_catalog.proofs.Walks.{leads_on, reads_on, reads_all}
@@ -15,7 +15,7 @@ use Rattle.rls_catalog.proofs.Walks.{leads_on, reads_on, reads_all}
 one_more : (next : ℕ) → next + 1 ≡ suc next
 one_more next = omega arith
 
-pub leads_next : (step : Step) (held : List Held) (now s : State) (role : List ℕ) (names grown : List (List ℕ)) (next : ℕ) (name : List ℕ) → s ≡ now → slice_get names next ≡ Some name
+pub leads_next : (step : Step) (held : List HeldMembership) (now s : State) (role : List ℕ) (names grown : List (List ℕ)) (next : ℕ) (name : List ℕ) → s ≡ now → slice_get names next ≡ Some name
     → grown ≡ names ++ fresh names (granted_where (takes step) (held_by (with_held held s) name))
     → ((n : ℕ) → walk n (inheriting (takes step) (with_held held now)) names next ≡ walk (n + next) (inheriting (takes step) (with_held held now)) (role ∷ []) 0)
     → (n : ℕ) → walk n (inheriting (takes step) (with_held held now)) grown (next + 1) ≡ walk (n + (next + 1)) (inheriting (takes step) (with_held held now)) (role ∷ []) 0

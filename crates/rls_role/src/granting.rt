@@ -9,7 +9,7 @@ ghost use Rattle.rls_role.specs.Granting as spec;
 ghost use Rattle.rls_role.specs.Granting.{asked_path, each_granted, memberships_granted, pair_granted, pair_or_refused, role_granted, roles_granted};
 
 use crate::held_memberships::{held_of, write_held};
-use crate::holding::Held;
+use crate::holding::HeldMembership;
 use crate::managing::require_managed;
 use crate::names::is_among;
 use crate::noting::note_walk;
@@ -26,43 +26,43 @@ use std::alloc::{AllocError, Global};
 pub fn grant_member<'c, S: RowSource<'c>>(
     alloc: Global,
     source: &mut S,
-    notes: &mut Reads,
+    read_set: &mut Reads,
     current: &Name,
     grant: &GrantRoles,
 ) -> Result<Delta, Refusal>
-    ensures { Answers S.state S.after (spec.grant_member current.now grant.now) source.old source.new notes.old notes.new result }
+    ensures { Answers S.state S.after (spec.grant_member current.now grant.now) source.old source.new read_set.old read_set.new result }
 {
-    require_roles(alloc, source, notes, grant.roles.as_slice())?;
-    require_roles(alloc, source, notes, grant.to.as_slice())?;
-    grant_roles(alloc, source, notes, current, grant)
+    require_roles(alloc, source, read_set, grant.roles.as_slice())?;
+    require_roles(alloc, source, read_set, grant.to.as_slice())?;
+    grant_roles(alloc, source, read_set, current, grant)
 }
 
 #[tactic(auto, unfolding(crate::specs::Granting::roles_granted))]
 fn grant_roles<'c, S: RowSource<'c>>(
     alloc: Global,
     source: &mut S,
-    notes: &mut Reads,
+    read_set: &mut Reads,
     current: &Name,
     grant: &GrantRoles,
 ) -> Result<Delta, Refusal>
-    ensures { Answers S.state S.after (roles_granted current.now grant.now) source.old source.new notes.old notes.new result }
+    ensures { Answers S.state S.after (roles_granted current.now grant.now) source.old source.new read_set.old read_set.new result }
 {
-    require_managed(alloc, source, notes, current, grant.roles.as_slice())?;
-    grant_memberships(alloc, source, notes, grant)
+    require_managed(alloc, source, read_set, current, grant.roles.as_slice())?;
+    grant_memberships(alloc, source, read_set, grant)
 }
 
 #[tactic(auto, unfolding(crate::specs::Granting::memberships_granted))]
 fn grant_memberships<'c, S: RowSource<'c>>(
     alloc: Global,
     source: &mut S,
-    notes: &mut Reads,
+    read_set: &mut Reads,
     grant: &GrantRoles,
 ) -> Result<Delta, Refusal>
-    ensures { Answers S.state S.after (memberships_granted grant.now) source.old source.new notes.old notes.new result }
+    ensures { Answers S.state S.after (memberships_granted grant.now) source.old source.new read_set.old read_set.new result }
 {
-    let held = held_of(alloc, source, notes, grant.to.as_slice())?;
+    let held = held_of(alloc, source, read_set, grant.to.as_slice())?;
     let (roles, to) = (grant.roles.as_slice(), grant.to.as_slice());
-    let held = grant_each(alloc, source, notes, grant.options, roles, to, held)?;
+    let held = grant_each(alloc, source, read_set, grant.options, roles, to, held)?;
     Ok(write_held(alloc, held)?)
 }
 
@@ -70,17 +70,17 @@ fn grant_memberships<'c, S: RowSource<'c>>(
 fn grant_each<'c, S: RowSource<'c>>(
     alloc: Global,
     source: &mut S,
-    notes: &mut Reads,
+    read_set: &mut Reads,
     written: MembershipOptions,
     roles: &[Name],
     members: &[Name],
-    held: Items<Held>,
-) -> Result<Items<Held>, Refusal>
-    ensures { Answers S.state S.after (each_granted written roles.now members.now held) source.old source.new notes.old notes.new result }
+    held: Items<HeldMembership>,
+) -> Result<Items<HeldMembership>, Refusal>
+    ensures { Answers S.state S.after (each_granted written roles.now members.now held) source.old source.new read_set.old read_set.new result }
 {
     let mut held = held;
     for role in roles {
-        held = grant_role(alloc, source, notes, written, role, members, held)?;
+        held = grant_role(alloc, source, read_set, written, role, members, held)?;
     }
     Ok(held)
 }
@@ -89,17 +89,17 @@ fn grant_each<'c, S: RowSource<'c>>(
 fn grant_role<'c, S: RowSource<'c>>(
     alloc: Global,
     source: &mut S,
-    notes: &mut Reads,
+    read_set: &mut Reads,
     written: MembershipOptions,
     role: &Name,
     members: &[Name],
-    held: Items<Held>,
-) -> Result<Items<Held>, Refusal>
-    ensures { Answers S.state S.after (role_granted written role.now members.now held) source.old source.new notes.old notes.new result }
+    held: Items<HeldMembership>,
+) -> Result<Items<HeldMembership>, Refusal>
+    ensures { Answers S.state S.after (role_granted written role.now members.now held) source.old source.new read_set.old read_set.new result }
 {
     let mut held = held;
     for member in members {
-        held = grant_pair(alloc, source, notes, written, role, member, held)?;
+        held = grant_pair(alloc, source, read_set, written, role, member, held)?;
     }
     Ok(held)
 }
@@ -109,15 +109,15 @@ fn grant_role<'c, S: RowSource<'c>>(
 fn grant_pair<'c, S: RowSource<'c>>(
     alloc: Global,
     source: &mut S,
-    notes: &mut Reads,
+    read_set: &mut Reads,
     written: MembershipOptions,
     role: &Name,
     member: &Name,
-    held: Items<Held>,
-) -> Result<Items<Held>, Refusal>
-    ensures { Answers S.state S.after (pair_granted written role.now member.now held) source.old source.new notes.old notes.new result }
+    held: Items<HeldMembership>,
+) -> Result<Items<HeldMembership>, Refusal>
+    ensures { Answers S.state S.after (pair_granted written role.now member.now held) source.old source.new read_set.old read_set.new result }
 {
-    let path = noted_path(alloc, source, notes, held.as_slice(), role)?;
+    let path = noted_path(alloc, source, read_set, held.as_slice(), role)?;
     let closes = is_among(path.as_slice(), member);
     drop(path);
     join(alloc, written, role, member, held, closes)
@@ -128,14 +128,14 @@ fn grant_pair<'c, S: RowSource<'c>>(
 fn noted_path<'c, S: RowSource<'c>>(
     alloc: Global,
     source: &mut S,
-    notes: &mut Reads,
-    held: &[Held],
+    read_set: &mut Reads,
+    held: &[HeldMembership],
     role: &Name,
 ) -> Result<Items<Name>, AllocError>
-    ensures { Tells S.state S.after (asked_path held.now role.now) source.old source.new notes.old notes.new result }
+    ensures { Tells S.state S.after (asked_path held.now role.now) source.old source.new read_set.old read_set.new result }
 {
     let path = reached(alloc, source, held, role, Step::Any)?;
-    match note_walk(notes, path.as_slice()) {
+    match note_walk(read_set, path.as_slice()) {
         Ok(()) => Ok(path),
         Err(refused) => {
             drop(path);
@@ -149,9 +149,9 @@ fn join(
     written: MembershipOptions,
     role: &Name,
     member: &Name,
-    held: Items<Held>,
+    held: Items<HeldMembership>,
     closes: bool,
-) -> Result<Items<Held>, Refusal>
+) -> Result<Items<HeldMembership>, Refusal>
     ensures { Gives result (pair_or_refused written role.now member.now held closes) }
 {
     if closes {
@@ -173,8 +173,8 @@ fn joined(
     written: MembershipOptions,
     role: &Name,
     member: &Name,
-    held: Items<Held>,
-) -> Result<Items<Held>, AllocError>
+    held: Items<HeldMembership>,
+) -> Result<Items<HeldMembership>, AllocError>
     ensures { IfOk result (λ all. all ≡ spec.joined written role.now member.now held) }
 {
     let mut all = Items::new(alloc);
@@ -189,19 +189,19 @@ fn joined_in(
     written: MembershipOptions,
     role: &Name,
     to: &Name,
-    held: Held,
-) -> Result<Held, AllocError>
+    held: HeldMembership,
+) -> Result<HeldMembership, AllocError>
     ensures { IfOk result (λ one. one ≡ spec.joined_in written role.now to.now held) }
 {
     if !held.member.is(to) {
         return Ok(held);
     }
-    let Held {
+    let HeldMembership {
         member,
         memberships,
     } = held;
     match granted_to(alloc, written, role, memberships) {
-        Ok(memberships) => Ok(Held {
+        Ok(memberships) => Ok(HeldMembership {
             member,
             memberships,
         }),

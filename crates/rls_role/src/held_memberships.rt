@@ -5,7 +5,7 @@ ghost use Rattle.rls_catalog.specs.Membership.{fresh};
 ghost use Rattle.rls_source.specs.Answering.{Tells};
 ghost use Rattle.rls_role.specs.Granting.{asked_held, held_one, members_written};
 
-use crate::holding::Held;
+use crate::holding::HeldMembership;
 use crate::names::is_among;
 use rls_catalog::{Change, Delta, Membership};
 use rls_source::{Reads, RowSource, noted_members};
@@ -16,13 +16,13 @@ use std::alloc::{AllocError, Global};
 pub fn held_of<'c, S: RowSource<'c>>(
     alloc: Global,
     source: &mut S,
-    notes: &mut Reads,
+    read_set: &mut Reads,
     members: &[Name],
-) -> Result<Items<Held>, AllocError>
-    ensures { Tells S.state S.after (asked_held (fresh [] members.now)) source.old source.new notes.old notes.new result }
+) -> Result<Items<HeldMembership>, AllocError>
+    ensures { Tells S.state S.after (asked_held (fresh [] members.now)) source.old source.new read_set.old read_set.new result }
 {
     let names = distinct(alloc, members)?;
-    let held = noted_held(alloc, source, notes, names.as_slice());
+    let held = noted_held(alloc, source, read_set, names.as_slice());
     drop(names);
     held
 }
@@ -44,14 +44,14 @@ fn distinct(alloc: Global, names: &[Name]) -> Result<Items<Name>, AllocError>
 fn noted_held<'c, S: RowSource<'c>>(
     alloc: Global,
     source: &mut S,
-    notes: &mut Reads,
+    read_set: &mut Reads,
     members: &[Name],
-) -> Result<Items<Held>, AllocError>
-    ensures { Tells S.state S.after (asked_held members.now) source.old source.new notes.old notes.new result }
+) -> Result<Items<HeldMembership>, AllocError>
+    ensures { Tells S.state S.after (asked_held members.now) source.old source.new read_set.old read_set.new result }
 {
     let mut held = Items::new(alloc);
     for member in members {
-        held.push(held_by(alloc, source, notes, member)?)?;
+        held.push(held_by(alloc, source, read_set, member)?)?;
     }
     Ok(held)
 }
@@ -60,18 +60,18 @@ fn noted_held<'c, S: RowSource<'c>>(
 fn held_by<'c, S: RowSource<'c>>(
     alloc: Global,
     source: &mut S,
-    notes: &mut Reads,
+    read_set: &mut Reads,
     member: &Name,
-) -> Result<Held, AllocError>
+) -> Result<HeldMembership, AllocError>
     ensures found { IfOk result (λ held. held ≡ held_one (S.state source.old) member.now) }
     ensures read { OnOk result (source.new ≡ S.after source.old (Object.Members member.now ∷ [])) }
-    ensures noted { OnOk result (notes.new ≡ notes.old ++ Object.Members member.now ∷ []) }
+    ensures noted { OnOk result (read_set.new ≡ read_set.old ++ Object.Members member.now ∷ []) }
     ensures state { S.state source.new ≡ S.state source.old }
 {
-    let memberships = noted_members(alloc, source, notes, member)?;
+    let memberships = noted_members(alloc, source, read_set, member)?;
     let memberships = Membership::copy_all(alloc, memberships)?;
     match member.copy() {
-        Ok(member) => Ok(Held {
+        Ok(member) => Ok(HeldMembership {
             member,
             memberships,
         }),
@@ -83,7 +83,7 @@ fn held_by<'c, S: RowSource<'c>>(
 }
 
 /// The memberships are written, all of each member.
-pub fn write_held(alloc: Global, held: Items<Held>) -> Result<Delta, AllocError>
+pub fn write_held(alloc: Global, held: Items<HeldMembership>) -> Result<Delta, AllocError>
     ensures { IfOk result (λ delta. delta ≡ members_written held) }
 {
     let mut delta = Delta::new(alloc);
@@ -93,10 +93,10 @@ pub fn write_held(alloc: Global, held: Items<Held>) -> Result<Delta, AllocError>
     Ok(delta)
 }
 
-fn change_of(held: Held) -> Change
+fn change_of(held: HeldMembership) -> Change
     ensures { result ≡ Change.Members held.member held.memberships }
 {
-    let Held {
+    let HeldMembership {
         member,
         memberships,
     } = held;

@@ -6,9 +6,9 @@ ghost use Rattle.rls_catalog.specs.{Membership.visit_reads, Membership.walk_read
 ghost use Rattle.rls_source.specs.{Answering.Answers, Answering.Tells, Sequences.each_or_refused};
 ghost use Rattle.rls_role.specs.{Granting.asked_managed, Granting.each_managed, Granting.managed_or_denied, Granting.managed_or_refused, Holdings.has_admin, Holdings.managed_by};
 
+use crate::effective_roles::EffectiveRoles;
 use crate::names::is_among;
-use crate::noting::{note_walk, noted_reach};
-use crate::reach::Reach;
+use crate::noting::{note_walk, noted_effective_roles};
 use rls_catalog::Membership;
 use rls_source::{Reads, RowSource};
 use rls_value::{Items, Name, Refusal, Why};
@@ -20,15 +20,15 @@ use std::alloc::{AllocError, Global};
 pub fn require_managed<'c, S: RowSource<'c>>(
     alloc: Global,
     source: &mut S,
-    notes: &mut Reads,
+    read_set: &mut Reads,
     current: &Name,
     roles: &[Name],
 ) -> Result<(), Refusal>
-    ensures { Answers S.state S.after (managed_or_refused current.now roles.now) source.old source.new notes.old notes.new result }
+    ensures { Answers S.state S.after (managed_or_refused current.now roles.now) source.old source.new read_set.old read_set.new result }
 {
-    let reach = noted_reach(alloc, source, notes, current)?;
-    let may = require_each(alloc, source, notes, &reach, roles);
-    drop(reach);
+    let effective_roles = noted_effective_roles(alloc, source, read_set, current)?;
+    let may = require_each(alloc, source, read_set, &effective_roles, roles);
+    drop(effective_roles);
     may
 }
 
@@ -36,14 +36,14 @@ pub fn require_managed<'c, S: RowSource<'c>>(
 fn require_each<'c, S: RowSource<'c>>(
     alloc: Global,
     source: &mut S,
-    notes: &mut Reads,
-    reach: &Reach,
+    read_set: &mut Reads,
+    effective_roles: &EffectiveRoles,
     roles: &[Name],
 ) -> Result<(), Refusal>
-    ensures { Answers S.state S.after (each_managed reach.now roles.now) source.old source.new notes.old notes.new result }
+    ensures { Answers S.state S.after (each_managed effective_roles.now roles.now) source.old source.new read_set.old read_set.new result }
 {
-    let managed = noted_managed(alloc, source, notes, reach.names.as_slice())?;
-    let may = require_among(reach.superuser, managed.as_slice(), roles);
+    let managed = noted_managed(alloc, source, read_set, effective_roles.names.as_slice())?;
+    let may = require_among(effective_roles.superuser, managed.as_slice(), roles);
     drop(managed);
     may
 }
@@ -52,12 +52,12 @@ fn require_each<'c, S: RowSource<'c>>(
 fn noted_managed<'c, S: RowSource<'c>>(
     alloc: Global,
     source: &mut S,
-    notes: &mut Reads,
+    read_set: &mut Reads,
     members: &[Name],
 ) -> Result<Items<Name>, AllocError>
-    ensures { Tells S.state S.after (asked_managed members.now) source.old source.new notes.old notes.new result }
+    ensures { Tells S.state S.after (asked_managed members.now) source.old source.new read_set.old read_set.new result }
 {
-    note_walk(notes, members)?;
+    note_walk(read_set, members)?;
     managed(alloc, source, members)
 }
 

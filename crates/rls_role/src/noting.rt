@@ -5,46 +5,50 @@ ghost use Rattle.rls_catalog.specs.Membership.{walk_reads};
 ghost use Rattle.rls_source.specs.Answering.{Tells};
 ghost use Rattle.rls_role.specs.Reaching as spec;
 
-use crate::reach::{Reach, reach_of};
+use crate::effective_roles::{EffectiveRoles, effective_roles_of};
 use rls_source::{Reads, RowSource};
 use rls_value::{Name, Object};
 use std::alloc::{AllocError, Global};
 
 /// Whose privileges the role has. It reads the role and, unless that is a superuser, each role that it reaches.
-#[tactic(auto, unfolding(crate::specs::Reaching::reach_in, crate::specs::Reaching::reach_reads_in))]
-pub fn noted_reach<'c, S: RowSource<'c>>(
+#[tactic(auto, unfolding(crate::specs::Reaching::effective_roles_in, crate::specs::Reaching::effective_roles_reads_in))]
+pub fn noted_effective_roles<'c, S: RowSource<'c>>(
     alloc: Global,
     source: &mut S,
-    notes: &mut Reads,
+    read_set: &mut Reads,
     role: &Name,
-) -> Result<Reach, AllocError>
-    ensures { Tells S.state S.after (spec.reach_of role.now) source.old source.new notes.old notes.new result }
+) -> Result<EffectiveRoles, AllocError>
+    ensures { Tells S.state S.after (spec.effective_roles_of role.now) source.old source.new read_set.old read_set.new result }
 {
-    let reach = reach_of(alloc, source, role)?;
-    match note_reach(notes, role, reach.names.as_slice()) {
-        Ok(()) => Ok(reach),
+    let effective_roles = effective_roles_of(alloc, source, role)?;
+    match note_effective_roles(read_set, role, effective_roles.names.as_slice()) {
+        Ok(()) => Ok(effective_roles),
         Err(refused) => {
-            drop(reach);
+            drop(effective_roles);
             Err(refused)
         }
     }
 }
 
 /// Notes the role that a walk began with, and what the walk read that met these.
-pub fn note_reach(notes: &mut Reads, role: &Name, names: &[Name]) -> Result<(), AllocError>
-    ensures { OnOk result (notes.new ≡ notes.old ++ Object.Role role.now ∷ walk_reads names.now) }
+pub fn note_effective_roles(
+    read_set: &mut Reads,
+    role: &Name,
+    names: &[Name],
+) -> Result<(), AllocError>
+    ensures { OnOk result (read_set.new ≡ read_set.old ++ Object.Role role.now ∷ walk_reads names.now) }
 {
-    notes.note(Object::Role(role.copy()?))?;
-    note_walk(notes, names)
+    read_set.note(Object::Role(role.copy()?))?;
+    note_walk(read_set, names)
 }
 
 /// Notes what a walk read that met these: each role, and its memberships.
-pub fn note_walk(notes: &mut Reads, names: &[Name]) -> Result<(), AllocError>
-    ensures { OnOk result (notes.new ≡ notes.old ++ walk_reads names.now) }
+pub fn note_walk(read_set: &mut Reads, names: &[Name]) -> Result<(), AllocError>
+    ensures { OnOk result (read_set.new ≡ read_set.old ++ walk_reads names.now) }
 {
     for name in names {
-        notes.note(Object::Role(name.copy()?))?;
-        notes.note(Object::Members(name.copy()?))?;
+        read_set.note(Object::Role(name.copy()?))?;
+        read_set.note(Object::Members(name.copy()?))?;
     }
     Ok(())
 }

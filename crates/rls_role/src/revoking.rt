@@ -7,7 +7,7 @@ ghost use Rattle.rls_role.specs.{Granting.members_written, Revoking.memberships_
 ghost use Rattle.rls_role.specs.Revoking as spec;
 
 use crate::held_memberships::{held_of, write_held};
-use crate::holding::Held;
+use crate::holding::HeldMembership;
 use crate::managing::require_managed;
 use crate::names::is_among;
 use rls_catalog::{Delta, Membership};
@@ -22,45 +22,49 @@ use std::alloc::{AllocError, Global};
 pub fn revoke_member<'c, S: RowSource<'c>>(
     alloc: Global,
     source: &mut S,
-    notes: &mut Reads,
+    read_set: &mut Reads,
     current: &Name,
     revoke: &RevokeRoles,
 ) -> Result<Delta, Refusal>
-    ensures { Answers S.state S.after (spec.revoke_member current.now revoke.now) source.old source.new notes.old notes.new result }
+    ensures { Answers S.state S.after (spec.revoke_member current.now revoke.now) source.old source.new read_set.old read_set.new result }
 {
-    require_roles(alloc, source, notes, revoke.roles.as_slice())?;
-    require_roles(alloc, source, notes, revoke.from.as_slice())?;
-    revoke_roles(alloc, source, notes, current, revoke)
+    require_roles(alloc, source, read_set, revoke.roles.as_slice())?;
+    require_roles(alloc, source, read_set, revoke.from.as_slice())?;
+    revoke_roles(alloc, source, read_set, current, revoke)
 }
 
 #[tactic(auto, unfolding(crate::specs::Revoking::roles_revoked))]
 fn revoke_roles<'c, S: RowSource<'c>>(
     alloc: Global,
     source: &mut S,
-    notes: &mut Reads,
+    read_set: &mut Reads,
     current: &Name,
     revoke: &RevokeRoles,
 ) -> Result<Delta, Refusal>
-    ensures { Answers S.state S.after (roles_revoked current.now revoke.now) source.old source.new notes.old notes.new result }
+    ensures { Answers S.state S.after (roles_revoked current.now revoke.now) source.old source.new read_set.old read_set.new result }
 {
-    require_managed(alloc, source, notes, current, revoke.roles.as_slice())?;
-    revoke_memberships(alloc, source, notes, revoke)
+    require_managed(alloc, source, read_set, current, revoke.roles.as_slice())?;
+    revoke_memberships(alloc, source, read_set, revoke)
 }
 
 #[tactic(auto, unfolding(crate::specs::Revoking::memberships_revoked))]
 fn revoke_memberships<'c, S: RowSource<'c>>(
     alloc: Global,
     source: &mut S,
-    notes: &mut Reads,
+    read_set: &mut Reads,
     revoke: &RevokeRoles,
 ) -> Result<Delta, Refusal>
-    ensures { Answers S.state S.after (memberships_revoked revoke.now) source.old source.new notes.old notes.new result }
+    ensures { Answers S.state S.after (memberships_revoked revoke.now) source.old source.new read_set.old read_set.new result }
 {
-    let held = held_of(alloc, source, notes, revoke.from.as_slice())?;
+    let held = held_of(alloc, source, read_set, revoke.from.as_slice())?;
     Ok(revoked(alloc, revoke, held)?)
 }
 
-fn revoked(alloc: Global, revoke: &RevokeRoles, held: Items<Held>) -> Result<Delta, AllocError>
+fn revoked(
+    alloc: Global,
+    revoke: &RevokeRoles,
+    held: Items<HeldMembership>,
+) -> Result<Delta, AllocError>
     ensures { IfOk result (λ delta. delta ≡ members_written (map (taken_in revoke.now.option revoke.now.roles) held)) }
 {
     let held = taken(alloc, revoke.option, revoke.roles.as_slice(), held)?;
@@ -72,8 +76,8 @@ fn taken(
     alloc: Global,
     option: Option<MembershipOption>,
     roles: &[Name],
-    held: Items<Held>,
-) -> Result<Items<Held>, AllocError>
+    held: Items<HeldMembership>,
+) -> Result<Items<HeldMembership>, AllocError>
     ensures { IfOk result (λ all. all ≡ map (taken_in option roles.now) held) }
 {
     let mut all = Items::new(alloc);
@@ -87,16 +91,16 @@ fn taken_of(
     alloc: Global,
     option: Option<MembershipOption>,
     roles: &[Name],
-    held: Held,
-) -> Result<Held, AllocError>
+    held: HeldMembership,
+) -> Result<HeldMembership, AllocError>
     ensures { IfOk result (λ one. one ≡ taken_in option roles.now held) }
 {
-    let Held {
+    let HeldMembership {
         member,
         memberships,
     } = held;
     match taken_from(alloc, option, roles, memberships) {
-        Ok(memberships) => Ok(Held {
+        Ok(memberships) => Ok(HeldMembership {
             member,
             memberships,
         }),

@@ -6,7 +6,7 @@ ghost use Rattle.rls_catalog.specs.Membership.{fresh, visit_reads, walk_reads};
 ghost use Rattle.rls_catalog.specs.Paths.{granted_where, held_by, reached_where};
 ghost use Rattle.rls_role.specs.{Holdings.with_held, Seen.IsSetOf, Steps.takes};
 
-use crate::holding::Held;
+use crate::holding::HeldMembership;
 use rls_catalog::Membership;
 use rls_source::RowSource;
 use rls_value::{Items, Name};
@@ -41,7 +41,7 @@ impl Step {
 pub fn reached<'c, S: RowSource<'c>>(
     alloc: Global,
     source: &mut S,
-    held: &[Held],
+    held: &[HeldMembership],
     role: &Name,
     step: Step,
 ) -> Result<Items<Name>, AllocError>
@@ -72,7 +72,7 @@ fn name_at(names: &[Name], index: usize) -> Option<&Name>
 fn visit<'c, S: RowSource<'c>>(
     alloc: Global,
     source: &mut S,
-    held: &[Held],
+    held: &[HeldMembership],
     names: &mut Vec<Name>,
     seen: &mut BTreeSet<Name>,
     name: &Name,
@@ -89,7 +89,7 @@ fn visit<'c, S: RowSource<'c>>(
     if def.is_none() {
         return Ok(());
     }
-    match Held::find(held, name) {
+    match HeldMembership::find(held, name) {
         Some(held) => add_fresh(names, seen, held.memberships.as_slice(), step),
         None => add_fresh(names, seen, memberships, step),
     }

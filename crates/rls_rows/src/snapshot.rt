@@ -2,14 +2,14 @@
 
 ghost use Rattle.std.specs.Prelude.{◌≡◌, refl};
 
-use rls_catalog::{Catalog, Grant, Lent, Membership, RoleDef};
+use rls_catalog::{BorrowedRow, Catalog, Grant, Membership, RoleDef};
 use rls_expr::{Policy, TableDef};
 use rls_source::RowSource;
 use rls_value::{Items, Name, Object, Row};
 use std::alloc::{AllocError, Global};
 use std::marker::Model;
 
-/// A state that is lent, as a source that keeps no note of what is read; seen as the state.
+/// A borrowed state, as a source that keeps no note of what is read; seen as the state.
 #[derive(Drop)]
 pub struct Snapshot<'c> {
     catalog: &'c Catalog,
@@ -59,7 +59,7 @@ impl<'c> RowSource<'c> for Snapshot<'c> {
         Ok(self.catalog.policies(table))
     }
 
-    fn scan(&mut self, alloc: Global, table: &Name) -> Result<Items<Lent<'c>>, AllocError> {
+    fn scan(&mut self, alloc: Global, table: &Name) -> Result<Items<BorrowedRow<'c>>, AllocError> {
         self.catalog.rows(alloc, table)
     }
 
@@ -68,11 +68,11 @@ impl<'c> RowSource<'c> for Snapshot<'c> {
         alloc: Global,
         table: &Name,
         key: &Row,
-    ) -> Result<Items<Lent<'c>>, AllocError> {
+    ) -> Result<Items<BorrowedRow<'c>>, AllocError> {
         self.catalog.rows_with_key(alloc, table, key)
     }
 
-    fn look(&self, alloc: Global, table: &Name) -> Result<Items<Lent<'c>>, AllocError> {
+    fn look(&self, alloc: Global, table: &Name) -> Result<Items<BorrowedRow<'c>>, AllocError> {
         self.catalog.rows(alloc, table)
     }
 
@@ -81,7 +81,7 @@ impl<'c> RowSource<'c> for Snapshot<'c> {
         alloc: Global,
         table: &Name,
         key: &Row,
-    ) -> Result<Items<Lent<'c>>, AllocError> {
+    ) -> Result<Items<BorrowedRow<'c>>, AllocError> {
         self.catalog.rows_with_key(alloc, table, key)
     }
 

@@ -4,7 +4,7 @@ use Rattle.rls_value.specs.{declared.refusal.Limit.Limit, declared.refusal.Refus
 use Rattle.rls_value.specs.declared.refusal.Limit.TheVariants as l
 use Rattle.rls_value.specs.declared.refusal.Refusal.TheVariants as r
 use Rattle.rls_statement.specs.declared.statement.Statement.{Statement}
-use Rattle.rls_text.specs.Answers.{Answers, columns_of, first_limit, limit_from, limit_at, open_behind, or_next}
+use Rattle.rls_text.specs.ParseResults.{IsParseResult, columns_of, first_limit, limit_from, limit_at, open_behind, or_next}
 use Rattle.rls_text.specs.{Heights.height_of, Nested.subqueries_of, declared.token.Token.Token}
 use Rattle.rls_session.specs.Connects.{limit_on_words}
 use Rattle.rls_text.specs.declared.token.Token.TheVariants as t
@@ -61,13 +61,13 @@ not_limited false false true x limit columns nesting subqueries is = subqueries 
 not_limited false false false x limit columns nesting subqueries is = cc
 
 -- where the words pass no limit, none on words is answered
-none_on_words : (tokens : List Token) (limit : Limit) → first_limit tokens ≡ None → (limit ≡ l.Columns → ⊥) → (limit ≡ l.Nesting → ⊥) → (limit ≡ l.Subqueries → ⊥) → Answers tokens (Err (r.Limit limit)) → ⊥
+none_on_words : (tokens : List Token) (limit : Limit) → first_limit tokens ≡ None → (limit ≡ l.Columns → ⊥) → (limit ≡ l.Nesting → ⊥) → (limit ≡ l.Subqueries → ⊥) → IsParseResult tokens (Err (r.Limit limit)) → ⊥
 none_on_words tokens limit none columns nesting subqueries answer =
     let refused : ◌≡◌ {A = Result Statement Refusal} (Err (r.Limit limit)) (Err r.Syntax) =
     answer.unspelled none (λ x spelled. not_limited (nat_lt 64 (columns_of x)) (nat_lt 64 (height_of x)) (nat_lt 8 (subqueries_of x)) x limit columns nesting subqueries (answer.spelled x none spelled)) in
     cc
 
-off_words : (tokens : List Token) (limit : Limit) → first_limit tokens ≡ None → Answers tokens (Err (r.Limit limit)) → limit_on_words limit ≡ None
+off_words : (tokens : List Token) (limit : Limit) → first_limit tokens ≡ None → IsParseResult tokens (Err (r.Limit limit)) → limit_on_words limit ≡ None
 off_words tokens l.Columns none answer = refl
 off_words tokens l.Nesting none answer = refl
 off_words tokens l.Line none answer = absurd (none_on_words tokens l.Line none (λ e. cc) (λ e. cc) (λ e. cc) answer)
@@ -80,7 +80,7 @@ off_words tokens l.Sessions none answer = absurd (none_on_words tokens l.Session
 off_words tokens l.Numbers none answer = absurd (none_on_words tokens l.Numbers none (λ e. cc) (λ e. cc) (λ e. cc) answer)
 off_words tokens l.Name none answer = absurd (none_on_words tokens l.Name none (λ e. cc) (λ e. cc) (λ e. cc) answer)
 
-by_passed : (passed : Option Limit) (limit : Limit) (tokens : List Token) → first_limit tokens ≡ passed → Answers tokens (Err (r.Limit limit)) → limit_on_words limit ≡ passed
+by_passed : (passed : Option Limit) (limit : Limit) (tokens : List Token) → first_limit tokens ≡ passed → IsParseResult tokens (Err (r.Limit limit)) → limit_on_words limit ≡ passed
 by_passed None limit tokens is answer = off_words tokens limit is answer
 by_passed (Some other) limit tokens is answer =
     let refused : ◌≡◌ {A = Result Statement Refusal} (Err (r.Limit limit)) (Err (r.Limit other)) = answer.over other is in
@@ -88,5 +88,5 @@ by_passed (Some other) limit tokens is answer =
     subst (λ it. limit_on_words it ≡ Some other) (sym same) (told_as_it_is other (subst IsOnWords is (limit_from_on_words 0 tokens)))
 
 -- the limit that is answered is the one that the words pass, where it is on words
-pub words_limit : (tokens : List Token) (answer : Result Statement Refusal) (limit : Limit) → answer ≡ Err (r.Limit limit) → Answers tokens answer → limit_on_words limit ≡ first_limit tokens
-words_limit tokens answer limit is answers = by_passed (first_limit tokens) limit tokens refl (subst (Answers tokens) is answers)
+pub words_limit : (tokens : List Token) (answer : Result Statement Refusal) (limit : Limit) → answer ≡ Err (r.Limit limit) → IsParseResult tokens answer → limit_on_words limit ≡ first_limit tokens
+words_limit tokens answer limit is answers = by_passed (first_limit tokens) limit tokens refl (subst (IsParseResult tokens) is answers)

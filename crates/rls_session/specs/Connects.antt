@@ -8,7 +8,7 @@ use Rattle.rls_value.specs.declared.refusal.Limit.{Limit}
 use Rattle.rls_value.specs.declared.refusal.Limit.TheVariants as l
 use Rattle.rls_value.specs.Names.{is_between, is_letter_or_digit, spells_name, folded}
 use Rattle.rls_text.specs.Words.{words_of}
-use Rattle.rls_text.specs.Answers.{first_limit}
+use Rattle.rls_text.specs.ParseResults.{first_limit}
 
 -- space, tab, LF or CR
 abbrev pub is_white : ℕ → Bool

@@ -4,7 +4,7 @@ ghost use Rattle.std.specs.Prelude.{◌≡◌, ℕ, true, List, MatchOption, Err
 ghost use Rattle.std.specs.List.{prefix_len};
 ghost use Rattle.rls_value.specs.Giving.{Gives};
 ghost use Rattle.rls_value.specs.Names.{is_letter_or_digit};
-ghost use Rattle.rls_text.specs.Answers.{first_limit};
+ghost use Rattle.rls_text.specs.ParseResults.{first_limit};
 ghost use Rattle.rls_text.specs.Words.{words_of};
 ghost use Rattle.rls_session.specs.Connects as spec;
 ghost use Rattle.rls_session.specs.Connects.{IsConnect, is_white, is_long_name, limit_on_words, name_of, role_named};

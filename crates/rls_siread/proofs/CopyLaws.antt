@@ -13,7 +13,7 @@ use Rattle.rls_value.specs.declared.object.Object.{Object}
 use Rattle.rls_source.specs.Footprints.{is_object, is_among}
 use Rattle.rls_source.specs.FootprintLaws.{is_object_same}
 use Rattle.rls_siread.specs.Locks.{Notes, is_number_in, all_arrived, notes_at}
-use Rattle.rls_siread.specs.Index.{Held, held_at}
+use Rattle.rls_siread.specs.Index.{HolderList, held_at}
 use Rattle.rls_siread.proofs.IndexLaws.{entry_at}
 use Rattle.rls_siread.proofs.LocksLaws.{same_number, number_itself, number_at, number_turned, apart_none}
 
@@ -41,7 +41,7 @@ none_if None is = refl
 none_if (Some x) is = absurd (true≢false is)
 
 -- whose key isn't there has no entry
-pub no_entry : (es : List (Object × Held)) (object : Object) → is_among (keys_of es) object ≡ false → entry_at es object ≡ None
+pub no_entry : (es : List (Object × HolderList)) (object : Object) → is_among (keys_of es) object ≡ false → entry_at es object ≡ None
 no_entry es object none = none_if (entry_at es object) (is_some-lookup (is_object object) es ∙ none)
 
 no_number_case : (keys : List ℕ) (t : ℕ) → list_any (is_at (nat_cmp t)) keys ≡ is_number_in keys t
@@ -61,7 +61,7 @@ keep_case true now put was orig is here else_where = is ∙ here refl
 keep_case false now put was orig is here else_where = is ∙ else_where refl
 
 -- one object more is copied
-pub copied_object : (old new self : List (Object × Held)) (x : Object) (rest : List Object) (held : List ℕ) → held ≡ held_at self x
+pub copied_object : (old new self : List (Object × HolderList)) (x : Object) (rest : List Object) (held : List ℕ) → held ≡ held_at self x
     → ((other : Object) → held_at new other ≡ (if is_object other x then held else held_at old other))
     → ((object : Object) → is_among (x ∷ rest) object ≡ false → held_at old object ≡ held_at self object)
     → (object : Object) → is_among rest object ≡ false → held_at new object ≡ held_at self object

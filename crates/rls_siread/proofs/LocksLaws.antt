@@ -20,7 +20,7 @@ use Rattle.rls_catalog.specs.declared.change.Change.{Change}
 use Rattle.rls_source.specs.Footprints.{footprint_of, is_among}
 use Rattle.rls_siread.specs.Covering.{covered_by}
 use Rattle.rls_siread.specs.Locks.{Notes, Locks, is_number_in, is_reader, arrived, all_arrived, with_holders, holders_of, without, held_with, held_by, objects_in, commit_in, held_in, notes_at, noted_by, marked, commit_of, is_committed_by, promoted_notes, HasNoted, HasForgotten, HasPromoted}
-use Rattle.rls_siread.specs.Index.{Held, shown, held_at, IsIndexed, CommitsFrom, locks_of}
+use Rattle.rls_siread.specs.Index.{HolderList, shown, held_at, IsIndexed, CommitsFrom, locks_of}
 use Rattle.rls_siread.proofs.CoveringLaws.{any_same, reads_covered}
 
 -- ---- numbers
@@ -135,7 +135,7 @@ indexed_case true objects noted object there is = refl
 indexed_case false objects noted object there is = is
 
 -- who holds is told by the notes, once those of one transaction are others
-pub still_indexed : (old new : List (Object × Held)) (notes left : List (ℕ × Notes)) (txn : ℕ) (objects : List Object) → IsIndexed old notes
+pub still_indexed : (old new : List (Object × HolderList)) (notes left : List (ℕ × Notes)) (txn : ℕ) (objects : List Object) → IsIndexed old notes
     → ((object : Object) → held_at new object ≡ held_with (is_among objects object) (held_at old object) txn)
     → ((t : ℕ) → objects_in (notes_at left t) ≡ (if nat_eq txn t then objects else objects_in (notes_at notes t))) → IsIndexed new left
 still_indexed old new notes left txn objects indexed held noted object t =
@@ -153,7 +153,7 @@ renoted_case false true txn held is = refl
 renoted_case false false txn held is = sym (without_absent held txn is)
 
 -- what is held once the new ones are held, and those dropped are not
-pub renoted_held : (old noted new : List (Object × Held)) (notes : List (ℕ × Notes)) (txn : ℕ) (objects fresh dropped : List Object) → IsIndexed old notes
+pub renoted_held : (old noted new : List (Object × HolderList)) (notes : List (ℕ × Notes)) (txn : ℕ) (objects fresh dropped : List Object) → IsIndexed old notes
     → ((object : Object) → is_among fresh object ≡ (is_among objects object && not (is_among (objects_in (notes_at notes txn)) object)))
     → ((object : Object) → is_among dropped object ≡ (is_among (objects_in (notes_at notes txn)) object && not (is_among objects object)))
     → ((object : Object) → held_at noted object ≡ (if is_among fresh object then arrived (held_at old object) txn else held_at old object))
@@ -171,7 +171,7 @@ forgotten_case true txn held is = refl
 forgotten_case false txn held is = sym (without_absent held txn is)
 
 -- what is held once nothing is noted
-pub forgotten_held : (old new : List (Object × Held)) (notes : List (ℕ × Notes)) (txn : ℕ) → IsIndexed old notes
+pub forgotten_held : (old new : List (Object × HolderList)) (notes : List (ℕ × Notes)) (txn : ℕ) → IsIndexed old notes
     → ((object : Object) → held_at new object ≡ (if is_among (objects_in (notes_at notes txn)) object then without (held_at old object) txn else held_at old object))
     → (object : Object) → held_at new object ≡ without (held_at old object) txn
 forgotten_held old new notes txn indexed releases object =
@@ -221,7 +221,7 @@ pub objects_gone : (old new : List (ℕ × Notes)) (txn : ℕ) → ((t : ℕ) �
 objects_gone old new txn puts t = ap objects_in (puts t) ∙ gone_case (nat_eq txn t) (notes_at old t)
 
 -- the same holders, in places with more room, are told by the notes as they were
-pub indexed_same : (old new : List (Object × Held)) (notes left : List (ℕ × Notes)) → shown new ≡ shown old → ((t : ℕ) → objects_in (notes_at left t) ≡ objects_in (notes_at notes t))
+pub indexed_same : (old new : List (Object × HolderList)) (notes left : List (ℕ × Notes)) → shown new ≡ shown old → ((t : ℕ) → objects_in (notes_at left t) ≡ objects_in (notes_at notes t))
     → IsIndexed old notes → IsIndexed new left
 indexed_same old new notes left same noted indexed object t =
     ap (λ holders. is_number_in (held_in holders object) t) same ∙ indexed object t ∙ ap (λ list. is_among list object) (sym (noted t))
@@ -229,12 +229,12 @@ indexed_same old new notes left same noted indexed object t =
 -- ---- notes put anew
 
 -- who holds is told by the notes, and the transaction has noted the objects
-pub record IsRenewed (old new : List (Object × Held)) (notes left : List (ℕ × Notes)) (txn : ℕ) (objects : List Object) : Type 0 where
+pub record IsRenewed (old new : List (Object × HolderList)) (notes left : List (ℕ × Notes)) (txn : ℕ) (objects : List Object) : Type 0 where
   pub indexed : IsIndexed new left
   pub noted : HasNoted txn objects (locks_of old notes) (locks_of new left)
 
 -- room is made, the notes are put, what is new is held, and what was dropped isn't
-pub renewed : (old room noted new : List (Object × Held)) (notes left : List (ℕ × Notes)) (txn : ℕ) (put : Notes) (objects fresh dropped : List Object) → IsIndexed old notes
+pub renewed : (old room noted new : List (Object × HolderList)) (notes left : List (ℕ × Notes)) (txn : ℕ) (put : Notes) (objects fresh dropped : List Object) → IsIndexed old notes
     → put.objects ≡ objects → put.commit ≡ commit_in (notes_at notes txn)
     → ((object : Object) → is_among fresh object ≡ (is_among put.objects object && not (is_among (objects_in (notes_at notes txn)) object)))
     → ((object : Object) → is_among dropped object ≡ (is_among (objects_in (notes_at notes txn)) object && not (is_among put.objects object)))

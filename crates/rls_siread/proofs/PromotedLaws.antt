@@ -13,12 +13,12 @@ use Rattle.rls_value.specs.declared.object.Object.{Object}
 use Rattle.rls_source.specs.Footprints.{is_among}
 use Rattle.rls_siread.specs.Promotion.{noted_with}
 use Rattle.rls_siread.specs.Locks.{Notes, is_number_in, held_with, objects_in, commit_in, notes_at, promoted_notes, held_promoted, HasNoted, HasPromoted}
-use Rattle.rls_siread.specs.Index.{Held, held_at, IsIndexed, locks_of}
+use Rattle.rls_siread.specs.Index.{HolderList, held_at, IsIndexed, locks_of}
 use Rattle.rls_siread.proofs.LocksLaws.{same_number, number_itself, number_at, number_turned}
 use Rattle.rls_siread.proofs.CopyLaws.{has_number, no_notes}
 
 -- the transactions that wait have their notes as they were, the others have them promoted
-pub record IsUnderWay (limit : ℕ) (notes left : List (ℕ × Notes)) (first now : List (Object × Held)) (waiting : List ℕ) : Type 0 where
+pub record IsUnderWay (limit : ℕ) (notes left : List (ℕ × Notes)) (first now : List (Object × HolderList)) (waiting : List ℕ) : Type 0 where
   pub indexed : IsIndexed now left
   pub in_order : IsStrictlySortedBy nat_cmp waiting
   pub has : (txn : ℕ) → is_number_in waiting txn ≡ true → is_some (notes_at notes txn) ≡ true
@@ -27,7 +27,7 @@ pub record IsUnderWay (limit : ℕ) (notes left : List (ℕ × Notes)) (first no
   pub holders : (object : Object) → held_promoted limit notes object waiting (held_at now object) ≡ held_promoted limit notes object (keys_of notes) (held_at first object)
 
 -- at first all wait
-pub all_wait : (limit : ℕ) (notes left : List (ℕ × Notes)) (first : List (Object × Held)) (waiting : List ℕ) → waiting ≡ keys_of notes → IsStrictlySortedBy nat_cmp (keys_of notes) → IsIndexed first left
+pub all_wait : (limit : ℕ) (notes left : List (ℕ × Notes)) (first : List (Object × HolderList)) (waiting : List ℕ) → waiting ≡ keys_of notes → IsStrictlySortedBy nat_cmp (keys_of notes) → IsIndexed first left
     → ((txn : ℕ) → notes_at left txn ≡ notes_at notes txn) → IsUnderWay limit notes left first first waiting
 all_wait limit notes left first waiting are in_order indexed same = record {
   indexed = indexed;
@@ -62,7 +62,7 @@ done_case true x t new put now left wanted e is here further = is ∙ here ∙ a
 done_case false x t new put now left wanted e is here further = is ∙ further refl
 
 -- the first that waits is promoted
-pub one_promoted : (limit : ℕ) (notes left more : List (ℕ × Notes)) (first now new : List (Object × Held)) (x : ℕ) (rest : List ℕ) → IsUnderWay limit notes left first now (x ∷ rest) → IsIndexed new more
+pub one_promoted : (limit : ℕ) (notes left more : List (ℕ × Notes)) (first now new : List (Object × HolderList)) (x : ℕ) (rest : List ℕ) → IsUnderWay limit notes left first now (x ∷ rest) → IsIndexed new more
     → HasNoted x (noted_with limit (objects_in (notes_at left x)) []) (locks_of now left) (locks_of new more) → IsUnderWay limit notes more first new rest
 one_promoted limit notes left more first now new x rest so_far indexed noted =
     let own : notes_at left x ≡ notes_at notes x = so_far.waits x (or_left (nat_eq x x) (is_number_in rest x) (number_itself x)) in
@@ -86,7 +86,7 @@ one_promoted limit notes left more first now new x rest so_far indexed noted =
     }
 
 -- where none waits all are promoted
-pub all_promoted : (limit : ℕ) (notes left : List (ℕ × Notes)) (first now : List (Object × Held)) (waiting : List ℕ) → waiting ≡ [] → IsUnderWay limit notes left first now waiting
+pub all_promoted : (limit : ℕ) (notes left : List (ℕ × Notes)) (first now : List (Object × HolderList)) (waiting : List ℕ) → waiting ≡ [] → IsUnderWay limit notes left first now waiting
     → HasPromoted limit (locks_of first notes) (locks_of now left)
 all_promoted limit notes left first now waiting none so_far = record {
   notes = λ txn. so_far.done txn (ap (λ list. is_number_in list txn) none);
@@ -94,13 +94,13 @@ all_promoted limit notes left first now waiting none so_far = record {
 }
 
 -- who holds the same in a copy is told by the same notes
-pub copy_indexed : (first copied : List (Object × Held)) (notes left : List (ℕ × Notes)) → ((object : Object) → held_at copied object ≡ held_at first object) → ((t : ℕ) → notes_at left t ≡ notes_at notes t)
+pub copy_indexed : (first copied : List (Object × HolderList)) (notes left : List (ℕ × Notes)) → ((object : Object) → held_at copied object ≡ held_at first object) → ((t : ℕ) → notes_at left t ≡ notes_at notes t)
     → IsIndexed first notes → IsIndexed copied left
 copy_indexed first copied notes left held noted indexed object t =
     ap (λ list. is_number_in list t) (held object) ∙ indexed object t ∙ ap (λ found. is_among (objects_in found) object) (sym (noted t))
 
 -- what is promoted in a copy is promoted
-pub copy_promoted : (limit : ℕ) (first copied new : List (Object × Held)) (notes left : List (ℕ × Notes)) → ((object : Object) → held_at copied object ≡ held_at first object)
+pub copy_promoted : (limit : ℕ) (first copied new : List (Object × HolderList)) (notes left : List (ℕ × Notes)) → ((object : Object) → held_at copied object ≡ held_at first object)
     → HasPromoted limit (locks_of copied notes) (locks_of new left) → HasPromoted limit (locks_of first notes) (locks_of new left)
 copy_promoted limit first copied new notes left held is = record {
   notes = is.notes;

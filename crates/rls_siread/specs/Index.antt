@@ -8,7 +8,7 @@ use Rattle.rls_source.specs.Footprints.{is_among}
 use Rattle.rls_siread.specs.Locks.{Notes, Locks, is_number_in, held_in, objects_in, commit_in, notes_at}
 
 -- the holders of an object, in the order of their first notes of it; and how many more fit without memory
-pub record Held : Type 0 where
+pub record HolderList : Type 0 where
   pub txns : List ℕ
   pub room : ℕ
 
@@ -18,29 +18,29 @@ shown_before object [] more = more
 shown_before object (txn ∷ txns) more = (object, txn ∷ txns) ∷ more
 
 -- who holds each object
-abbrev pub shown : List (Object × Held) → List (Object × List ℕ)
+abbrev pub shown : List (Object × HolderList) → List (Object × List ℕ)
 shown [] = []
 shown (entry ∷ more) = shown_before entry.0 entry.1.txns (shown more)
 
 -- who holds the object
-abbrev pub held_at : List (Object × Held) → Object → List ℕ
+abbrev pub held_at : List (Object × HolderList) → Object → List ℕ
 held_at entries object = held_in (shown entries) object
 
 -- the transaction is there, or fits without memory
-abbrev pub is_ready_in : Option Held → ℕ → Bool
+abbrev pub is_ready_in : Option HolderList → ℕ → Bool
 is_ready_in (Some held) txn = is_number_in held.txns txn || nat_lt 0 held.room
 is_ready_in None txn = false
 
 -- the transaction holds the object, or can without memory
-abbrev pub is_ready : List (Object × Held) → ℕ → Object → Bool
+abbrev pub is_ready : List (Object × HolderList) → ℕ → Object → Bool
 is_ready entries txn object = is_ready_in (lookup (is_at (object_order object)) entries) txn
 
 -- who could hold the object without memory still can
-abbrev pub KeepsReady : List (Object × Held) → List (Object × Held) → ℕ → Object → Type 0
+abbrev pub KeepsReady : List (Object × HolderList) → List (Object × HolderList) → ℕ → Object → Type 0
 KeepsReady old new txn object = is_ready old txn object ≡ true → is_ready new txn object ≡ true
 
 -- who holds an object is told by the notes
-abbrev pub IsIndexed : List (Object × Held) → List (ℕ × Notes) → Type 0
+abbrev pub IsIndexed : List (Object × HolderList) → List (ℕ × Notes) → Type 0
 IsIndexed entries notes = (object : Object) (txn : ℕ) → is_number_in (held_at entries object) txn ≡ is_among (objects_in (notes_at notes txn)) object
 
 -- no commit that isn't forgotten has a lower number
@@ -48,10 +48,10 @@ abbrev pub CommitsFrom : ℕ → List (ℕ × Notes) → Type 0
 CommitsFrom least notes = (txn commit : ℕ) → commit_in (notes_at notes txn) ≡ Some commit → least ≤ commit
 
 -- the index is told by the notes, and commits by the least number
-pub record IsKept (entries : List (Object × Held)) (notes : List (ℕ × Notes)) (least : ℕ) : Type 0 where
+pub record IsKept (entries : List (Object × HolderList)) (notes : List (ℕ × Notes)) (least : ℕ) : Type 0 where
   pub indexed : IsIndexed entries notes
   pub commits : CommitsFrom least notes
 
 -- what is seen of the index and the notes
-abbrev pub locks_of : List (Object × Held) → List (ℕ × Notes) → Locks
+abbrev pub locks_of : List (Object × HolderList) → List (ℕ × Notes) → Locks
 locks_of entries notes = record { holders = shown entries; notes = notes }

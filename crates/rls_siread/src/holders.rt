@@ -15,10 +15,10 @@ pub(crate) struct Holders {
 
 impl Model for Holders {
     ghost use Rattle.indexmap.specs.IndexSet.{spare};
-    ghost use Rattle.rls_siread.specs.Index.{Held};
+    ghost use Rattle.rls_siread.specs.Index.{HolderList};
     ghost use Rattle.rls_siread.specs.LocksCode.{held_code};
 
-    ghost Value = { Held };
+    ghost Value = { HolderList };
 
     ghost coded = { held_code };
 

@@ -21,10 +21,10 @@ pub struct LockTable {
 impl Model for LockTable {
     ghost use Rattle.std.specs.Prelude.{List};
     ghost use Rattle.rls_value.specs.declared.object.Object.{Object};
-    ghost use Rattle.rls_siread.specs.Index.{Held};
+    ghost use Rattle.rls_siread.specs.Index.{HolderList};
     ghost use Rattle.rls_siread.specs.LocksCode.{table_code};
 
-    ghost Value = { List (Object × Held) };
+    ghost Value = { List (Object × HolderList) };
 
     ghost coded = { table_code };
 

@@ -1,6 +1,6 @@
 //! What a statement names, which has to be there.
 
-ghost use Rattle.rls_value.specs.Giving.{lent_now};
+ghost use Rattle.rls_value.specs.Giving.{borrowed_now};
 ghost use Rattle.rls_source.specs.Answering.{Answers};
 ghost use Rattle.rls_source.specs.Named.{table_or_undefined, role_or_undefined, roles_or_undefined, grantees_or_undefined};
 
@@ -16,12 +16,12 @@ use std::alloc::Global;
 pub fn table_named<'c, S: RowSource<'c>>(
     alloc: Global,
     source: &mut S,
-    notes: &mut Reads,
+    read_set: &mut Reads,
     name: &Name,
 ) -> Result<&'c TableDef, Refusal>
-    ensures { Answers S.state S.after (table_or_undefined name.now) source.old source.new notes.old notes.new (lent_now result) }
+    ensures { Answers S.state S.after (table_or_undefined name.now) source.old source.new read_set.old read_set.new (borrowed_now result) }
 {
-    match noted_table(alloc, source, notes, name)? {
+    match noted_table(alloc, source, read_set, name)? {
         Some(table) => Ok(table),
         None => Err(Refusal::Undefined(NameKind::Relation, name.copy()?)),
     }
@@ -31,12 +31,12 @@ pub fn table_named<'c, S: RowSource<'c>>(
 pub fn role_named<'c, S: RowSource<'c>>(
     alloc: Global,
     source: &mut S,
-    notes: &mut Reads,
+    read_set: &mut Reads,
     name: &Name,
 ) -> Result<&'c RoleDef, Refusal>
-    ensures { Answers S.state S.after (role_or_undefined name.now) source.old source.new notes.old notes.new (lent_now result) }
+    ensures { Answers S.state S.after (role_or_undefined name.now) source.old source.new read_set.old read_set.new (borrowed_now result) }
 {
-    match noted_role(alloc, source, notes, name)? {
+    match noted_role(alloc, source, read_set, name)? {
         Some(role) => Ok(role),
         None => Err(Refusal::Undefined(NameKind::Role, name.copy()?)),
     }
@@ -46,13 +46,13 @@ pub fn role_named<'c, S: RowSource<'c>>(
 pub fn require_roles<'c, S: RowSource<'c>>(
     alloc: Global,
     source: &mut S,
-    notes: &mut Reads,
+    read_set: &mut Reads,
     names: &[Name],
 ) -> Result<(), Refusal>
-    ensures { Answers S.state S.after (roles_or_undefined names.now) source.old source.new notes.old notes.new result }
+    ensures { Answers S.state S.after (roles_or_undefined names.now) source.old source.new read_set.old read_set.new result }
 {
     for name in names {
-        role_named(alloc, source, notes, name)?;
+        role_named(alloc, source, read_set, name)?;
     }
     Ok(())
 }
@@ -61,14 +61,14 @@ pub fn require_roles<'c, S: RowSource<'c>>(
 pub fn require_grantees<'c, S: RowSource<'c>>(
     alloc: Global,
     source: &mut S,
-    notes: &mut Reads,
+    read_set: &mut Reads,
     grantees: &[Grantee],
 ) -> Result<(), Refusal>
-    ensures { Answers S.state S.after (grantees_or_undefined grantees.now) source.old source.new notes.old notes.new result }
+    ensures { Answers S.state S.after (grantees_or_undefined grantees.now) source.old source.new read_set.old read_set.new result }
 {
     for grantee in grantees {
         if let Grantee::Role(name) = grantee {
-            role_named(alloc, source, notes, name)?;
+            role_named(alloc, source, read_set, name)?;
         }
     }
     Ok(())

@@ -8,7 +8,7 @@ ghost use Rattle.rls_source.specs.Asked.{role_at, members_at, table_at, grants_a
 
 use crate::reads::Reads;
 use crate::source::RowSource;
-use rls_catalog::{Grant, Lent, Membership, RoleDef};
+use rls_catalog::{BorrowedRow, Grant, Membership, RoleDef};
 use rls_expr::{Policy, TableDef};
 use rls_value::{Items, Name, Object, Row};
 use std::alloc::{AllocError, Global};
@@ -18,15 +18,15 @@ use std::alloc::{AllocError, Global};
 pub fn noted_role<'c, S: RowSource<'c>>(
     alloc: Global,
     source: &mut S,
-    notes: &mut Reads,
+    read_set: &mut Reads,
     name: &Name,
 ) -> Result<Option<&'c RoleDef>, AllocError>
     ensures found { IfOk result (λ found. option_copied found ≡ role_at (S.state source.old) name.now) }
     ensures read { OnOk result (source.new ≡ S.after source.old (Object.Role name.now ∷ [])) }
-    ensures noted { OnOk result (notes.new ≡ notes.old ++ Object.Role name.now ∷ []) }
+    ensures noted { OnOk result (read_set.new ≡ read_set.old ++ Object.Role name.now ∷ []) }
     ensures state { S.state source.new ≡ S.state source.old }
 {
-    notes.note(Object::Role(name.copy()?))?;
+    read_set.note(Object::Role(name.copy()?))?;
     source.role(alloc, name)
 }
 
@@ -35,15 +35,15 @@ pub fn noted_role<'c, S: RowSource<'c>>(
 pub fn noted_members<'c, S: RowSource<'c>>(
     alloc: Global,
     source: &mut S,
-    notes: &mut Reads,
+    read_set: &mut Reads,
     member: &Name,
 ) -> Result<&'c [Membership], AllocError>
     ensures found { IfOk result (λ found. found.now ≡ members_at (S.state source.old) member.now) }
     ensures read { OnOk result (source.new ≡ S.after source.old (Object.Members member.now ∷ [])) }
-    ensures noted { OnOk result (notes.new ≡ notes.old ++ Object.Members member.now ∷ []) }
+    ensures noted { OnOk result (read_set.new ≡ read_set.old ++ Object.Members member.now ∷ []) }
     ensures state { S.state source.new ≡ S.state source.old }
 {
-    notes.note(Object::Members(member.copy()?))?;
+    read_set.note(Object::Members(member.copy()?))?;
     source.members(alloc, member)
 }
 
@@ -52,15 +52,15 @@ pub fn noted_members<'c, S: RowSource<'c>>(
 pub fn noted_table<'c, S: RowSource<'c>>(
     alloc: Global,
     source: &mut S,
-    notes: &mut Reads,
+    read_set: &mut Reads,
     name: &Name,
 ) -> Result<Option<&'c TableDef>, AllocError>
     ensures found { IfOk result (λ found. option_copied found ≡ table_at (S.state source.old) name.now) }
     ensures read { OnOk result (source.new ≡ S.after source.old (Object.Table name.now ∷ [])) }
-    ensures noted { OnOk result (notes.new ≡ notes.old ++ Object.Table name.now ∷ []) }
+    ensures noted { OnOk result (read_set.new ≡ read_set.old ++ Object.Table name.now ∷ []) }
     ensures state { S.state source.new ≡ S.state source.old }
 {
-    notes.note(Object::Table(name.copy()?))?;
+    read_set.note(Object::Table(name.copy()?))?;
     source.table(alloc, name)
 }
 
@@ -69,15 +69,15 @@ pub fn noted_table<'c, S: RowSource<'c>>(
 pub fn noted_grants<'c, S: RowSource<'c>>(
     alloc: Global,
     source: &mut S,
-    notes: &mut Reads,
+    read_set: &mut Reads,
     table: &Name,
 ) -> Result<&'c [Grant], AllocError>
     ensures found { IfOk result (λ found. found.now ≡ grants_at (S.state source.old) table.now) }
     ensures read { OnOk result (source.new ≡ S.after source.old (Object.Grants table.now ∷ [])) }
-    ensures noted { OnOk result (notes.new ≡ notes.old ++ Object.Grants table.now ∷ []) }
+    ensures noted { OnOk result (read_set.new ≡ read_set.old ++ Object.Grants table.now ∷ []) }
     ensures state { S.state source.new ≡ S.state source.old }
 {
-    notes.note(Object::Grants(table.copy()?))?;
+    read_set.note(Object::Grants(table.copy()?))?;
     source.grants(alloc, table)
 }
 
@@ -86,16 +86,16 @@ pub fn noted_grants<'c, S: RowSource<'c>>(
 pub fn noted_policies<'c, S: RowSource<'c>>(
     alloc: Global,
     source: &mut S,
-    notes: &mut Reads,
+    read_set: &mut Reads,
     table: &Name,
 ) -> Result<&'c [Policy], AllocError>
     ensures found { IfOk result (λ found. found.now ≡ policies_at (S.state source.old) table.now) }
     ensures ordered { IfOk result (λ found. InNameOrder found.now) }
     ensures read { OnOk result (source.new ≡ S.after source.old (Object.Policies table.now ∷ [])) }
-    ensures noted { OnOk result (notes.new ≡ notes.old ++ Object.Policies table.now ∷ []) }
+    ensures noted { OnOk result (read_set.new ≡ read_set.old ++ Object.Policies table.now ∷ []) }
     ensures state { S.state source.new ≡ S.state source.old }
 {
-    notes.note(Object::Policies(table.copy()?))?;
+    read_set.note(Object::Policies(table.copy()?))?;
     source.policies(alloc, table)
 }
 
@@ -104,16 +104,16 @@ pub fn noted_policies<'c, S: RowSource<'c>>(
 pub fn noted_scan<'c, S: RowSource<'c>>(
     alloc: Global,
     source: &mut S,
-    notes: &mut Reads,
+    read_set: &mut Reads,
     table: &Name,
-) -> Result<Items<Lent<'c>>, AllocError>
+) -> Result<Items<BorrowedRow<'c>>, AllocError>
     ensures found { IfOk result (λ found. found ≡ rows_at (S.state source.old) table.now) }
     ensures ordered { OnOk result (RowsInOrder (S.state source.old) table.now) }
     ensures read { OnOk result (source.new ≡ S.after source.old (Object.Rows table.now ∷ [])) }
-    ensures noted { OnOk result (notes.new ≡ notes.old ++ Object.Rows table.now ∷ []) }
+    ensures noted { OnOk result (read_set.new ≡ read_set.old ++ Object.Rows table.now ∷ []) }
     ensures state { S.state source.new ≡ S.state source.old }
 {
-    notes.note(Object::Rows(table.copy()?))?;
+    read_set.note(Object::Rows(table.copy()?))?;
     source.scan(alloc, table)
 }
 
@@ -122,16 +122,16 @@ pub fn noted_scan<'c, S: RowSource<'c>>(
 pub fn noted_key<'c, S: RowSource<'c>>(
     alloc: Global,
     source: &mut S,
-    notes: &mut Reads,
+    read_set: &mut Reads,
     table: &Name,
     key: &Row,
-) -> Result<Items<Lent<'c>>, AllocError>
+) -> Result<Items<BorrowedRow<'c>>, AllocError>
     ensures found { IfOk result (λ found. found ≡ keyed_at (S.state source.old) table.now key.now) }
     ensures ordered { OnOk result (RowsInOrder (S.state source.old) table.now) }
     ensures read { OnOk result (source.new ≡ S.after source.old (Object.Key table.now key.now ∷ [])) }
-    ensures noted { OnOk result (notes.new ≡ notes.old ++ Object.Key table.now key.now ∷ []) }
+    ensures noted { OnOk result (read_set.new ≡ read_set.old ++ Object.Key table.now key.now ∷ []) }
     ensures state { S.state source.new ≡ S.state source.old }
 {
-    notes.note(Object::Key(table.copy()?, key.copy(alloc)?))?;
+    read_set.note(Object::Key(table.copy()?, key.copy(alloc)?))?;
     source.by_key(alloc, table, key)
 }

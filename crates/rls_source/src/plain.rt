@@ -3,12 +3,12 @@
 ghost use Rattle.std.specs.Prelude.{◌≡◌, refl};
 
 use crate::source::RowSource;
-use rls_catalog::{Catalog, Grant, Lent, Membership, RoleDef};
+use rls_catalog::{BorrowedRow, Catalog, Grant, Membership, RoleDef};
 use rls_expr::{Policy, TableDef};
 use rls_value::{Items, Name, Object, Row};
 use std::alloc::{AllocError, Global};
 
-/// A catalogue that is lent, as a source that keeps no note of what is read.
+/// A borrowed catalogue, as a source that keeps no note of what is read.
 #[derive(Clone, Copy)]
 pub struct Plain<'c> {
     pub catalog: &'c Catalog,
@@ -47,7 +47,7 @@ impl<'c> RowSource<'c> for Plain<'c> {
         Ok(self.catalog.policies(table))
     }
 
-    fn scan(&mut self, alloc: Global, table: &Name) -> Result<Items<Lent<'c>>, AllocError> {
+    fn scan(&mut self, alloc: Global, table: &Name) -> Result<Items<BorrowedRow<'c>>, AllocError> {
         self.catalog.rows(alloc, table)
     }
 
@@ -56,11 +56,11 @@ impl<'c> RowSource<'c> for Plain<'c> {
         alloc: Global,
         table: &Name,
         key: &Row,
-    ) -> Result<Items<Lent<'c>>, AllocError> {
+    ) -> Result<Items<BorrowedRow<'c>>, AllocError> {
         self.catalog.rows_with_key(alloc, table, key)
     }
 
-    fn look(&self, alloc: Global, table: &Name) -> Result<Items<Lent<'c>>, AllocError> {
+    fn look(&self, alloc: Global, table: &Name) -> Result<Items<BorrowedRow<'c>>, AllocError> {
         self.catalog.rows(alloc, table)
     }
 
@@ -69,7 +69,7 @@ impl<'c> RowSource<'c> for Plain<'c> {
         alloc: Global,
         table: &Name,
         key: &Row,
-    ) -> Result<Items<Lent<'c>>, AllocError> {
+    ) -> Result<Items<BorrowedRow<'c>>, AllocError> {
         self.catalog.rows_with_key(alloc, table, key)
     }
 

@@ -6,7 +6,7 @@ ghost use Rattle.rls_source.specs.FootprintLaws.{with_reads_more};
 
 use crate::footprint::Footprint;
 use crate::source::RowSource;
-use rls_catalog::{Grant, Lent, Membership, RoleDef};
+use rls_catalog::{BorrowedRow, Grant, Membership, RoleDef};
 use rls_expr::{Policy, TableDef};
 use rls_value::{Items, Name, Object, Row};
 use std::alloc::{AllocError, Global};
@@ -70,7 +70,7 @@ impl<'c, S: RowSource<'c>> RowSource<'c> for Recording<S> {
         Ok(found)
     }
 
-    fn scan(&mut self, alloc: Global, table: &Name) -> Result<Items<Lent<'c>>, AllocError> {
+    fn scan(&mut self, alloc: Global, table: &Name) -> Result<Items<BorrowedRow<'c>>, AllocError> {
         let object = Object::Rows(table.copy()?);
         let found = self.source.scan(alloc, table)?;
         self.footprint.note(object)?;
@@ -82,14 +82,14 @@ impl<'c, S: RowSource<'c>> RowSource<'c> for Recording<S> {
         alloc: Global,
         table: &Name,
         key: &Row,
-    ) -> Result<Items<Lent<'c>>, AllocError> {
+    ) -> Result<Items<BorrowedRow<'c>>, AllocError> {
         let object = Object::Key(table.copy()?, key.copy(alloc)?);
         let found = self.source.by_key(alloc, table, key)?;
         self.footprint.note(object)?;
         Ok(found)
     }
 
-    fn look(&self, alloc: Global, table: &Name) -> Result<Items<Lent<'c>>, AllocError> {
+    fn look(&self, alloc: Global, table: &Name) -> Result<Items<BorrowedRow<'c>>, AllocError> {
         self.source.look(alloc, table)
     }
 
@@ -98,7 +98,7 @@ impl<'c, S: RowSource<'c>> RowSource<'c> for Recording<S> {
         alloc: Global,
         table: &Name,
         key: &Row,
-    ) -> Result<Items<Lent<'c>>, AllocError> {
+    ) -> Result<Items<BorrowedRow<'c>>, AllocError> {
         self.source.look_by_key(alloc, table, key)
     }
 

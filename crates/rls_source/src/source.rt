@@ -7,12 +7,12 @@ ghost use Rattle.rls_catalog.specs.PolicyLists.{InNameOrder};
 ghost use Rattle.rls_catalog.specs.State.{State, role_of, members_of, table_of, grants_of, policies_of, rows_of, rows_with_key};
 ghost use Rattle.rls_value.specs.declared.object.Object.{Object as Read};
 
-use rls_catalog::{Grant, Lent, Membership, RoleDef};
+use rls_catalog::{BorrowedRow, Grant, Membership, RoleDef};
 use rls_expr::{Policy, TableDef};
 use rls_value::{Items, Name, Object, Row};
 use std::alloc::{AllocError, Global};
 
-/// Stands for one state, which no read changes. What is found is lent for the lifetime `'c`. Each look-up is a read of one object; after
+/// Stands for one state, which no read changes. What is found is borrowed for the lifetime `'c`. Each look-up is a read of one object; after
 /// an `Err` the source still stands for its state.
 pub trait RowSource<'c> {
     /// The state that it stands for.
@@ -53,7 +53,7 @@ pub trait RowSource<'c> {
         ensures err { OnErr result (state self.new ≡ state self.old) };
 
     /// The rows of the table, in order of their numbers.
-    fn scan(&mut self, alloc: Global, table: &Name) -> Result<Items<Lent<'c>>, AllocError>
+    fn scan(&mut self, alloc: Global, table: &Name) -> Result<Items<BorrowedRow<'c>>, AllocError>
         ensures found { IfOk result (λ found. found ≡ rows_of (state self.old) table.now) }
         ensures ordered { OnOk result (RowsInOrder (state self.old) table.now) }
         ensures read { OnOk result (self.new ≡ after self.old (Object.Rows table.now ∷ [])) }
@@ -65,14 +65,14 @@ pub trait RowSource<'c> {
         alloc: Global,
         table: &Name,
         key: &Row,
-    ) -> Result<Items<Lent<'c>>, AllocError>
+    ) -> Result<Items<BorrowedRow<'c>>, AllocError>
         ensures found { IfOk result (λ found. found ≡ rows_with_key (state self.old) table.now key.now) }
         ensures ordered { OnOk result (RowsInOrder (state self.old) table.now) }
         ensures read { OnOk result (self.new ≡ after self.old (Object.Key table.now key.now ∷ [])) }
         ensures err { OnErr result (state self.new ≡ state self.old) };
 
     /// The rows of the table, in order of their numbers. It is no read: whoever looks marks what was looked at.
-    fn look(&self, alloc: Global, table: &Name) -> Result<Items<Lent<'c>>, AllocError>
+    fn look(&self, alloc: Global, table: &Name) -> Result<Items<BorrowedRow<'c>>, AllocError>
         ensures found { IfOk result (λ found. found ≡ rows_of (state self.now) table.now) }
         ensures ordered { OnOk result (RowsInOrder (state self.now) table.now) };
 
@@ -83,7 +83,7 @@ pub trait RowSource<'c> {
         alloc: Global,
         table: &Name,
         key: &Row,
-    ) -> Result<Items<Lent<'c>>, AllocError>
+    ) -> Result<Items<BorrowedRow<'c>>, AllocError>
         ensures found { IfOk result (λ found. found ≡ rows_with_key (state self.now) table.now key.now) }
         ensures ordered { OnOk result (RowsInOrder (state self.now) table.now) };
 

@@ -11,7 +11,7 @@ use std::alloc::{AllocError, Global};
 #[derive(Drop)]
 pub struct Update {
     pub table: Name,
-    pub settings: Items<Setting>,
+    pub assignments: Items<Assignment>,
     pub condition: Option<Expr>,
     /// `RETURNING`: what is answered of the new rows. The grammar has no `count(*)` there.
     pub returning: Option<Selected>,
@@ -19,7 +19,7 @@ pub struct Update {
 
 /// A column that an `UPDATE` sets, and to what.
 #[derive(Drop)]
-pub struct Setting {
+pub struct Assignment {
     pub column: Name,
     pub value: Expr,
 }
@@ -38,30 +38,33 @@ impl Update {
     {
         Ok(Update {
             table: self.table.copy()?,
-            settings: copy_settings(alloc, self.settings.as_slice())?,
+            assignments: copy_assignments(alloc, self.assignments.as_slice())?,
             condition: copy_condition(alloc, &self.condition)?,
             returning: copy_returning(alloc, &self.returning)?,
         })
     }
 }
 
-impl Setting {
-    pub fn copy(&self, alloc: Global) -> Result<Setting, AllocError>
-        ensures { IfOk result (λ setting. setting ≡ self.now) }
+impl Assignment {
+    pub fn copy(&self, alloc: Global) -> Result<Assignment, AllocError>
+        ensures { IfOk result (λ assignment. assignment ≡ self.now) }
     {
-        Ok(Setting {
+        Ok(Assignment {
             column: self.column.copy()?,
             value: self.value.copy(alloc)?,
         })
     }
 }
 
-fn copy_settings(alloc: Global, settings: &[Setting]) -> Result<Items<Setting>, AllocError>
-    ensures { IfOk result (λ copies. copies ≡ settings.now) }
+fn copy_assignments(
+    alloc: Global,
+    assignments: &[Assignment],
+) -> Result<Items<Assignment>, AllocError>
+    ensures { IfOk result (λ copies. copies ≡ assignments.now) }
 {
-    let mut copies = Vec::with_capacity(alloc, settings.len())?;
-    for setting in settings {
-        copies.push(setting.copy(alloc)?)?;
+    let mut copies = Vec::with_capacity(alloc, assignments.len())?;
+    for assignment in assignments {
+        copies.push(assignment.copy(alloc)?)?;
     }
     Ok(Items::from_vec(copies))
 }

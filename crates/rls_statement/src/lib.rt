@@ -5,7 +5,7 @@ mod changing;
 mod command;
 mod statement;
 
-pub use changing::{Delete, Setting, Update};
+pub use changing::{Assignment, Delete, Update};
 pub use command::{AccessMode, Command};
 pub use statement::{
     AlterPolicy, AlterRole, AlterTable, Attributes, CreatePolicy, CreateRole, CreateTable,

@@ -1,6 +1,6 @@
 //! Expressions that are placed.
 
-use rls_expr::{Category, Expr, Node, Scope, Typing, place_columns, typing_of};
+use rls_expr::{Category, Expr, Node, Scope, Typing, resolve_columns, typing_of};
 use std::alloc::{AllocError, Global};
 
 /// The type that a copy of the placed expression has.
@@ -9,7 +9,7 @@ fn type_of_copy(alloc: Global, expr: &Expr) -> Result<Typing, AllocError> {
         tables: &[],
         known: &[],
     };
-    let placed = place_columns(alloc, expr, &scope)?;
+    let placed = resolve_columns(alloc, expr, &scope)?;
     let copied = placed.copy(alloc);
     drop(placed);
     let copy = copied?;

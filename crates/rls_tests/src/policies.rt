@@ -5,7 +5,7 @@ use rls_catalog::{Catalog, PolicyList, Verdict};
 use rls_expr::{Policy, TableDef};
 use rls_policy::{Judgement, combine, is_exempt};
 use rls_source::Plain;
-use rls_value::{Items, Loan, Name, PolicyKind, Refusal, Truth};
+use rls_value::{Items, Name, PolicyKind, Reference, Refusal, Truth};
 use std::alloc::{AllocError, Global};
 
 fn policy(alloc: Global, name: &str, permissive: bool) -> Result<Policy, Refusal> {
@@ -43,14 +43,17 @@ fn say_both<'a>(
     r: Truth,
     want: &str,
 ) -> Result<bool, AllocError> {
-    let judgements = [(Loan::new(permissive), p), (Loan::new(restrictive), r)];
+    let judgements = [
+        (Reference::new(permissive), p),
+        (Reference::new(restrictive), r),
+    ];
     say(&judgements, want)
 }
 
 /// Whether a restrictive policy alone says it, where it passes.
 fn restrictive_says(alloc: Global, want: &str) -> Result<bool, Refusal> {
     let restrictive = policy(alloc, "r", false)?;
-    let said = say(&[(Loan::new(&restrictive), Truth::True)], want);
+    let said = say(&[(Reference::new(&restrictive), Truth::True)], want);
     drop(restrictive);
     Ok(said?)
 }

@@ -2,7 +2,7 @@
 -- at most.
 use Rattle.std.specs.Prelude.{◌≡◌, ◌≤◌, Bool, true, false, List, [], ◌∷◌, ◌++◌, ◌⊎◌, Option, Some, None, Result, Ok, Err, IfOk, refl}
 use Rattle.std.proofs.Common.{sym, ◌∙◌, ap, subst, inl, inr}
-use Rattle.rls_text.specs.{declared.token.Token.Token, Trees.Draft, Heights.height_of, Nested.subqueries_of, Writes.some_is, Parses.found, Parses.unseen, Heads.sees, FirstSets.body_heads, Gives.finished, Gives.whole_of, Gives.answered, Gives.unless_over, Answers.Answers, Answers.IsSpelled, Answers.first_limit, Answers.limited, Transactions.transaction, Transactions.transaction_heads}
+use Rattle.rls_text.specs.{declared.token.Token.Token, Trees.TreeWithDepth, Heights.height_of, Nested.subqueries_of, Writes.some_is, Parses.found, Parses.unseen, Heads.sees, FirstSets.body_heads, Gives.finished, Gives.whole_of, Gives.answered, Gives.unless_over, ParseResults.IsParseResult, ParseResults.IsSpelled, ParseResults.first_limit, ParseResults.limited, Transactions.transaction, Transactions.transaction_heads}
 use Rattle.rls_text.specs.Commands.{SpellsCommand, IsCommandWritten, IfRun, runs, runs_none, run_is_spelled, run, limited_command, AnswersCommand, IsCommandSpelled, whole_transaction, answered_command, command_by, command_of}
 use Rattle.rls_text.specs.Grammar as g
 use Rattle.rls_text.proofs.Laws.{whole_found, whole_spelled, limits_kept, append_end, kept, spelled_low, spelled_few, one_statement}
@@ -62,9 +62,9 @@ by_unspelled ts none true = ap answered_command (go (whole_transaction ts) refl)
     go (Some x) e = absurd (none x (inl (whole_sound ts x e)))
 by_unspelled ts none false = ap (λ z. run (answered z)) (go (whole_of ts) refl)
   where
-    go : (o : Option Draft) → whole_of ts ≡ o → o ≡ None
+    go : (o : Option TreeWithDepth) → whole_of ts ≡ o → o ≡ None
     go None e = refl
-    go (Some draft) e = let f = whole_found ts draft e in absurd (none (c.Run f.source) (inr record { source = f.source; spelled = f.spelled; value = refl }))
+    go (Some tree_with_depth) e = let f = whole_found ts tree_with_depth e in absurd (none (c.Run f.source) (inr record { source = f.source; spelled = f.spelled; value = refl }))
 
 -- What is found is the answer.
 pub is_command_answer : (ts : List Token) → AnswersCommand ts (command_of ts)
@@ -91,11 +91,11 @@ by_found ts true x words h = go (whole_transaction ts) refl h
         record { spelled = inl s; words = words; within = no_limit x (runs_none ts x s) }
 by_found ts false x words h = go (whole_of ts) refl h
   where
-    go : (o : Option Draft) → whole_of ts ≡ o → run (answered o) ≡ Ok x → IsCommandSpelled ts x
+    go : (o : Option TreeWithDepth) → whole_of ts ≡ o → run (answered o) ≡ Ok x → IsCommandSpelled ts x
     go None e h = absurd (cc)
-    go (Some draft) e h =
-        let f = whole_found ts draft e in
-        let r = run_kept (answered (Some draft)) x h in
+    go (Some tree_with_depth) e h =
+        let f = whole_found ts tree_with_depth e in
+        let r = run_kept (answered (Some tree_with_depth)) x h in
         let l : limited f.source ≡ Ok r.0 = sym (limits_kept f.source) ∙ ap (λ z. answered (Some z)) (sym f.kept) ∙ r.1 in
         let s = kept f.source r.0 l in
         let spelled : g.Spells ts r.0 = subst (λ z. g.Spells ts z) s f.spelled in
@@ -158,7 +158,7 @@ one_command ts x y a b = elim a [
     clash b p q = cc
 
 -- What a statement is answered with, it is answered with as a command.
-pub statement_answered : (ts : List Token) (x : Statement) (r : Result Statement Refusal) → g.Spells ts x → Answers ts r → AnswersCommand ts (run r)
+pub statement_answered : (ts : List Token) (x : Statement) (r : Result Statement Refusal) → g.Spells ts x → IsParseResult ts r → AnswersCommand ts (run r)
 statement_answered ts x r s a = record {
   over = λ limit h. ap run (a.over limit h);
   spelled = λ y h k. ap run (a.spelled x h s) ∙ ap limited_command (one_command ts (c.Run x) y (inr record { source = x; spelled = s; value = refl }) k);

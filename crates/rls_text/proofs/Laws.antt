@@ -1,10 +1,10 @@
 -- Laws of the grammar: with more room for parentheses the same is spelled, and a text spells one statement at most.
 use Rattle.std.specs.Prelude.{◌≡◌, ℕ, zero, suc, ◌+◌, ◌≤◌, ◌<◌, Bool, true, false, List, [], ◌∷◌, ◌++◌, length, Option, Some, None, Result, Ok, Err, IfOk, refl, nat_lt, if◌then◌else◌}
 use Rattle.std.proofs.Common.{arith, sym, ◌∙◌, ap, subst, inl, inr, length-append}
-use Rattle.rls_text.specs.{declared.token.Token.Token, Trees.Draft, Heights.height_of, Nested.subqueries_of, Writes.some_is, Cut.Cut, Parses.found, Parses.and_then, Cutting.tree_of, Cutting.draft_of, FirstSets.expr_heads, FirstSets.expr_more, Gives.finished, Gives.whole_of, Gives.within_limits, Gives.answered, Gives.unless_over, Gives.answer_of, Answers.Answers, Answers.IsSpelled, Answers.first_limit, Answers.limited, Answers.columns_of, Lang.only, Lang.Both, Lang.Mapped, Lang.Either, Lang.Perhaps, Lang.Many, Lang.Checked, Lang.After, Lang.Before}
+use Rattle.rls_text.specs.{declared.token.Token.Token, Trees.TreeWithDepth, Heights.height_of, Nested.subqueries_of, Writes.some_is, Cut.Cut, Parses.found, Parses.and_then, Cutting.tree_of, Cutting.tree_with_depth_of, FirstSets.expr_heads, FirstSets.expr_more, Gives.finished, Gives.whole_of, Gives.within_limits, Gives.answered, Gives.unless_over, Gives.answer_of, ParseResults.IsParseResult, ParseResults.IsSpelled, ParseResults.first_limit, ParseResults.limited, ParseResults.columns_of, Lang.only, Lang.Both, Lang.Mapped, Lang.Either, Lang.Perhaps, Lang.Many, Lang.Checked, Lang.After, Lang.Before}
 use Rattle.std.proofs.lemmas.Bool.{ltb-true, ltb-false, lt-ltb, le-ltb}
 use Rattle.rls_text.specs.Cut as cut
-use Rattle.rls_text.proofs.CuttingLaws.{draft_low, draft_high}
+use Rattle.rls_text.proofs.CuttingLaws.{tree_with_depth_low, tree_with_depth_high}
 use Rattle.rls_statement.specs.declared.statement.Statement.TheVariants as st
 use Rattle.rls_text.specs.Grammar as g
 use Rattle.rls_statement.specs.declared.statement.Statement.{Statement}
@@ -262,31 +262,31 @@ pub one_statement : (ts : List Token) (x y : Statement) → g.Spells ts x → g.
 one_statement ts x y a b = (found (x, []) (y, []) (sym (reading_complete ts x a) ∙ reading_complete ts y b)).0
 
 -- the whole is what the rule finds, as it is kept
-abbrev pub finds : Option (Statement × List Token) → Option Draft
-finds o = finished (and_then o (λ x rest. Some (draft_of x, rest)))
+abbrev pub finds : Option (Statement × List Token) → Option TreeWithDepth
+finds o = finished (and_then o (λ x rest. Some (tree_with_depth_of x, rest)))
 
 whole_is : (ts : List Token) → whole_of ts ≡ finds (reading ts)
 unfolding whole_of
 whole_is ts = ap finished ((g.statement (length ts + 1)).same ts)
 
--- the draft of a statement that is spelled
-pub record IsDraft (ts : List Token) (draft : Draft) : Type 0 where
+-- the tree with its depth of a statement that is spelled
+pub record IsTreeWithDepth (ts : List Token) (tree_with_depth : TreeWithDepth) : Type 0 where
   pub source : Statement
   pub spelled : g.Spells ts source
-  pub kept : draft ≡ draft_of source
+  pub kept : tree_with_depth ≡ tree_with_depth_of source
 
-pub whole_found : (ts : List Token) (draft : Draft) → whole_of ts ≡ Some draft → IsDraft ts draft
-whole_found ts draft h = go (reading ts) refl (sym (whole_is ts) ∙ h)
+pub whole_found : (ts : List Token) (tree_with_depth : TreeWithDepth) → whole_of ts ≡ Some tree_with_depth → IsTreeWithDepth ts tree_with_depth
+whole_found ts tree_with_depth h = go (reading ts) refl (sym (whole_is ts) ∙ h)
   where
-    go : (o : Option (Statement × List Token)) → reading ts ≡ o → finds o ≡ Some draft → IsDraft ts draft
+    go : (o : Option (Statement × List Token)) → reading ts ≡ o → finds o ≡ Some tree_with_depth → IsTreeWithDepth ts tree_with_depth
     go None e h = cc
-    go (Some (x, [])) e h = record { source = x; spelled = reading_sound ts x e; kept = sym (some_is (draft_of x) draft h) }
+    go (Some (x, [])) e h = record { source = x; spelled = reading_sound ts x e; kept = sym (some_is (tree_with_depth_of x) tree_with_depth h) }
     go (Some (x, t ∷ rest)) e h = cc
 
-pub whole_spelled : (ts : List Token) (x : Statement) → g.Spells ts x → whole_of ts ≡ Some (draft_of x)
+pub whole_spelled : (ts : List Token) (x : Statement) → g.Spells ts x → whole_of ts ≡ Some (tree_with_depth_of x)
 whole_spelled ts x h = whole_is ts ∙ ap finds (reading_complete ts x h)
 
-columns_kept : (x : Statement) → columns_of (draft_of x).0 ≡ columns_of x
+columns_kept : (x : Statement) → columns_of (tree_with_depth_of x).0 ≡ columns_of x
 columns_kept (st.Select x) = refl
 columns_kept (st.Insert x) = refl
 columns_kept (st.Update x) = refl
@@ -304,34 +304,34 @@ columns_kept (st.Revoke x) = refl
 columns_kept (st.RevokeRoles x) = refl
 columns_kept (st.SetRole x) = refl
 
--- A draft is over the limits exactly where its statement is.
-pub limits_kept : (x : Statement) → within_limits (draft_of x) ≡ limited x
-limits_kept x = rw (columns_kept x) (go (nat_lt 64 (columns_of x)) (nat_lt 64 (draft_of x).1) refl)
+-- A tree with its depth is over the limits exactly where its statement is.
+pub limits_kept : (x : Statement) → within_limits (tree_with_depth_of x) ≡ limited x
+limits_kept x = rw (columns_kept x) (go (nat_lt 64 (columns_of x)) (nat_lt 64 (tree_with_depth_of x).1) refl)
   where
-    go : (a b : Bool) → nat_lt 64 (draft_of x).1 ≡ b
-        → if◌then◌else◌ {A = Result Statement Refusal} a (Err (refusal.Limit l.Columns)) (if◌then◌else◌ {A = Result Statement Refusal} b (Err (refusal.Limit l.Nesting)) (if◌then◌else◌ {A = Result Statement Refusal} (nat_lt 8 (subqueries_of (draft_of x).0)) (Err (refusal.Limit l.Subqueries)) (Ok (draft_of x).0)))
+    go : (a b : Bool) → nat_lt 64 (tree_with_depth_of x).1 ≡ b
+        → if◌then◌else◌ {A = Result Statement Refusal} a (Err (refusal.Limit l.Columns)) (if◌then◌else◌ {A = Result Statement Refusal} b (Err (refusal.Limit l.Nesting)) (if◌then◌else◌ {A = Result Statement Refusal} (nat_lt 8 (subqueries_of (tree_with_depth_of x).0)) (Err (refusal.Limit l.Subqueries)) (Ok (tree_with_depth_of x).0)))
         ≡ if◌then◌else◌ {A = Result Statement Refusal} a (Err (refusal.Limit l.Columns)) (if◌then◌else◌ {A = Result Statement Refusal} (nat_lt 64 (height_of x)) (Err (refusal.Limit l.Nesting)) (if◌then◌else◌ {A = Result Statement Refusal} (nat_lt 8 (subqueries_of x)) (Err (refusal.Limit l.Subqueries)) (Ok x)))
     go true b e = refl
     go false true e =
-        let over : nat_lt 64 (height_of x) ≡ true = lt-ltb 64 (height_of x) (draft_high x (ltb-true 64 (draft_of x).1 e)) in
+        let over : nat_lt 64 (height_of x) ≡ true = lt-ltb 64 (height_of x) (tree_with_depth_high x (ltb-true 64 (tree_with_depth_of x).1 e)) in
         rw over refl
     go false false e =
-        let low : (draft_of x).1 ≤ 64 = ltb-false 64 (draft_of x).1 e in
-        let same = draft_low x low in
+        let low : (tree_with_depth_of x).1 ≤ 64 = ltb-false 64 (tree_with_depth_of x).1 e in
+        let same = tree_with_depth_low x low in
         let under : nat_lt 64 (height_of x) ≡ false = le-ltb 64 (height_of x) (omega (arith, low, same.1)) in
         rw (under, same.0) refl
 
 -- What is found is the answer.
-pub is_answer : (ts : List Token) → Answers ts (answer_of ts)
+pub is_answer : (ts : List Token) → IsParseResult ts (answer_of ts)
 is_answer ts = record {
   over = λ limit h. ap (λ z. unless_over z (answered (whole_of ts))) h;
   spelled = λ x h s. ap (λ z. unless_over z (answered (whole_of ts))) h ∙ ap answered (whole_spelled ts x s) ∙ limits_kept x;
   unspelled = λ h none. ap (λ z. unless_over z (answered (whole_of ts))) h ∙ ap answered (never (whole_of ts) refl none);
 }
   where
-    never : (o : Option Draft) → whole_of ts ≡ o → ((x : Statement) → g.Spells ts x → ⊥) → o ≡ None
+    never : (o : Option TreeWithDepth) → whole_of ts ≡ o → ((x : Statement) → g.Spells ts x → ⊥) → o ≡ None
     never None e none = refl
-    never (Some draft) e none = let f = whole_found ts draft e in absurd (none f.source f.spelled)
+    never (Some tree_with_depth) e none = let f = whole_found ts tree_with_depth e in absurd (none f.source f.spelled)
 
 -- what is limited is the statement itself
 pub kept : (x y : Statement) → limited x ≡ Ok y → x ≡ y
@@ -347,11 +347,11 @@ kept x y h = go (nat_lt 64 (columns_of x)) (nat_lt 64 (height_of x)) (nat_lt 8 (
 pub answer_spelled : (ts : List Token) (x : Statement) → answer_of ts ≡ Ok x → IsSpelled ts x
 answer_spelled ts x h = go (first_limit ts) (whole_of ts) refl refl h
   where
-    go : (a : Option Limit) (b : Option Draft) → first_limit ts ≡ a → whole_of ts ≡ b → unless_over a (answered b) ≡ Ok x → IsSpelled ts x
+    go : (a : Option Limit) (b : Option TreeWithDepth) → first_limit ts ≡ a → whole_of ts ≡ b → unless_over a (answered b) ≡ Ok x → IsSpelled ts x
     go (Some limit) b p q h = absurd (cc)
     go None None p q h = absurd (cc)
-    go None (Some draft) p q h =
-        let f = whole_found ts draft q in
+    go None (Some tree_with_depth) p q h =
+        let f = whole_found ts tree_with_depth q in
         let e : limited f.source ≡ Ok x = sym (limits_kept f.source) ∙ ap within_limits (sym f.kept) ∙ h in
         let s = kept f.source x e in
         record { spelled = subst (λ z. g.Spells ts z) s f.spelled; words = p; within = subst (λ z. limited z ≡ Ok x) s e }

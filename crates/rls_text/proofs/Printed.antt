@@ -6,7 +6,7 @@ use Rattle.rls_expr.specs.Terms as e
 use Rattle.rls_statement.specs.{declared.statement.MembershipOption.MembershipOption, declared.statement.Statement.Statement, declared.statement.RowSecurity.RowSecurity, declared.statement.Selected.Selected, declared.statement.SetRole.SetRole}
 use Rattle.rls_statement.specs.declared.statement.Statement.TheVariants as st
 use Rattle.rls_text.specs.declared.token.Symbol.TheVariants as s
-use Rattle.rls_text.specs.{declared.token.Token.Token, Cutting.draft_of, Parses.read_many, Rule.with_comma, Elements.with_element, Values.with_privilege, Gives.whole_of, Printing.IsWritten, declared.token.Token.TheVariants.Word, declared.token.Token.TheVariants.Number, declared.token.Token.TheVariants.Text, declared.token.Token.TheVariants.Bad}
+use Rattle.rls_text.specs.{declared.token.Token.Token, Cutting.tree_with_depth_of, Parses.read_many, Rule.with_comma, Elements.with_element, Values.with_privilege, Gives.whole_of, Printing.IsWritten, declared.token.Token.TheVariants.Word, declared.token.Token.TheVariants.Number, declared.token.Token.TheVariants.Text, declared.token.Token.TheVariants.Bad}
 use Rattle.rls_text.specs.declared.token.Token.TheVariants as t
 use Rattle.rls_text.specs.Cut as cut
 use Rattle.rls_text.specs.Grammar as g
@@ -21,7 +21,7 @@ pub statement_spelled : (ts : List Token) (x : Statement) → IsWritten ts x →
 statement_spelled ts x h = record { depth = h.depth; spelled = (g.statement h.depth).rule.prints.wrote x ts h.written }
 
 -- What is written for a statement is read back.
-pub statement_read : (ts : List Token) (x : Statement) → IsWritten ts x → whole_of ts ≡ Some (draft_of x)
+pub statement_read : (ts : List Token) (x : Statement) → IsWritten ts x → whole_of ts ≡ Some (tree_with_depth_of x)
 statement_read ts x h = whole_spelled ts x (statement_spelled ts x h)
 
 -- a column without a qualifier
@@ -45,8 +45,8 @@ written = refl
 -- (a - -5 + b) NOT IN (1, NOT b) = (c IN (d))
 abbrev pub list_example : Term
 list_example = e.Compare Comparison.Equal
-    (e.NotAmong (e.Sum (Sign.Minus ∷ Sign.Plus ∷ []) (e.More (column (codes "a")) (e.More (e.Literal (Value.Int (negsuc 4))) (e.More (column (codes "b")) e.End)))) (e.More (e.Literal (Value.Int (pos 1))) (e.More (e.Not (column (codes "b"))) e.End)))
-    (e.Among (column (codes "c")) (e.More (column (codes "d")) e.End))
+    (e.NotInList (e.Sum (Sign.Minus ∷ Sign.Plus ∷ []) (e.More (column (codes "a")) (e.More (e.Literal (Value.Int (negsuc 4))) (e.More (column (codes "b")) e.End)))) (e.More (e.Literal (Value.Int (pos 1))) (e.More (e.Not (column (codes "b"))) e.End)))
+    (e.InList (column (codes "c")) (e.More (column (codes "d")) e.End))
 
 list_written : (g.expr 6).rule.prints.writes list_example ≡ Some
     (t.Symbol s.LParen ∷ t.Symbol s.LParen ∷ Word (codes "a") ∷ t.Symbol s.Minus ∷ t.Symbol s.Minus ∷ Number 5 ∷ t.Symbol s.Plus ∷ Word (codes "b") ∷ t.Symbol s.RParen ∷ Word (codes "not") ∷ Word (codes "in")
@@ -70,7 +70,7 @@ list_empty : (g.expr 1).rule.parses.read (Word (codes "a") ∷ Word (codes "in")
 unfolding reserved read_many g.in_choices g.enclosed_choices g.choices g.in_word g.parts cut.with_comma g.expr g.or g.or_next g.and g.and_next g.not_ g.nots g.is g.null_test g.cmp g.memb g.sum g.comparison g.prim g.exists g.enclosed g.scalar g.item g.column g.behind_dot g.name g.literal g.constant g.text g.number g.digits
 list_empty = refl
 
--- SELECT * FROM u, of which the key isn't placed
+-- SELECT * FROM u, of which the key isn't resolved
 abbrev pub all_of : List ℕ → Query
 all_of table = e.Select record { table = table; alias = None } [] Selects.All e.End e.End
 
@@ -89,7 +89,7 @@ query_written = refl
 -- NOT EXISTS (SELECT * FROM u) AND a NOT IN (SELECT b, 1 FROM v)
 abbrev pub within_example : Term
 within_example = e.And (e.More (e.Not (e.Exists (all_of (codes "u"))))
-    (e.More (e.NotWithin (column (codes "a")) (e.Select record { table = codes "v"; alias = None } [] Selects.Items (e.More (column (codes "b")) (e.More (e.Literal (Value.Int (pos 1))) e.End)) e.End)) e.End))
+    (e.More (e.NotInSubquery (column (codes "a")) (e.Select record { table = codes "v"; alias = None } [] Selects.Items (e.More (column (codes "b")) (e.More (e.Literal (Value.Int (pos 1))) e.End)) e.End)) e.End))
 
 within_written : (g.expr 3).rule.prints.writes within_example ≡ Some
     (t.Symbol s.LParen ∷ Word (codes "not") ∷ Word (codes "exists") ∷ t.Symbol s.LParen ∷ Word (codes "select") ∷ t.Symbol s.Star ∷ Word (codes "from") ∷ Word (codes "u") ∷ t.Symbol s.RParen ∷ t.Symbol s.RParen ∷ Word (codes "and")
@@ -97,14 +97,14 @@ within_written : (g.expr 3).rule.prints.writes within_example ≡ Some
 unfolding reserved g.in_choices g.enclosed_choices g.choices g.in_word g.parts g.select_parts g.items g.count g.selected_items g.item_list g.from_table g.alias_if_any g.alias g.condition with_comma g.expr g.or g.or_next g.and g.and_next g.not_ g.nots g.is g.null_test g.cmp g.memb g.sum g.comparison g.prim g.exists g.enclosed g.scalar g.item g.column g.behind_dot g.name g.literal g.constant g.text g.number g.digits
 within_written = refl
 
--- A subquery of which the key is placed isn't written.
+-- A subquery of which the key is resolved isn't written.
 placed_not_written : (g.expr 2).rule.prints.writes (e.Exists (e.Select record { table = codes "u"; alias = None } (0 ∷ []) Selects.All e.End e.End)) ≡ None
 unfolding reserved g.select_parts g.items g.count g.selected_items g.item_list g.from_table g.alias_if_any g.alias g.condition with_comma g.expr g.or g.or_next g.and g.and_next g.not_ g.nots g.is g.null_test g.cmp g.memb g.sum g.comparison g.prim g.exists g.enclosed g.scalar g.item g.column g.behind_dot g.name g.literal g.constant g.text g.number g.digits
 placed_not_written = refl
 
 -- In the list behind IN a subquery stands in parentheses: a IN ((SELECT * FROM u)).
 listed_read : (g.expr 2).rule.parses.read (Word (codes "a") ∷ Word (codes "in") ∷ t.Symbol s.LParen ∷ t.Symbol s.LParen ∷ Word (codes "select") ∷ t.Symbol s.Star ∷ Word (codes "from") ∷ Word (codes "u") ∷ t.Symbol s.RParen ∷ t.Symbol s.RParen ∷ []) ≡ Some
-    (e.Among (column (codes "a")) (e.More (e.Scalar (all_of (codes "u"))) e.End), [])
+    (e.InList (column (codes "a")) (e.More (e.Scalar (all_of (codes "u"))) e.End), [])
 unfolding reserved read_many g.in_choices g.enclosed_choices g.choices g.in_word g.parts cut.with_comma g.sum_next g.part_sign g.select_parts g.items g.count g.selected_items g.item_list g.from_table g.alias_if_any g.alias g.condition with_comma g.expr g.or g.or_next g.and g.and_next g.not_ g.nots g.is g.null_test g.cmp g.memb g.sum g.comparison g.prim g.exists g.enclosed g.scalar g.item g.column g.behind_dot g.name g.literal g.constant g.text g.number g.digits
 listed_read = refl
 
@@ -164,7 +164,7 @@ insert_columns_written = refl
 -- UPDATE t SET a = 1, b = NOT c WHERE a = 2 RETURNING *
 update_written : (g.statement 2).rule.prints.writes (st.Update record {
   table = codes "t";
-  settings = record { column = codes "a"; value = e.Literal (Value.Int (pos 1)) } ∷ record { column = codes "b"; value = e.Not (column (codes "c")) } ∷ [];
+  assignments = record { column = codes "a"; value = e.Literal (Value.Int (pos 1)) } ∷ record { column = codes "b"; value = e.Not (column (codes "c")) } ∷ [];
   condition = Some (e.Compare Comparison.Equal (column (codes "a")) (e.Literal (Value.Int (pos 2))));
   returning = Some Selected.All;
 }) ≡ Some
@@ -175,12 +175,12 @@ update_written = refl
 -- UPDATE t SET a = a + 1, b = (c - 1) NOT IN (a + 2, d) WHERE c IN (1, 2) RETURNING *
 update_list_written : (g.statement 3).rule.prints.writes (st.Update record {
   table = codes "t";
-  settings = record { column = codes "a"; value = e.Sum (Sign.Plus ∷ []) (e.More (column (codes "a")) (e.More (e.Literal (Value.Int (pos 1))) e.End)) } ∷ record {
+  assignments = record { column = codes "a"; value = e.Sum (Sign.Plus ∷ []) (e.More (column (codes "a")) (e.More (e.Literal (Value.Int (pos 1))) e.End)) } ∷ record {
     column = codes "b";
-    value = e.NotAmong (e.Sum (Sign.Minus ∷ []) (e.More (column (codes "c")) (e.More (e.Literal (Value.Int (pos 1))) e.End)))
+    value = e.NotInList (e.Sum (Sign.Minus ∷ []) (e.More (column (codes "c")) (e.More (e.Literal (Value.Int (pos 1))) e.End)))
         (e.More (e.Sum (Sign.Plus ∷ []) (e.More (column (codes "a")) (e.More (e.Literal (Value.Int (pos 2))) e.End))) (e.More (column (codes "d")) e.End));
   } ∷ [];
-  condition = Some (e.Among (column (codes "c")) (e.More (e.Literal (Value.Int (pos 1))) (e.More (e.Literal (Value.Int (pos 2))) e.End)));
+  condition = Some (e.InList (column (codes "c")) (e.More (e.Literal (Value.Int (pos 1))) (e.More (e.Literal (Value.Int (pos 2))) e.End)));
   returning = Some Selected.All;
 }) ≡ Some
     (Word (codes "update") ∷ Word (codes "t") ∷ Word (codes "set") ∷ Word (codes "a") ∷ t.Symbol s.Equal ∷ Word (codes "a") ∷ t.Symbol s.Plus ∷ Number 1 ∷ t.Symbol s.Comma ∷ Word (codes "b") ∷ t.Symbol s.Equal
@@ -383,7 +383,7 @@ set_twice = refl
 
 -- Words of UPDATE that aren't reserved are names, and RETURNING ends an expression.
 set_is_a_table : (g.update (g.expr 1)).rule.parses.read (Word (codes "update") ∷ Word (codes "set") ∷ Word (codes "set") ∷ Word (codes "set") ∷ t.Symbol s.Equal ∷ Word (codes "update") ∷ Word (codes "returning") ∷ Word (codes "delete") ∷ []) ≡ Some
-    (st.Update record { table = codes "set"; settings = record { column = codes "set"; value = column (codes "update") } ∷ []; condition = None; returning = Some (Selected.Items (column (codes "delete") ∷ [])) }, [])
+    (st.Update record { table = codes "set"; assignments = record { column = codes "set"; value = column (codes "update") } ∷ []; condition = None; returning = Some (Selected.Items (column (codes "delete") ∷ [])) }, [])
 unfolding reserved read_many g.update g.set_columns g.all_set_columns g.set_column g.ending g.condition g.returning g.returned g.item_list with_comma cut.with_comma g.expr g.or g.or_next g.and g.and_next g.not_ g.nots g.is g.null_test g.cmp g.memb g.sum g.comparison g.prim g.exists g.enclosed g.scalar g.item g.column g.behind_dot g.name g.literal g.constant g.text g.number g.digits
 set_is_a_table = refl
 

@@ -4,7 +4,7 @@ use Rattle.std.specs.Prelude.{nat_lt, not, ◌&&◌, max}
 use Rattle.std.proofs.lemmas.Bool.{ltb-true, ltb-false, lt-ltb, le-ltb}
 use Rattle.rls_expr.specs.declared.expr.FromItem.{FromItem}
 use Rattle.rls_expr.specs.declared.expr.Selects.{Selects}
-use Rattle.rls_expr.specs.Terms.{Term, Terms, Query, Literal, Column, Place, CurrentUser, Compare, And, Or, Not, IsNull, IsNotNull, Among, NotAmong, Exists, Within, NotWithin, Scalar, Sum, End, More, Select}
+use Rattle.rls_expr.specs.Terms.{Term, Terms, Query, Literal, Column, Var, CurrentUser, Compare, And, Or, Not, IsNull, IsNotNull, InList, NotInList, Exists, InSubquery, NotInSubquery, Scalar, Sum, End, More, Select}
 use Rattle.rls_expr.specs.Terms.{terms_of, maybe_term}
 use Rattle.rls_statement.specs.declared.statement.Statement.{Statement}
 use Rattle.rls_statement.specs.declared.statement.Statement.TheVariants as st
@@ -46,7 +46,7 @@ mutual
   room_is : (n : ℕ) (t : Term) → has_room n t ≡ not (nat_lt n (query_depth t))
   room_is n (Literal v) = none_is_over n
   room_is n (Column name) = none_is_over n
-  room_is n (Place at) = none_is_over n
+  room_is n (Var at) = none_is_over n
   room_is n CurrentUser = none_is_over n
   room_is n (Compare how a b) = both_are n (query_depth a) (query_depth b) (has_room n a) (has_room n b) (room_is n a) (room_is n b)
   room_is n (And ts) = rooms_are n ts
@@ -54,11 +54,11 @@ mutual
   room_is n (Not t) = room_is n t
   room_is n (IsNull t) = room_is n t
   room_is n (IsNotNull t) = room_is n t
-  room_is n (Among t ts) = both_are n (query_depth t) (deepest_query ts) (has_room n t) (have_room n ts) (room_is n t) (rooms_are n ts)
-  room_is n (NotAmong t ts) = both_are n (query_depth t) (deepest_query ts) (has_room n t) (have_room n ts) (room_is n t) (rooms_are n ts)
+  room_is n (InList t ts) = both_are n (query_depth t) (deepest_query ts) (has_room n t) (have_room n ts) (room_is n t) (rooms_are n ts)
+  room_is n (NotInList t ts) = both_are n (query_depth t) (deepest_query ts) (has_room n t) (have_room n ts) (room_is n t) (rooms_are n ts)
   room_is n (Exists q) = query_room_is n q
-  room_is n (Within t q) = both_are n (query_depth t) (depth_of_query q) (has_room n t) (query_room n q) (room_is n t) (query_room_is n q)
-  room_is n (NotWithin t q) = both_are n (query_depth t) (depth_of_query q) (has_room n t) (query_room n q) (room_is n t) (query_room_is n q)
+  room_is n (InSubquery t q) = both_are n (query_depth t) (depth_of_query q) (has_room n t) (query_room n q) (room_is n t) (query_room_is n q)
+  room_is n (NotInSubquery t q) = both_are n (query_depth t) (depth_of_query q) (has_room n t) (query_room n q) (room_is n t) (query_room_is n q)
   room_is n (Scalar q) = query_room_is n q
   room_is n (Sum signs ts) = rooms_are n ts
 
@@ -82,7 +82,7 @@ two_are n ts us = both_are n (deepest_query ts) (deepest_query us) (have_room n 
 statement_is : (n : ℕ) (x : Statement) → statement_room n x ≡ not (nat_lt n (subqueries_of x))
 statement_is n (st.Select x) = rooms_are n (maybe_term x.condition)
 statement_is n (st.Insert x) = tuples_are n x.tuples
-statement_is n (st.Update x) = two_are n (terms_of (set_values x.settings)) (maybe_term x.condition)
+statement_is n (st.Update x) = two_are n (terms_of (set_values x.assignments)) (maybe_term x.condition)
 statement_is n (st.Delete x) = rooms_are n (maybe_term x.condition)
 statement_is n (st.CreatePolicy x) = two_are n (maybe_term x.policy.using) (maybe_term x.policy.check)
 statement_is n (st.AlterPolicy x) = two_are n (maybe_term x.using) (maybe_term x.check)

@@ -5,7 +5,7 @@ use Rattle.rls_value.specs.{declared.refusal.Limit.Limit, declared.refusal.Refus
 use Rattle.rls_value.specs.declared.refusal.Refusal.TheVariants as refusal
 use Rattle.rls_statement.specs.{declared.command.Command.Command, declared.statement.Statement.Statement}
 use Rattle.rls_statement.specs.declared.command.Command.TheVariants as c
-use Rattle.rls_text.specs.{declared.token.Token.Token, Heads.sees, Lang.Either, Lang.Mapped, Grammar.Spells, Printing.IsWritten, Transactions.transaction, Transactions.transaction_heads, Transactions.bare_transaction, Transactions.begin, Transactions.commit, Transactions.rollback, Answers.first_limit, Answers.limited, Gives.finished, Gives.whole_of, Gives.answered, Gives.unless_over}
+use Rattle.rls_text.specs.{declared.token.Token.Token, Heads.sees, Lang.Either, Lang.Mapped, Grammar.Spells, Printing.IsWritten, Transactions.transaction, Transactions.transaction_heads, Transactions.bare_transaction, Transactions.begin, Transactions.commit, Transactions.rollback, ParseResults.first_limit, ParseResults.limited, Gives.finished, Gives.whole_of, Gives.answered, Gives.unless_over}
 
 -- The tokens spell the command: what begins or ends a block, or a statement.
 abbrev pub SpellsCommand : List Token → Command → Type 0

@@ -5,10 +5,10 @@ use Rattle.std.proofs.Common.{arith, inl, inr, sym, ap, ◌∙◌, append_assoc}
 use Rattle.std.proofs.lemmas.Bool.{ltb-true, ltb-false, lt-ltb, le-ltb}
 use Rattle.rls_expr.specs.{declared.expr.Comparison.Comparison, declared.expr.Sign.Sign, Terms.Term, Terms.Terms, Terms.Query, Terms.terms_of, Terms.maybe_term}
 use Rattle.rls_expr.specs.Terms as e
-use Rattle.rls_statement.specs.{declared.changing.Setting.Setting, declared.statement.Selected.Selected, declared.statement.Statement.Statement}
+use Rattle.rls_statement.specs.{declared.changing.Assignment.Assignment, declared.statement.Selected.Selected, declared.statement.Statement.Statement}
 use Rattle.rls_statement.specs.declared.statement.Statement.TheVariants as st
 use Rattle.rls_text.specs.{declared.tree.Operands.Operands, declared.tree.Choices.Choices, Cut.of_some, Lang.put_in, Writes.append_end, declared.tree.Operands.TheVariants.One, declared.tree.Operands.TheVariants.Several, declared.tree.Choices.TheVariants.Listed, declared.tree.Choices.TheVariants.Queried, Heights.height, Heights.heights, Heights.query_height, Heights.height_if, Heights.set_values}
-use Rattle.rls_text.specs.Trees.{Tree, SelectParts, parted_select, query_of, one_deeper, select_depth, Tuple, Tuples, Draft, cut, above, null_test_of, with_operand, operands, with_summand, summed, among_of, with_part, tuple_of, with_tuple, tuples_of, SetColumn, SetColumns, with_set_column, set_columns_of, parted, deeper}
+use Rattle.rls_text.specs.Trees.{Tree, SelectParts, parted_select, query_of, one_deeper, select_depth, Tuple, Tuples, TreeWithDepth, cut, above, null_test_of, with_operand, operands, with_summand, summed, among_of, with_part, tuple_of, with_tuple, tuples_of, SetColumn, SetColumns, with_set_column, set_columns_of, parted, deeper}
 use Rattle.rls_text.specs.Trees as t
 use Rattle.rls_text.specs.Values as values
 
@@ -65,16 +65,16 @@ abbrev pub rows_kept : values.Rows → t.Rows
 rows_kept r = (r.0, tuples_kept r.1)
 
 -- a column that is set, with the depth of its expression
-abbrev pub set_column_kept : Setting → SetColumn
+abbrev pub set_column_kept : Assignment → SetColumn
 set_column_kept x = (record { column = x.column; value = (tree_of x.value).0 }, (tree_of x.value).1)
 
 -- the columns that are set, each as it is kept
-abbrev pub settings_kept : List Setting → List Setting
-settings_kept = map (λ x. (set_column_kept x).0)
+abbrev pub assignments_kept : List Assignment → List Assignment
+assignments_kept = map (λ x. (set_column_kept x).0)
 
 -- these, with the depth of the deepest expression
-abbrev pub set_columns_kept : List Setting → SetColumns
-set_columns_kept xs = (settings_kept xs, deepest (set_values xs))
+abbrev pub set_columns_kept : List Assignment → SetColumns
+set_columns_kept xs = (assignments_kept xs, deepest (set_values xs))
 
 -- WHERE and RETURNING
 abbrev pub ending_kept : values.Ending Term → values.Ending Tree
@@ -93,20 +93,20 @@ abbrev pub change_kept : values.PolicyChange Term → values.PolicyChange Tree
 change_kept r = (r.0, conditions_kept r.1)
 
 -- a statement, with the depth of its deepest expression
-abbrev pub draft_of : Statement → Draft
-draft_of (st.Select x) = t.select_of (selected_kept x.items, ((x.table, x.alias), of_some tree_of x.condition))
-draft_of (st.Insert x) = t.insert_of (x.table, (rows_kept (x.columns, x.tuples), x.returning))
-draft_of (st.Update x) = t.update_of (x.table, (set_columns_kept x.settings, ending_kept (x.condition, x.returning)))
-draft_of (st.Delete x) = t.delete_of (x.table, ending_kept (x.condition, x.returning))
-draft_of (st.CreatePolicy x) = (
+abbrev pub tree_with_depth_of : Statement → TreeWithDepth
+tree_with_depth_of (st.Select x) = t.select_of (selected_kept x.items, ((x.table, x.alias), of_some tree_of x.condition))
+tree_with_depth_of (st.Insert x) = t.insert_of (x.table, (rows_kept (x.columns, x.tuples), x.returning))
+tree_with_depth_of (st.Update x) = t.update_of (x.table, (set_columns_kept x.assignments, ending_kept (x.condition, x.returning)))
+tree_with_depth_of (st.Delete x) = t.delete_of (x.table, ending_kept (x.condition, x.returning))
+tree_with_depth_of (st.CreatePolicy x) = (
   st.CreatePolicy record { table = x.table; policy = record x.policy { using = (parted (of_some tree_of x.policy.using)).0; check = (parted (of_some tree_of x.policy.check)).0 } },
   deeper (conditions_kept (x.policy.using, x.policy.check)),
 )
-draft_of (st.AlterPolicy x) = (
+tree_with_depth_of (st.AlterPolicy x) = (
   st.AlterPolicy record x { using = (parted (of_some tree_of x.using)).0; check = (parted (of_some tree_of x.check)).0 },
   deeper (conditions_kept (x.using, x.check)),
 )
-draft_of x = t.flat x
+tree_with_depth_of x = t.flat x
 
 -- ---- one that isn't too high is kept as it is
 
@@ -352,10 +352,10 @@ query_is_kept node x r up =
 pub among_kept : (r : Term × Option (Option (Unit {0}) × values.Choices)) → tree_of (values.among r.0 r.1) ≡ t.among (tree_of r.0) (of_some in_kept r.1)
 unfolding among_of
 among_kept (x, None) = refl
-among_kept (x, Some (None, inl xs)) = list_is_kept e.Among x xs refl
-among_kept (x, Some (Some _, inl xs)) = list_is_kept e.NotAmong x xs refl
-among_kept (x, Some (None, inr r)) = query_is_kept e.Within x r refl
-among_kept (x, Some (Some _, inr r)) = query_is_kept e.NotWithin x r refl
+among_kept (x, Some (None, inl xs)) = list_is_kept e.InList x xs refl
+among_kept (x, Some (Some _, inl xs)) = list_is_kept e.NotInList x xs refl
+among_kept (x, Some (None, inr r)) = query_is_kept e.InSubquery x r refl
+among_kept (x, Some (Some _, inr r)) = query_is_kept e.NotInSubquery x r refl
 
 parts_kept : (ys : List Term) (d : ℕ) (xs : List Term) → put_in with_part (ys, d) (map tree_of xs) ≡ (ys ++ terms_kept xs, max d (deepest xs))
 unfolding with_part
@@ -377,22 +377,22 @@ more_kept ys d (x ∷ xs) =
 pub tuples_are_kept : (r : List Term × List (List Term)) → tuples_kept (r.0 ∷ r.1) ≡ tuples_of (tuple_kept r.0) (map tuple_kept r.1)
 tuples_are_kept r = sym (more_kept (terms_kept r.0 ∷ []) (deepest r.0) r.1)
 
-more_set : (ys : List Setting) (d : ℕ) (xs : List Setting) → put_in with_set_column (ys, d) (map set_column_kept xs) ≡ (ys ++ settings_kept xs, max d (deepest (set_values xs)))
+more_set : (ys : List Assignment) (d : ℕ) (xs : List Assignment) → put_in with_set_column (ys, d) (map set_column_kept xs) ≡ (ys ++ assignments_kept xs, max d (deepest (set_values xs)))
 unfolding with_set_column
 more_set ys d [] = let k : max d 0 ≡ d = omega arith in rw (k) (ap (λ z. (z, d)) (sym (append_end ys)))
 more_set ys d (x ∷ xs) =
     let y = set_column_kept x in
     let k : max (max d y.1) (deepest (set_values xs)) ≡ max d (max y.1 (deepest (set_values xs))) = omega arith in
-    more_set (ys ++ y.0 ∷ []) (max d y.1) xs ∙ ap (λ z. (z, max (max d y.1) (deepest (set_values xs)))) (append_assoc ys (y.0 ∷ []) (settings_kept xs)) ∙ ap (λ z. (ys ++ y.0 ∷ settings_kept xs, z)) k
+    more_set (ys ++ y.0 ∷ []) (max d y.1) xs ∙ ap (λ z. (z, max (max d y.1) (deepest (set_values xs)))) (append_assoc ys (y.0 ∷ []) (assignments_kept xs)) ∙ ap (λ z. (ys ++ y.0 ∷ assignments_kept xs, z)) k
 
-pub set_columns_are_kept : (r : Setting × List Setting) → set_columns_kept (r.0 ∷ r.1) ≡ set_columns_of (set_column_kept r.0) (map set_column_kept r.1)
+pub set_columns_are_kept : (r : Assignment × List Assignment) → set_columns_kept (r.0 ∷ r.1) ≡ set_columns_of (set_column_kept r.0) (map set_column_kept r.1)
 set_columns_are_kept r = sym (more_set ((set_column_kept r.0).0 ∷ []) (set_column_kept r.0).1 r.1)
 
-names_kept : (xs : List Setting) → values.set_names (settings_kept xs) ≡ values.set_names xs
+names_kept : (xs : List Assignment) → values.set_names (assignments_kept xs) ≡ values.set_names xs
 names_kept [] = refl
 names_kept (x ∷ xs) = ap (λ z. x.column ∷ z) (names_kept xs)
 
-pub distinct_kept : (xs : List Setting) → values.are_distinct (values.set_names (set_columns_kept xs).0) ≡ values.are_distinct (values.set_names xs)
+pub distinct_kept : (xs : List Assignment) → values.are_distinct (values.set_names (set_columns_kept xs).0) ≡ values.are_distinct (values.set_names xs)
 distinct_kept xs = ap values.are_distinct (names_kept xs)
 
 length_kept : (xs : List Term) → length (terms_kept xs) ≡ length xs

@@ -1,12 +1,12 @@
 -- What a function of the parser ensures: it gives what the reader gives, unless memory runs out.
 use Rattle.std.specs.Prelude.{◌≡◌, ℕ, ◌+◌, nat_lt, if◌then◌else◌, ◌++◌, length, List, [], ◌∷◌, Option, Some, None, Result, Ok, Err}
 use Rattle.std.specs.Borrow.{Bor}
-use Rattle.rls_text.specs.{declared.token.Token.Token, declared.fault.Fault.Fault, Lang.put_in, Nested.subqueries_of, Trees.Draft, Values.or_empty}
+use Rattle.rls_text.specs.{declared.token.Token.Token, declared.fault.Fault.Fault, Lang.put_in, Nested.subqueries_of, Trees.TreeWithDepth, Values.or_empty}
 use Rattle.rls_text.specs.declared.fault.Fault.TheVariants.{NoMemory, Syntax}
 use Rattle.rls_value.specs.{declared.refusal.Limit.Limit, declared.refusal.Refusal.Refusal}
 use Rattle.rls_value.specs.declared.refusal.Refusal.TheVariants as refusal
 use Rattle.rls_statement.specs.declared.statement.Statement.{Statement}
-use Rattle.rls_text.specs.Answers.{first_limit, columns_of}
+use Rattle.rls_text.specs.ParseResults.{first_limit, columns_of}
 use Rattle.rls_value.specs.declared.refusal.Limit.TheVariants as l
 use Rattle.rls_text.specs.Parses.{Outcome, and_then}
 use Rattle.rls_text.specs.Grammar as g
@@ -63,7 +63,7 @@ finished (Some (x, [])) = Some x
 finished (Some (x, _ ∷ _)) = None
 
 -- the statement that takes up all of the tokens
-unfoldable pub whole_of : List Token → Option Draft
+unfoldable pub whole_of : List Token → Option TreeWithDepth
 whole_of ts = finished ((g.statement (length ts + 1)).read ts)
 
 -- what is given is what takes up all of them
@@ -78,14 +78,14 @@ GivesName (Ok name) given = given ≡ Some name
 GivesName (Err NoMemory) given = Unit {0}
 GivesName (Err Syntax) given = given ≡ None
 
--- a draft over the limits is refused
-abbrev pub within_limits : Draft → Result Statement Refusal
-within_limits draft = if nat_lt 64 (columns_of draft.0) then Err (refusal.Limit l.Columns) else (if nat_lt 64 draft.1 then Err (refusal.Limit l.Nesting) else (if nat_lt 8 (subqueries_of draft.0) then Err (refusal.Limit l.Subqueries) else Ok draft.0))
+-- a tree whose depth is over the limits is refused
+abbrev pub within_limits : TreeWithDepth → Result Statement Refusal
+within_limits tree_with_depth = if nat_lt 64 (columns_of tree_with_depth.0) then Err (refusal.Limit l.Columns) else (if nat_lt 64 tree_with_depth.1 then Err (refusal.Limit l.Nesting) else (if nat_lt 8 (subqueries_of tree_with_depth.0) then Err (refusal.Limit l.Subqueries) else Ok tree_with_depth.0))
 
 -- what the whole is answered with
-abbrev pub answered : Option Draft → Result Statement Refusal
+abbrev pub answered : Option TreeWithDepth → Result Statement Refusal
 answered None = Err refusal.Syntax
-answered (Some draft) = within_limits draft
+answered (Some tree_with_depth) = within_limits tree_with_depth
 
 -- a limit on words comes first
 abbrev pub unless_over : {A : Type 0} → Option Limit → Result A Refusal → Result A Refusal

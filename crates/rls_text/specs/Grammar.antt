@@ -7,7 +7,7 @@ use Rattle.rls_value.specs.{declared.value.Value.Value, declared.value.ColType.C
 use Rattle.rls_expr.specs.{Terms.Term, Terms.terms_of, declared.column_name.ColumnName.ColumnName, declared.expr.Comparison.Comparison, declared.expr.Sign.Sign as PartSign, declared.policy.Grantee.Grantee}
 use Rattle.rls_expr.specs.Terms as e
 use Rattle.rls_statement.specs.{declared.statement.Attributes.Attributes, declared.statement.MarkedColumn.MarkedColumn, declared.statement.MembershipOption.MembershipOption, declared.statement.MembershipOptions.MembershipOptions, declared.statement.Privileges.Privileges, declared.statement.RowSecurity.RowSecurity, declared.statement.Selected.Selected, declared.statement.SetRole.SetRole, declared.statement.Statement.Statement}
-use Rattle.rls_text.specs.{declared.token.Symbol.Symbol, declared.token.Token.Token, declared.token.Token.TheVariants.Word, declared.attributes.RoleAttribute.RoleAttribute, declared.columns.ColumnMark.ColumnMark, declared.tables.TableElement.TableElement, declared.tables.TableElements.TableElements, Elements.elements_of, Parses.unseen_parts, declared.tree.Choices.TheVariants.Listed, declared.tree.Choices.TheVariants.Queried, Heights.height, Heights.heights, Cut.Cut, Cut.of_some, Heads.Names, Heads.Numbers, Heads.Texts, Heads.Keyword, Heads.Sign, Heads.begins, Heads.sees, Lang.only, Lang.Both, Lang.Mapped, Lang.Perhaps, Lang.Many, Lang.put_in, Writes.through, Writes.without_second, Writes.without_first, FirstSets.constant_heads, FirstSets.literal_heads, FirstSets.item_heads, FirstSets.item_more, FirstSets.items_more, FirstSets.prim_heads, FirstSets.sign_heads, FirstSets.sum_more, FirstSets.in_heads, FirstSets.memb_more, FirstSets.comparison_heads, FirstSets.cmp_more, FirstSets.is_more, FirstSets.expr_heads, FirstSets.expr_more, FirstSets.alias_heads, FirstSets.condition_more, FirstSets.select_more, FirstSets.inserted_more, FirstSets.changed_more, FirstSets.attribute_heads, FirstSets.role_more, FirstSets.mark_heads, FirstSets.change_more, FirstSets.policy_more, FirstSets.create_more, FirstSets.alter_more, FirstSets.privilege_heads, FirstSets.privileges_heads, FirstSets.option_heads, FirstSets.granted_more, FirstSets.revoked_more, FirstSets.flat_heads, FirstSets.flat_more, FirstSets.body_heads, FirstSets.body_more, FirstSets.literal_apart, FirstSets.name_apart, FirstSets.exists_apart, FirstSets.select_apart, FirstSets.not_apart, FirstSets.as_apart, FirstSets.alias_apart, FirstSets.public_apart, FirstSets.primary_apart, FirstSets.table_apart, FirstSets.none_apart, FirstSets.on_apart, FirstSets.to_apart, Ahead.on_comes_first, Ahead.second_is, Ahead.Skips, Ahead.both_skips, Ahead.mapped_skips, Ahead.either_skips, Ahead.perhaps_skips, Ahead.many_skips, Ahead.token_skips, Ahead.one_skips, Ahead.decided_at, Ahead.decided_before, Ahead.decided_behind, Ahead.Begins, Ahead.only_begins, Ahead.one_begins, Ahead.mapped_begins, Ahead.checked_begins, Ahead.either_begins, Ahead.both_begins, Ahead.perhaps_begins, Ahead.no_second, Ahead.Alone, Ahead.only_alone, Ahead.mapped_alone, Ahead.either_alone, Rule.Rule, Rule.word, Rule.sign, Rule.one, Rule.both, Rule.mapped, Rule.after_as, Rule.after, Rule.before, Rule.in_parentheses, Rule.either, Rule.either_by, Rule.perhaps, Rule.many, Rule.checked, Rule.widened, Rule.with_comma, Rule.as_list, Rule.list_law, Rule.listed, Rule.spelled_as, Rule.standing_for, Rule.word_for, Rule.sign_for, Cutting.tree_of, Cutting.selected_kept, Cutting.select_kept, Cutting.choices_kept, Cutting.in_kept, Cutting.exists_kept, Cutting.scalar_kept, Cutting.tuple_kept, Cutting.tuples_kept, Cutting.rows_kept, Cutting.set_column_kept, Cutting.set_columns_kept, Cutting.ending_kept, Cutting.draft_of, Cutting.signed_kept, Cutting.sum_kept, Cutting.among_kept, Cutting.compared_kept, Cutting.tested_kept, Cutting.negated_kept, Cutting.and_kept, Cutting.or_kept, Cutting.tuple_is_kept, Cutting.tuples_are_kept, Cutting.set_columns_are_kept, Cutting.even_kept, Cutting.long_kept, Cutting.distinct_kept, Cutting.conditions_kept, Cutting.description_kept, Cutting.change_kept, Cutting.is_policy_kept, Cutting.is_change_kept}
+use Rattle.rls_text.specs.{declared.token.Symbol.Symbol, declared.token.Token.Token, declared.token.Token.TheVariants.Word, declared.attributes.RoleAttribute.RoleAttribute, declared.columns.ColumnMark.ColumnMark, declared.tables.TableElement.TableElement, declared.tables.TableElements.TableElements, Elements.elements_of, Parses.unseen_parts, declared.tree.Choices.TheVariants.Listed, declared.tree.Choices.TheVariants.Queried, Heights.height, Heights.heights, Cut.Cut, Cut.of_some, Heads.Names, Heads.Numbers, Heads.Texts, Heads.Keyword, Heads.Sign, Heads.begins, Heads.sees, Lang.only, Lang.Both, Lang.Mapped, Lang.Perhaps, Lang.Many, Lang.put_in, Writes.through, Writes.without_second, Writes.without_first, FirstSets.constant_heads, FirstSets.literal_heads, FirstSets.item_heads, FirstSets.item_more, FirstSets.items_more, FirstSets.prim_heads, FirstSets.sign_heads, FirstSets.sum_more, FirstSets.in_heads, FirstSets.memb_more, FirstSets.comparison_heads, FirstSets.cmp_more, FirstSets.is_more, FirstSets.expr_heads, FirstSets.expr_more, FirstSets.alias_heads, FirstSets.condition_more, FirstSets.select_more, FirstSets.inserted_more, FirstSets.changed_more, FirstSets.attribute_heads, FirstSets.role_more, FirstSets.mark_heads, FirstSets.change_more, FirstSets.policy_more, FirstSets.create_more, FirstSets.alter_more, FirstSets.privilege_heads, FirstSets.privileges_heads, FirstSets.option_heads, FirstSets.granted_more, FirstSets.revoked_more, FirstSets.flat_heads, FirstSets.flat_more, FirstSets.body_heads, FirstSets.body_more, FirstSets.literal_apart, FirstSets.name_apart, FirstSets.exists_apart, FirstSets.select_apart, FirstSets.not_apart, FirstSets.as_apart, FirstSets.alias_apart, FirstSets.public_apart, FirstSets.primary_apart, FirstSets.table_apart, FirstSets.none_apart, FirstSets.on_apart, FirstSets.to_apart, Ahead.on_comes_first, Ahead.second_is, Ahead.Skips, Ahead.both_skips, Ahead.mapped_skips, Ahead.either_skips, Ahead.perhaps_skips, Ahead.many_skips, Ahead.token_skips, Ahead.one_skips, Ahead.decided_at, Ahead.decided_before, Ahead.decided_behind, Ahead.Begins, Ahead.only_begins, Ahead.one_begins, Ahead.mapped_begins, Ahead.checked_begins, Ahead.either_begins, Ahead.both_begins, Ahead.perhaps_begins, Ahead.no_second, Ahead.Alone, Ahead.only_alone, Ahead.mapped_alone, Ahead.either_alone, Rule.Rule, Rule.word, Rule.sign, Rule.one, Rule.both, Rule.mapped, Rule.after_as, Rule.after, Rule.before, Rule.in_parentheses, Rule.either, Rule.either_by, Rule.perhaps, Rule.many, Rule.checked, Rule.widened, Rule.with_comma, Rule.as_list, Rule.list_law, Rule.listed, Rule.spelled_as, Rule.standing_for, Rule.word_for, Rule.sign_for, Cutting.tree_of, Cutting.selected_kept, Cutting.select_kept, Cutting.choices_kept, Cutting.in_kept, Cutting.exists_kept, Cutting.scalar_kept, Cutting.tuple_kept, Cutting.tuples_kept, Cutting.rows_kept, Cutting.set_column_kept, Cutting.set_columns_kept, Cutting.ending_kept, Cutting.tree_with_depth_of, Cutting.signed_kept, Cutting.sum_kept, Cutting.among_kept, Cutting.compared_kept, Cutting.tested_kept, Cutting.negated_kept, Cutting.and_kept, Cutting.or_kept, Cutting.tuple_is_kept, Cutting.tuples_are_kept, Cutting.set_columns_are_kept, Cutting.even_kept, Cutting.long_kept, Cutting.distinct_kept, Cutting.conditions_kept, Cutting.description_kept, Cutting.change_kept, Cutting.is_policy_kept, Cutting.is_change_kept}
 use Rattle.rls_text.specs.Elements as elements
 use Rattle.rls_text.specs.Trees as t
 use Rattle.rls_text.specs.Cut as cut
@@ -319,8 +319,8 @@ columns_if_any = perhaps (in_parentheses distinct_names refl)
 
 module _ (inner : Cut tree_of expr_heads expr_more false) where
   -- SELECT items FROM name [[AS] name] [WHERE expr]
-  unfoldable pub select : Cut draft_of (Keyword (codes "select") ∷ []) select_more false
-  select = cut.mapped draft_of g.select_of t.select_of (λ r. refl) back.as_select back.select_law (select_parts inner)
+  unfoldable pub select : Cut tree_with_depth_of (Keyword (codes "select") ∷ []) select_more false
+  select = cut.mapped tree_with_depth_of g.select_of t.select_of (λ r. refl) back.as_select back.select_law (select_parts inner)
 
   -- tuple {"," tuple}
   unfoldable pub tuples : Cut tuples_kept (Sign Symbol.LParen ∷ []) (Sign Symbol.Comma ∷ []) false
@@ -339,8 +339,8 @@ module _ (inner : Cut tree_of expr_heads expr_more false) where
   proper_rows = cut.checked (λ r. g.are_as_long r.0 r.1) (λ kept. g.are_as_long kept.0 kept.1.0) long_kept rows
 
   -- INSERT INTO name ["(" names ")"] VALUES tuples [RETURNING ..]
-  unfoldable pub insert : Cut draft_of (Keyword (codes "insert") ∷ []) inserted_more false
-  insert = cut.widened (cut.mapped draft_of g.insert_of t.insert_of (λ r. refl) back.as_insert back.insert_law
+  unfoldable pub insert : Cut tree_with_depth_of (Keyword (codes "insert") ∷ []) inserted_more false
+  insert = cut.widened (cut.mapped tree_with_depth_of g.insert_of t.insert_of (λ r. refl) back.as_insert back.insert_law
       (cut.after (word (codes "insert")) (cut.after (word (codes "into")) (cut.both (cut.plain name) (cut.both proper_rows (cut.plain returning) refl) refl) refl) refl)) refl refl
 
   -- name "=" expr
@@ -360,13 +360,13 @@ module _ (inner : Cut tree_of expr_heads expr_more false) where
   ending = cut.widened (cut.both (condition inner) (cut.plain returning) refl) refl refl
 
   -- UPDATE name SET set_columns [WHERE expr] [RETURNING ..]
-  unfoldable pub update : Cut draft_of (Keyword (codes "update") ∷ []) changed_more false
-  update = cut.widened (cut.mapped draft_of g.update_of t.update_of (λ r. refl) back.as_update back.update_law
+  unfoldable pub update : Cut tree_with_depth_of (Keyword (codes "update") ∷ []) changed_more false
+  update = cut.widened (cut.mapped tree_with_depth_of g.update_of t.update_of (λ r. refl) back.as_update back.update_law
       (cut.after (word (codes "update")) (cut.both (cut.plain name) (cut.after (word (codes "set")) (cut.both set_columns ending refl) refl) refl) refl)) refl refl
 
   -- DELETE FROM name [WHERE expr] [RETURNING ..]
-  unfoldable pub delete : Cut draft_of (Keyword (codes "delete") ∷ []) changed_more false
-  delete = cut.widened (cut.mapped draft_of g.delete_of t.delete_of (λ r. refl) back.as_delete back.delete_law
+  unfoldable pub delete : Cut tree_with_depth_of (Keyword (codes "delete") ∷ []) changed_more false
+  delete = cut.widened (cut.mapped tree_with_depth_of g.delete_of t.delete_of (λ r. refl) back.as_delete back.delete_law
       (cut.after (word (codes "delete")) (cut.after (word (codes "from")) (cut.both (cut.plain name) ending refl) refl) refl)) refl refl
 
 -- ---- roles
@@ -531,23 +531,23 @@ dropped_policy = mapped g.dropping_policy_of tables.as_dropping_policy tables.dr
 -- ---- CREATE and ALTER
 
 -- what is created or altered without an expression is kept as it is
-pub role_kept : (is_user : Bool) (ts : List Token) (x : Statement) → (role is_user).spells ts x → draft_of x ≡ t.flat x
+pub role_kept : (is_user : Bool) (ts : List Token) (x : Statement) → (role is_user).spells ts x → tree_with_depth_of x ≡ t.flat x
 unfolding role
 role_kept is_user ts x h = rw (h.value) refl
 
-pub table_kept : (ts : List Token) (x : Statement) → table.spells ts x → draft_of x ≡ t.flat x
+pub table_kept : (ts : List Token) (x : Statement) → table.spells ts x → tree_with_depth_of x ≡ t.flat x
 unfolding table
 table_kept ts x h = rw (h.value) refl
 
-pub altered_role_kept : (ts : List Token) (x : Statement) → altered_role.spells ts x → draft_of x ≡ t.flat x
+pub altered_role_kept : (ts : List Token) (x : Statement) → altered_role.spells ts x → tree_with_depth_of x ≡ t.flat x
 unfolding altered_role
 altered_role_kept ts x h = rw (h.value) refl
 
-pub altered_table_kept : (ts : List Token) (x : Statement) → altered_table.spells ts x → draft_of x ≡ t.flat x
+pub altered_table_kept : (ts : List Token) (x : Statement) → altered_table.spells ts x → tree_with_depth_of x ≡ t.flat x
 unfolding altered_table
 altered_table_kept ts x h = rw (h.value) refl
 
-pub dropped_policy_kept : (ts : List Token) (x : Statement) → dropped_policy.spells ts x → draft_of x ≡ t.flat x
+pub dropped_policy_kept : (ts : List Token) (x : Statement) → dropped_policy.spells ts x → tree_with_depth_of x ≡ t.flat x
 unfolding dropped_policy
 dropped_policy_kept ts x h = rw (h.value) refl
 
@@ -573,8 +573,8 @@ module _ (inner : Cut tree_of expr_heads expr_more false) where
   proper_description = cut.checked g.is_policy g.is_policy is_policy_kept description
 
   -- name ON name description
-  unfoldable pub policy : Cut draft_of (Names ∷ []) policy_more false
-  policy = cut.mapped draft_of g.policy_of t.policy_of (λ r. refl) tables.as_policy tables.policy_law (cut.both (cut.plain policy_on) proper_description refl)
+  unfoldable pub policy : Cut tree_with_depth_of (Names ∷ []) policy_more false
+  policy = cut.mapped tree_with_depth_of g.policy_of t.policy_of (λ r. refl) tables.as_policy tables.policy_law (cut.both (cut.plain policy_on) proper_description refl)
 
   -- [TO grantees] [USING ..] [WITH CHECK ..]
   unfoldable pub policy_change : Cut change_kept change_more change_more true
@@ -585,19 +585,19 @@ module _ (inner : Cut tree_of expr_heads expr_more false) where
   proper_change = cut.checked g.is_change g.is_change is_change_kept policy_change
 
   -- name ON name change
-  unfoldable pub altered_policy : Cut draft_of (Names ∷ []) change_more false
-  altered_policy = cut.mapped draft_of g.altering_policy_of t.altering_policy_of (λ r. refl) tables.as_altering_policy tables.altering_policy_law (cut.both (cut.plain policy_on) proper_change refl)
+  unfoldable pub altered_policy : Cut tree_with_depth_of (Names ∷ []) change_more false
+  altered_policy = cut.mapped tree_with_depth_of g.altering_policy_of t.altering_policy_of (λ r. refl) tables.as_altering_policy tables.altering_policy_law (cut.both (cut.plain policy_on) proper_change refl)
 
   -- CREATE (ROLE role | USER role | TABLE table | POLICY policy), of which USER isn't written
-  unfoldable pub create : Cut draft_of (Keyword (codes "create") ∷ []) create_more false
-  create = cut.widened (cut.after (word (codes "create")) (cut.either (cut.after (word (codes "role")) (cut.kept_as draft_of t.flat (role false) (role_kept false)) refl)
-      (cut.either (cut.after (word (codes "user")) (cut.kept_as draft_of t.flat (role true) (role_kept true)) refl)
-      (cut.either (cut.after (word (codes "table")) (cut.kept_as draft_of t.flat table table_kept) refl) (cut.after (word (codes "policy")) policy refl) refl) refl) refl) refl) refl refl
+  unfoldable pub create : Cut tree_with_depth_of (Keyword (codes "create") ∷ []) create_more false
+  create = cut.widened (cut.after (word (codes "create")) (cut.either (cut.after (word (codes "role")) (cut.kept_as tree_with_depth_of t.flat (role false) (role_kept false)) refl)
+      (cut.either (cut.after (word (codes "user")) (cut.kept_as tree_with_depth_of t.flat (role true) (role_kept true)) refl)
+      (cut.either (cut.after (word (codes "table")) (cut.kept_as tree_with_depth_of t.flat table table_kept) refl) (cut.after (word (codes "policy")) policy refl) refl) refl) refl) refl) refl refl
 
   -- ALTER (ROLE role | TABLE table | POLICY policy)
-  unfoldable pub alter : Cut draft_of (Keyword (codes "alter") ∷ []) alter_more false
-  alter = cut.widened (cut.after (word (codes "alter")) (cut.either (cut.after (word (codes "role")) (cut.kept_as draft_of t.flat altered_role altered_role_kept) refl)
-      (cut.either (cut.after (word (codes "table")) (cut.kept_as draft_of t.flat altered_table altered_table_kept) refl) (cut.after (word (codes "policy")) altered_policy refl) refl) refl) refl) refl refl
+  unfoldable pub alter : Cut tree_with_depth_of (Keyword (codes "alter") ∷ []) alter_more false
+  alter = cut.widened (cut.after (word (codes "alter")) (cut.either (cut.after (word (codes "role")) (cut.kept_as tree_with_depth_of t.flat altered_role altered_role_kept) refl)
+      (cut.either (cut.after (word (codes "table")) (cut.kept_as tree_with_depth_of t.flat altered_table altered_table_kept) refl) (cut.after (word (codes "policy")) altered_policy refl) refl) refl) refl) refl refl
 
 -- ---- GRANT and REVOKE of privileges
 
@@ -672,7 +672,7 @@ all_settings = listed setting
 unfoldable pub settings : Rule (List g.Setting) option_heads (Sign Symbol.Comma ∷ []) false
 settings = checked g.set_once all_settings
 
--- [WITH settings]
+-- [WITH assignments]
 unfoldable pub settings_if_any : Rule (Option (List g.Setting)) (Keyword (codes "with") ∷ []) granted_more true
 settings_if_any = perhaps (after (word (codes "with")) settings refl)
 
@@ -680,7 +680,7 @@ settings_if_any = perhaps (after (word (codes "with")) settings refl)
 unfoldable pub options : Rule MembershipOptions (Keyword (codes "with") ∷ []) granted_more true
 options = mapped g.options_from back.as_with back.options_law settings_if_any
 
--- names TO names [WITH settings]
+-- names TO names [WITH assignments]
 unfoldable pub granted_roles : Rule Statement (Names ∷ []) granted_more false
 granted_roles = widened (mapped g.granting_of back.as_granting back.granting_law (both names (after (word (codes "to")) (both names options refl) refl) refl)) refl refl
 
@@ -726,12 +726,12 @@ pub to_first : (front rest : List Token) (a : Statement) → granted_roles.spell
 unfolding granted_roles
 to_first front rest a h stop = decided_behind on_comes_first names.spells _ names_skip false (decided_at on_comes_first (Word (codes "to")) _ false (λ ts. refl)) front rest h.source h.spelled
 
--- GRANT (privileges ON [TABLE] name TO grantees [WITH GRANT OPTION] | names TO names [WITH settings]): where ON comes before TO, it is of privileges
+-- GRANT (privileges ON [TABLE] name TO grantees [WITH GRANT OPTION] | names TO names [WITH assignments]): where ON comes before TO, it is of privileges
 unfoldable pub grant : Rule Statement (Keyword (codes "grant") ∷ []) granted_more false
 grant = widened (after (word (codes "grant")) (either_by on_comes_first granted_privileges granted_roles on_first to_first) refl) refl refl
 
 -- without an expression, it is kept as it is
-grant_kept : (ts : List Token) (x : Statement) → grant.spells ts x → draft_of x ≡ t.flat x
+grant_kept : (ts : List Token) (x : Statement) → grant.spells ts x → tree_with_depth_of x ≡ t.flat x
 unfolding grant granted_privileges granted_roles
 grant_kept ts x h = rw (h.value) (elim h.spelled.other [ inl y ↦ rw (y.value) refl | inr y ↦ rw (y.value) refl ])
 
@@ -820,7 +820,7 @@ unfoldable pub revoke : Rule Statement (Keyword (codes "revoke") ∷ []) revoked
 revoke = widened (after (word (codes "revoke")) (either_by on_comes_first revoked_privileges revoked_memberships on_still_first from_first) refl) refl refl
 
 -- so is this
-revoke_kept : (ts : List Token) (x : Statement) → revoke.spells ts x → draft_of x ≡ t.flat x
+revoke_kept : (ts : List Token) (x : Statement) → revoke.spells ts x → tree_with_depth_of x ≡ t.flat x
 unfolding revoke revoked_privileges revoked_memberships revoked_option revoked_roles
 revoke_kept ts x h = rw (h.value) (elim h.spelled.other [ inl y ↦ rw (y.value) refl | inr y ↦ elim y [ inl z ↦ rw (z.value) refl | inr z ↦ rw (z.value) refl ] ])
 
@@ -847,7 +847,7 @@ unfoldable pub set_role : Rule Statement (Keyword (codes "set") ∷ Keyword (cod
 set_role = mapped Statement.SetRole back.as_set_role back.set_role_law role_change
 
 -- and this
-set_role_kept : (ts : List Token) (x : Statement) → set_role.spells ts x → draft_of x ≡ t.flat x
+set_role_kept : (ts : List Token) (x : Statement) → set_role.spells ts x → tree_with_depth_of x ≡ t.flat x
 unfolding set_role
 set_role_kept ts x h = rw (h.value) refl
 
@@ -858,17 +858,17 @@ unfoldable pub flat_body : Rule Statement flat_heads flat_more false
 flat_body = widened (either dropped_policy (either grant (either revoke set_role refl) refl) refl) refl refl
 
 -- what has no expression is kept as it is
-pub flat_kept : (ts : List Token) (x : Statement) → flat_body.spells ts x → draft_of x ≡ t.flat x
+pub flat_kept : (ts : List Token) (x : Statement) → flat_body.spells ts x → tree_with_depth_of x ≡ t.flat x
 unfolding flat_body
 flat_kept ts x h = elim h [ inl y ↦ dropped_policy_kept ts x y | inr y ↦ elim y [ inl z ↦ grant_kept ts x z | inr z ↦ elim z [ inl u ↦ revoke_kept ts x u | inr u ↦ set_role_kept ts x u ] ] ]
 
 -- select | insert | update | delete | create | alter | flat_body
-unfoldable pub body : (inner : Cut tree_of expr_heads expr_more false) → Cut draft_of body_heads body_more false
+unfoldable pub body : (inner : Cut tree_of expr_heads expr_more false) → Cut tree_with_depth_of body_heads body_more false
 body inner = cut.widened (cut.either (select inner) (cut.either (insert inner) (cut.either (update inner) (cut.either (delete inner)
-    (cut.either (create inner) (cut.either (alter inner) (cut.kept_as draft_of t.flat flat_body flat_kept) refl) refl) refl) refl) refl) refl) refl refl
+    (cut.either (create inner) (cut.either (alter inner) (cut.kept_as tree_with_depth_of t.flat flat_body flat_kept) refl) refl) refl) refl) refl) refl) refl refl
 
 -- body [";"], with parentheses to this depth; the semicolon isn't written
-unfoldable pub statement : (depth : ℕ) → Cut draft_of body_heads (Sign Symbol.Semicolon ∷ body_more) false
+unfoldable pub statement : (depth : ℕ) → Cut tree_with_depth_of body_heads (Sign Symbol.Semicolon ∷ body_more) false
 statement depth = cut.widened (cut.before_as None (body (expr depth)) (perhaps (sign Symbol.Semicolon)) refl) refl refl
 
 -- The tokens spell the statement, at some depth of parentheses.

@@ -1,8 +1,8 @@
 -- How deep an expression is: a leaf counts one.
 use Rattle.std.specs.Prelude.{ℕ, ◌+◌, max, List, [], ◌∷◌, map, Option, Some, None}
-use Rattle.rls_expr.specs.Terms.{Term, Terms, Query, Literal, Column, Place, CurrentUser, Compare, And, Or, Not, IsNull, IsNotNull, Among, NotAmong, Exists, Within, NotWithin, Scalar, Sum, End, More, Select}
+use Rattle.rls_expr.specs.Terms.{Term, Terms, Query, Literal, Column, Var, CurrentUser, Compare, And, Or, Not, IsNull, IsNotNull, InList, NotInList, Exists, InSubquery, NotInSubquery, Scalar, Sum, End, More, Select}
 use Rattle.rls_expr.specs.Terms.{terms_of}
-use Rattle.rls_statement.specs.declared.changing.Setting.{Setting}
+use Rattle.rls_statement.specs.declared.changing.Assignment.{Assignment}
 use Rattle.rls_statement.specs.declared.statement.Statement.{Statement}
 use Rattle.rls_statement.specs.declared.statement.Statement.TheVariants as st
 
@@ -11,7 +11,7 @@ abbrev mutual
   pub height : Term → ℕ
   height (Literal v) = 1
   height (Column name) = 1
-  height (Place at) = 1
+  height (Var at) = 1
   height CurrentUser = 1
   height (Compare how a b) = max (height a) (height b) + 1
   height (And ts) = heights ts + 1
@@ -19,11 +19,11 @@ abbrev mutual
   height (Not t) = height t + 1
   height (IsNull t) = height t + 1
   height (IsNotNull t) = height t + 1
-  height (Among t ts) = max (height t) (heights ts) + 1
-  height (NotAmong t ts) = max (height t) (heights ts) + 1
+  height (InList t ts) = max (height t) (heights ts) + 1
+  height (NotInList t ts) = max (height t) (heights ts) + 1
   height (Exists q) = query_height q + 1
-  height (Within t q) = max (height t) (query_height q) + 1
-  height (NotWithin t q) = max (height t) (query_height q) + 1
+  height (InSubquery t q) = max (height t) (query_height q) + 1
+  height (NotInSubquery t q) = max (height t) (query_height q) + 1
   height (Scalar q) = query_height q
   height (Sum signs ts) = heights ts + 1
 
@@ -47,14 +47,14 @@ highest [] = 0
 highest (terms ∷ tuples) = max (heights (terms_of terms)) (highest tuples)
 
 -- what columns are set to
-abbrev pub set_values : List Setting → List Term
+abbrev pub set_values : List Assignment → List Term
 set_values = map (λ x. x.value)
 
 -- the highest expression of a statement; 0 where it has none but columns
 abbrev pub height_of : Statement → ℕ
 height_of (st.Select select) = height_if select.condition
 height_of (st.Insert insert) = highest insert.tuples
-height_of (st.Update update) = max (heights (terms_of (set_values update.settings))) (height_if update.condition)
+height_of (st.Update update) = max (heights (terms_of (set_values update.assignments))) (height_if update.condition)
 height_of (st.Delete delete) = height_if delete.condition
 height_of (st.CreatePolicy create) = max (height_if create.policy.using) (height_if create.policy.check)
 height_of (st.AlterPolicy alter) = max (height_if alter.using) (height_if alter.check)

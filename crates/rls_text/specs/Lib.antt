@@ -5,7 +5,7 @@ pub mod Nested
 pub mod Values
 pub mod Grammar
 pub mod Transactions
-pub mod Answers
+pub mod ParseResults
 pub mod Commands
 pub mod Printing
 pub mod Rule

@@ -1,7 +1,7 @@
 -- How many subqueries lie one inside another in an expression, and in a statement: the most of its expressions; and
 -- whether there is room for so many, as the code tells it.
 use Rattle.std.specs.Prelude.{ℕ, zero, suc, ◌+◌, max, Bool, true, false, ◌&&◌, List, [], ◌∷◌}
-use Rattle.rls_expr.specs.Terms.{Term, Terms, Query, Literal, Column, Place, CurrentUser, Compare, And, Or, Not, IsNull, IsNotNull, Among, NotAmong, Exists, Within, NotWithin, Scalar, Sum, End, More, Select}
+use Rattle.rls_expr.specs.Terms.{Term, Terms, Query, Literal, Column, Var, CurrentUser, Compare, And, Or, Not, IsNull, IsNotNull, InList, NotInList, Exists, InSubquery, NotInSubquery, Scalar, Sum, End, More, Select}
 use Rattle.rls_expr.specs.Terms.{terms_of, maybe_term}
 use Rattle.rls_statement.specs.declared.statement.Statement.{Statement}
 use Rattle.rls_statement.specs.declared.statement.Statement.TheVariants as st
@@ -12,7 +12,7 @@ abbrev mutual
   pub query_depth : Term → ℕ
   query_depth (Literal v) = 0
   query_depth (Column name) = 0
-  query_depth (Place at) = 0
+  query_depth (Var at) = 0
   query_depth CurrentUser = 0
   query_depth (Compare how a b) = max (query_depth a) (query_depth b)
   query_depth (And ts) = deepest_query ts
@@ -20,11 +20,11 @@ abbrev mutual
   query_depth (Not t) = query_depth t
   query_depth (IsNull t) = query_depth t
   query_depth (IsNotNull t) = query_depth t
-  query_depth (Among t ts) = max (query_depth t) (deepest_query ts)
-  query_depth (NotAmong t ts) = max (query_depth t) (deepest_query ts)
+  query_depth (InList t ts) = max (query_depth t) (deepest_query ts)
+  query_depth (NotInList t ts) = max (query_depth t) (deepest_query ts)
   query_depth (Exists q) = depth_of_query q
-  query_depth (Within t q) = max (query_depth t) (depth_of_query q)
-  query_depth (NotWithin t q) = max (query_depth t) (depth_of_query q)
+  query_depth (InSubquery t q) = max (query_depth t) (depth_of_query q)
+  query_depth (NotInSubquery t q) = max (query_depth t) (depth_of_query q)
   query_depth (Scalar q) = depth_of_query q
   query_depth (Sum signs ts) = deepest_query ts
 
@@ -46,7 +46,7 @@ deepest_in (terms ∷ tuples) = max (deepest_query (terms_of terms)) (deepest_in
 abbrev pub subqueries_of : Statement → ℕ
 subqueries_of (st.Select select) = deepest_query (maybe_term select.condition)
 subqueries_of (st.Insert insert) = deepest_in insert.tuples
-subqueries_of (st.Update update) = max (deepest_query (terms_of (set_values update.settings))) (deepest_query (maybe_term update.condition))
+subqueries_of (st.Update update) = max (deepest_query (terms_of (set_values update.assignments))) (deepest_query (maybe_term update.condition))
 subqueries_of (st.Delete delete) = deepest_query (maybe_term delete.condition)
 subqueries_of (st.CreatePolicy create) = max (deepest_query (maybe_term create.policy.using)) (deepest_query (maybe_term create.policy.check))
 subqueries_of (st.AlterPolicy alter) = max (deepest_query (maybe_term alter.using)) (deepest_query (maybe_term alter.check))
@@ -59,7 +59,7 @@ abbrev mutual
   pub has_room : ℕ → Term → Bool
   has_room n (Literal v) = true
   has_room n (Column name) = true
-  has_room n (Place at) = true
+  has_room n (Var at) = true
   has_room n CurrentUser = true
   has_room n (Compare how a b) = has_room n a && has_room n b
   has_room n (And ts) = have_room n ts
@@ -67,11 +67,11 @@ abbrev mutual
   has_room n (Not t) = has_room n t
   has_room n (IsNull t) = has_room n t
   has_room n (IsNotNull t) = has_room n t
-  has_room n (Among t ts) = has_room n t && have_room n ts
-  has_room n (NotAmong t ts) = has_room n t && have_room n ts
+  has_room n (InList t ts) = has_room n t && have_room n ts
+  has_room n (NotInList t ts) = has_room n t && have_room n ts
   has_room n (Exists q) = query_room n q
-  has_room n (Within t q) = has_room n t && query_room n q
-  has_room n (NotWithin t q) = has_room n t && query_room n q
+  has_room n (InSubquery t q) = has_room n t && query_room n q
+  has_room n (NotInSubquery t q) = has_room n t && query_room n q
   has_room n (Scalar q) = query_room n q
   has_room n (Sum signs ts) = have_room n ts
 
@@ -94,7 +94,7 @@ tuples_room n (terms ∷ tuples) = have_room n (terms_of terms) && tuples_room n
 abbrev pub statement_room : ℕ → Statement → Bool
 statement_room n (st.Select select) = have_room n (maybe_term select.condition)
 statement_room n (st.Insert insert) = tuples_room n insert.tuples
-statement_room n (st.Update update) = have_room n (terms_of (set_values update.settings)) && have_room n (maybe_term update.condition)
+statement_room n (st.Update update) = have_room n (terms_of (set_values update.assignments)) && have_room n (maybe_term update.condition)
 statement_room n (st.Delete delete) = have_room n (maybe_term delete.condition)
 statement_room n (st.CreatePolicy create) = have_room n (maybe_term create.policy.using) && have_room n (maybe_term create.policy.check)
 statement_room n (st.AlterPolicy alter) = have_room n (maybe_term alter.using) && have_room n (maybe_term alter.check)

@@ -5,7 +5,7 @@ use Rattle.rls_value.specs.declared.value.Value.TheVariants.{Null}
 use Rattle.rls_expr.specs.{declared.expr.Comparison.Comparison, declared.expr.Sign.Sign}
 use Rattle.rls_expr.specs.Terms.{Term, Query, terms_of}
 use Rattle.rls_expr.specs.Terms as t
-use Rattle.rls_statement.specs.{declared.changing.Setting.Setting, declared.statement.Selected.Selected, declared.statement.Statement.Statement}
+use Rattle.rls_statement.specs.{declared.changing.Assignment.Assignment, declared.statement.Selected.Selected, declared.statement.Statement.Statement}
 use Rattle.rls_statement.specs.declared.statement.Selected.TheVariants as selected
 use Rattle.rls_statement.specs.declared.statement.Statement.TheVariants as st
 use Rattle.rls_text.specs.{declared.tree.Operands.Operands, declared.tree.Choices.Choices, Lang.put_in}
@@ -140,10 +140,10 @@ scalar_of r = above (parted_select r).1 (t.Scalar (query_of r))
 
 -- IN, or NOT IN, with a list or with a SELECT
 unfoldable pub among_of : Tree → Option (Unit {0}) → Choices → Tree
-among_of left None (Listed list) = above (max left.1 list.1) (t.Among left.0 (terms_of list.0))
-among_of left (Some _) (Listed list) = above (max left.1 list.1) (t.NotAmong left.0 (terms_of list.0))
-among_of left None (Queried r) = above (max left.1 (select_depth r)) (t.Within left.0 (query_of r))
-among_of left (Some _) (Queried r) = above (max left.1 (select_depth r)) (t.NotWithin left.0 (query_of r))
+among_of left None (Listed list) = above (max left.1 list.1) (t.InList left.0 (terms_of list.0))
+among_of left (Some _) (Listed list) = above (max left.1 list.1) (t.NotInList left.0 (terms_of list.0))
+among_of left None (Queried r) = above (max left.1 (select_depth r)) (t.InSubquery left.0 (query_of r))
+among_of left (Some _) (Queried r) = above (max left.1 (select_depth r)) (t.NotInSubquery left.0 (query_of r))
 
 -- the same, or its left side alone
 abbrev pub among : Tree → Option (Option (Unit {0}) × Choices) → Tree
@@ -164,7 +164,7 @@ tuples_of first more = put_in with_tuple (first.0 ∷ [], first.1) more
 
 -- a column that UPDATE sets, with the depth of its expression
 abbrev pub SetColumn : Type 0
-SetColumn = Setting × ℕ
+SetColumn = Assignment × ℕ
 
 -- of its name and its expression
 abbrev pub set_column_of : List ℕ × Tree → SetColumn
@@ -172,7 +172,7 @@ set_column_of r = (record { column = r.0; value = r.1.0 }, r.1.1)
 
 -- the columns that UPDATE sets, with the depth of the deepest expression
 abbrev pub SetColumns : Type 0
-SetColumns = List Setting × ℕ
+SetColumns = List Assignment × ℕ
 
 -- one column more
 unfoldable pub with_set_column : SetColumns → SetColumn → SetColumns
@@ -183,15 +183,15 @@ abbrev pub set_columns_of : SetColumn → List SetColumn → SetColumns
 set_columns_of first more = put_in with_set_column (first.0 ∷ [], first.1) more
 
 -- a statement, with the depth of its deepest expression; 0 where it has none
-abbrev pub Draft : Type 0
-Draft = Statement × ℕ
+abbrev pub TreeWithDepth : Type 0
+TreeWithDepth = Statement × ℕ
 
 -- without an expression
-abbrev pub flat : Statement → Draft
+abbrev pub flat : Statement → TreeWithDepth
 flat statement = (statement, 0)
 
 -- SELECT, of its parts
-abbrev pub select_of : SelectParts → Draft
+abbrev pub select_of : SelectParts → TreeWithDepth
 select_of r = (st.Select record { items = r.0.0; table = r.1.0.0; alias = r.1.0.1; condition = (parted r.1.1).0 }, (parted r.1.1).1)
 
 -- the rows of INSERT: columns, if they are written, and tuples
@@ -199,15 +199,15 @@ abbrev pub Rows : Type 0
 Rows = Option (List (List ℕ)) × Tuples
 
 -- INSERT, of its parts
-abbrev pub insert_of : List ℕ × (Rows × Option Selected) → Draft
+abbrev pub insert_of : List ℕ × (Rows × Option Selected) → TreeWithDepth
 insert_of r = (st.Insert record { table = r.0; columns = r.1.0.0; tuples = r.1.0.1.0; returning = r.1.1 }, r.1.0.1.1)
 
 -- UPDATE, of its parts
-abbrev pub update_of : List ℕ × (SetColumns × Ending Tree) → Draft
-update_of r = (st.Update record { table = r.0; settings = r.1.0.0; condition = (parted r.1.1.0).0; returning = r.1.1.1 }, max r.1.0.1 (parted r.1.1.0).1)
+abbrev pub update_of : List ℕ × (SetColumns × Ending Tree) → TreeWithDepth
+update_of r = (st.Update record { table = r.0; assignments = r.1.0.0; condition = (parted r.1.1.0).0; returning = r.1.1.1 }, max r.1.0.1 (parted r.1.1.0).1)
 
 -- DELETE, of its parts
-abbrev pub delete_of : List ℕ × Ending Tree → Draft
+abbrev pub delete_of : List ℕ × Ending Tree → TreeWithDepth
 delete_of r = (st.Delete record { table = r.0; condition = (parted r.1.0).0; returning = r.1.1 }, (parted r.1.0).1)
 
 -- the depth of the deeper of two conditions that may be left out
@@ -215,7 +215,7 @@ abbrev pub deeper : Option Tree × Option Tree → ℕ
 deeper r = max (parted r.0).1 (parted r.1).1
 
 -- CREATE POLICY, of its parts
-abbrev pub policy_of : (List ℕ × List ℕ) × Description Tree → Draft
+abbrev pub policy_of : (List ℕ × List ℕ) × Description Tree → TreeWithDepth
 policy_of r = (
   st.CreatePolicy record {
     table = r.0.1;
@@ -225,5 +225,5 @@ policy_of r = (
 )
 
 -- ALTER POLICY, of its parts
-abbrev pub altering_policy_of : (List ℕ × List ℕ) × PolicyChange Tree → Draft
+abbrev pub altering_policy_of : (List ℕ × List ℕ) × PolicyChange Tree → TreeWithDepth
 altering_policy_of r = (st.AlterPolicy record { name = r.0.0; table = r.0.1; to = r.1.0; using = (parted r.1.1.0).0; check = (parted r.1.1.1).0 }, deeper r.1.1)

@@ -8,7 +8,7 @@ use Rattle.rls_expr.specs.{Terms.Term, Terms.Query, Terms.terms_of, Terms.maybe_
 use Rattle.rls_expr.specs.Terms as e
 use Rattle.rls_text.specs.{declared.token.Token.Token, declared.attributes.RoleAttribute.RoleAttribute, declared.columns.ColumnMark.ColumnMark, declared.tables.TableElements.TableElements, Lang.put_in, declared.token.Token.TheVariants.Word, declared.token.Token.TheVariants.Number, declared.token.Token.TheVariants.Text}
 use Rattle.rls_text.specs.contracts.columns.ColumnMark as column_mark
-use Rattle.rls_statement.specs.declared.changing.Setting as changing
+use Rattle.rls_statement.specs.declared.changing.Assignment as changing
 use Rattle.rls_statement.specs.{declared.statement.Attributes.Attributes, declared.statement.MembershipOption.MembershipOption, declared.statement.MarkedColumn.MarkedColumn, declared.statement.MembershipOptions.MembershipOptions, declared.statement.Privileges.Privileges, declared.statement.RowSecurity.RowSecurity, declared.statement.Selected.Selected, declared.statement.Statement.Statement}
 use Rattle.rls_statement.specs.contracts.statement.MembershipOption as option
 
@@ -86,7 +86,7 @@ abbrev pub items_of : Selected → List Term
 items_of (Selected.Items items) = items
 items_of _ = []
 
--- a SELECT inside an expression, of its parts; the key isn't placed yet
+-- a SELECT inside an expression, of its parts; the key isn't resolved yet
 abbrev pub query_of : SelectParts → Query
 query_of r = e.Select record { table = r.1.0.0; alias = r.1.0.1 } [] (selects_of r.0) (terms_of (items_of r.0)) (maybe_term r.1.1)
 
@@ -96,10 +96,10 @@ Choices = List Term ⊎ SelectParts
 
 -- IN, or NOT IN
 abbrev pub among_of : Term → Option (Unit {0}) → Choices → Term
-among_of left None (inl list) = e.Among left (terms_of list)
-among_of left (Some _) (inl list) = e.NotAmong left (terms_of list)
-among_of left None (inr select) = e.Within left (query_of select)
-among_of left (Some _) (inr select) = e.NotWithin left (query_of select)
+among_of left None (inl list) = e.InList left (terms_of list)
+among_of left (Some _) (inl list) = e.NotInList left (terms_of list)
+among_of left None (inr select) = e.InSubquery left (query_of select)
+among_of left (Some _) (inr select) = e.NotInSubquery left (query_of select)
 
 -- the same, or its left side alone
 abbrev pub among : Term → Option (Option (Unit {0}) × Choices) → Term
@@ -161,11 +161,11 @@ abbrev pub insert_of : List ℕ × (Rows × Option Selected) → Statement
 insert_of r = Statement.Insert record { table = r.0; columns = r.1.0.0; tuples = r.1.0.1; returning = r.1.1 }
 
 -- a column of UPDATE, and what it is set to
-abbrev pub set_column_of : List ℕ × Term → changing.Setting
+abbrev pub set_column_of : List ℕ × Term → changing.Assignment
 set_column_of r = record { column = r.0; value = r.1 }
 
 -- the columns that are set
-abbrev pub set_names : List changing.Setting → List (List ℕ)
+abbrev pub set_names : List changing.Assignment → List (List ℕ)
 set_names = map (λ x. x.column)
 
 -- by which UPDATE and DELETE end: WHERE and RETURNING
@@ -173,8 +173,8 @@ abbrev pub Ending : Type 0 → Type 0
 Ending A = Option A × Option Selected
 
 -- UPDATE, of its parts
-abbrev pub update_of : List ℕ × (List changing.Setting × Ending Term) → Statement
-update_of r = Statement.Update record { table = r.0; settings = r.1.0; condition = r.1.1.0; returning = r.1.1.1 }
+abbrev pub update_of : List ℕ × (List changing.Assignment × Ending Term) → Statement
+update_of r = Statement.Update record { table = r.0; assignments = r.1.0; condition = r.1.1.0; returning = r.1.1.1 }
 
 -- DELETE, of its parts
 abbrev pub delete_of : List ℕ × Ending Term → Statement

@@ -5,7 +5,7 @@ use denote.Enum.Bare.{sameb, same_true}
 use Rattle.rls_value.specs.{Names.reserved, declared.value.Value.Value, declared.verb.Privilege.Privilege, contracts.verb.Privilege.the_type as privilege_type}
 use Rattle.rls_expr.specs.{Terms.Term, Terms.Terms, Terms.Query, Terms.terms_of, Terms.maybe_term, declared.column_name.ColumnName.ColumnName, declared.expr.Comparison.Comparison, declared.expr.FromItem.FromItem, declared.expr.Sign.Sign, declared.policy.Grantee.Grantee, declared.expr.Selects.Selects, contracts.expr.Comparison.the_type as comparison_type, contracts.expr.Sign.the_type as sign_type}
 use Rattle.rls_expr.specs.Terms as e
-use Rattle.rls_statement.specs.declared.changing.Setting as changing
+use Rattle.rls_statement.specs.declared.changing.Assignment as changing
 use Rattle.rls_statement.specs.{declared.statement.Attributes.Attributes, declared.statement.MembershipOption.MembershipOption, declared.statement.MembershipOptions.MembershipOptions, declared.statement.Privileges.Privileges, declared.statement.Selected.Selected, declared.statement.SetRole.SetRole, declared.statement.Statement.Statement, contracts.statement.MembershipOption.the_type as option_type}
 use Rattle.rls_text.specs.{declared.token.Token.Token, declared.attributes.RoleAttribute.RoleAttribute, Lang.put_in, Writes.some_is, declared.token.Token.TheVariants.Word, declared.token.Token.TheVariants.Number, declared.token.Token.TheVariants.Text, Heads.Names, Heads.Numbers, Heads.Texts, Heads.begins, Rule.Telling, Rule.given_if, Rule.given_was, Rule.as_list}
 use Rattle.rls_text.specs.Values as g
@@ -249,7 +249,7 @@ abbrev pub selected_from : Selected → FromItem → Option (Option Term) → Op
 selected_from x from None = None
 selected_from x from (Some condition) = Some (x, ((from.table, from.alias), condition))
 
--- the parts of a subquery of which the key isn't placed
+-- the parts of a subquery of which the key isn't resolved
 abbrev pub as_query : Query → Option g.SelectParts
 as_query (e.Select from [] Selects.All e.End condition) = selected_from Selected.All from (as_condition condition)
 as_query (e.Select from [] Selects.Count e.End condition) = selected_from Selected.Count from (as_condition condition)
@@ -313,10 +313,10 @@ behind_in x negated (Some r) = Some (x, Some (negated, inr r))
 
 -- the left side of IN or NOT IN, and the list or the SELECT
 abbrev pub as_among : Term → Option (Term × Option (Option (Unit {0}) × g.Choices))
-as_among (e.Among x ts) = Some (x, Some (None, inl (list_of ts)))
-as_among (e.NotAmong x ts) = Some (x, Some (Some tt, inl (list_of ts)))
-as_among (e.Within x q) = behind_in x None (as_query q)
-as_among (e.NotWithin x q) = behind_in x (Some tt) (as_query q)
+as_among (e.InList x ts) = Some (x, Some (None, inl (list_of ts)))
+as_among (e.NotInList x ts) = Some (x, Some (Some tt, inl (list_of ts)))
+as_among (e.InSubquery x q) = behind_in x None (as_query q)
+as_among (e.NotInSubquery x q) = behind_in x (Some tt) (as_query q)
 as_among _ = None
 
 within_law : (node : Query → Term) (x : Term) (negated : Option (Unit {0})) (q : Query) (a : Term × Option (Option (Unit {0}) × g.Choices))
@@ -328,10 +328,10 @@ within_law node x negated q a same h = go (as_query q) refl h
     go (Some r) e k = ap node (query_law q r e) ∙ same r ∙ ap (λ z. g.among z.0 z.1) (some_is (x, Some (negated, inr r)) a k)
 
 pub among_law : (b : Term) (a : Term × Option (Option (Unit {0}) × g.Choices)) → as_among b ≡ Some a → b ≡ g.among a.0 a.1
-among_law (e.Among x ts) a h = ap (λ z. e.Among x z) (sym (terms_back ts)) ∙ ap (λ r. g.among r.0 r.1) (some_is (x, Some (None, inl (list_of ts))) a h)
-among_law (e.NotAmong x ts) a h = ap (λ z. e.NotAmong x z) (sym (terms_back ts)) ∙ ap (λ r. g.among r.0 r.1) (some_is (x, Some (Some tt, inl (list_of ts))) a h)
-among_law (e.Within x q) a h = within_law (e.Within x) x None q a (λ r. refl) h
-among_law (e.NotWithin x q) a h = within_law (e.NotWithin x) x (Some tt) q a (λ r. refl) h
+among_law (e.InList x ts) a h = ap (λ z. e.InList x z) (sym (terms_back ts)) ∙ ap (λ r. g.among r.0 r.1) (some_is (x, Some (None, inl (list_of ts))) a h)
+among_law (e.NotInList x ts) a h = ap (λ z. e.NotInList x z) (sym (terms_back ts)) ∙ ap (λ r. g.among r.0 r.1) (some_is (x, Some (Some tt, inl (list_of ts))) a h)
+among_law (e.InSubquery x q) a h = within_law (e.InSubquery x) x None q a (λ r. refl) h
+among_law (e.NotInSubquery x q) a h = within_law (e.NotInSubquery x) x (Some tt) q a (λ r. refl) h
 among_law _ a h = cc
 
 -- signs, told apart
@@ -435,19 +435,19 @@ insert_law _ a h = cc
 -- ---- UPDATE and DELETE
 
 -- column, expression
-abbrev pub as_set_column : changing.Setting → Option (List ℕ × Term)
+abbrev pub as_set_column : changing.Assignment → Option (List ℕ × Term)
 as_set_column x = Some (x.column, x.value)
 
-pub set_column_law : (b : changing.Setting) (a : List ℕ × Term) → as_set_column b ≡ Some a → b ≡ g.set_column_of a
+pub set_column_law : (b : changing.Assignment) (a : List ℕ × Term) → as_set_column b ≡ Some a → b ≡ g.set_column_of a
 set_column_law b a h = ap g.set_column_of (some_is (b.column, b.value) a h)
 
 -- table, columns that are set, WHERE and RETURNING
-abbrev pub as_update : Statement → Option (List ℕ × (List changing.Setting × g.Ending Term))
-as_update (Statement.Update x) = Some (x.table, (x.settings, (x.condition, x.returning)))
+abbrev pub as_update : Statement → Option (List ℕ × (List changing.Assignment × g.Ending Term))
+as_update (Statement.Update x) = Some (x.table, (x.assignments, (x.condition, x.returning)))
 as_update _ = None
 
-pub update_law : (b : Statement) (a : List ℕ × (List changing.Setting × g.Ending Term)) → as_update b ≡ Some a → b ≡ g.update_of a
-update_law (Statement.Update x) a h = ap g.update_of (some_is (x.table, (x.settings, (x.condition, x.returning))) a h)
+pub update_law : (b : Statement) (a : List ℕ × (List changing.Assignment × g.Ending Term)) → as_update b ≡ Some a → b ≡ g.update_of a
+update_law (Statement.Update x) a h = ap g.update_of (some_is (x.table, (x.assignments, (x.condition, x.returning))) a h)
 update_law _ a h = cc
 
 -- table, WHERE and RETURNING

@@ -12,8 +12,8 @@ use crate::fault::Fault;
 use crate::items::item_list;
 use crate::reading::{name, only, sees_symbol, symbol, word};
 use crate::token::{Symbol, Token};
-use crate::tree::{Draft, SetColumn, SetColumns, Tree, parted, with_set_column};
-use rls_statement::{Delete, Selected, Setting, Statement, Update};
+use crate::tree::{SetColumn, SetColumns, Tree, TreeWithDepth, parted, with_set_column};
+use rls_statement::{Assignment, Delete, Selected, Statement, Update};
 use rls_value::{Items, Name};
 use std::alloc::{AllocError, Global};
 use std::collections::BTreeSet;
@@ -22,7 +22,11 @@ use std::collections::BTreeSet;
 type Ending = (Option<Tree>, Option<Selected>);
 
 #[tactic(auto, unfolding(crate::specs::Grammar::update))]
-pub fn update(alloc: Global, depth: usize, tokens: &[Token]) -> Result<(Draft, &[Token]), Fault>
+pub fn update(
+    alloc: Global,
+    depth: usize,
+    tokens: &[Token],
+) -> Result<(TreeWithDepth, &[Token]), Fault>
     ensures { Gives result ((g.update (g.expr depth)).read tokens.now) }
 {
     let Some(rest) = word(tokens, b"update") else {
@@ -63,15 +67,15 @@ fn set_behind(
     }
 }
 
-fn updated(table: Name, columns: SetColumns, ending: Ending) -> Draft
+fn updated(table: Name, columns: SetColumns, ending: Ending) -> TreeWithDepth
     ensures { result ≡ spec.update_of (table, (columns, ending)) }
 {
-    let (settings, depth) = columns;
+    let (assignments, depth) = columns;
     let (condition, returning) = ending;
     let (condition, other) = parted(condition);
     let update = Update {
         table,
-        settings,
+        assignments,
         condition,
         returning,
     };
@@ -79,7 +83,11 @@ fn updated(table: Name, columns: SetColumns, ending: Ending) -> Draft
 }
 
 #[tactic(auto, unfolding(crate::specs::Grammar::delete))]
-pub fn delete(alloc: Global, depth: usize, tokens: &[Token]) -> Result<(Draft, &[Token]), Fault>
+pub fn delete(
+    alloc: Global,
+    depth: usize,
+    tokens: &[Token],
+) -> Result<(TreeWithDepth, &[Token]), Fault>
     ensures { Gives result ((g.delete (g.expr depth)).read tokens.now) }
 {
     let Some(rest) = word(tokens, b"delete") else {
@@ -100,7 +108,7 @@ pub fn delete(alloc: Global, depth: usize, tokens: &[Token]) -> Result<(Draft, &
     }
 }
 
-fn deleted(table: Name, ending: Ending) -> Draft
+fn deleted(table: Name, ending: Ending) -> TreeWithDepth
     ensures { result ≡ spec.delete_of (table, ending) }
 {
     let (condition, returning) = ending;
@@ -166,7 +174,7 @@ fn set_columns(
     ensures { Gives result ((g.set_columns (g.expr depth)).read tokens.now) }
 {
     match all_set_columns(alloc, depth, tokens) {
-        Ok((columns, rest)) => match are_distinct_settings(alloc, columns.0.as_slice()) {
+        Ok((columns, rest)) => match are_distinct_assignments(alloc, columns.0.as_slice()) {
             Ok(true) => Ok((columns, rest)),
             Ok(false) => {
                 drop(columns);
@@ -182,15 +190,18 @@ fn set_columns(
 }
 
 /// Whether no column is set twice. It sorts their names, since there may be thousands.
-fn are_distinct_settings(alloc: Global, mut settings: &[Setting]) -> Result<bool, AllocError>
-    ensures { IfOk result (λ distinct. distinct ≡ values.are_distinct (values.set_names settings.entry.now)) }
+fn are_distinct_assignments(
+    alloc: Global,
+    mut assignments: &[Assignment],
+) -> Result<bool, AllocError>
+    ensures { IfOk result (λ distinct. distinct ≡ values.are_distinct (values.set_names assignments.entry.now)) }
 {
     let mut seen = BTreeSet::new(alloc);
-    while let [first, rest @ ..] = settings {
+    while let [first, rest @ ..] = assignments {
         if !seen.insert(first.column.as_str())? {
             return Ok(false);
         }
-        settings = rest;
+        assignments = rest;
     }
     Ok(true)
 }
@@ -266,7 +277,7 @@ fn set_column(alloc: Global, depth: usize, tokens: &[Token]) -> Result<(SetColum
         Ok((column, rest)) => match set_value(alloc, depth, rest) {
             Ok(((value, depth), rest)) => {
                 let value = value.into_expr();
-                Ok(((Setting { column, value }, depth), rest))
+                Ok(((Assignment { column, value }, depth), rest))
             }
             Err(fault) => {
                 drop(column);

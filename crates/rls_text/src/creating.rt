@@ -9,13 +9,17 @@ use crate::policies::{altered_policy, policy};
 use crate::reading::{name, word};
 use crate::tables::{altered_table, table};
 use crate::token::Token;
-use crate::tree::Draft;
+use crate::tree::TreeWithDepth;
 use rls_statement::{AlterRole, CreateRole, Statement};
 use std::alloc::Global;
 
 /// CREATE, whole.
 #[tactic(auto, unfolding(crate::specs::Grammar::create))]
-pub fn create(alloc: Global, depth: usize, tokens: &[Token]) -> Result<(Draft, &[Token]), Fault>
+pub fn create(
+    alloc: Global,
+    depth: usize,
+    tokens: &[Token],
+) -> Result<(TreeWithDepth, &[Token]), Fault>
     ensures { Gives result ((g.create (g.expr depth)).read tokens.now) }
 {
     let Some(rest) = word(tokens, b"create") else {
@@ -35,7 +39,7 @@ pub fn create(alloc: Global, depth: usize, tokens: &[Token]) -> Result<(Draft, &
 }
 
 #[tactic(auto, unfolding(crate::specs::Grammar::role))]
-fn role(alloc: Global, is_user: bool, tokens: &[Token]) -> Result<(Draft, &[Token]), Fault>
+fn role(alloc: Global, is_user: bool, tokens: &[Token]) -> Result<(TreeWithDepth, &[Token]), Fault>
     ensures { Gives result (read_mapped flat (g.role is_user).parses.read tokens.now) }
 {
     match name(alloc, tokens) {
@@ -55,7 +59,11 @@ fn role(alloc: Global, is_user: bool, tokens: &[Token]) -> Result<(Draft, &[Toke
 
 /// ALTER, whole.
 #[tactic(auto, unfolding(crate::specs::Grammar::alter))]
-pub fn alter(alloc: Global, depth: usize, tokens: &[Token]) -> Result<(Draft, &[Token]), Fault>
+pub fn alter(
+    alloc: Global,
+    depth: usize,
+    tokens: &[Token],
+) -> Result<(TreeWithDepth, &[Token]), Fault>
     ensures { Gives result ((g.alter (g.expr depth)).read tokens.now) }
 {
     let Some(rest) = word(tokens, b"alter") else {
@@ -73,7 +81,7 @@ pub fn alter(alloc: Global, depth: usize, tokens: &[Token]) -> Result<(Draft, &[
 }
 
 #[tactic(auto, unfolding(crate::specs::Grammar::altered_role))]
-fn altered_role(alloc: Global, tokens: &[Token]) -> Result<(Draft, &[Token]), Fault>
+fn altered_role(alloc: Global, tokens: &[Token]) -> Result<(TreeWithDepth, &[Token]), Fault>
     ensures { Gives result (read_mapped flat g.altered_role.parses.read tokens.now) }
 {
     match name(alloc, tokens) {

@@ -1,7 +1,7 @@
 //! The limits on words, which come before the grammar.
 
 ghost use Rattle.std.specs.Prelude.{◌≡◌, ◌≤◌, None};
-ghost use Rattle.rls_text.specs.Answers as spec;
+ghost use Rattle.rls_text.specs.ParseResults as spec;
 
 use crate::token::{Symbol, Token};
 use rls_value::{Limit, MAX_NAME};

@@ -1,10 +1,10 @@
 //! A statement or a command from a text.
 
 ghost use Rattle.std.specs.Prelude.{◌≡◌, ◌≤◌, None, IfOk};
-ghost use Rattle.rls_text.specs.{Gives.Gives, Gives.GivesWhole, Gives.whole_of, Gives.answer_of, Gives.answered, Gives.within_limits, Words.words_of, Heights.height_of, Nested.subqueries_of, Answers.Answers, Answers.IsSpelled};
+ghost use Rattle.rls_text.specs.{Gives.Gives, Gives.GivesWhole, Gives.whole_of, Gives.answer_of, Gives.answered, Gives.within_limits, Words.words_of, Heights.height_of, Nested.subqueries_of, ParseResults.IsParseResult, ParseResults.IsSpelled};
 ghost use Rattle.rls_text.specs.Commands.{AnswersCommand, IfRun, IsCommandSpelled, command_of};
 ghost use Rattle.rls_text.specs.Grammar as g;
-ghost use Rattle.rls_text.specs.Answers as spec;
+ghost use Rattle.rls_text.specs.ParseResults as spec;
 
 use crate::changing::{delete, update};
 use crate::creating::{alter, create};
@@ -19,7 +19,7 @@ use crate::selecting::{insert, select};
 use crate::subqueries::{MAX_SUBQUERIES, has_too_many};
 use crate::token::{Symbol, Token};
 use crate::transactions::{starts_transaction, whole_transaction};
-use crate::tree::{Draft, MAX_DEPTH};
+use crate::tree::{MAX_DEPTH, TreeWithDepth};
 use crate::words::words;
 use rls_statement::{Command, Statement};
 use rls_value::{Limit, Refusal};
@@ -37,7 +37,7 @@ pub fn parse(alloc: Global, text: &str) -> Result<Statement, Refusal>
     ensures few { IfOk result (λ statement. subqueries_of statement ≤ MAX_SUBQUERIES) }
 
     // It is what the grammar and the limits say, unless memory runs out.
-    ensures answer { ¬ (result ≡ Err Refusal.NoMemory) → Answers (words_of text.now) result }
+    ensures answer { ¬ (result ≡ Err Refusal.NoMemory) → IsParseResult (words_of text.now) result }
 {
     let tokens = words(alloc, text)?;
     answer(alloc, tokens.as_slice())
@@ -92,17 +92,17 @@ fn spelled(alloc: Global, tokens: &[Token]) -> Result<Statement, Refusal>
     ensures { ¬ (result ≡ Err Refusal.NoMemory) → result ≡ answered (whole_of tokens.now) }
 {
     match whole(alloc, tokens) {
-        Ok(draft) => limited(draft),
+        Ok(tree_with_depth) => limited(tree_with_depth),
         Err(Fault::Syntax) => Err(Refusal::Syntax),
         Err(Fault::NoMemory) => Err(Refusal::NoMemory),
     }
 }
 
 /// The statement, unless it is over a limit.
-fn limited(draft: Draft) -> Result<Statement, Refusal>
-    ensures { result ≡ within_limits draft }
+fn limited(tree_with_depth: TreeWithDepth) -> Result<Statement, Refusal>
+    ensures { result ≡ within_limits tree_with_depth }
 {
-    let (statement, depth) = draft;
+    let (statement, depth) = tree_with_depth;
     if column_count(&statement) > MAX_COLUMNS {
         drop(statement);
         Err(Refusal::Limit(Limit::Columns))
@@ -129,7 +129,7 @@ fn column_count(statement: &Statement) -> usize
 
 /// The statement that takes up all of the tokens, which pass no limit on words.
 #[tactic(auto, unfolding(crate::specs::Gives::whole_of))]
-fn whole(alloc: Global, tokens: &[Token]) -> Result<Draft, Fault>
+fn whole(alloc: Global, tokens: &[Token]) -> Result<TreeWithDepth, Fault>
     requires { spec.first_limit tokens.now ≡ None }
     ensures { GivesWhole result (whole_of tokens.now) }
 {
@@ -147,7 +147,11 @@ fn whole(alloc: Global, tokens: &[Token]) -> Result<Draft, Fault>
 
 /// A statement, with a semicolon or without.
 #[tactic(auto, unfolding(crate::specs::Grammar::statement))]
-fn statement(alloc: Global, depth: usize, tokens: &[Token]) -> Result<(Draft, &[Token]), Fault>
+fn statement(
+    alloc: Global,
+    depth: usize,
+    tokens: &[Token],
+) -> Result<(TreeWithDepth, &[Token]), Fault>
     ensures { Gives result ((g.statement depth).read tokens.now) }
 {
     match body(alloc, depth, tokens) {
@@ -160,7 +164,7 @@ fn statement(alloc: Global, depth: usize, tokens: &[Token]) -> Result<(Draft, &[
 }
 
 #[tactic(auto, unfolding(crate::specs::Grammar::body))]
-fn body(alloc: Global, depth: usize, tokens: &[Token]) -> Result<(Draft, &[Token]), Fault>
+fn body(alloc: Global, depth: usize, tokens: &[Token]) -> Result<(TreeWithDepth, &[Token]), Fault>
     ensures { Gives result ((g.body (g.expr depth)).read tokens.now) }
 {
     if sees_word(tokens, b"select") {

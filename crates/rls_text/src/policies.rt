@@ -10,7 +10,7 @@ use crate::fault::Fault;
 use crate::policy_parts::{Conditions, conditions, for_grantees, grantees_if_any, policy_options};
 use crate::reading::{name, word};
 use crate::token::Token;
-use crate::tree::{Draft, parted};
+use crate::tree::{TreeWithDepth, parted};
 use rls_expr::{Grantee, Policy};
 use rls_statement::{AlterPolicy, CreatePolicy, DropPolicy, Statement};
 use rls_value::{Items, Kind, Name, PolicyKind};
@@ -24,7 +24,11 @@ type PolicyChange = (Option<Items<Grantee>>, Conditions);
 
 /// What stands behind CREATE POLICY.
 #[tactic(auto, unfolding(crate::specs::Grammar::policy))]
-pub fn policy(alloc: Global, depth: usize, tokens: &[Token]) -> Result<(Draft, &[Token]), Fault>
+pub fn policy(
+    alloc: Global,
+    depth: usize,
+    tokens: &[Token],
+) -> Result<(TreeWithDepth, &[Token]), Fault>
     ensures { Gives result ((g.policy (g.expr depth)).read tokens.now) }
 {
     match policy_on(alloc, tokens) {
@@ -39,7 +43,7 @@ pub fn policy(alloc: Global, depth: usize, tokens: &[Token]) -> Result<(Draft, &
     }
 }
 
-fn created(names: (Name, Name), description: Description) -> Draft
+fn created(names: (Name, Name), description: Description) -> TreeWithDepth
     ensures { result ≡ trees.policy_of (names, description) }
 {
     let (name, table) = names;
@@ -66,7 +70,7 @@ pub fn altered_policy(
     alloc: Global,
     depth: usize,
     tokens: &[Token],
-) -> Result<(Draft, &[Token]), Fault>
+) -> Result<(TreeWithDepth, &[Token]), Fault>
     ensures { Gives result ((g.altered_policy (g.expr depth)).read tokens.now) }
 {
     match policy_on(alloc, tokens) {
@@ -81,7 +85,7 @@ pub fn altered_policy(
     }
 }
 
-fn altered(names: (Name, Name), change: PolicyChange) -> Draft
+fn altered(names: (Name, Name), change: PolicyChange) -> TreeWithDepth
     ensures { result ≡ trees.altering_policy_of (names, change) }
 {
     let (name, table) = names;

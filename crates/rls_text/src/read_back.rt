@@ -5,7 +5,7 @@ ghost use Rattle.rls_value.specs.declared.refusal.Refusal.{Refusal};
 ghost use Rattle.rls_statement.specs.declared.command.Command.{Command};
 ghost use Rattle.rls_statement.specs.declared.statement.Statement.{Statement};
 ghost use Rattle.rls_text.specs.declared.token.Token.{Token};
-ghost use Rattle.rls_text.specs.Answers.{Answers};
+ghost use Rattle.rls_text.specs.ParseResults.{IsParseResult};
 ghost use Rattle.rls_text.specs.Commands.{AnswersCommand, IsCommandWritten, SpellsCommand, run};
 ghost use Rattle.rls_text.specs.Grammar.{Spells};
 ghost use Rattle.rls_text.specs.Printing.{IsWritten};
@@ -23,5 +23,5 @@ pub fn written_command_spells()
 
 /// A text of a statement is answered with the same as a command.
 pub fn statement_answers()
-    ensures { (tokens : List Token) (statement : Statement) (answer : Result Statement Refusal) → Spells tokens statement → Answers tokens answer → AnswersCommand tokens (run answer) }
+    ensures { (tokens : List Token) (statement : Statement) (answer : Result Statement Refusal) → Spells tokens statement → IsParseResult tokens answer → AnswersCommand tokens (run answer) }
 {}

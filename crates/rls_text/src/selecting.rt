@@ -13,7 +13,7 @@ use crate::fault::Fault;
 use crate::reading::{name, only, sees_symbol, symbol, word};
 use crate::tables::listed_names;
 use crate::token::{Symbol, Token};
-use crate::tree::{Draft, SelectParts, Tuple, Tuples, parted, with_tuple};
+use crate::tree::{SelectParts, TreeWithDepth, Tuple, Tuples, parted, with_tuple};
 use rls_expr::Expr;
 use rls_statement::{Insert, Select, Selected, Statement};
 use rls_value::{Items, Name};
@@ -23,7 +23,11 @@ use std::alloc::Global;
 type Rows = (Option<Items<Name>>, Tuples);
 
 #[tactic(auto, unfolding(crate::specs::Grammar::select))]
-pub fn select(alloc: Global, depth: usize, tokens: &[Token]) -> Result<(Draft, &[Token]), Fault>
+pub fn select(
+    alloc: Global,
+    depth: usize,
+    tokens: &[Token],
+) -> Result<(TreeWithDepth, &[Token]), Fault>
     ensures { Gives result ((g.select (g.expr depth)).read tokens.now) }
 {
     match select_parts(alloc, depth, tokens) {
@@ -32,7 +36,7 @@ pub fn select(alloc: Global, depth: usize, tokens: &[Token]) -> Result<(Draft, &
     }
 }
 
-fn selected(select: SelectParts) -> Draft
+fn selected(select: SelectParts) -> TreeWithDepth
     ensures { result ≡ spec.select_of select }
 {
     let ((items, _), ((table, alias), condition)) = select;
@@ -47,7 +51,11 @@ fn selected(select: SelectParts) -> Draft
 }
 
 #[tactic(auto, unfolding(crate::specs::Grammar::insert))]
-pub fn insert(alloc: Global, depth: usize, tokens: &[Token]) -> Result<(Draft, &[Token]), Fault>
+pub fn insert(
+    alloc: Global,
+    depth: usize,
+    tokens: &[Token],
+) -> Result<(TreeWithDepth, &[Token]), Fault>
     ensures { Gives result ((g.insert (g.expr depth)).read tokens.now) }
 {
     let Some(rest) = word(tokens, b"insert") else {
@@ -87,7 +95,7 @@ fn rows_and_returning(
     }
 }
 
-fn inserted(table: Name, rows: Rows, returning: Option<Selected>) -> Draft
+fn inserted(table: Name, rows: Rows, returning: Option<Selected>) -> TreeWithDepth
     ensures { result ≡ spec.insert_of (table, (rows, returning)) }
 {
     let (columns, (tuples, depth)) = rows;

@@ -7,7 +7,7 @@ ghost use Rattle.rls_text.specs.Heights.{set_values};
 ghost use Rattle.rls_text.specs.Nested.{subqueries_of, has_room, have_room, query_room, tuples_room, statement_room};
 
 use rls_expr::{Expr, Node, Subquery};
-use rls_statement::{Setting, Statement};
+use rls_statement::{Assignment, Statement};
 use rls_value::Items;
 
 /// How many may lie one inside another at most.
@@ -29,7 +29,7 @@ fn statement_fits(statement: &Statement, room: usize) -> bool
         Statement::Select(select) => condition_fits(&select.condition, room),
         Statement::Insert(insert) => tuples_fit(insert.tuples.as_slice(), room),
         Statement::Update(update) => {
-            settings_fit(update.settings.as_slice(), room)
+            assignments_fit(update.assignments.as_slice(), room)
                 && condition_fits(&update.condition, room)
         }
         Statement::Delete(delete) => condition_fits(&delete.condition, room),
@@ -58,11 +58,11 @@ fn tuples_fit(tuples: &[Items<Expr>], room: usize) -> bool
     true
 }
 
-fn settings_fit(settings: &[Setting], room: usize) -> bool
-    ensures { result ≡ have_room room (terms_of (set_values settings.now)) }
+fn assignments_fit(assignments: &[Assignment], room: usize) -> bool
+    ensures { result ≡ have_room room (terms_of (set_values assignments.now)) }
 {
-    for setting in settings {
-        if !fits(&setting.value, room) {
+    for assignment in assignments {
+        if !fits(&assignment.value, room) {
             return false;
         }
     }
@@ -75,17 +75,17 @@ fn fits(expr: &Expr, room: usize) -> bool
     ensures { result ≡ has_room room expr.now }
 {
     match expr.node() {
-        Node::Literal(_) | Node::Column(_) | Node::Place(_) | Node::CurrentUser => true,
+        Node::Literal(_) | Node::Column(_) | Node::Var(_) | Node::CurrentUser => true,
         Node::Compare(_, left, right) => fits(left, room) && fits(right, room),
         Node::And(parts) | Node::Or(parts) | Node::Sum(_, parts) => parts_fit(parts, room),
         Node::Not(operand) | Node::IsNull(operand) | Node::IsNotNull(operand) => {
             fits(operand, room)
         }
-        Node::Among(left, list) | Node::NotAmong(left, list) => {
+        Node::InList(left, list) | Node::NotInList(left, list) => {
             fits(left, room) && parts_fit(list, room)
         }
         Node::Exists(query) | Node::Scalar(query) => query_fits(query, room),
-        Node::Within(left, query) | Node::NotWithin(left, query) => {
+        Node::InSubquery(left, query) | Node::NotInSubquery(left, query) => {
             fits(left, room) && query_fits(query, room)
         }
     }

@@ -11,7 +11,7 @@ use crate::fault::Fault;
 use crate::memberships::names;
 use crate::reading::{closed, name, only, sees_symbol, starts_name, symbol, two_words, word};
 use crate::token::{Symbol, Token};
-use crate::tree::Draft;
+use crate::tree::TreeWithDepth;
 use rls_statement::{AlterTable, CreateTable, MarkedColumn, RowSecurity, Statement};
 use rls_value::{Items, Name};
 use std::alloc::{AllocError, Global};
@@ -35,7 +35,7 @@ pub struct TableElements {
 
 /// What stands behind CREATE TABLE.
 #[tactic(auto, unfolding(crate::specs::Grammar::table))]
-pub fn table(alloc: Global, tokens: &[Token]) -> Result<(Draft, &[Token]), Fault>
+pub fn table(alloc: Global, tokens: &[Token]) -> Result<(TreeWithDepth, &[Token]), Fault>
     ensures { Gives result (read_mapped flat g.table.parses.read tokens.now) }
 {
     match name(alloc, tokens) {
@@ -349,7 +349,7 @@ fn are_distinct_names(alloc: Global, mut names: &[Name]) -> Result<bool, AllocEr
 
 /// What stands behind ALTER TABLE: the table, and the change of its row security.
 #[tactic(auto, unfolding(crate::specs::Grammar::altered_table))]
-pub fn altered_table(alloc: Global, tokens: &[Token]) -> Result<(Draft, &[Token]), Fault>
+pub fn altered_table(alloc: Global, tokens: &[Token]) -> Result<(TreeWithDepth, &[Token]), Fault>
     ensures { Gives result (read_mapped flat g.altered_table.parses.read tokens.now) }
 {
     match name(alloc, tokens) {

@@ -9,7 +9,7 @@ ghost use Rattle.rls_text.specs.Values as values;
 
 use crate::subtree::Subtree;
 use rls_expr::{Comparison, Expr, FromItem, Node, Selects, Sign, Subquery, boxed_query};
-use rls_statement::{Selected, Setting, Statement};
+use rls_statement::{Assignment, Selected, Statement};
 use rls_value::{Items, Name, Value};
 use std::alloc::{AllocError, Global};
 
@@ -255,13 +255,13 @@ pub type Tuple = (Items<Expr>, u32);
 pub type Tuples = (Items<Items<Expr>>, u32);
 
 /// A column that UPDATE sets, with the depth of its expression.
-pub type SetColumn = (Setting, u32);
+pub type SetColumn = (Assignment, u32);
 
 /// The columns that UPDATE sets, with the depth of the deepest expression.
-pub type SetColumns = (Items<Setting>, u32);
+pub type SetColumns = (Items<Assignment>, u32);
 
 /// A statement, with the depth of its deepest expression; 0 where it has none.
-pub type Draft = (Statement, u32);
+pub type TreeWithDepth = (Statement, u32);
 
 #[tactic(auto, unfolding(crate::specs::Trees::with_part))]
 pub fn with_part(tuple: Tuple, part: Tree) -> Result<Tuple, AllocError>
@@ -425,8 +425,8 @@ fn listed_of(
         let left = left.into_box();
         let list = list.into_vec();
         match negated {
-            None => node_of(alloc, Node::Among(left, list), depth + 1),
-            Some(()) => node_of(alloc, Node::NotAmong(left, list), depth + 1),
+            None => node_of(alloc, Node::InList(left, list), depth + 1),
+            Some(()) => node_of(alloc, Node::NotInList(left, list), depth + 1),
         }
     } else {
         drop(left);
@@ -452,8 +452,8 @@ fn queried_of(
             Ok(query) => {
                 let left = left.into_box();
                 match negated {
-                    None => node_of(alloc, Node::Within(left, query), depth + 1),
-                    Some(()) => node_of(alloc, Node::NotWithin(left, query), depth + 1),
+                    None => node_of(alloc, Node::InSubquery(left, query), depth + 1),
+                    Some(()) => node_of(alloc, Node::NotInSubquery(left, query), depth + 1),
                 }
             }
             Err(refused) => {

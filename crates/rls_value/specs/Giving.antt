@@ -25,7 +25,7 @@ abbrev pub and_then : {A B : Type 0} → Result A Refusal → (A → Result B Re
 and_then (Ok a) next = next a
 and_then (Err refusal) next = Err refusal
 
--- what a call gives that lends it
-abbrev pub lent_now : {A : Type 0} → Result (Bor A) Refusal → Result A Refusal
-lent_now (Ok a) = Ok a.now
-lent_now (Err refusal) = Err refusal
+-- what a call gives that borrows it
+abbrev pub borrowed_now : {A : Type 0} → Result (Bor A) Refusal → Result A Refusal
+borrowed_now (Ok a) = Ok a.now
+borrowed_now (Err refusal) = Err refusal

@@ -2,9 +2,9 @@
 #![tactic(auto)]
 
 mod items;
-mod loan;
 mod name;
 mod object;
+mod reference;
 mod refusal;
 mod row;
 mod tag;
@@ -14,9 +14,9 @@ mod value;
 mod verb;
 
 pub use items::Items;
-pub use loan::Loan;
 pub use name::{MAX_NAME, Name, is_reserved};
 pub use object::{Object, cmp_objects};
+pub use reference::Reference;
 pub use refusal::{Cause, DefinedKind, GrantFault, Limit, NameKind, Refusal, TxnState, Why};
 pub use row::{Row, RowId, cmp_rows};
 pub use tag::Tag;

@@ -63,7 +63,7 @@ fn removed(map: &mut Map, alloc: Global) -> Result<[Option<u64>; 3], AllocError>
 }
 
 /// The value, as it is lent by what shares it.
-fn lent(alloc: Global, value: u64) -> Result<[u64; 3], AllocError> {
+fn borrowed(alloc: Global, value: u64) -> Result<[u64; 3], AllocError> {
     let share = Share::new(alloc, value)?;
     let copy = share.copy()?;
     let clone = clone_of(&share)?;
@@ -81,5 +81,5 @@ fn each_call_succeeds(rt: HostRuntime) {
     assert!(rt; counted(&map, rt.alloc()) == Ok([100, 100, 49]));
     assert!(rt; removed(&mut map, rt.alloc()) == Ok([None, Some(21), Some(21)]));
     assert!(rt; looked_up(&map) == (99, None, None));
-    assert!(rt; lent(rt.alloc(), 7) == Ok([7, 7, 7]));
+    assert!(rt; borrowed(rt.alloc(), 7) == Ok([7, 7, 7]));
 }

@@ -1,8 +1,8 @@
 use Rattle.std.specs.Prelude.{◌≡◌, Ok, Err}
 use Rattle.std.proofs.Common.{rules, subst, sym}
 use Rattle.rls_value.specs.declared.refusal.Refusal.TheVariants.{NoMemory}
-use Rattle.rls_text.specs.{Answers.Answers, Answers.IsSpelled, Words.words_of}
-use Rattle.rls_audit.specs.Reading.{Tells, IsPolicyText}
+use Rattle.rls_text.specs.{ParseResults.IsParseResult, ParseResults.IsSpelled, Words.words_of}
+use Rattle.rls_audit.specs.Reading.{TellsWhether, IsPolicyText}
 use Rattle.rls_audit.proofs.ParsingLemmas.{answered, refused, policy_told}
 use Rattle.rls_audit.proofs.reading.is_policy.Goals as goal
 
@@ -10,9 +10,9 @@ pub returns-in-Ok : goal.returns-in-Ok
 returns-in-Ok c =
     let statement = c.in-Ok.statement in
     let told = policy_told c.args.table.now c.as_str.result.now (Ok statement) (answered c.as_str.result.now statement c.in-Ok.ensures.answer) c.in-Ok.ensures.ok in
-    subst (λ t. Tells c.creates_on.result (IsPolicyText c.args.table.now t)) c.as_str.ensures (subst (λ b. Tells b (IsPolicyText c.args.table.now c.as_str.result.now)) (sym c.creates_on.ensures) told)
+    subst (λ t. TellsWhether c.creates_on.result (IsPolicyText c.args.table.now t)) c.as_str.ensures (subst (λ b. TellsWhether b (IsPolicyText c.args.table.now c.as_str.result.now)) (sym c.creates_on.ensures) told)
 
 pub returns-in-Err : goal.returns-in-Err
 returns-in-Err c =
     let other : ¬ (c.in-Err.refusal ≡ NoMemory) = search rules in
-    policy_told c.args.table.now c.args.text.now (Err c.in-Err.refusal) (subst (λ t. Answers (words_of t) (Err c.in-Err.refusal)) c.as_str.ensures (refused c.as_str.result.now c.in-Err.refusal c.in-Err.ensures.answer other)) tt
+    policy_told c.args.table.now c.args.text.now (Err c.in-Err.refusal) (subst (λ t. IsParseResult (words_of t) (Err c.in-Err.refusal)) c.as_str.ensures (refused c.as_str.result.now c.in-Err.refusal c.in-Err.ensures.answer other)) tt

@@ -1,5 +1,5 @@
 use Rattle.std.proofs.Common.{sym, subst, ◌∙◌}
-use Rattle.rls_text.specs.{Answers.IsSpelled, Words.words_of}
+use Rattle.rls_text.specs.{ParseResults.IsSpelled, Words.words_of}
 use Rattle.rls_audit.specs.Showing.{IsSpellable}
 use Rattle.rls_audit.proofs.showing.answer_with.Goals as goal
 

@@ -1,6 +1,6 @@
 use Rattle.std.specs.String.{string_bytes}
 use Rattle.std.proofs.Common.{subst, sym}
-use Rattle.rls_text.specs.{Answers.IsSpelled, Words.words_of}
+use Rattle.rls_text.specs.{ParseResults.IsSpelled, Words.words_of}
 use Rattle.rls_audit.specs.Showing.{IsSpellable}
 use Rattle.rls_audit.proofs.ShowingLemmas.{spelled_again}
 use Rattle.rls_audit.proofs.showing.statement_text.Goals as goal

@@ -11,6 +11,6 @@ invariant-loop-key g l =
     record {
       state : g.S.RowSource.state l.source ≡ g.S.RowSource.state l.fn.source;
       given : whole.gives ≡ and_then rest.gives (λ others. Ok (l.taken || others));
-      noted : l.notes ++ rest.reads ≡ l.fn.notes ++ whole.reads;
+      noted : l.read_set ++ rest.reads ≡ l.fn.read_set ++ whole.reads;
       read : g.S.RowSource.after l.source rest.reads ≡ g.S.RowSource.after l.fn.source whole.reads;
     }

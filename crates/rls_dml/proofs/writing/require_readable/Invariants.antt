@@ -5,11 +5,11 @@ use Rattle.rls_dml.proofs.writing.require_readable.Given as goal
 -- the source stands for the same state, and what is left leads to the whole
 abbrev pub invariant-loop-name : goal.invariant-loop-name
 invariant-loop-name g l =
-    let whole = (readable_or_denied l.standing l.names).in_state (g.S.RowSource.state l.fn.source) in
-    let rest = (readable_or_denied l.standing (drop l.name-index l.names)).in_state (g.S.RowSource.state l.fn.source) in
+    let whole = (readable_or_denied l.role_privileges l.names).in_state (g.S.RowSource.state l.fn.source) in
+    let rest = (readable_or_denied l.role_privileges (drop l.name-index l.names)).in_state (g.S.RowSource.state l.fn.source) in
     record {
       state : g.S.RowSource.state l.source ≡ g.S.RowSource.state l.fn.source;
       given : whole.gives ≡ rest.gives;
-      noted : l.notes ++ rest.reads ≡ l.fn.notes ++ whole.reads;
+      noted : l.read_set ++ rest.reads ≡ l.fn.read_set ++ whole.reads;
       read : g.S.RowSource.after l.source rest.reads ≡ g.S.RowSource.after l.fn.source whole.reads;
     }

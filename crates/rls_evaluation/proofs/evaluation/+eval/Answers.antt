@@ -6,13 +6,13 @@ use Rattle.rls_expr.specs.{declared.expr.Sign.TheVariants.Plus, ExprTerms.query_
 use Rattle.rls_expr.specs.Terms as terms
 use Rattle.rls_expr.proofs.TermSizes.{size_at}
 use Rattle.rls_source.specs.{Readings.unread, Askings.Asking, Askings.known, Askings.followed_by}
-use Rattle.rls_evaluation.specs.{Environments.inside, Environments.compared, Environments.over, Environments.number_or_null, Environments.joined, Gathering.gathered, Gathering.kept, Gathering.with_row, Answering.FoundAt, ValueSets.IsSetOf, Showing.shows, Showing.judgements_on, Showing.is_allowed, Showing.is_exempt, Showing.with_judgement, Holding.Holds, Holding.Tells, Holding.shown_at, Holding.object_for, Alone.items_seen, Alone.items_for, Alone.asked_query, Alone.with_item, Alone.any_equal, Eval.value_of, Eval.together, Eval.and_value, Eval.or_value, Eval.or_equal, Eval.turned, Eval.turned_value, Eval.among_items, Eval.item_equals, Eval.item_if, Eval.item_of, Eval.item_or, Eval.meets, Eval.or_item, Eval.ranged_over, Eval.has_row, Eval.sum_from, Scoping.env_of, Scoping.held_value, Scoping.held_now, Scoping.maybe_held, Scoping.maybe_now, Scoping.number_value}
-use Rattle.rls_evaluation.proofs.{Telling.leads_whole, Telling.tells_then, Telling.tells_as, Telling.tells_same, Telling.tells_unread, Telling.tells_on, Telling.tells_over, Telling.tells_of, Telling.tells_item, Telling.tells_given, Telling.on_ok_then, Telling.drop_at, AnswerLemmas.holds_answered, AnswerLemmas.comes_found, AnswerLemmas.exists_told, AnswerLemmas.within_told, AnswerLemmas.seen_over, AnswerLemmas.null_told, AnswerLemmas.comes_of, Absorbing.holds_shown, Exempting.given_as, Exempting.tells_exempt, Fencing.shows_found, Fencing.shows_none, Fencing.size_found, Fencing.condition_at, LoopLemmas.and_again, LoopLemmas.or_again, LoopLemmas.and_none, LoopLemmas.or_none, LoopLemmas.and_last, LoopLemmas.or_last, LoopLemmas.terms_turn, LoopLemmas.terms_end, LoopLemmas.rows_turn, LoopLemmas.item_again, LoopLemmas.item_added, LoopLemmas.row_added, LoopLemmas.judgement_added, LoopLemmas.sum_told, LoopLemmas.sum_on}
+use Rattle.rls_evaluation.specs.{Environments.inside, Environments.compared, Environments.over, Environments.number_or_null, Environments.joined, Gathering.gathered, Gathering.kept, Gathering.with_row, CachedSubplans.FoundAt, ValueSets.IsSetOf, Showing.shows, Showing.judgements_on, Showing.is_allowed, Showing.is_exempt, Showing.with_judgement, Holding.Holds, Holding.Evaluates, Holding.shown_at, Holding.object_for, Alone.items_seen, Alone.items_for, Alone.asked_query, Alone.with_item, Alone.any_equal, Eval.value_of, Eval.together, Eval.and_value, Eval.or_value, Eval.or_equal, Eval.turned, Eval.turned_value, Eval.among_items, Eval.item_equals, Eval.item_if, Eval.item_of, Eval.item_or, Eval.meets, Eval.or_item, Eval.ranged_over, Eval.has_row, Eval.sum_from, Scoping.env_of, Scoping.datum_value, Scoping.datum_now, Scoping.maybe_datum, Scoping.maybe_now, Scoping.number_value}
+use Rattle.rls_evaluation.proofs.{Telling.leads_whole, Telling.tells_then, Telling.tells_as, Telling.tells_same, Telling.tells_unread, Telling.tells_on, Telling.tells_over, Telling.tells_of, Telling.tells_item, Telling.tells_given, Telling.on_ok_then, Telling.drop_at, CachedSubplanLemmas.holds_cached, CachedSubplanLemmas.comes_found, CachedSubplanLemmas.exists_told, CachedSubplanLemmas.within_told, CachedSubplanLemmas.seen_over, CachedSubplanLemmas.null_told, CachedSubplanLemmas.comes_of, Absorbing.holds_shown, Exempting.given_as, Exempting.tells_exempt, RelationLemmas.shows_found, RelationLemmas.shows_none, RelationLemmas.size_found, RelationLemmas.condition_at, LoopLemmas.and_again, LoopLemmas.or_again, LoopLemmas.and_none, LoopLemmas.or_none, LoopLemmas.and_last, LoopLemmas.or_last, LoopLemmas.terms_turn, LoopLemmas.terms_end, LoopLemmas.rows_turn, LoopLemmas.item_again, LoopLemmas.item_added, LoopLemmas.row_added, LoopLemmas.judgement_added, LoopLemmas.sum_told, LoopLemmas.sum_on}
 use Rattle.rls_evaluation.proofs.evaluation.+eval.Goals as goal
 
 pub conjunction-loop-part-init : goal.conjunction-loop-part-init
 conjunction-loop-part-init g t c =
-    record { stands = refl; leads = leads_whole (together and_value True (terms_of c.args.parts.now) (shows (drop c.args.view.from c.args.view.fences.now) c.args.env.now.user.now) (env_of c.args.env.now)) (conjunction_of True) _ _ and_none; holds = c.requires }
+    record { stands = refl; leads = leads_whole (together and_value True (terms_of c.args.parts.now) (shows (drop c.args.visible.from c.args.visible.relations.now) c.args.env.now.user.now) (env_of c.args.env.now)) (conjunction_of True) _ _ and_none; holds = c.requires }
 
 pub conjunction-condition_value-requires : goal.conjunction-condition_value-requires
 conjunction-condition_value-requires g t c κs within = (omega (arith, size_at _ _ _ c.loop-part-test.true c.part-item.is), search rules)
@@ -20,22 +20,22 @@ conjunction-condition_value-requires g t c κs within = (omega (arith, size_at _
 pub conjunction-loop-part-preserved : goal.conjunction-loop-part-preserved
 conjunction-loop-part-preserved g t c =
     record {
-      stands = c.in_ok-held.ensures.tells.stands ∙ c.loop-part.invariant.stands;
-      leads = terms_turn conjunction_of and_again truth_in True (shows (drop c.args.view.from c.args.view.fences.now) c.args.env.now.user.now) (env_of c.args.env.now)
-          c.args.parts.now c.loop-part.part-index c.part-item.result (held_value c.in_ok-held.held) c.loop-part.so_far c.and-so_far.result _ _ _ _ _ _
-          c.loop-part-test.true c.part-item.is (c.and-so_far.ensures ∙ ap (conjunction_of c.loop-part.so_far) c.truth.ensures) c.loop-part.invariant.stands c.loop-part.invariant.leads c.in_ok-held.ensures.tells;
-      holds = c.in_ok-held.ensures.holds;
+      stands = c.in_ok-datum.ensures.tells.stands ∙ c.loop-part.invariant.stands;
+      leads = terms_turn conjunction_of and_again truth_in True (shows (drop c.args.visible.from c.args.visible.relations.now) c.args.env.now.user.now) (env_of c.args.env.now)
+          c.args.parts.now c.loop-part.part-index c.part-item.result (datum_value c.in_ok-datum.datum) c.loop-part.so_far c.and-so_far.result _ _ _ _ _ _
+          c.loop-part-test.true c.part-item.is (c.and-so_far.ensures ∙ ap (conjunction_of c.loop-part.so_far) c.truth.ensures) c.loop-part.invariant.stands c.loop-part.invariant.leads c.in_ok-datum.ensures.tells;
+      holds = c.in_ok-datum.ensures.holds;
     }
 
 pub conjunction-returns-clause-tells : goal.conjunction-returns-clause-tells
 conjunction-returns-clause-tells g t c =
-    tells_as (together and_value True (terms_of c.args.parts.now) (shows (drop c.args.view.from c.args.view.fences.now) c.args.env.now.user.now) (env_of c.args.env.now)) value_of_truth _ _ _ _ c.loop-part.so_far (held_value c.held_truth.result)
-    (terms_end conjunction_of truth_in True (shows (drop c.args.view.from c.args.view.fences.now) c.args.env.now.user.now) (env_of c.args.env.now) c.args.parts.now c.loop-part.part-index c.loop-part.so_far _ _ _ _ c.loop-part-test.false (and_last c.loop-part.so_far) c.loop-part.invariant.stands c.loop-part.invariant.leads)
+    tells_as (together and_value True (terms_of c.args.parts.now) (shows (drop c.args.visible.from c.args.visible.relations.now) c.args.env.now.user.now) (env_of c.args.env.now)) value_of_truth _ _ _ _ c.loop-part.so_far (datum_value c.datum_truth.result)
+    (terms_end conjunction_of truth_in True (shows (drop c.args.visible.from c.args.visible.relations.now) c.args.env.now.user.now) (env_of c.args.env.now) c.args.parts.now c.loop-part.part-index c.loop-part.so_far _ _ _ _ c.loop-part-test.false (and_last c.loop-part.so_far) c.loop-part.invariant.stands c.loop-part.invariant.leads)
     (search rules)
 
 pub disjunction-loop-part-init : goal.disjunction-loop-part-init
 disjunction-loop-part-init g t c =
-    record { stands = refl; leads = leads_whole (together or_value False (terms_of c.args.parts.now) (shows (drop c.args.view.from c.args.view.fences.now) c.args.env.now.user.now) (env_of c.args.env.now)) (disjunction_of False) _ _ or_none; holds = c.requires }
+    record { stands = refl; leads = leads_whole (together or_value False (terms_of c.args.parts.now) (shows (drop c.args.visible.from c.args.visible.relations.now) c.args.env.now.user.now) (env_of c.args.env.now)) (disjunction_of False) _ _ or_none; holds = c.requires }
 
 pub disjunction-condition_value-requires : goal.disjunction-condition_value-requires
 disjunction-condition_value-requires g t c κs within = (omega (arith, size_at _ _ _ c.loop-part-test.true c.part-item.is), search rules)
@@ -43,22 +43,22 @@ disjunction-condition_value-requires g t c κs within = (omega (arith, size_at _
 pub disjunction-loop-part-preserved : goal.disjunction-loop-part-preserved
 disjunction-loop-part-preserved g t c =
     record {
-      stands = c.in_ok-held.ensures.tells.stands ∙ c.loop-part.invariant.stands;
-      leads = terms_turn disjunction_of or_again truth_in False (shows (drop c.args.view.from c.args.view.fences.now) c.args.env.now.user.now) (env_of c.args.env.now)
-          c.args.parts.now c.loop-part.part-index c.part-item.result (held_value c.in_ok-held.held) c.loop-part.so_far c.or-so_far.result _ _ _ _ _ _
-          c.loop-part-test.true c.part-item.is (c.or-so_far.ensures ∙ ap (disjunction_of c.loop-part.so_far) c.truth.ensures) c.loop-part.invariant.stands c.loop-part.invariant.leads c.in_ok-held.ensures.tells;
-      holds = c.in_ok-held.ensures.holds;
+      stands = c.in_ok-datum.ensures.tells.stands ∙ c.loop-part.invariant.stands;
+      leads = terms_turn disjunction_of or_again truth_in False (shows (drop c.args.visible.from c.args.visible.relations.now) c.args.env.now.user.now) (env_of c.args.env.now)
+          c.args.parts.now c.loop-part.part-index c.part-item.result (datum_value c.in_ok-datum.datum) c.loop-part.so_far c.or-so_far.result _ _ _ _ _ _
+          c.loop-part-test.true c.part-item.is (c.or-so_far.ensures ∙ ap (disjunction_of c.loop-part.so_far) c.truth.ensures) c.loop-part.invariant.stands c.loop-part.invariant.leads c.in_ok-datum.ensures.tells;
+      holds = c.in_ok-datum.ensures.holds;
     }
 
 pub disjunction-returns-clause-tells : goal.disjunction-returns-clause-tells
 disjunction-returns-clause-tells g t c =
-    tells_as (together or_value False (terms_of c.args.parts.now) (shows (drop c.args.view.from c.args.view.fences.now) c.args.env.now.user.now) (env_of c.args.env.now)) value_of_truth _ _ _ _ c.loop-part.so_far (held_value c.held_truth.result)
-    (terms_end disjunction_of truth_in False (shows (drop c.args.view.from c.args.view.fences.now) c.args.env.now.user.now) (env_of c.args.env.now) c.args.parts.now c.loop-part.part-index c.loop-part.so_far _ _ _ _ c.loop-part-test.false (or_last c.loop-part.so_far) c.loop-part.invariant.stands c.loop-part.invariant.leads)
+    tells_as (together or_value False (terms_of c.args.parts.now) (shows (drop c.args.visible.from c.args.visible.relations.now) c.args.env.now.user.now) (env_of c.args.env.now)) value_of_truth _ _ _ _ c.loop-part.so_far (datum_value c.datum_truth.result)
+    (terms_end disjunction_of truth_in False (shows (drop c.args.visible.from c.args.visible.relations.now) c.args.env.now.user.now) (env_of c.args.env.now) c.args.parts.now c.loop-part.part-index c.loop-part.so_far _ _ _ _ c.loop-part-test.false (or_last c.loop-part.so_far) c.loop-part.invariant.stands c.loop-part.invariant.leads)
     (search rules)
 
 pub is_one_of-loop-part-init : goal.is_one_of-loop-part-init
 is_one_of-loop-part-init g t c =
-    record { stands = refl; leads = leads_whole (together (or_equal (held_value c.args.value.now)) False (terms_of c.args.list.now) (shows (drop c.args.view.from c.args.view.fences.now) c.args.env.now.user.now) (env_of c.args.env.now)) (disjunction_of False) _ _ or_none; holds = c.requires }
+    record { stands = refl; leads = leads_whole (together (or_equal (datum_value c.args.value.now)) False (terms_of c.args.list.now) (shows (drop c.args.visible.from c.args.visible.relations.now) c.args.env.now.user.now) (env_of c.args.env.now)) (disjunction_of False) _ _ or_none; holds = c.requires }
 
 pub is_one_of-eval-requires : goal.is_one_of-eval-requires
 is_one_of-eval-requires g t c κs within = (omega (arith, size_at _ _ _ c.loop-part-test.true c.part-item.is), search rules)
@@ -66,86 +66,86 @@ is_one_of-eval-requires g t c κs within = (omega (arith, size_at _ _ _ c.loop-p
 pub is_one_of-loop-part-preserved : goal.is_one_of-loop-part-preserved
 is_one_of-loop-part-preserved g t c =
     record {
-      stands = c.in_ok-held.ensures.tells.stands ∙ c.loop-part.invariant.stands;
-      leads = terms_turn disjunction_of or_again (equal_values (held_value c.args.value.now)) False (shows (drop c.args.view.from c.args.view.fences.now) c.args.env.now.user.now) (env_of c.args.env.now)
-          c.args.list.now c.loop-part.part-index c.part-item.result (held_value c.in_ok-held.held) c.loop-part.so_far c.or-so_far.result _ _ _ _ _ _
-          c.loop-part-test.true c.part-item.is (c.or-so_far.ensures ∙ ap (disjunction_of c.loop-part.so_far) c.equals.ensures) c.loop-part.invariant.stands c.loop-part.invariant.leads c.in_ok-held.ensures.tells;
-      holds = c.in_ok-held.ensures.holds;
+      stands = c.in_ok-datum.ensures.tells.stands ∙ c.loop-part.invariant.stands;
+      leads = terms_turn disjunction_of or_again (equal_values (datum_value c.args.value.now)) False (shows (drop c.args.visible.from c.args.visible.relations.now) c.args.env.now.user.now) (env_of c.args.env.now)
+          c.args.list.now c.loop-part.part-index c.part-item.result (datum_value c.in_ok-datum.datum) c.loop-part.so_far c.or-so_far.result _ _ _ _ _ _
+          c.loop-part-test.true c.part-item.is (c.or-so_far.ensures ∙ ap (disjunction_of c.loop-part.so_far) c.equals.ensures) c.loop-part.invariant.stands c.loop-part.invariant.leads c.in_ok-datum.ensures.tells;
+      holds = c.in_ok-datum.ensures.holds;
     }
 
 pub among-returns-clause-tells : goal.among-returns-clause-tells
 among-returns-clause-tells g t c =
-    tells_then (value_of c.args.operand.now (shows (drop c.args.view.from c.args.view.fences.now) c.args.env.now.user.now) (env_of c.args.env.now)) (λ x. turned_value c.args.is_negated (together (or_equal x) False (terms_of c.args.list.now) (shows (drop c.args.view.from c.args.view.fences.now) c.args.env.now.user.now) (env_of c.args.env.now)))
-    _ _ _ _ _ _ (held_value c.in_ok-held.held) (held_value c.held_truth.result) c.in_ok-held.ensures.tells
-    (tells_as (together (or_equal (held_value c.in_ok-held.held)) False (terms_of c.args.list.now) (shows (drop c.args.view.from c.args.view.fences.now) c.args.env.now.user.now) (env_of c.args.env.now)) (λ truth. value_of_truth (turned c.args.is_negated truth)) _ _ _ _ c.in_ok-truth.truth (held_value c.held_truth.result) c.in_ok-truth.ensures.tells (search rules))
+    tells_then (value_of c.args.operand.now (shows (drop c.args.visible.from c.args.visible.relations.now) c.args.env.now.user.now) (env_of c.args.env.now)) (λ x. turned_value c.args.is_negated (together (or_equal x) False (terms_of c.args.list.now) (shows (drop c.args.visible.from c.args.visible.relations.now) c.args.env.now.user.now) (env_of c.args.env.now)))
+    _ _ _ _ _ _ (datum_value c.in_ok-datum.datum) (datum_value c.datum_truth.result) c.in_ok-datum.ensures.tells
+    (tells_as (together (or_equal (datum_value c.in_ok-datum.datum)) False (terms_of c.args.list.now) (shows (drop c.args.visible.from c.args.visible.relations.now) c.args.env.now.user.now) (env_of c.args.env.now)) (λ truth. value_of_truth (turned c.args.is_negated truth)) _ _ _ _ c.in_ok-truth.truth (datum_value c.datum_truth.result) c.in_ok-truth.ensures.tells (search rules))
 
 pub within-returns-clause-tells : goal.within-returns-clause-tells
 within-returns-clause-tells g t c =
-    tells_then (value_of c.args.operand.now (shows (drop c.args.view.from c.args.view.fences.now) c.args.env.now.user.now) (env_of c.args.env.now)) (λ x. turned_value c.args.is_negated (among_items x (query_of c.args.query.now) (shows (drop c.args.view.from c.args.view.fences.now) c.args.env.now.user.now) (env_of c.args.env.now)))
-    _ _ _ _ _ _ (held_value c.in_ok-held.held) (held_value c.held_truth.result) c.in_ok-held.ensures.tells
-    (tells_as (among_items (held_value c.in_ok-held.held) (query_of c.args.query.now) (shows (drop c.args.view.from c.args.view.fences.now) c.args.env.now.user.now) (env_of c.args.env.now)) (λ truth. value_of_truth (turned c.args.is_negated truth)) _ _ _ _ c.in_ok-truth.truth (held_value c.held_truth.result) c.in_ok-truth.ensures.tells (search rules))
+    tells_then (value_of c.args.operand.now (shows (drop c.args.visible.from c.args.visible.relations.now) c.args.env.now.user.now) (env_of c.args.env.now)) (λ x. turned_value c.args.is_negated (among_items x (query_of c.args.query.now) (shows (drop c.args.visible.from c.args.visible.relations.now) c.args.env.now.user.now) (env_of c.args.env.now)))
+    _ _ _ _ _ _ (datum_value c.in_ok-datum.datum) (datum_value c.datum_truth.result) c.in_ok-datum.ensures.tells
+    (tells_as (among_items (datum_value c.in_ok-datum.datum) (query_of c.args.query.now) (shows (drop c.args.visible.from c.args.visible.relations.now) c.args.env.now.user.now) (env_of c.args.env.now)) (λ truth. value_of_truth (turned c.args.is_negated truth)) _ _ _ _ c.in_ok-truth.truth (datum_value c.datum_truth.result) c.in_ok-truth.ensures.tells (search rules))
 
 pub comparison-returns-clause-tells : goal.comparison-returns-clause-tells
 comparison-returns-clause-tells g t c =
-    tells_then (value_of c.args.left.now (shows (drop c.args.view.from c.args.view.fences.now) c.args.env.now.user.now) (env_of c.args.env.now)) (λ x. followed_by (value_of c.args.right.now (shows (drop c.args.view.from c.args.view.fences.now) c.args.env.now.user.now) (env_of c.args.env.now)) (λ y. known (Ok (value_of_truth (compared c.args.how x y)))))
-    _ _ _ _ _ _ (held_value c.in_ok-left.left) (held_value c.held_truth.result) c.in_ok-left.ensures.tells
-    (tells_as (value_of c.args.right.now (shows (drop c.args.view.from c.args.view.fences.now) c.args.env.now.user.now) (env_of c.args.env.now)) (λ y. value_of_truth (compared c.args.how (held_value c.in_ok-left.left) y)) _ _ _ _ (held_value c.in_ok-right.right) (held_value c.held_truth.result) c.in_ok-right.ensures.tells (search rules))
+    tells_then (value_of c.args.left.now (shows (drop c.args.visible.from c.args.visible.relations.now) c.args.env.now.user.now) (env_of c.args.env.now)) (λ x. followed_by (value_of c.args.right.now (shows (drop c.args.visible.from c.args.visible.relations.now) c.args.env.now.user.now) (env_of c.args.env.now)) (λ y. known (Ok (value_of_truth (compared c.args.how x y)))))
+    _ _ _ _ _ _ (datum_value c.in_ok-left.left) (datum_value c.datum_truth.result) c.in_ok-left.ensures.tells
+    (tells_as (value_of c.args.right.now (shows (drop c.args.visible.from c.args.visible.relations.now) c.args.env.now.user.now) (env_of c.args.env.now)) (λ y. value_of_truth (compared c.args.how (datum_value c.in_ok-left.left) y)) _ _ _ _ (datum_value c.in_ok-right.right) (datum_value c.datum_truth.result) c.in_ok-right.ensures.tells (search rules))
 
 pub eval-returns-in-Compare-clause-tells : goal.eval-returns-in-Compare-clause-tells
 eval-returns-in-Compare-clause-tells g t c =
     let same : terms.Compare c.in-Compare.how c.deref.result.now c.deref-in-Compare.result.now ≡ c.args.expr.now = search rules in
-    subst (λ k. Tells (value_of k (shows (drop c.args.view.from c.args.view.fences.now) c.args.env.now.user.now) (env_of c.args.env.now)) (g.S.Tables.state c.args.source.now) (g.S.Tables.state c.comparison.new.source) c.args.work.now.notes c.comparison.new.work.notes (held_now c.comparison.result)) same c.comparison.ensures.tells
+    subst (λ k. Evaluates (value_of k (shows (drop c.args.visible.from c.args.visible.relations.now) c.args.env.now.user.now) (env_of c.args.env.now)) (g.S.Tables.state c.args.source.now) (g.S.Tables.state c.comparison.new.source) c.args.execution.now.read_set c.comparison.new.execution.read_set (datum_now c.comparison.result)) same c.comparison.ensures.tells
 
-pub eval-returns-in-Among-clause-tells : goal.eval-returns-in-Among-clause-tells
-eval-returns-in-Among-clause-tells g t c =
-    let same : terms.Among c.deref-in-Among.result.now (terms_of c.deref-in-Among-2.result.now) ≡ c.args.expr.now = search rules in
-    subst (λ k. Tells (value_of k (shows (drop c.args.view.from c.args.view.fences.now) c.args.env.now.user.now) (env_of c.args.env.now)) (g.S.Tables.state c.args.source.now) (g.S.Tables.state c.among.new.source) c.args.work.now.notes c.among.new.work.notes (held_now c.among.result)) same c.among.ensures.tells
+pub eval-returns-in-InList-clause-tells : goal.eval-returns-in-InList-clause-tells
+eval-returns-in-InList-clause-tells g t c =
+    let same : terms.InList c.deref-in-InList.result.now (terms_of c.deref-in-InList-2.result.now) ≡ c.args.expr.now = search rules in
+    subst (λ k. Evaluates (value_of k (shows (drop c.args.visible.from c.args.visible.relations.now) c.args.env.now.user.now) (env_of c.args.env.now)) (g.S.Tables.state c.args.source.now) (g.S.Tables.state c.among.new.source) c.args.execution.now.read_set c.among.new.execution.read_set (datum_now c.among.result)) same c.among.ensures.tells
 
-pub eval-returns-in-NotAmong-clause-tells : goal.eval-returns-in-NotAmong-clause-tells
-eval-returns-in-NotAmong-clause-tells g t c =
-    let same : terms.NotAmong c.deref-in-NotAmong.result.now (terms_of c.deref-in-NotAmong-2.result.now) ≡ c.args.expr.now = search rules in
-    subst (λ k. Tells (value_of k (shows (drop c.args.view.from c.args.view.fences.now) c.args.env.now.user.now) (env_of c.args.env.now)) (g.S.Tables.state c.args.source.now) (g.S.Tables.state c.among-in-NotAmong.new.source) c.args.work.now.notes c.among-in-NotAmong.new.work.notes (held_now c.among-in-NotAmong.result)) same c.among-in-NotAmong.ensures.tells
+pub eval-returns-in-NotInList-clause-tells : goal.eval-returns-in-NotInList-clause-tells
+eval-returns-in-NotInList-clause-tells g t c =
+    let same : terms.NotInList c.deref-in-NotInList.result.now (terms_of c.deref-in-NotInList-2.result.now) ≡ c.args.expr.now = search rules in
+    subst (λ k. Evaluates (value_of k (shows (drop c.args.visible.from c.args.visible.relations.now) c.args.env.now.user.now) (env_of c.args.env.now)) (g.S.Tables.state c.args.source.now) (g.S.Tables.state c.among-in-NotInList.new.source) c.args.execution.now.read_set c.among-in-NotInList.new.execution.read_set (datum_now c.among-in-NotInList.result)) same c.among-in-NotInList.ensures.tells
 
 pub eval-returns-in-Exists-clause-tells : goal.eval-returns-in-Exists-clause-tells
 eval-returns-in-Exists-clause-tells g t c =
     let same : terms.Exists (query_of c.deref-in-Exists.result.now) ≡ c.args.expr.now = search rules in
-    subst (λ k. Tells (value_of k (shows (drop c.args.view.from c.args.view.fences.now) c.args.env.now.user.now) (env_of c.args.env.now)) (g.S.Tables.state c.args.source.now) (g.S.Tables.state c.exists.new.source) c.args.work.now.notes c.exists.new.work.notes (held_now c.exists.result)) same c.exists.ensures.tells
+    subst (λ k. Evaluates (value_of k (shows (drop c.args.visible.from c.args.visible.relations.now) c.args.env.now.user.now) (env_of c.args.env.now)) (g.S.Tables.state c.args.source.now) (g.S.Tables.state c.exists.new.source) c.args.execution.now.read_set c.exists.new.execution.read_set (datum_now c.exists.result)) same c.exists.ensures.tells
 
 pub eval-returns-in-Within-clause-tells : goal.eval-returns-in-Within-clause-tells
 eval-returns-in-Within-clause-tells g t c =
     let same : terms.Within c.deref-in-Within.result.now (query_of c.deref-in-Within-2.result.now) ≡ c.args.expr.now = search rules in
-    subst (λ k. Tells (value_of k (shows (drop c.args.view.from c.args.view.fences.now) c.args.env.now.user.now) (env_of c.args.env.now)) (g.S.Tables.state c.args.source.now) (g.S.Tables.state c.within.new.source) c.args.work.now.notes c.within.new.work.notes (held_now c.within.result)) same c.within.ensures.tells
+    subst (λ k. Evaluates (value_of k (shows (drop c.args.visible.from c.args.visible.relations.now) c.args.env.now.user.now) (env_of c.args.env.now)) (g.S.Tables.state c.args.source.now) (g.S.Tables.state c.within.new.source) c.args.execution.now.read_set c.within.new.execution.read_set (datum_now c.within.result)) same c.within.ensures.tells
 
-pub eval-returns-in-NotWithin-clause-tells : goal.eval-returns-in-NotWithin-clause-tells
-eval-returns-in-NotWithin-clause-tells g t c =
-    let same : terms.NotWithin c.deref-in-NotWithin.result.now (query_of c.deref-in-NotWithin-2.result.now) ≡ c.args.expr.now = search rules in
-    subst (λ k. Tells (value_of k (shows (drop c.args.view.from c.args.view.fences.now) c.args.env.now.user.now) (env_of c.args.env.now)) (g.S.Tables.state c.args.source.now) (g.S.Tables.state c.within-in-NotWithin.new.source) c.args.work.now.notes c.within-in-NotWithin.new.work.notes (held_now c.within-in-NotWithin.result)) same c.within-in-NotWithin.ensures.tells
+pub eval-returns-in-NotInSubquery-clause-tells : goal.eval-returns-in-NotInSubquery-clause-tells
+eval-returns-in-NotInSubquery-clause-tells g t c =
+    let same : terms.NotInSubquery c.deref-in-NotInSubquery.result.now (query_of c.deref-in-NotInSubquery-2.result.now) ≡ c.args.expr.now = search rules in
+    subst (λ k. Evaluates (value_of k (shows (drop c.args.visible.from c.args.visible.relations.now) c.args.env.now.user.now) (env_of c.args.env.now)) (g.S.Tables.state c.args.source.now) (g.S.Tables.state c.within-in-NotInSubquery.new.source) c.args.execution.now.read_set c.within-in-NotInSubquery.new.execution.read_set (datum_now c.within-in-NotInSubquery.result)) same c.within-in-NotInSubquery.ensures.tells
 
 pub eval-returns-in-Scalar-clause-tells : goal.eval-returns-in-Scalar-clause-tells
 eval-returns-in-Scalar-clause-tells g t c =
     let same : terms.Scalar (query_of c.deref-in-Scalar.result.now) ≡ c.args.expr.now = search rules in
-    subst (λ k. Tells (value_of k (shows (drop c.args.view.from c.args.view.fences.now) c.args.env.now.user.now) (env_of c.args.env.now)) (g.S.Tables.state c.args.source.now) (g.S.Tables.state c.scalar.new.source) c.args.work.now.notes c.scalar.new.work.notes (held_now c.scalar.result)) same c.scalar.ensures.tells
+    subst (λ k. Evaluates (value_of k (shows (drop c.args.visible.from c.args.visible.relations.now) c.args.env.now.user.now) (env_of c.args.env.now)) (g.S.Tables.state c.args.source.now) (g.S.Tables.state c.scalar.new.source) c.args.execution.now.read_set c.scalar.new.execution.read_set (datum_now c.scalar.result)) same c.scalar.ensures.tells
 
 pub exists-returns-in-Ok-clause-tells : goal.exists-returns-in-Ok-clause-tells
 exists-returns-in-Ok-clause-tells g t c =
-    tells_as (has_row (query_of c.args.query.now) (shows (drop c.args.view.from c.args.view.fences.now) c.args.env.now.user.now) (env_of c.args.env.now)) Flag _ _ _ _ c.in-Ok.met (Flag c.in-Ok.met)
-    (tells_over (ranged_over (query_of c.args.query.now) (shows (drop c.args.view.from c.args.view.fences.now) c.args.env.now.user.now) (env_of c.args.env.now)) (λ rows. gathered (λ row is rest. is || rest) false (λ row. meets (maybe_term c.args.query.now.condition) (shows (drop c.args.view.from c.args.view.fences.now) c.args.env.now.user.now) (inside row (env_of c.args.env.now))) rows) _ _ _ _ _ _ c.in_ok-rows.rows c.as_slice.result.now c.in-Ok.met c.as_slice.ensures c.in_ok-rows.ensures.tells c.in-Ok.ensures.tells) refl
+    tells_as (has_row (query_of c.args.query.now) (shows (drop c.args.visible.from c.args.visible.relations.now) c.args.env.now.user.now) (env_of c.args.env.now)) Flag _ _ _ _ c.in-Ok.met (Flag c.in-Ok.met)
+    (tells_over (ranged_over (query_of c.args.query.now) (shows (drop c.args.visible.from c.args.visible.relations.now) c.args.env.now.user.now) (env_of c.args.env.now)) (λ rows. gathered (λ row is rest. is || rest) false (λ row. meets (maybe_term c.args.query.now.condition) (shows (drop c.args.visible.from c.args.visible.relations.now) c.args.env.now.user.now) (inside row (env_of c.args.env.now))) rows) _ _ _ _ _ _ c.in_ok-rows.rows c.as_slice.result.now c.in-Ok.met c.as_slice.ensures c.in_ok-rows.ensures.tells c.in-Ok.ensures.tells) refl
 
 pub is_within-returns-clause-tells : goal.is_within-returns-clause-tells
 is_within-returns-clause-tells g t c =
-    tells_of (ranged_over (query_of c.args.query.now) (shows (drop c.args.view.from c.args.view.fences.now) c.args.env.now.user.now) (env_of c.args.env.now)) (λ rows. gathered (λ row item rest. or_item (held_value c.args.value.now) item rest) False (λ row. item_if (meets (maybe_term c.args.query.now.condition) (shows (drop c.args.view.from c.args.view.fences.now) c.args.env.now.user.now) (inside row (env_of c.args.env.now))) (item_of (terms_of c.args.query.now.items.items) (shows (drop c.args.view.from c.args.view.fences.now) c.args.env.now.user.now) (inside row (env_of c.args.env.now)))) rows) _ _ _ _ _ _ c.in_ok-rows.rows c.as_slice.result.now c.is_item-truth.result c.as_slice.ensures c.in_ok-rows.ensures.tells c.is_item-truth.ensures.tells
+    tells_of (ranged_over (query_of c.args.query.now) (shows (drop c.args.visible.from c.args.visible.relations.now) c.args.env.now.user.now) (env_of c.args.env.now)) (λ rows. gathered (λ row item rest. or_item (datum_value c.args.value.now) item rest) False (λ row. item_if (meets (maybe_term c.args.query.now.condition) (shows (drop c.args.visible.from c.args.visible.relations.now) c.args.env.now.user.now) (inside row (env_of c.args.env.now))) (item_of (terms_of c.args.query.now.items.items) (shows (drop c.args.visible.from c.args.visible.relations.now) c.args.env.now.user.now) (inside row (env_of c.args.env.now)))) rows) _ _ _ _ _ _ c.in_ok-rows.rows c.as_slice.result.now c.is_item-truth.result c.as_slice.ensures c.in_ok-rows.ensures.tells c.is_item-truth.ensures.tells
 
 pub scalar-returns-clause-tells : goal.scalar-returns-clause-tells
 scalar-returns-clause-tells g t c =
-    tells_of (ranged_over (query_of c.args.query.now) (shows (drop c.args.view.from c.args.view.fences.now) c.args.env.now.user.now) (env_of c.args.env.now)) (λ rows. gathered (λ row item rest. item_or item rest) Null (λ row. item_if (meets (maybe_term c.args.query.now.condition) (shows (drop c.args.view.from c.args.view.fences.now) c.args.env.now.user.now) (inside row (env_of c.args.env.now))) (item_of (terms_of c.args.query.now.items.items) (shows (drop c.args.view.from c.args.view.fences.now) c.args.env.now.user.now) (inside row (env_of c.args.env.now)))) rows) _ _ _ _ _ _ c.in_ok-rows.rows c.as_slice.result.now (held_now c.first_item-item.result) c.as_slice.ensures c.in_ok-rows.ensures.tells c.first_item-item.ensures.tells
+    tells_of (ranged_over (query_of c.args.query.now) (shows (drop c.args.visible.from c.args.visible.relations.now) c.args.env.now.user.now) (env_of c.args.env.now)) (λ rows. gathered (λ row item rest. item_or item rest) Null (λ row. item_if (meets (maybe_term c.args.query.now.condition) (shows (drop c.args.visible.from c.args.visible.relations.now) c.args.env.now.user.now) (inside row (env_of c.args.env.now))) (item_of (terms_of c.args.query.now.items.items) (shows (drop c.args.visible.from c.args.visible.relations.now) c.args.env.now.user.now) (inside row (env_of c.args.env.now)))) rows) _ _ _ _ _ _ c.in_ok-rows.rows c.as_slice.result.now (datum_now c.first_item-item.result) c.as_slice.ensures c.in_ok-rows.ensures.tells c.first_item-item.ensures.tells
 
 pub first_item-loop-row-preserved : goal.first_item-loop-row-preserved
 first_item-loop-row-preserved g t c =
     record {
       stands = c.in_ok-item.ensures.tells.stands ∙ c.loop-row.invariant.stands;
-      leads = rows_turn (gathered (λ row item rest. item_or item rest) Null (λ row. item_if (meets (maybe_term c.args.query.now.condition) (shows (drop c.args.view.from c.args.view.fences.now) c.args.env.now.user.now) (inside row (env_of c.args.env.now))) (item_of (terms_of c.args.query.now.items.items) (shows (drop c.args.view.from c.args.view.fences.now) c.args.env.now.user.now) (inside row (env_of c.args.env.now)))) c.args.rows.now) (item_or (maybe_held c.loop-row.first)) (item_or (maybe_held c.in_ok-first.first)) (λ row item rest. item_or item rest) Null (λ row. item_if (meets (maybe_term c.args.query.now.condition) (shows (drop c.args.view.from c.args.view.fences.now) c.args.env.now.user.now) (inside row (env_of c.args.env.now))) (item_of (terms_of c.args.query.now.items.items) (shows (drop c.args.view.from c.args.view.fences.now) c.args.env.now.user.now) (inside row (env_of c.args.env.now))))
-          c.args.rows.now c.loop-row.row-index c.row-item.result (maybe_held c.in_ok-item.item) _ _ _ _ _ _ c.loop-row-test.true c.row-item.is
-          (λ rest. item_again (maybe_held c.loop-row.first) (maybe_held c.in_ok-item.item) (maybe_held c.in_ok-first.first) rest c.in_ok-first.ensures)
+      leads = rows_turn (gathered (λ row item rest. item_or item rest) Null (λ row. item_if (meets (maybe_term c.args.query.now.condition) (shows (drop c.args.visible.from c.args.visible.relations.now) c.args.env.now.user.now) (inside row (env_of c.args.env.now))) (item_of (terms_of c.args.query.now.items.items) (shows (drop c.args.visible.from c.args.visible.relations.now) c.args.env.now.user.now) (inside row (env_of c.args.env.now)))) c.args.rows.now) (item_or (maybe_datum c.loop-row.first)) (item_or (maybe_datum c.in_ok-first.first)) (λ row item rest. item_or item rest) Null (λ row. item_if (meets (maybe_term c.args.query.now.condition) (shows (drop c.args.visible.from c.args.visible.relations.now) c.args.env.now.user.now) (inside row (env_of c.args.env.now))) (item_of (terms_of c.args.query.now.items.items) (shows (drop c.args.visible.from c.args.visible.relations.now) c.args.env.now.user.now) (inside row (env_of c.args.env.now))))
+          c.args.rows.now c.loop-row.row-index c.row-item.result (maybe_datum c.in_ok-item.item) _ _ _ _ _ _ c.loop-row-test.true c.row-item.is
+          (λ rest. item_again (maybe_datum c.loop-row.first) (maybe_datum c.in_ok-item.item) (maybe_datum c.in_ok-first.first) rest c.in_ok-first.ensures)
           c.loop-row.invariant.stands c.loop-row.invariant.leads c.in_ok-item.ensures.tells;
       holds = c.in_ok-item.ensures.holds;
     }
@@ -154,9 +154,9 @@ pub is_item-loop-row-preserved : goal.is_item-loop-row-preserved
 is_item-loop-row-preserved g t c =
     record {
       stands = c.in_ok-item.ensures.tells.stands ∙ c.loop-row.invariant.stands;
-      leads = rows_turn (gathered (λ row item rest. or_item (held_value c.args.value.now) item rest) False (λ row. item_if (meets (maybe_term c.args.query.now.condition) (shows (drop c.args.view.from c.args.view.fences.now) c.args.env.now.user.now) (inside row (env_of c.args.env.now))) (item_of (terms_of c.args.query.now.items.items) (shows (drop c.args.view.from c.args.view.fences.now) c.args.env.now.user.now) (inside row (env_of c.args.env.now)))) c.args.rows.now) (disjunction_of c.loop-row.so_far) (disjunction_of c.or_equal-so_far.result) (λ row item rest. or_item (held_value c.args.value.now) item rest) False (λ row. item_if (meets (maybe_term c.args.query.now.condition) (shows (drop c.args.view.from c.args.view.fences.now) c.args.env.now.user.now) (inside row (env_of c.args.env.now))) (item_of (terms_of c.args.query.now.items.items) (shows (drop c.args.view.from c.args.view.fences.now) c.args.env.now.user.now) (inside row (env_of c.args.env.now))))
-          c.args.rows.now c.loop-row.row-index c.row-item.result (maybe_held c.in_ok-item.item) _ _ _ _ _ _ c.loop-row-test.true c.row-item.is
-          (λ rest. ap (λ t. disjunction_of t rest) c.or_equal-so_far.ensures ∙ or_again c.loop-row.so_far (item_equals (held_value c.args.value.now) (maybe_held c.in_ok-item.item)) rest)
+      leads = rows_turn (gathered (λ row item rest. or_item (datum_value c.args.value.now) item rest) False (λ row. item_if (meets (maybe_term c.args.query.now.condition) (shows (drop c.args.visible.from c.args.visible.relations.now) c.args.env.now.user.now) (inside row (env_of c.args.env.now))) (item_of (terms_of c.args.query.now.items.items) (shows (drop c.args.visible.from c.args.visible.relations.now) c.args.env.now.user.now) (inside row (env_of c.args.env.now)))) c.args.rows.now) (disjunction_of c.loop-row.so_far) (disjunction_of c.or_equal-so_far.result) (λ row item rest. or_item (datum_value c.args.value.now) item rest) False (λ row. item_if (meets (maybe_term c.args.query.now.condition) (shows (drop c.args.visible.from c.args.visible.relations.now) c.args.env.now.user.now) (inside row (env_of c.args.env.now))) (item_of (terms_of c.args.query.now.items.items) (shows (drop c.args.visible.from c.args.visible.relations.now) c.args.env.now.user.now) (inside row (env_of c.args.env.now))))
+          c.args.rows.now c.loop-row.row-index c.row-item.result (maybe_datum c.in_ok-item.item) _ _ _ _ _ _ c.loop-row-test.true c.row-item.is
+          (λ rest. ap (λ t. disjunction_of t rest) c.or_equal-so_far.ensures ∙ or_again c.loop-row.so_far (item_equals (datum_value c.args.value.now) (maybe_datum c.in_ok-item.item)) rest)
           c.loop-row.invariant.stands c.loop-row.invariant.leads c.in_ok-item.ensures.tells;
       holds = c.in_ok-item.ensures.holds;
     }
@@ -165,7 +165,7 @@ pub is_met-loop-row-preserved : goal.is_met-loop-row-preserved
 is_met-loop-row-preserved g t c =
     record {
       stands = c.in_ok-is.ensures.tells.stands ∙ c.loop-row.invariant.stands;
-      leads = rows_turn (gathered (λ row is rest. is || rest) false (λ row. meets (maybe_term c.args.condition.now) (shows (drop c.args.view.from c.args.view.fences.now) c.args.env.now.user.now) (inside row (env_of c.args.env.now))) c.args.rows.now) (λ rest. c.loop-row.so_far || rest) (λ rest. c.either-so_far.result || rest) (λ row is rest. is || rest) false (λ row. meets (maybe_term c.args.condition.now) (shows (drop c.args.view.from c.args.view.fences.now) c.args.env.now.user.now) (inside row (env_of c.args.env.now)))
+      leads = rows_turn (gathered (λ row is rest. is || rest) false (λ row. meets (maybe_term c.args.condition.now) (shows (drop c.args.visible.from c.args.visible.relations.now) c.args.env.now.user.now) (inside row (env_of c.args.env.now))) c.args.rows.now) (λ rest. c.loop-row.so_far || rest) (λ rest. c.either-so_far.result || rest) (λ row is rest. is || rest) false (λ row. meets (maybe_term c.args.condition.now) (shows (drop c.args.visible.from c.args.visible.relations.now) c.args.env.now.user.now) (inside row (env_of c.args.env.now)))
           c.args.rows.now c.loop-row.row-index c.row-item.result c.in_ok-is.is' _ _ _ _ _ _ c.loop-row-test.true c.row-item.is
           (λ rest. ap (λ b. b || rest) c.either-so_far.ensures ∙ or_assoc c.loop-row.so_far c.in_ok-is.is' rest)
           c.loop-row.invariant.stands c.loop-row.invariant.leads c.in_ok-is.ensures.tells;
@@ -174,14 +174,14 @@ is_met-loop-row-preserved g t c =
 
 pub item_if-returns-clause-tells : goal.item_if-returns-clause-tells
 item_if-returns-clause-tells g t c =
-    tells_item (meets (maybe_term c.args.query.now.condition) (shows (drop c.args.view.from c.args.view.fences.now) c.args.env.now.user.now) (env_of c.args.env.now)) (item_of (terms_of c.args.query.now.items.items) (shows (drop c.args.view.from c.args.view.fences.now) c.args.env.now.user.now) (env_of c.args.env.now)) _ _ _ _ _ _ c.in_ok-is.is' (held_value c.in_ok-held.held) (search rules) c.in_ok-is.ensures.tells
-    (subst (λ items. Tells (item_of (terms_of items) (shows (drop c.args.view.from c.args.view.fences.now) c.args.env.now.user.now) (env_of c.args.env.now)) (g.S.Tables.state c.meets_condition.new.source) (g.S.Tables.state c.item.new.source) c.meets_condition.new.work.notes c.item.new.work.notes (Ok (held_value c.in_ok-held.held))) c.deref.ensures.value c.in_ok-held.ensures.tells)
+    tells_item (meets (maybe_term c.args.query.now.condition) (shows (drop c.args.visible.from c.args.visible.relations.now) c.args.env.now.user.now) (env_of c.args.env.now)) (item_of (terms_of c.args.query.now.items.items) (shows (drop c.args.visible.from c.args.visible.relations.now) c.args.env.now.user.now) (env_of c.args.env.now)) _ _ _ _ _ _ c.in_ok-is.is' (datum_value c.in_ok-datum.datum) (search rules) c.in_ok-is.ensures.tells
+    (subst (λ items. Evaluates (item_of (terms_of items) (shows (drop c.args.visible.from c.args.visible.relations.now) c.args.env.now.user.now) (env_of c.args.env.now)) (g.S.Tables.state c.meets_condition.new.source) (g.S.Tables.state c.item.new.source) c.meets_condition.new.execution.read_set c.item.new.execution.read_set (Ok (datum_value c.in_ok-datum.datum))) c.deref.ensures.value c.in_ok-datum.ensures.tells)
 
 pub kept_rows-loop-row-preserved : goal.kept_rows-loop-row-preserved
 kept_rows-loop-row-preserved g t c =
     record {
       stands = c.in_ok-is.ensures.tells.stands ∙ c.loop-row.invariant.stands;
-      leads = rows_turn (kept (is_allowed c.args.guard.now (shows (drop c.args.view.from c.args.view.fences.now) c.args.user.now) c.args.user.now) c.args.rows.now) (λ rest. c.loop-row.kept ++ rest) (λ rest. c.push_if.new.rows ++ rest) with_row [] (is_allowed c.args.guard.now (shows (drop c.args.view.from c.args.view.fences.now) c.args.user.now) c.args.user.now)
+      leads = rows_turn (kept (is_allowed c.args.quals.now (shows (drop c.args.visible.from c.args.visible.relations.now) c.args.user.now) c.args.user.now) c.args.rows.now) (λ rest. c.loop-row.kept ++ rest) (λ rest. c.push_if.new.rows ++ rest) with_row [] (is_allowed c.args.quals.now (shows (drop c.args.visible.from c.args.visible.relations.now) c.args.user.now) c.args.user.now)
           c.args.rows.now c.loop-row.row-index c.row-item.result c.in_ok-is.is' _ _ _ _ _ _ c.loop-row-test.true c.row-item.is
           (λ rest. row_added c.push_if.new.rows c.loop-row.kept rest c.in_ok-is.is' c.row-item.result c.in_ok-push_if.ensures)
           c.loop-row.invariant.stands c.loop-row.invariant.leads c.in_ok-is.ensures.tells;
@@ -193,121 +193,121 @@ put_judgements-condition_value-requires g t c κs within = (omega (arith, condit
 
 pub put_judgements-loop-policy-preserved : goal.put_judgements-loop-policy-preserved
 put_judgements-loop-policy-preserved g t c =
-    let added : c.push.new.self.items ≡ c.loop-policy.judgements.items ++ (c.loop-policy-item.result.0, truth_in (held_value c.in_ok-held.held)) ∷ [] = search rules in
+    let added : c.push.new.self.items ≡ c.loop-policy.judgements.items ++ (c.loop-policy-item.result.0, truth_in (datum_value c.in_ok-datum.datum)) ∷ [] = search rules in
     record {
-      stands = c.in_ok-held.ensures.tells.stands ∙ c.loop-policy.invariant.stands;
-      leads = rows_turn (judgements_on c.args.conditions.now (shows (drop c.args.view.from c.args.view.fences.now) c.args.user.now) c.args.user.now c.args.row.now) (λ rest. c.loop-policy.judgements.items ++ rest) (λ rest. c.push.new.self.items ++ rest) with_judgement [] (λ condition. value_of condition.1 (shows (drop c.args.view.from c.args.view.fences.now) c.args.user.now) (over c.args.user.now c.args.row.now))
-          c.args.conditions.now c.loop-policy.policy-index c.loop-policy-item.result (held_value c.in_ok-held.held) _ _ _ _ _ _ c.loop-policy-test.true c.loop-policy-item.is
-          (λ rest. judgement_added c.push.new.self.items c.loop-policy.judgements.items rest c.loop-policy-item.result.0 (truth_in (held_value c.in_ok-held.held)) added)
-          c.loop-policy.invariant.stands c.loop-policy.invariant.leads c.in_ok-held.ensures.tells;
-      holds = c.in_ok-held.ensures.holds;
+      stands = c.in_ok-datum.ensures.tells.stands ∙ c.loop-policy.invariant.stands;
+      leads = rows_turn (judgements_on c.args.conditions.now (shows (drop c.args.visible.from c.args.visible.relations.now) c.args.user.now) c.args.user.now c.args.row.now) (λ rest. c.loop-policy.judgements.items ++ rest) (λ rest. c.push.new.self.items ++ rest) with_judgement [] (λ condition. value_of condition.1 (shows (drop c.args.visible.from c.args.visible.relations.now) c.args.user.now) (over c.args.user.now c.args.row.now))
+          c.args.conditions.now c.loop-policy.policy-index c.loop-policy-item.result (datum_value c.in_ok-datum.datum) _ _ _ _ _ _ c.loop-policy-test.true c.loop-policy-item.is
+          (λ rest. judgement_added c.push.new.self.items c.loop-policy.judgements.items rest c.loop-policy-item.result.0 (truth_in (datum_value c.in_ok-datum.datum)) added)
+          c.loop-policy.invariant.stands c.loop-policy.invariant.leads c.in_ok-datum.ensures.tells;
+      holds = c.in_ok-datum.ensures.holds;
     }
 
-pub seen-shown_once-requires : goal.seen-shown_once-requires
-seen-shown_once-requires g t c κs within = (omega (arith, c.decreases, size_found c.args.view.fences.now (drop c.args.view.from c.args.view.fences.now) c.args.view.from c.in-Some.place c.args.table.now refl (sym c.in-Some.ensures)), search rules)
+pub seen-shown_once-requires : goal.cached_rows-shown_once-requires
+seen-shown_once-requires g t c κs within = (omega (arith, c.decreases, size_found c.args.visible.relations.now (drop c.args.visible.from c.args.visible.relations.now) c.args.visible.from c.in-Some.place c.args.table.now refl (sym c.in-Some.ensures)), search rules)
 
-pub seen-returns-in-None-clause-tells : goal.seen-returns-in-None-clause-tells
+pub seen-returns-in-None-clause-tells : goal.cached_rows-returns-in-None-clause-tells
 seen-returns-in-None-clause-tells g t c =
-    tells_unread ((shows (drop c.args.view.from c.args.view.fences.now) c.args.user.now) c.args.table.now c.args.key) (g.S.Tables.state c.args.source.now) _ c.args.work.now.notes [] c.new-in-None.result
-    (shows_none (drop c.args.view.from c.args.view.fences.now) c.args.view.from c.args.user.now c.args.table.now c.args.key (g.S.Tables.state c.args.source.now) (sym c.in-None.ensures)) refl
+    tells_unread ((shows (drop c.args.visible.from c.args.visible.relations.now) c.args.user.now) c.args.table.now c.args.key) (g.S.Tables.state c.args.source.now) _ c.args.execution.now.read_set [] c.new-in-None.result
+    (shows_none (drop c.args.visible.from c.args.visible.relations.now) c.args.visible.from c.args.user.now c.args.table.now c.args.key (g.S.Tables.state c.args.source.now) (sym c.in-None.ensures)) refl
     (subst (λ xs. IfOk c.new-in-None.result (λ found. found ≡ xs)) c.new.ensures.items c.new-in-None.ensures)
 
-pub seen-returns-in_ok-object-in-Some-clause-tells : goal.seen-returns-in_ok-object-in-Some-clause-tells
+pub seen-returns-in_ok-object-in-Some-clause-tells : goal.cached_rows-returns-in_ok-object-in-Some-clause-tells
 seen-returns-in_ok-object-in-Some-clause-tells g t c =
-    tells_same ((shows (drop c.args.view.from c.args.view.fences.now) c.args.user.now) c.args.table.now c.args.key) (shown_at c.args.view.fences.now c.args.user.now c.in-Some.place c.in_ok-object-in-Some.object) _ _ _ _ _
-    (shows_found c.args.view.fences.now c.args.view.from c.in-Some.place c.args.user.now c.args.table.now c.args.key (g.S.Tables.state c.args.source.now) (sym c.in-Some.ensures)
-    ∙ ap (λ object. (shown_at c.args.view.fences.now c.args.user.now c.in-Some.place object).in_state (g.S.Tables.state c.args.source.now)) (sym c.in_ok-object-in-Some.ensures)) c.shown_once.ensures.tells
+    tells_same ((shows (drop c.args.visible.from c.args.visible.relations.now) c.args.user.now) c.args.table.now c.args.key) (shown_at c.args.visible.relations.now c.args.user.now c.in-Some.place c.in_ok-object-in-Some.object) _ _ _ _ _
+    (shows_found c.args.visible.relations.now c.args.visible.from c.in-Some.place c.args.user.now c.args.table.now c.args.key (g.S.Tables.state c.args.source.now) (sym c.in-Some.ensures)
+    ∙ ap (λ object. (shown_at c.args.visible.relations.now c.args.user.now c.in-Some.place object).in_state (g.S.Tables.state c.args.source.now)) (sym c.in_ok-object-in-Some.ensures)) c.shown_once.ensures.tells
 
 pub shown_once-returns-in-Ok-clause-tells : goal.shown_once-returns-in-Ok-clause-tells
 shown_once-returns-in-Ok-clause-tells g t c =
-    tells_given (shown_at c.args.view.fences.now c.args.user.now c.args.view.from c.args.object) _ _ _ _ c.in-Ok.rows c.remembered.result c.in-Ok.ensures.tells c.remembered.ensures.gives
+    tells_given (shown_at c.args.visible.relations.now c.args.user.now c.args.visible.from c.args.object) _ _ _ _ c.in-Ok.rows c.remembered.result c.in-Ok.ensures.tells c.remembered.ensures.gives
 
 pub shown_once-returns-in-Ok-clause-holds : goal.shown_once-returns-in-Ok-clause-holds
 shown_once-returns-in-Ok-clause-holds g t c =
     on_ok_then c.remembered.result _ _
-    (holds_shown c.args.view.fences.now c.args.user.now (g.S.Tables.state c.args.source.now) (g.S.Tables.state c.shown.new.source) c.args.work.now.notes c.shown.new.work (record { notes = c.shown.new.work.notes; seen = c.remembered.new.seen; answers = c.shown.new.work.answers; next = c.shown.new.work.next }) c.args.view.from c.args.object c.in-Ok.rows
+    (holds_shown c.args.visible.relations.now c.args.user.now (g.S.Tables.state c.args.source.now) (g.S.Tables.state c.shown.new.source) c.args.execution.now.read_set c.shown.new.execution (record { read_set = c.shown.new.execution.read_set; cached_rows = c.remembered.new.cached_rows; cached_subplans = c.shown.new.execution.cached_subplans; next = c.shown.new.execution.next }) c.args.visible.from c.args.object c.in-Ok.rows
     c.in-Ok.ensures.tells c.in-Ok.ensures.holds refl refl) c.remembered.ensures.kept
 
-pub sum-returns-in_ok-held-in-len1-up-clause-tells : goal.sum-returns-in_ok-held-in-len1-up-clause-tells
-sum-returns-in_ok-held-in-len1-up-clause-tells g t c =
-    sum_told (shows (drop c.args.view.from c.args.view.fences.now) c.args.env.now.user.now) (env_of c.args.env.now) c.args.signs.now c.args.parts.now c.first-item.result _ _ _ _ _ _ (held_value c.in_ok-held-in-len1-up.held) (number_value c.number-number.result) (held_now c.sum_from.result) c.in-len1-up.len_at_least c.first-item.is
-    c.in_ok-held-in-len1-up.ensures.tells c.number-number.ensures c.sum_from.ensures.tells
+pub sum-returns-in_ok-datum-in-len1-up-clause-tells : goal.sum-returns-in_ok-datum-in-len1-up-clause-tells
+sum-returns-in_ok-datum-in-len1-up-clause-tells g t c =
+    sum_told (shows (drop c.args.visible.from c.args.visible.relations.now) c.args.env.now.user.now) (env_of c.args.env.now) c.args.signs.now c.args.parts.now c.first-item.result _ _ _ _ _ _ (datum_value c.in_ok-datum-in-len1-up.datum) (number_value c.number-number.result) (datum_now c.sum_from.result) c.in-len1-up.len_at_least c.first-item.is
+    c.in_ok-datum-in-len1-up.ensures.tells c.number-number.ensures c.sum_from.ensures.tells
 
 pub sum_from-returns-in-Ok-clause-tells : goal.sum_from-returns-in-Ok-clause-tells
 sum_from-returns-in-Ok-clause-tells g t c =
     let some : 1 ≤ length c.args.signs.now = search rules in
     let many : 1 ≤ length c.args.parts.now = search rules in
-    let same : number_value c.in-Ok.so_far ≡ joined (slice_index_or c.args.signs.now 0 Plus) (number_value c.args.first) (held_value c.in_ok-held-in-len1-up-len1-up.held) = search rules in
-    sum_on (shows (drop c.args.view.from c.args.view.fences.now) c.args.env.now.user.now) (env_of c.args.env.now) (number_value c.args.first) c.args.signs.now c.args.parts.now c.part-item.result _ _ _ _ _ _ (held_value c.in_ok-held-in-len1-up-len1-up.held) (number_value c.in-Ok.so_far) (held_now c.sum_from.result) some many c.part-item.is
-    c.in_ok-held-in-len1-up-len1-up.ensures.tells same c.sum_from.ensures.tells
+    let same : number_value c.in-Ok.so_far ≡ joined (slice_index_or c.args.signs.now 0 Plus) (number_value c.args.first) (datum_value c.in_ok-datum-in-len1-up-len1-up.datum) = search rules in
+    sum_on (shows (drop c.args.visible.from c.args.visible.relations.now) c.args.env.now.user.now) (env_of c.args.env.now) (number_value c.args.first) c.args.signs.now c.args.parts.now c.part-item.result _ _ _ _ _ _ (datum_value c.in_ok-datum-in-len1-up-len1-up.datum) (number_value c.in-Ok.so_far) (datum_now c.sum_from.result) some many c.part-item.is
+    c.in_ok-datum-in-len1-up-len1-up.ensures.tells same c.sum_from.ensures.tells
 
 pub items_over-loop-row-preserved : goal.items_over-loop-row-preserved
 items_over-loop-row-preserved g t c =
     record {
       stands = c.in_ok-item.ensures.tells.stands ∙ c.loop-row.invariant.stands;
-      leads = rows_turn (gathered with_item [] (λ row. item_if (meets (maybe_term c.args.query.now.condition) (shows (drop c.args.view.from c.args.view.fences.now) c.args.env.now.user.now) (inside row (env_of c.args.env.now))) (item_of (items_for c.args.has_items (terms_of c.args.query.now.items.items)) (shows (drop c.args.view.from c.args.view.fences.now) c.args.env.now.user.now) (inside row (env_of c.args.env.now)))) c.args.rows.now) (λ rest. c.loop-row.values ++ rest) (λ rest. c.push_item.new.values ++ rest) with_item [] (λ row. item_if (meets (maybe_term c.args.query.now.condition) (shows (drop c.args.view.from c.args.view.fences.now) c.args.env.now.user.now) (inside row (env_of c.args.env.now))) (item_of (items_for c.args.has_items (terms_of c.args.query.now.items.items)) (shows (drop c.args.view.from c.args.view.fences.now) c.args.env.now.user.now) (inside row (env_of c.args.env.now))))
-          c.args.rows.now c.loop-row.row-index c.row-item.result (maybe_held c.in_ok-item.item) _ _ _ _ _ _ c.loop-row-test.true c.row-item.is
-          (λ rest. item_added c.push_item.new.values c.loop-row.values rest c.row-item.result (maybe_held c.in_ok-item.item) c.in_ok-push_item.ensures)
+      leads = rows_turn (gathered with_item [] (λ row. item_if (meets (maybe_term c.args.query.now.condition) (shows (drop c.args.visible.from c.args.visible.relations.now) c.args.env.now.user.now) (inside row (env_of c.args.env.now))) (item_of (items_for c.args.has_items (terms_of c.args.query.now.items.items)) (shows (drop c.args.visible.from c.args.visible.relations.now) c.args.env.now.user.now) (inside row (env_of c.args.env.now)))) c.args.rows.now) (λ rest. c.loop-row.values ++ rest) (λ rest. c.push_item.new.values ++ rest) with_item [] (λ row. item_if (meets (maybe_term c.args.query.now.condition) (shows (drop c.args.visible.from c.args.visible.relations.now) c.args.env.now.user.now) (inside row (env_of c.args.env.now))) (item_of (items_for c.args.has_items (terms_of c.args.query.now.items.items)) (shows (drop c.args.visible.from c.args.visible.relations.now) c.args.env.now.user.now) (inside row (env_of c.args.env.now))))
+          c.args.rows.now c.loop-row.row-index c.row-item.result (maybe_datum c.in_ok-item.item) _ _ _ _ _ _ c.loop-row-test.true c.row-item.is
+          (λ rest. item_added c.push_item.new.values c.loop-row.values rest c.row-item.result (maybe_datum c.in_ok-item.item) c.in_ok-push_item.ensures)
           c.loop-row.invariant.stands c.loop-row.invariant.leads c.in_ok-item.ensures.tells;
       holds = c.in_ok-item.ensures.holds;
     }
 
 pub exists_alone-returns-in-Some-clause-tells : goal.exists_alone-returns-in-Some-clause-tells
 exists_alone-returns-in-Some-clause-tells g t c =
-    exists_told (query_of c.args.query.now) (shows (drop c.args.view.from c.args.view.fences.now) c.args.env.now.user.now) (env_of c.args.env.now) (g.S.Tables.state c.args.source.now) (g.S.Tables.state c.args.source.now) c.args.work.now.notes c.args.work.now.notes c.index.result.now.values c.is_some.result refl
-    (comes_found c.args.view.fences.now c.args.env.now.user.now (env_of c.args.env.now) (g.S.Tables.state c.args.source.now) c.args.work.now c.in-Some.place c.args.view.from false (query_of c.args.query.now) c.index.result.now refl c.requires.alone c.requires.holds
-    (subst (λ answers. FoundAt answers c.in-Some.place c.args.view.from false (query_of c.args.query.now)) c.deref.ensures.value c.in-Some.ensures.found) c.index.ensures) c.is_some.ensures
+    exists_told (query_of c.args.query.now) (shows (drop c.args.visible.from c.args.visible.relations.now) c.args.env.now.user.now) (env_of c.args.env.now) (g.S.Tables.state c.args.source.now) (g.S.Tables.state c.args.source.now) c.args.execution.now.read_set c.args.execution.now.read_set c.index.result.now.values c.is_some.result refl
+    (comes_found c.args.visible.relations.now c.args.env.now.user.now (env_of c.args.env.now) (g.S.Tables.state c.args.source.now) c.args.execution.now c.in-Some.place c.args.visible.from false (query_of c.args.query.now) c.index.result.now refl c.requires.alone c.requires.holds
+    (subst (λ cached_subplans. FoundAt cached_subplans c.in-Some.place c.args.visible.from false (query_of c.args.query.now)) c.deref.ensures.value c.in-Some.ensures.found) c.index.ensures) c.is_some.ensures
 
-pub exists_alone-returns-in_ok-keep_answer-in-None-clause-tells : goal.exists_alone-returns-in_ok-keep_answer-in-None-clause-tells
-exists_alone-returns-in_ok-keep_answer-in-None-clause-tells g t c =
-    exists_told (query_of c.args.query.now) (shows (drop c.args.view.from c.args.view.fences.now) c.args.env.now.user.now) (env_of c.args.env.now) (g.S.Tables.state c.args.source.now) (g.S.Tables.state c.items_alone.new.source) c.args.work.now.notes c.items_alone.new.work.notes c.in_ok-values-in-None.values c.is_some-is.result
+pub exists_alone-returns-in_ok-keep_subplan-in-None-clause-tells : goal.exists_alone-returns-in_ok-keep_subplan-in-None-clause-tells
+exists_alone-returns-in_ok-keep_subplan-in-None-clause-tells g t c =
+    exists_told (query_of c.args.query.now) (shows (drop c.args.visible.from c.args.visible.relations.now) c.args.env.now.user.now) (env_of c.args.env.now) (g.S.Tables.state c.args.source.now) (g.S.Tables.state c.items_alone.new.source) c.args.execution.now.read_set c.items_alone.new.execution.read_set c.in_ok-values-in-None.values c.is_some-is.result
     c.in_ok-values-in-None.ensures.stands c.in_ok-values-in-None.ensures.comes c.is_some-is.ensures
 
-pub exists_alone-returns-in_ok-keep_answer-in-None-clause-holds : goal.exists_alone-returns-in_ok-keep_answer-in-None-clause-holds
-exists_alone-returns-in_ok-keep_answer-in-None-clause-holds g t c =
-    holds_answered c.args.view.fences.now c.args.env.now.user.now (env_of c.args.env.now) (g.S.Tables.state c.args.source.now) (g.S.Tables.state c.items_alone.new.source) c.args.work.now.notes c.items_alone.new.work
-    (record { notes = c.items_alone.new.work.notes; seen = c.items_alone.new.work.seen; answers = c.keep_answer.new.answers; next = c.items_alone.new.work.next }) c.args.view.from false (query_of c.args.query.now) c.in_ok-values-in-None.values refl c.requires.alone
-    c.in_ok-values-in-None.ensures.stands c.in_ok-values-in-None.ensures.comes c.in_ok-values-in-None.ensures.holds refl refl c.in_ok-keep_answer-in-None.ensures
+pub exists_alone-returns-in_ok-keep_subplan-in-None-clause-holds : goal.exists_alone-returns-in_ok-keep_subplan-in-None-clause-holds
+exists_alone-returns-in_ok-keep_subplan-in-None-clause-holds g t c =
+    holds_cached c.args.visible.relations.now c.args.env.now.user.now (env_of c.args.env.now) (g.S.Tables.state c.args.source.now) (g.S.Tables.state c.items_alone.new.source) c.args.execution.now.read_set c.items_alone.new.execution
+    (record { read_set = c.items_alone.new.execution.read_set; cached_rows = c.items_alone.new.execution.cached_rows; cached_subplans = c.keep_subplan.new.cached_subplans; next = c.items_alone.new.execution.next }) c.args.visible.from false (query_of c.args.query.now) c.in_ok-values-in-None.values refl c.requires.alone
+    c.in_ok-values-in-None.ensures.stands c.in_ok-values-in-None.ensures.comes c.in_ok-values-in-None.ensures.holds refl refl c.in_ok-keep_subplan-in-None.ensures
 
 pub is_within_alone-returns-in-Some-clause-tells : goal.is_within_alone-returns-in-Some-clause-tells
 is_within_alone-returns-in-Some-clause-tells g t c =
-    within_told (held_value c.args.value.now) (query_of c.args.query.now) (shows (drop c.args.view.from c.args.view.fences.now) c.args.env.now.user.now) (env_of c.args.env.now) (g.S.Tables.state c.args.source.now) (g.S.Tables.state c.args.source.now) c.args.work.now.notes c.args.work.now.notes c.index.result.now.values c.equals_any.result refl
-    (comes_found c.args.view.fences.now c.args.env.now.user.now (env_of c.args.env.now) (g.S.Tables.state c.args.source.now) c.args.work.now c.in-Some.place c.args.view.from true (query_of c.args.query.now) c.index.result.now refl c.requires.alone c.requires.holds
-    (subst (λ answers. FoundAt answers c.in-Some.place c.args.view.from true (query_of c.args.query.now)) c.deref.ensures.value c.in-Some.ensures.found) c.index.ensures) c.equals_any.ensures
+    within_told (datum_value c.args.value.now) (query_of c.args.query.now) (shows (drop c.args.visible.from c.args.visible.relations.now) c.args.env.now.user.now) (env_of c.args.env.now) (g.S.Tables.state c.args.source.now) (g.S.Tables.state c.args.source.now) c.args.execution.now.read_set c.args.execution.now.read_set c.index.result.now.values c.equals_any.result refl
+    (comes_found c.args.visible.relations.now c.args.env.now.user.now (env_of c.args.env.now) (g.S.Tables.state c.args.source.now) c.args.execution.now c.in-Some.place c.args.visible.from true (query_of c.args.query.now) c.index.result.now refl c.requires.alone c.requires.holds
+    (subst (λ cached_subplans. FoundAt cached_subplans c.in-Some.place c.args.visible.from true (query_of c.args.query.now)) c.deref.ensures.value c.in-Some.ensures.found) c.index.ensures) c.equals_any.ensures
 
-pub is_within_alone-returns-in_ok-keep_answer-in-None-clause-tells : goal.is_within_alone-returns-in_ok-keep_answer-in-None-clause-tells
-is_within_alone-returns-in_ok-keep_answer-in-None-clause-tells g t c =
-    within_told (held_value c.args.value.now) (query_of c.args.query.now) (shows (drop c.args.view.from c.args.view.fences.now) c.args.env.now.user.now) (env_of c.args.env.now) (g.S.Tables.state c.args.source.now) (g.S.Tables.state c.items_alone.new.source) c.args.work.now.notes c.items_alone.new.work.notes c.in_ok-values-in-None.values (Ok c.in_ok-truth-in-None.truth)
+pub is_within_alone-returns-in_ok-keep_subplan-in-None-clause-tells : goal.is_within_alone-returns-in_ok-keep_subplan-in-None-clause-tells
+is_within_alone-returns-in_ok-keep_subplan-in-None-clause-tells g t c =
+    within_told (datum_value c.args.value.now) (query_of c.args.query.now) (shows (drop c.args.visible.from c.args.visible.relations.now) c.args.env.now.user.now) (env_of c.args.env.now) (g.S.Tables.state c.args.source.now) (g.S.Tables.state c.items_alone.new.source) c.args.execution.now.read_set c.items_alone.new.execution.read_set c.in_ok-values-in-None.values (Ok c.in_ok-truth-in-None.truth)
     c.in_ok-values-in-None.ensures.stands c.in_ok-values-in-None.ensures.comes
-    (subst (λ result. (items : List Value) → IsSetOf c.in_ok-values-in-None.values items → IfOk result (λ truth. truth ≡ any_equal (held_value c.args.value.now) items)) c.in_ok-truth-in-None.was c.equals_any-in-None.ensures)
+    (subst (λ result. (items : List Value) → IsSetOf c.in_ok-values-in-None.values items → IfOk result (λ truth. truth ≡ any_equal (datum_value c.args.value.now) items)) c.in_ok-truth-in-None.was c.equals_any-in-None.ensures)
 
-pub is_within_alone-returns-in_ok-keep_answer-in-None-clause-holds : goal.is_within_alone-returns-in_ok-keep_answer-in-None-clause-holds
-is_within_alone-returns-in_ok-keep_answer-in-None-clause-holds g t c =
-    holds_answered c.args.view.fences.now c.args.env.now.user.now (env_of c.args.env.now) (g.S.Tables.state c.args.source.now) (g.S.Tables.state c.items_alone.new.source) c.args.work.now.notes c.items_alone.new.work
-    (record { notes = c.items_alone.new.work.notes; seen = c.items_alone.new.work.seen; answers = c.keep_answer.new.answers; next = c.items_alone.new.work.next }) c.args.view.from true (query_of c.args.query.now) c.in_ok-values-in-None.values refl c.requires.alone
-    c.in_ok-values-in-None.ensures.stands c.in_ok-values-in-None.ensures.comes c.in_ok-values-in-None.ensures.holds refl refl c.in_ok-keep_answer-in-None.ensures
+pub is_within_alone-returns-in_ok-keep_subplan-in-None-clause-holds : goal.is_within_alone-returns-in_ok-keep_subplan-in-None-clause-holds
+is_within_alone-returns-in_ok-keep_subplan-in-None-clause-holds g t c =
+    holds_cached c.args.visible.relations.now c.args.env.now.user.now (env_of c.args.env.now) (g.S.Tables.state c.args.source.now) (g.S.Tables.state c.items_alone.new.source) c.args.execution.now.read_set c.items_alone.new.execution
+    (record { read_set = c.items_alone.new.execution.read_set; cached_rows = c.items_alone.new.execution.cached_rows; cached_subplans = c.keep_subplan.new.cached_subplans; next = c.items_alone.new.execution.next }) c.args.visible.from true (query_of c.args.query.now) c.in_ok-values-in-None.values refl c.requires.alone
+    c.in_ok-values-in-None.ensures.stands c.in_ok-values-in-None.ensures.comes c.in_ok-values-in-None.ensures.holds refl refl c.in_ok-keep_subplan-in-None.ensures
 
 pub item_or_null-returns-then-has_items-clause-tells : goal.item_or_null-returns-then-has_items-clause-tells
 item_or_null-returns-then-has_items-clause-tells g t c =
-    subst (λ has_items. Tells (item_if (meets (maybe_term c.args.query.now.condition) (shows (drop c.args.view.from c.args.view.fences.now) c.args.env.now.user.now) (env_of c.args.env.now)) (item_of (items_for has_items (terms_of c.args.query.now.items.items)) (shows (drop c.args.view.from c.args.view.fences.now) c.args.env.now.user.now) (env_of c.args.env.now))) (g.S.Tables.state c.args.source.now) (g.S.Tables.state c.item_if.new.source) c.args.work.now.notes c.item_if.new.work.notes (maybe_now c.item_if.result)) (sym c.if-has_items.true) c.item_if.ensures.tells
+    subst (λ has_items. Evaluates (item_if (meets (maybe_term c.args.query.now.condition) (shows (drop c.args.visible.from c.args.visible.relations.now) c.args.env.now.user.now) (env_of c.args.env.now)) (item_of (items_for has_items (terms_of c.args.query.now.items.items)) (shows (drop c.args.visible.from c.args.visible.relations.now) c.args.env.now.user.now) (env_of c.args.env.now))) (g.S.Tables.state c.args.source.now) (g.S.Tables.state c.item_if.new.source) c.args.execution.now.read_set c.item_if.new.execution.read_set (maybe_now c.item_if.result)) (sym c.if-has_items.true) c.item_if.ensures.tells
 
 pub item_or_null-returns-clause-tells : goal.item_or_null-returns-clause-tells
 item_or_null-returns-clause-tells g t c =
-    subst (λ has_items. Tells (item_if (meets (maybe_term c.args.query.now.condition) (shows (drop c.args.view.from c.args.view.fences.now) c.args.env.now.user.now) (env_of c.args.env.now)) (item_of (items_for has_items (terms_of c.args.query.now.items.items)) (shows (drop c.args.view.from c.args.view.fences.now) c.args.env.now.user.now) (env_of c.args.env.now))) (g.S.Tables.state c.args.source.now) (g.S.Tables.state c.meets_condition.new.source) c.args.work.now.notes c.meets_condition.new.work.notes (Ok (maybe_held c.null_if.result))) (sym c.if-has_items.false)
-    (null_told (meets (maybe_term c.args.query.now.condition) (shows (drop c.args.view.from c.args.view.fences.now) c.args.env.now.user.now) (env_of c.args.env.now)) _ _ _ _ c.in_ok-is.is' (maybe_held c.null_if.result) c.in_ok-is.ensures.tells c.null_if.ensures)
+    subst (λ has_items. Evaluates (item_if (meets (maybe_term c.args.query.now.condition) (shows (drop c.args.visible.from c.args.visible.relations.now) c.args.env.now.user.now) (env_of c.args.env.now)) (item_of (items_for has_items (terms_of c.args.query.now.items.items)) (shows (drop c.args.visible.from c.args.visible.relations.now) c.args.env.now.user.now) (env_of c.args.env.now))) (g.S.Tables.state c.args.source.now) (g.S.Tables.state c.meets_condition.new.source) c.args.execution.now.read_set c.meets_condition.new.execution.read_set (Ok (maybe_datum c.null_if.result))) (sym c.if-has_items.false)
+    (null_told (meets (maybe_term c.args.query.now.condition) (shows (drop c.args.visible.from c.args.visible.relations.now) c.args.env.now.user.now) (env_of c.args.env.now)) _ _ _ _ c.in_ok-is.is' (maybe_datum c.null_if.result) c.in_ok-is.ensures.tells c.null_if.ensures)
 
 pub items_alone-returns-in-Ok-clause-comes : goal.items_alone-returns-in-Ok-clause-comes
 items_alone-returns-in-Ok-clause-comes g t c =
-    comes_of (items_seen (asked_query c.args.has_items (query_of c.args.query.now)) (shows (drop c.args.view.from c.args.view.fences.now) c.args.env.now.user.now) (env_of c.args.env.now)) _ _ _ _ c.in-Ok.values c.of.result
-    (subst (λ asking. Tells asking (g.S.Tables.state c.args.source.now) (g.S.Tables.state c.items_over-values.new.source) c.args.work.now.notes c.items_over-values.new.work.notes (Ok c.in-Ok.values))
-    (sym (seen_over c.args.has_items c.args.query.now.from c.args.query.now.key.items c.args.query.now.selects (terms_of c.args.query.now.items.items) (maybe_term c.args.query.now.condition) (shows (drop c.args.view.from c.args.view.fences.now) c.args.env.now.user.now) (env_of c.args.env.now)))
-    (tells_over (ranged_over (query_of c.args.query.now) (shows (drop c.args.view.from c.args.view.fences.now) c.args.env.now.user.now) (env_of c.args.env.now)) (λ rows. gathered with_item [] (λ row. item_if (meets (maybe_term c.args.query.now.condition) (shows (drop c.args.view.from c.args.view.fences.now) c.args.env.now.user.now) (inside row (env_of c.args.env.now))) (item_of (items_for c.args.has_items (terms_of c.args.query.now.items.items)) (shows (drop c.args.view.from c.args.view.fences.now) c.args.env.now.user.now) (inside row (env_of c.args.env.now)))) rows)
+    comes_of (items_seen (asked_query c.args.has_items (query_of c.args.query.now)) (shows (drop c.args.visible.from c.args.visible.relations.now) c.args.env.now.user.now) (env_of c.args.env.now)) _ _ _ _ c.in-Ok.values c.of.result
+    (subst (λ asking. Evaluates asking (g.S.Tables.state c.args.source.now) (g.S.Tables.state c.items_over-values.new.source) c.args.execution.now.read_set c.items_over-values.new.execution.read_set (Ok c.in-Ok.values))
+    (sym (seen_over c.args.has_items c.args.query.now.from c.args.query.now.key.items c.args.query.now.selects (terms_of c.args.query.now.items.items) (maybe_term c.args.query.now.condition) (shows (drop c.args.visible.from c.args.visible.relations.now) c.args.env.now.user.now) (env_of c.args.env.now)))
+    (tells_over (ranged_over (query_of c.args.query.now) (shows (drop c.args.visible.from c.args.visible.relations.now) c.args.env.now.user.now) (env_of c.args.env.now)) (λ rows. gathered with_item [] (λ row. item_if (meets (maybe_term c.args.query.now.condition) (shows (drop c.args.visible.from c.args.visible.relations.now) c.args.env.now.user.now) (inside row (env_of c.args.env.now))) (item_of (items_for c.args.has_items (terms_of c.args.query.now.items.items)) (shows (drop c.args.visible.from c.args.visible.relations.now) c.args.env.now.user.now) (inside row (env_of c.args.env.now)))) rows)
     _ _ _ _ _ _ c.in_ok-rows.rows c.as_slice.result.now c.in-Ok.values c.as_slice.ensures c.in_ok-rows.ensures.tells c.in-Ok.ensures.tells)) c.of.ensures
 
 pub shown-returns-then-is_exempt-clause-tells : goal.shown-returns-then-is_exempt-clause-tells
 shown-returns-then-is_exempt-clause-tells g t c =
-    tells_exempt c.args.view.fences.now (drop (c.args.view.from + 1) c.args.view.fences.now) c.index-view-view.result c.args.user.now c.args.view.from c.args.object.now
+    tells_exempt c.args.visible.relations.now (drop (c.args.visible.from + 1) c.args.visible.relations.now) c.index-visible-visible.result c.args.user.now c.args.visible.from c.args.object.now
     _ _ _ _ c.in_ok-rows.rows c.new-then-is_exempt.result
-    (drop_at c.args.view.fences.now c.args.view.from c.index-view-view.result (omega (arith, c.if-view.false)) c.index-view-view.is)
-    (ap (λ fence. is_exempt fence.guard) c.index-view-view.is ∙ sym c.is_exempt.ensures ∙ c.if-is_exempt.true) c.in_ok-rows.ensures.tells
+    (drop_at c.args.visible.relations.now c.args.visible.from c.index-visible-visible.result (omega (arith, c.if-visible.false)) c.index-visible-visible.is)
+    (ap (λ relation. is_exempt relation.quals) c.index-visible-visible.is ∙ sym c.is_exempt.ensures ∙ c.if-is_exempt.true) c.in_ok-rows.ensures.tells
     (given_as c.new-then-is_exempt.result _ _ c.new-then-is_exempt.ensures c.into_vec.ensures)

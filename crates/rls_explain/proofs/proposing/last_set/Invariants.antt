@@ -5,8 +5,8 @@ use Rattle.rls_explain.specs.Proposing as spec
 use Rattle.rls_explain.proofs.proposing.last_set.Given as goal
 
 -- the last is the one so far, or among those that are left
-abbrev pub invariant-loop-settings : goal.invariant-loop-settings
-invariant-loop-settings l = spec.last_set (option_copied l.found) l.settings l.name ≡ spec.last_set None l.fn.settings l.name
+abbrev pub invariant-loop-assignments : goal.invariant-loop-assignments
+invariant-loop-assignments l = spec.last_set (option_copied l.found) l.assignments l.name ≡ spec.last_set None l.fn.assignments l.name
 
-abbrev pub decreases-loop-settings : goal.decreases-loop-settings
-decreases-loop-settings l = length l.settings
+abbrev pub decreases-loop-assignments : goal.decreases-loop-assignments
+decreases-loop-assignments l = length l.assignments

@@ -5,7 +5,7 @@ use Rattle.rls_evaluation.proofs.Telling.{Leads}
 use Rattle.rls_catalog.specs.declared.stored.Stored.{Stored}
 use Rattle.rls_guard.specs.declared.reply.Decision.{Decision}
 use Rattle.rls_judging.specs.Judging.{judged_all}
-use Rattle.rls_judging.specs.Handed.{rows_lent}
+use Rattle.rls_judging.specs.Handed.{rows_borrowed}
 use Rattle.rls_judging.proofs.judging.judge_all.Given as goal
 
 -- what was found, and what is left to judge, lead to the whole; what was shown is kept
@@ -14,7 +14,7 @@ invariant-loop-stored g l =
     let now = g.T.Tables.state l.fn.tables in
     record {
       stands : g.T.Tables.state l.tables ≡ now;
-      leads : Leads (judged_all l.sight.watches.now l.sight.fences.now l.sight.role.now l.condition l.candidates) (judged_all l.sight.watches.now l.sight.fences.now l.sight.role.now l.condition (drop l.stored-index l.candidates))
-          (λ (rest : List Decision × List Stored). (l.decisions.items ++ rest.0, rows_lent l.hits ++ rest.1)) now l.fn.work.notes l.work.notes;
-      holds : Holds l.sight.fences.now l.sight.role.now (g.T.Tables.state l.tables) l.work;
+      leads : Leads (judged_all l.check_context.row_checks.now l.check_context.relations.now l.check_context.role.now l.condition l.scanned_rows) (judged_all l.check_context.row_checks.now l.check_context.relations.now l.check_context.role.now l.condition (drop l.stored-index l.scanned_rows))
+          (λ (rest : List Decision × List Stored). (l.decisions.items ++ rest.0, rows_borrowed l.qualifying_rows ++ rest.1)) now l.fn.execution.read_set l.execution.read_set;
+      holds : Holds l.check_context.relations.now l.check_context.role.now (g.T.Tables.state l.tables) l.execution;
     }

@@ -10,17 +10,17 @@ use Rattle.rls_judging.specs.Handed.{allowing}
 use Rattle.rls_judging.proofs.RowLemmas.{decided}
 use Rattle.rls_judging.proofs.judging.judge_each.Goals as goal
 
-pub loop-watch-preserved : goal.loop-watch-preserved
-loop-watch-preserved g c =
-    let decision : Decision = record { id = c.args.id; side = c.watch-item.result.side; kind = c.watch-item.result.kind; verdict = c.in_ok-verdict.verdict } in
-    let pushed : c.push.new.self.items ≡ c.loop-watch.decisions.items ++ decision ∷ [] = search rules in
+pub loop-row_check-preserved : goal.loop-row_check-preserved
+loop-row_check-preserved g c =
+    let decision : Decision = record { id = c.args.id; side = c.row_check-item.result.side; kind = c.row_check-item.result.kind; verdict = c.in_ok-verdict.verdict } in
+    let pushed : c.push.new.self.items ≡ c.loop-row_check.decisions.items ++ decision ∷ [] = search rules in
     record {
-      stands = c.in_ok-verdict.ensures.tells.stands ∙ c.loop-watch.invariant.stands;
-      leads = rows_turn (followed_by (decisions_on c.args.sight.watches.now (shows c.args.sight.fences.now c.args.sight.role.now) c.args.sight.role.now c.args.id c.args.row.now) (λ said. known (Ok (allowing c.args.decisions.now.items said))))
-          (λ (rest : List Decision). (c.loop-watch.decisions.items ++ rest, c.loop-watch.allowed && are_allowed rest)) (λ (rest : List Decision). (c.push.new.self.items ++ rest, c.both-allowed.result && are_allowed rest)) with_decision []
-          (decision_by (shows c.args.sight.fences.now c.args.sight.role.now) c.args.sight.role.now c.args.id c.args.row.now) c.args.sight.watches.now c.loop-watch.watch-index c.watch-item.result decision _ _ _ _ _ _ c.loop-watch-test.true c.watch-item.is
-          (λ rest. decided c.loop-watch.decisions.items c.push.new.self.items rest decision c.loop-watch.allowed c.both-allowed.result pushed (search rules))
-          c.loop-watch.invariant.stands c.loop-watch.invariant.leads
-          (tells_as (verdict_on c.watch-item.result.guard (shows c.args.sight.fences.now c.args.sight.role.now) c.args.sight.role.now c.args.row.now) (λ verdict. record { id = c.args.id; side = c.watch-item.result.side; kind = c.watch-item.result.kind; verdict = verdict }) _ _ _ _ c.in_ok-verdict.verdict decision c.in_ok-verdict.ensures.tells (search rules));
+      stands = c.in_ok-verdict.ensures.tells.stands ∙ c.loop-row_check.invariant.stands;
+      leads = rows_turn (followed_by (decisions_on c.args.check_context.row_checks.now (shows c.args.check_context.relations.now c.args.check_context.role.now) c.args.check_context.role.now c.args.id c.args.row.now) (λ said. known (Ok (allowing c.args.decisions.now.items said))))
+          (λ (rest : List Decision). (c.loop-row_check.decisions.items ++ rest, c.loop-row_check.allowed && are_allowed rest)) (λ (rest : List Decision). (c.push.new.self.items ++ rest, c.both-allowed.result && are_allowed rest)) with_decision []
+          (decision_by (shows c.args.check_context.relations.now c.args.check_context.role.now) c.args.check_context.role.now c.args.id c.args.row.now) c.args.check_context.row_checks.now c.loop-row_check.row_check-index c.row_check-item.result decision _ _ _ _ _ _ c.loop-row_check-test.true c.row_check-item.is
+          (λ rest. decided c.loop-row_check.decisions.items c.push.new.self.items rest decision c.loop-row_check.allowed c.both-allowed.result pushed (search rules))
+          c.loop-row_check.invariant.stands c.loop-row_check.invariant.leads
+          (tells_as (verdict_on c.row_check-item.result.quals (shows c.args.check_context.relations.now c.args.check_context.role.now) c.args.check_context.role.now c.args.row.now) (λ verdict. record { id = c.args.id; side = c.row_check-item.result.side; kind = c.row_check-item.result.kind; verdict = verdict }) _ _ _ _ c.in_ok-verdict.verdict decision c.in_ok-verdict.ensures.tells (search rules));
       holds = c.in_ok-verdict.ensures.holds;
     }

@@ -11,13 +11,13 @@ use Rattle.rls_judging.specs.Handed.{allowing}
 use Rattle.rls_judging.proofs.judging.judge_each.Given as goal
 
 -- what was said, and what is left to ask, lead to the whole; what was shown is kept
-abbrev pub invariant-loop-watch : goal.invariant-loop-watch
-invariant-loop-watch g l =
-    let sees = shows l.sight.fences.now l.sight.role.now in
+abbrev pub invariant-loop-row_check : goal.invariant-loop-row_check
+invariant-loop-row_check g l =
+    let sees = shows l.check_context.relations.now l.check_context.role.now in
     let now = g.T.Tables.state l.fn.tables in
     record {
       stands : g.T.Tables.state l.tables ≡ now;
-      leads : Leads (followed_by (decisions_on l.sight.watches.now sees l.sight.role.now l.id l.row) (λ said. known (Ok (allowing l.fn.decisions.items said))))
-          (decisions_on (drop l.watch-index l.sight.watches.now) sees l.sight.role.now l.id l.row) (λ (rest : List Decision). (l.decisions.items ++ rest, l.allowed && are_allowed rest)) now l.fn.work.notes l.work.notes;
-      holds : Holds l.sight.fences.now l.sight.role.now (g.T.Tables.state l.tables) l.work;
+      leads : Leads (followed_by (decisions_on l.check_context.row_checks.now sees l.check_context.role.now l.id l.row) (λ said. known (Ok (allowing l.fn.decisions.items said))))
+          (decisions_on (drop l.row_check-index l.check_context.row_checks.now) sees l.check_context.role.now l.id l.row) (λ (rest : List Decision). (l.decisions.items ++ rest, l.allowed && are_allowed rest)) now l.fn.execution.read_set l.execution.read_set;
+      holds : Holds l.check_context.relations.now l.check_context.role.now (g.T.Tables.state l.tables) l.execution;
     }

@@ -10,14 +10,14 @@ use Rattle.rls_judging.proofs.judging.judge_new.Goals as goal
 
 pub loop-stored-preserved : goal.loop-stored-preserved
 loop-stored-preserved g c =
-    let parts = told_before (decisions_on c.args.sight.watches.now (shows c.args.sight.fences.now c.args.sight.role.now) c.args.sight.role.now c.stored-item.result.id c.stored-item.result.row)
-    (allowing c.loop-stored.decisions.items) (g.T.Tables.state c.loop-stored.tables) (g.T.Tables.state c.judge.new.tables) c.loop-stored.work.notes c.judge.new.work.notes (c.judge.new.decisions.items, c.in_ok-judge.field-0) c.in_ok-judge.ensures.tells in
+    let parts = told_before (decisions_on c.args.check_context.row_checks.now (shows c.args.check_context.relations.now c.args.check_context.role.now) c.args.check_context.role.now c.stored-item.result.id c.stored-item.result.row)
+    (allowing c.loop-stored.decisions.items) (g.T.Tables.state c.loop-stored.tables) (g.T.Tables.state c.judge.new.tables) c.loop-stored.execution.read_set c.judge.new.execution.read_set (c.judge.new.decisions.items, c.in_ok-judge.field-0) c.in_ok-judge.ensures.tells in
     record {
       stands = c.in_ok-judge.ensures.tells.stands ∙ c.loop-stored.invariant.stands;
-      leads = rows_turn (judged_new c.args.sight.watches.now c.args.sight.fences.now c.args.sight.role.now c.args.rows.now)
+      leads = rows_turn (judged_new c.args.check_context.row_checks.now c.args.check_context.relations.now c.args.check_context.role.now c.args.rows.now)
           (λ (rest : List Decision). c.loop-stored.decisions.items ++ rest) (λ (rest : List Decision). c.judge.new.decisions.items ++ rest)
-          with_decisions [] (λ stored. decisions_on c.args.sight.watches.now (shows c.args.sight.fences.now c.args.sight.role.now) c.args.sight.role.now stored.id stored.row)
-          c.args.rows.now c.loop-stored.stored-index c.stored-item.result parts.0 (g.T.Tables.state c.args.tables.now) (g.T.Tables.state c.loop-stored.tables) (g.T.Tables.state c.judge.new.tables) c.args.work.now.notes c.loop-stored.work.notes c.judge.new.work.notes
+          with_decisions [] (λ stored. decisions_on c.args.check_context.row_checks.now (shows c.args.check_context.relations.now c.args.check_context.role.now) c.args.check_context.role.now stored.id stored.row)
+          c.args.rows.now c.loop-stored.stored-index c.stored-item.result parts.0 (g.T.Tables.state c.args.tables.now) (g.T.Tables.state c.loop-stored.tables) (g.T.Tables.state c.judge.new.tables) c.args.execution.now.read_set c.loop-stored.execution.read_set c.judge.new.execution.read_set
           c.loop-stored-test.true c.stored-item.is
           (λ rest. said_more c.loop-stored.decisions.items c.judge.new.decisions.items parts.0 c.in_ok-judge.field-0 rest parts.1.1)
           c.loop-stored.invariant.stands c.loop-stored.invariant.leads parts.1.0;

@@ -12,7 +12,7 @@ invariant-loop-stored g l =
     let now = g.T.Tables.state l.fn.tables in
     record {
       stands : g.T.Tables.state l.tables ≡ now;
-      leads : Leads (judged_new l.sight.watches.now l.sight.fences.now l.sight.role.now l.rows) (judged_new l.sight.watches.now l.sight.fences.now l.sight.role.now (drop l.stored-index l.rows))
-          (λ (rest : List Decision). l.decisions.items ++ rest) now l.fn.work.notes l.work.notes;
-      holds : Holds l.sight.fences.now l.sight.role.now (g.T.Tables.state l.tables) l.work;
+      leads : Leads (judged_new l.check_context.row_checks.now l.check_context.relations.now l.check_context.role.now l.rows) (judged_new l.check_context.row_checks.now l.check_context.relations.now l.check_context.role.now (drop l.stored-index l.rows))
+          (λ (rest : List Decision). l.decisions.items ++ rest) now l.fn.execution.read_set l.execution.read_set;
+      holds : Holds l.check_context.relations.now l.check_context.role.now (g.T.Tables.state l.tables) l.execution;
     }

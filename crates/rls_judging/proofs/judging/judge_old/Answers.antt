@@ -2,21 +2,21 @@ use Rattle.std.proofs.Common.{◌≡◌, subst}
 use Rattle.std.specs.Prelude.{Ok}
 use Rattle.rls_expr.specs.Terms.{maybe_term}
 use Rattle.rls_source.specs.Askings.{followed_by, known}
-use Rattle.rls_evaluation.specs.Holding.{Tells}
+use Rattle.rls_evaluation.specs.Holding.{Evaluates}
 use Rattle.rls_evaluation.specs.Showing.{shows}
-use Rattle.rls_judging.specs.Judging.{decisions_on, hit_if}
+use Rattle.rls_judging.specs.Judging.{decisions_on, qualifies_if}
 use Rattle.rls_judging.specs.Handed.{allowing}
 use Rattle.rls_judging.proofs.RowLemmas.{old_told}
 use Rattle.rls_judging.proofs.judging.judge_old.Goals as goal
 
 pub returns-clause-tells : goal.returns-clause-tells
 returns-clause-tells g c =
-    old_told c.args.sight.watches.now (maybe_term c.args.condition.now) (shows c.args.sight.fences.now c.args.sight.role.now) c.args.sight.role.now c.args.stored.now
+    old_told c.args.check_context.row_checks.now (maybe_term c.args.condition.now) (shows c.args.check_context.relations.now c.args.check_context.role.now) c.args.check_context.role.now c.args.stored.now
     c.args.decisions.now.items c.judge.new.decisions.items c.in_ok-allowed.allowed
-    (g.T.Tables.state c.args.tables.now) (g.T.Tables.state c.judge.new.tables) (g.T.Tables.state c.is_hit.new.tables) c.args.work.now.notes c.judge.new.work.notes c.is_hit.new.work.notes c.is_hit.result
-    (subst (λ row. Tells (followed_by (decisions_on c.args.sight.watches.now (shows c.args.sight.fences.now c.args.sight.role.now) c.args.sight.role.now c.args.stored.now.id row) (λ said. known (Ok (allowing c.args.decisions.now.items said))))
-    (g.T.Tables.state c.args.tables.now) (g.T.Tables.state c.judge.new.tables) c.args.work.now.notes c.judge.new.work.notes (Ok (c.judge.new.decisions.items, c.in_ok-allowed.allowed))) c.row-row.ensures
-    (subst (λ id. Tells (followed_by (decisions_on c.args.sight.watches.now (shows c.args.sight.fences.now c.args.sight.role.now) c.args.sight.role.now id c.row-row.result.now) (λ said. known (Ok (allowing c.args.decisions.now.items said))))
-    (g.T.Tables.state c.args.tables.now) (g.T.Tables.state c.judge.new.tables) c.args.work.now.notes c.judge.new.work.notes (Ok (c.judge.new.decisions.items, c.in_ok-allowed.allowed))) c.id.ensures c.in_ok-allowed.ensures.tells))
-    (subst (λ row. Tells (hit_if c.in_ok-allowed.allowed (maybe_term c.args.condition.now) (shows c.args.sight.fences.now c.args.sight.role.now) c.args.sight.role.now row)
-    (g.T.Tables.state c.judge.new.tables) (g.T.Tables.state c.is_hit.new.tables) c.judge.new.work.notes c.is_hit.new.work.notes c.is_hit.result) c.row-row.ensures c.is_hit.ensures.tells)
+    (g.T.Tables.state c.args.tables.now) (g.T.Tables.state c.judge.new.tables) (g.T.Tables.state c.qualifies.new.tables) c.args.execution.now.read_set c.judge.new.execution.read_set c.qualifies.new.execution.read_set c.qualifies.result
+    (subst (λ row. Evaluates (followed_by (decisions_on c.args.check_context.row_checks.now (shows c.args.check_context.relations.now c.args.check_context.role.now) c.args.check_context.role.now c.args.stored.now.id row) (λ said. known (Ok (allowing c.args.decisions.now.items said))))
+    (g.T.Tables.state c.args.tables.now) (g.T.Tables.state c.judge.new.tables) c.args.execution.now.read_set c.judge.new.execution.read_set (Ok (c.judge.new.decisions.items, c.in_ok-allowed.allowed))) c.row-row.ensures
+    (subst (λ id. Evaluates (followed_by (decisions_on c.args.check_context.row_checks.now (shows c.args.check_context.relations.now c.args.check_context.role.now) c.args.check_context.role.now id c.row-row.result.now) (λ said. known (Ok (allowing c.args.decisions.now.items said))))
+    (g.T.Tables.state c.args.tables.now) (g.T.Tables.state c.judge.new.tables) c.args.execution.now.read_set c.judge.new.execution.read_set (Ok (c.judge.new.decisions.items, c.in_ok-allowed.allowed))) c.id.ensures c.in_ok-allowed.ensures.tells))
+    (subst (λ row. Evaluates (qualifies_if c.in_ok-allowed.allowed (maybe_term c.args.condition.now) (shows c.args.check_context.relations.now c.args.check_context.role.now) c.args.check_context.role.now row)
+    (g.T.Tables.state c.judge.new.tables) (g.T.Tables.state c.qualifies.new.tables) c.judge.new.execution.read_set c.qualifies.new.execution.read_set c.qualifies.result) c.row-row.ensures c.qualifies.ensures.tells)

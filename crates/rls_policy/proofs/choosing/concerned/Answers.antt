@@ -6,5 +6,5 @@ use Rattle.rls_policy.proofs.choosing.concerned.Goals as goal
 
 pub returns : goal.returns
 returns c =
-    c.from_vec.ensures ∙ filter_same _ (λ policy. list_any (includes c.args.reach.now.superuser c.args.reach.now.names) policy.to) _ (λ x b f' k. search rules) _ _ c.retain.ensures.filtered
-    ∙ ap (filter (λ policy. list_any (includes c.args.reach.now.superuser c.args.reach.now.names) policy.to)) c.into_vec-kept.ensures
+    c.from_vec.ensures ∙ filter_same _ (λ policy. list_any (includes c.args.effective_roles.now.superuser c.args.effective_roles.now.names) policy.to) _ (λ x b f' k. search rules) _ _ c.retain.ensures.filtered
+    ∙ ap (filter (λ policy. list_any (includes c.args.effective_roles.now.superuser c.args.effective_roles.now.names) policy.to)) c.into_vec-kept.ensures

@@ -3,114 +3,114 @@ use Rattle.std.specs.Prelude.{codes}
 use Rattle.rls_expr.specs.ExprTerms.{query_of}
 use Rattle.rls_expr.specs.Terms.{More, maybe_term, terms_of}
 use Rattle.rls_expr.proofs.TermSizes.{size_at}
-use Rattle.rls_printing.specs.declared.page.Mark.TheVariants as m
+use Rattle.rls_printing.specs.declared.buffer.Mark.TheVariants as m
 use Rattle.rls_printing.specs.ExprForms.{expr, operands, further, sum, summands, list, more, query, where_, bare_if, stands_alone, enclosed, comparison, sign, selected, from_}
-use Rattle.rls_printing.specs.Pieces.{Word, Marked}
-use Rattle.rls_printing.specs.Sheets.{put, put_all, sheet_of}
-use Rattle.rls_printing.proofs.SheetLemmas.{put_on, put_one, put_step, on_same, terms_left, rest_is}
+use Rattle.rls_printing.specs.OutputTokens.{Word, Marked}
+use Rattle.rls_printing.specs.Outputs.{put, put_all, output_of}
+use Rattle.rls_printing.proofs.OutputLemmas.{put_on, put_one, put_step, on_same, terms_left, rest_is}
 use Rattle.rls_printing.proofs.expression.+printing.Goals as goal
 
 pub put_comparison-returns : goal.put_comparison-returns
 put_comparison-returns t c =
-    put_on (Some (sheet_of c.args.page.now)) (bare_if (stands_alone c.args.left.now) (expr c.args.left.now)) (Marked (comparison c.args.how) ∷ (bare_if (stands_alone c.args.right.now) (expr c.args.right.now))) (Some (sheet_of c.put_operand.new.page)) (Some (sheet_of c.put_operand-2.new.page)) c.put_operand-2.result
-    c.in_ok-put_operand.ensures (put_one (Some (sheet_of c.put_operand.new.page)) (Marked (comparison c.args.how)) (bare_if (stands_alone c.args.right.now) (expr c.args.right.now)) (Some (sheet_of c.mark.new.self)) (Some (sheet_of c.put_operand-2.new.page)) c.put_operand-2.result
-    (ap (λ z. put (Some (sheet_of c.put_operand.new.page)) z) (ap Marked (sym c.mark_of.ensures)) ∙ c.in_ok-mark.ensures) c.put_operand-2.ensures)
+    put_on (Some (output_of c.args.buffer.now)) (bare_if (stands_alone c.args.left.now) (expr c.args.left.now)) (Marked (comparison c.args.how) ∷ (bare_if (stands_alone c.args.right.now) (expr c.args.right.now))) (Some (output_of c.put_operand.new.buffer)) (Some (output_of c.put_operand-2.new.buffer)) c.put_operand-2.result
+    c.in_ok-put_operand.ensures (put_one (Some (output_of c.put_operand.new.buffer)) (Marked (comparison c.args.how)) (bare_if (stands_alone c.args.right.now) (expr c.args.right.now)) (Some (output_of c.mark.new.self)) (Some (output_of c.put_operand-2.new.buffer)) c.put_operand-2.result
+    (ap (λ z. put (Some (output_of c.put_operand.new.buffer)) z) (ap Marked (sym c.mark_of.ensures)) ∙ c.in_ok-mark.ensures) c.put_operand-2.ensures)
 
 pub put_enclosed-returns : goal.put_enclosed-returns
 put_enclosed-returns t c =
-    put_one (Some (sheet_of c.args.page.now)) (Marked m.Open) ((expr c.args.expr.now) ++ (Marked m.Close ∷ [])) (Some (sheet_of c.mark.new.self)) (Some (sheet_of c.mark-2.new.self)) c.mark-2.result
-    c.in_ok-mark.ensures (put_on (Some (sheet_of c.mark.new.self)) (expr c.args.expr.now) (Marked m.Close ∷ []) (Some (sheet_of c.put_expr.new.page)) (Some (sheet_of c.mark-2.new.self)) c.mark-2.result
+    put_one (Some (output_of c.args.buffer.now)) (Marked m.Open) ((expr c.args.expr.now) ++ (Marked m.Close ∷ [])) (Some (output_of c.mark.new.self)) (Some (output_of c.mark-2.new.self)) c.mark-2.result
+    c.in_ok-mark.ensures (put_on (Some (output_of c.mark.new.self)) (expr c.args.expr.now) (Marked m.Close ∷ []) (Some (output_of c.put_expr.new.buffer)) (Some (output_of c.mark-2.new.self)) c.mark-2.result
     c.in_ok-put_expr.ensures c.mark-2.ensures)
 
 pub put_null_test-returns : goal.put_null_test-returns
 put_null_test-returns t c =
-    put_on (Some (sheet_of c.args.page.now)) (bare_if (stands_alone c.args.operand.now) (expr c.args.operand.now)) (Word (codes "IS") ∷ (Word (codes "NULL") ∷ [])) (Some (sheet_of c.put_operand.new.page)) (Some (sheet_of c.word-2.new.self)) c.word-2.result
-    c.in_ok-put_operand.ensures (put_one (Some (sheet_of c.put_operand.new.page)) (Word (codes "IS")) (Word (codes "NULL") ∷ []) (Some (sheet_of c.word.new.self)) (Some (sheet_of c.word-2.new.self)) c.word-2.result
+    put_on (Some (output_of c.args.buffer.now)) (bare_if (stands_alone c.args.operand.now) (expr c.args.operand.now)) (Word (codes "IS") ∷ (Word (codes "NULL") ∷ [])) (Some (output_of c.put_operand.new.buffer)) (Some (output_of c.word-2.new.self)) c.word-2.result
+    c.in_ok-put_operand.ensures (put_one (Some (output_of c.put_operand.new.buffer)) (Word (codes "IS")) (Word (codes "NULL") ∷ []) (Some (output_of c.word.new.self)) (Some (output_of c.word-2.new.self)) c.word-2.result
     c.in_ok-word.ensures c.word-2.ensures)
 
 pub put_not_null_test-returns : goal.put_not_null_test-returns
 put_not_null_test-returns t c =
-    put_on (Some (sheet_of c.args.page.now)) (bare_if (stands_alone c.args.operand.now) (expr c.args.operand.now)) (Word (codes "IS") ∷ (Word (codes "NOT") ∷ (Word (codes "NULL") ∷ []))) (Some (sheet_of c.put_operand.new.page)) (Some (sheet_of c.word-3.new.self)) c.word-3.result
-    c.in_ok-put_operand.ensures (put_one (Some (sheet_of c.put_operand.new.page)) (Word (codes "IS")) (Word (codes "NOT") ∷ (Word (codes "NULL") ∷ [])) (Some (sheet_of c.word.new.self)) (Some (sheet_of c.word-3.new.self)) c.word-3.result
-    c.in_ok-word.ensures (put_one (Some (sheet_of c.word.new.self)) (Word (codes "NOT")) (Word (codes "NULL") ∷ []) (Some (sheet_of c.word-2.new.self)) (Some (sheet_of c.word-3.new.self)) c.word-3.result
+    put_on (Some (output_of c.args.buffer.now)) (bare_if (stands_alone c.args.operand.now) (expr c.args.operand.now)) (Word (codes "IS") ∷ (Word (codes "NOT") ∷ (Word (codes "NULL") ∷ []))) (Some (output_of c.put_operand.new.buffer)) (Some (output_of c.word-3.new.self)) c.word-3.result
+    c.in_ok-put_operand.ensures (put_one (Some (output_of c.put_operand.new.buffer)) (Word (codes "IS")) (Word (codes "NOT") ∷ (Word (codes "NULL") ∷ [])) (Some (output_of c.word.new.self)) (Some (output_of c.word-3.new.self)) c.word-3.result
+    c.in_ok-word.ensures (put_one (Some (output_of c.word.new.self)) (Word (codes "NOT")) (Word (codes "NULL") ∷ []) (Some (output_of c.word-2.new.self)) (Some (output_of c.word-3.new.self)) c.word-3.result
     c.in_ok-word-2.ensures c.word-3.ensures))
 
 pub put_among-returns : goal.put_among-returns
 put_among-returns t c =
-    put_on (Some (sheet_of c.args.page.now)) (bare_if (stands_alone c.args.left.now) (expr c.args.left.now)) (Word (codes "IN") ∷ (enclosed (list (terms_of c.args.list.now)))) (Some (sheet_of c.put_operand.new.page)) (Some (sheet_of c.put_tuple.new.page)) c.put_tuple.result
-    c.in_ok-put_operand.ensures (put_one (Some (sheet_of c.put_operand.new.page)) (Word (codes "IN")) (enclosed (list (terms_of c.args.list.now))) (Some (sheet_of c.word.new.self)) (Some (sheet_of c.put_tuple.new.page)) c.put_tuple.result
+    put_on (Some (output_of c.args.buffer.now)) (bare_if (stands_alone c.args.left.now) (expr c.args.left.now)) (Word (codes "IN") ∷ (enclosed (list (terms_of c.args.list.now)))) (Some (output_of c.put_operand.new.buffer)) (Some (output_of c.put_tuple.new.buffer)) c.put_tuple.result
+    c.in_ok-put_operand.ensures (put_one (Some (output_of c.put_operand.new.buffer)) (Word (codes "IN")) (enclosed (list (terms_of c.args.list.now))) (Some (output_of c.word.new.self)) (Some (output_of c.put_tuple.new.buffer)) c.put_tuple.result
     c.in_ok-word.ensures c.put_tuple.ensures)
 
 pub put_not_among-returns : goal.put_not_among-returns
 put_not_among-returns t c =
-    put_on (Some (sheet_of c.args.page.now)) (bare_if (stands_alone c.args.left.now) (expr c.args.left.now)) (Word (codes "NOT") ∷ (Word (codes "IN") ∷ (enclosed (list (terms_of c.args.list.now))))) (Some (sheet_of c.put_operand.new.page)) (Some (sheet_of c.put_tuple.new.page)) c.put_tuple.result
-    c.in_ok-put_operand.ensures (put_one (Some (sheet_of c.put_operand.new.page)) (Word (codes "NOT")) (Word (codes "IN") ∷ (enclosed (list (terms_of c.args.list.now)))) (Some (sheet_of c.word.new.self)) (Some (sheet_of c.put_tuple.new.page)) c.put_tuple.result
-    c.in_ok-word.ensures (put_one (Some (sheet_of c.word.new.self)) (Word (codes "IN")) (enclosed (list (terms_of c.args.list.now))) (Some (sheet_of c.word-2.new.self)) (Some (sheet_of c.put_tuple.new.page)) c.put_tuple.result
+    put_on (Some (output_of c.args.buffer.now)) (bare_if (stands_alone c.args.left.now) (expr c.args.left.now)) (Word (codes "NOT") ∷ (Word (codes "IN") ∷ (enclosed (list (terms_of c.args.list.now))))) (Some (output_of c.put_operand.new.buffer)) (Some (output_of c.put_tuple.new.buffer)) c.put_tuple.result
+    c.in_ok-put_operand.ensures (put_one (Some (output_of c.put_operand.new.buffer)) (Word (codes "NOT")) (Word (codes "IN") ∷ (enclosed (list (terms_of c.args.list.now)))) (Some (output_of c.word.new.self)) (Some (output_of c.put_tuple.new.buffer)) c.put_tuple.result
+    c.in_ok-word.ensures (put_one (Some (output_of c.word.new.self)) (Word (codes "IN")) (enclosed (list (terms_of c.args.list.now))) (Some (output_of c.word-2.new.self)) (Some (output_of c.put_tuple.new.buffer)) c.put_tuple.result
     c.in_ok-word-2.ensures c.put_tuple.ensures))
 
 pub put_within-returns : goal.put_within-returns
 put_within-returns t c =
-    put_on (Some (sheet_of c.args.page.now)) (bare_if (stands_alone c.args.left.now) (expr c.args.left.now)) (Word (codes "IN") ∷ (enclosed (query (query_of c.args.query.now)))) (Some (sheet_of c.put_operand.new.page)) (Some (sheet_of c.put_enclosed_query.new.page)) c.put_enclosed_query.result
-    c.in_ok-put_operand.ensures (put_one (Some (sheet_of c.put_operand.new.page)) (Word (codes "IN")) (enclosed (query (query_of c.args.query.now))) (Some (sheet_of c.word.new.self)) (Some (sheet_of c.put_enclosed_query.new.page)) c.put_enclosed_query.result
+    put_on (Some (output_of c.args.buffer.now)) (bare_if (stands_alone c.args.left.now) (expr c.args.left.now)) (Word (codes "IN") ∷ (enclosed (query (query_of c.args.query.now)))) (Some (output_of c.put_operand.new.buffer)) (Some (output_of c.put_enclosed_query.new.buffer)) c.put_enclosed_query.result
+    c.in_ok-put_operand.ensures (put_one (Some (output_of c.put_operand.new.buffer)) (Word (codes "IN")) (enclosed (query (query_of c.args.query.now))) (Some (output_of c.word.new.self)) (Some (output_of c.put_enclosed_query.new.buffer)) c.put_enclosed_query.result
     c.in_ok-word.ensures c.put_enclosed_query.ensures)
 
 pub put_not_within-returns : goal.put_not_within-returns
 put_not_within-returns t c =
-    put_on (Some (sheet_of c.args.page.now)) (bare_if (stands_alone c.args.left.now) (expr c.args.left.now)) (Word (codes "NOT") ∷ (Word (codes "IN") ∷ (enclosed (query (query_of c.args.query.now))))) (Some (sheet_of c.put_operand.new.page)) (Some (sheet_of c.put_enclosed_query.new.page)) c.put_enclosed_query.result
-    c.in_ok-put_operand.ensures (put_one (Some (sheet_of c.put_operand.new.page)) (Word (codes "NOT")) (Word (codes "IN") ∷ (enclosed (query (query_of c.args.query.now)))) (Some (sheet_of c.word.new.self)) (Some (sheet_of c.put_enclosed_query.new.page)) c.put_enclosed_query.result
-    c.in_ok-word.ensures (put_one (Some (sheet_of c.word.new.self)) (Word (codes "IN")) (enclosed (query (query_of c.args.query.now))) (Some (sheet_of c.word-2.new.self)) (Some (sheet_of c.put_enclosed_query.new.page)) c.put_enclosed_query.result
+    put_on (Some (output_of c.args.buffer.now)) (bare_if (stands_alone c.args.left.now) (expr c.args.left.now)) (Word (codes "NOT") ∷ (Word (codes "IN") ∷ (enclosed (query (query_of c.args.query.now))))) (Some (output_of c.put_operand.new.buffer)) (Some (output_of c.put_enclosed_query.new.buffer)) c.put_enclosed_query.result
+    c.in_ok-put_operand.ensures (put_one (Some (output_of c.put_operand.new.buffer)) (Word (codes "NOT")) (Word (codes "IN") ∷ (enclosed (query (query_of c.args.query.now)))) (Some (output_of c.word.new.self)) (Some (output_of c.put_enclosed_query.new.buffer)) c.put_enclosed_query.result
+    c.in_ok-word.ensures (put_one (Some (output_of c.word.new.self)) (Word (codes "IN")) (enclosed (query (query_of c.args.query.now))) (Some (output_of c.word-2.new.self)) (Some (output_of c.put_enclosed_query.new.buffer)) c.put_enclosed_query.result
     c.in_ok-word-2.ensures c.put_enclosed_query.ensures))
 
 pub put_tuple-returns : goal.put_tuple-returns
 put_tuple-returns t c =
-    put_one (Some (sheet_of c.args.page.now)) (Marked m.Open) ((list (terms_of c.args.list.now)) ++ (Marked m.Close ∷ [])) (Some (sheet_of c.mark.new.self)) (Some (sheet_of c.mark-2.new.self)) c.mark-2.result
-    c.in_ok-mark.ensures (put_on (Some (sheet_of c.mark.new.self)) (list (terms_of c.args.list.now)) (Marked m.Close ∷ []) (Some (sheet_of c.put_list.new.page)) (Some (sheet_of c.mark-2.new.self)) c.mark-2.result
+    put_one (Some (output_of c.args.buffer.now)) (Marked m.Open) ((list (terms_of c.args.list.now)) ++ (Marked m.Close ∷ [])) (Some (output_of c.mark.new.self)) (Some (output_of c.mark-2.new.self)) c.mark-2.result
+    c.in_ok-mark.ensures (put_on (Some (output_of c.mark.new.self)) (list (terms_of c.args.list.now)) (Marked m.Close ∷ []) (Some (output_of c.put_list.new.buffer)) (Some (output_of c.mark-2.new.self)) c.mark-2.result
     c.in_ok-put_list.ensures c.mark-2.ensures)
 
 pub put_enclosed_query-returns : goal.put_enclosed_query-returns
 put_enclosed_query-returns t c =
-    put_one (Some (sheet_of c.args.page.now)) (Marked m.Open) ((query (query_of c.args.query.now)) ++ (Marked m.Close ∷ [])) (Some (sheet_of c.mark.new.self)) (Some (sheet_of c.mark-2.new.self)) c.mark-2.result
-    c.in_ok-mark.ensures (put_on (Some (sheet_of c.mark.new.self)) (query (query_of c.args.query.now)) (Marked m.Close ∷ []) (Some (sheet_of c.put_query.new.page)) (Some (sheet_of c.mark-2.new.self)) c.mark-2.result
+    put_one (Some (output_of c.args.buffer.now)) (Marked m.Open) ((query (query_of c.args.query.now)) ++ (Marked m.Close ∷ [])) (Some (output_of c.mark.new.self)) (Some (output_of c.mark-2.new.self)) c.mark-2.result
+    c.in_ok-mark.ensures (put_on (Some (output_of c.mark.new.self)) (query (query_of c.args.query.now)) (Marked m.Close ∷ []) (Some (output_of c.put_query.new.buffer)) (Some (output_of c.mark-2.new.self)) c.mark-2.result
     c.in_ok-put_query.ensures c.mark-2.ensures)
 
 pub put_query-returns : goal.put_query-returns
 put_query-returns t c =
-    put_one (Some (sheet_of c.args.page.now)) (Word (codes "SELECT")) ((selected c.args.query.now.selects (list (terms_of c.args.query.now.items.items))) ++ ((from_ c.args.query.now.from.table c.args.query.now.from.alias) ++ (where_ (maybe_term c.args.query.now.condition)))) (Some (sheet_of c.word.new.self)) (Some (sheet_of c.put_where.new.page)) c.put_where.result
-    c.in_ok-word.ensures (put_on (Some (sheet_of c.word.new.self)) (selected c.args.query.now.selects (list (terms_of c.args.query.now.items.items))) ((from_ c.args.query.now.from.table c.args.query.now.from.alias) ++ (where_ (maybe_term c.args.query.now.condition))) (Some (sheet_of c.put_selected.new.page)) (Some (sheet_of c.put_where.new.page)) c.put_where.result
-    ((ap (λ z. put_all (Some (sheet_of c.word.new.self)) (selected c.args.query.now.selects (list (terms_of z)))) (sym c.deref.ensures.value)) ∙ c.in_ok-put_selected.ensures) (put_on (Some (sheet_of c.put_selected.new.page)) (from_ c.args.query.now.from.table c.args.query.now.from.alias) (where_ (maybe_term c.args.query.now.condition)) (Some (sheet_of c.put_from.new.page)) (Some (sheet_of c.put_where.new.page)) c.put_where.result
+    put_one (Some (output_of c.args.buffer.now)) (Word (codes "SELECT")) ((selected c.args.query.now.selects (list (terms_of c.args.query.now.items.items))) ++ ((from_ c.args.query.now.from.table c.args.query.now.from.alias) ++ (where_ (maybe_term c.args.query.now.condition)))) (Some (output_of c.word.new.self)) (Some (output_of c.put_where.new.buffer)) c.put_where.result
+    c.in_ok-word.ensures (put_on (Some (output_of c.word.new.self)) (selected c.args.query.now.selects (list (terms_of c.args.query.now.items.items))) ((from_ c.args.query.now.from.table c.args.query.now.from.alias) ++ (where_ (maybe_term c.args.query.now.condition))) (Some (output_of c.put_selected.new.buffer)) (Some (output_of c.put_where.new.buffer)) c.put_where.result
+    ((ap (λ z. put_all (Some (output_of c.word.new.self)) (selected c.args.query.now.selects (list (terms_of z)))) (sym c.deref.ensures.value)) ∙ c.in_ok-put_selected.ensures) (put_on (Some (output_of c.put_selected.new.buffer)) (from_ c.args.query.now.from.table c.args.query.now.from.alias) (where_ (maybe_term c.args.query.now.condition)) (Some (output_of c.put_from.new.buffer)) (Some (output_of c.put_where.new.buffer)) c.put_where.result
     c.in_ok-put_from.ensures c.put_where.ensures))
 
 pub put_operands-returns-in_ok-put_operand-in-len1-up : goal.put_operands-returns-in_ok-put_operand-in-len1-up
 put_operands-returns-in_ok-put_operand-in-len1-up t c =
     on_same c.put_further.result _ _ _
-    (ap (λ z. put_all (Some (sheet_of c.args.page.now)) (operands (Word c.args.word.now) z)) (terms_left c.args.parts.now 0 c.first-item.result (omega (arith, c.in-len1-up.len_at_least)) c.first-item.is))
-    (put_on (Some (sheet_of c.args.page.now)) (bare_if (stands_alone c.first-item.result) (expr c.first-item.result)) (further (Word c.args.word.now) (terms_of (drop 1 c.args.parts.now))) (Some (sheet_of c.put_operand.new.page)) (Some (sheet_of c.put_further.new.page)) c.put_further.result
+    (ap (λ z. put_all (Some (output_of c.args.buffer.now)) (operands (Word c.args.word.now) z)) (terms_left c.args.parts.now 0 c.first-item.result (omega (arith, c.in-len1-up.len_at_least)) c.first-item.is))
+    (put_on (Some (output_of c.args.buffer.now)) (bare_if (stands_alone c.first-item.result) (expr c.first-item.result)) (further (Word c.args.word.now) (terms_of (drop 1 c.args.parts.now))) (Some (output_of c.put_operand.new.buffer)) (Some (output_of c.put_further.new.buffer)) c.put_further.result
     c.in_ok-put_operand-in-len1-up.ensures
-    (on_same c.put_further.result _ _ _ (ap (λ z. put_all (Some (sheet_of c.put_operand.new.page)) (further (Word c.args.word.now) (terms_of z))) (sym (rest_is c.args.parts.now))) c.put_further.ensures))
+    (on_same c.put_further.result _ _ _ (ap (λ z. put_all (Some (output_of c.put_operand.new.buffer)) (further (Word c.args.word.now) (terms_of z))) (sym (rest_is c.args.parts.now))) c.put_further.ensures))
 
 pub put_list-returns-in_ok-put_expr-in-len1-up : goal.put_list-returns-in_ok-put_expr-in-len1-up
 put_list-returns-in_ok-put_expr-in-len1-up t c =
     on_same c.put_more.result _ _ _
-    (ap (λ z. put_all (Some (sheet_of c.args.page.now)) (list z)) (terms_left c.args.list.now 0 c.first-item.result (omega (arith, c.in-len1-up.len_at_least)) c.first-item.is))
-    (put_on (Some (sheet_of c.args.page.now)) (expr c.first-item.result) (more (terms_of (drop 1 c.args.list.now))) (Some (sheet_of c.put_expr.new.page)) (Some (sheet_of c.put_more.new.page)) c.put_more.result
+    (ap (λ z. put_all (Some (output_of c.args.buffer.now)) (list z)) (terms_left c.args.list.now 0 c.first-item.result (omega (arith, c.in-len1-up.len_at_least)) c.first-item.is))
+    (put_on (Some (output_of c.args.buffer.now)) (expr c.first-item.result) (more (terms_of (drop 1 c.args.list.now))) (Some (output_of c.put_expr.new.buffer)) (Some (output_of c.put_more.new.buffer)) c.put_more.result
     c.in_ok-put_expr-in-len1-up.ensures
-    (on_same c.put_more.result _ _ _ (ap (λ z. put_all (Some (sheet_of c.put_expr.new.page)) (more (terms_of z))) (sym (rest_is c.args.list.now))) c.put_more.ensures))
+    (on_same c.put_more.result _ _ _ (ap (λ z. put_all (Some (output_of c.put_expr.new.buffer)) (more (terms_of z))) (sym (rest_is c.args.list.now))) c.put_more.ensures))
 
 pub put_sum-returns-in_ok-put_operand-in-len1-up : goal.put_sum-returns-in_ok-put_operand-in-len1-up
 put_sum-returns-in_ok-put_operand-in-len1-up t c =
     on_same c.put_summands.result _ _ _
-    (ap (λ z. put_all (Some (sheet_of c.args.page.now)) (sum c.args.signs.now z)) (terms_left c.args.parts.now 0 c.first-item.result (omega (arith, c.in-len1-up.len_at_least)) c.first-item.is))
-    (put_on (Some (sheet_of c.args.page.now)) (bare_if (stands_alone c.first-item.result) (expr c.first-item.result)) (summands c.args.signs.now (terms_of (drop 1 c.args.parts.now))) (Some (sheet_of c.put_operand.new.page)) (Some (sheet_of c.put_summands.new.page)) c.put_summands.result
+    (ap (λ z. put_all (Some (output_of c.args.buffer.now)) (sum c.args.signs.now z)) (terms_left c.args.parts.now 0 c.first-item.result (omega (arith, c.in-len1-up.len_at_least)) c.first-item.is))
+    (put_on (Some (output_of c.args.buffer.now)) (bare_if (stands_alone c.first-item.result) (expr c.first-item.result)) (summands c.args.signs.now (terms_of (drop 1 c.args.parts.now))) (Some (output_of c.put_operand.new.buffer)) (Some (output_of c.put_summands.new.buffer)) c.put_summands.result
     c.in_ok-put_operand-in-len1-up.ensures
-    (on_same c.put_summands.result _ _ _ (ap (λ z. put_all (Some (sheet_of c.put_operand.new.page)) (summands c.args.signs.now (terms_of z))) (sym (rest_is c.args.parts.now))) c.put_summands.ensures))
+    (on_same c.put_summands.result _ _ _ (ap (λ z. put_all (Some (output_of c.put_operand.new.buffer)) (summands c.args.signs.now (terms_of z))) (sym (rest_is c.args.parts.now))) c.put_summands.ensures))
 
 pub put_further-put_operand-requires : goal.put_further-put_operand-requires
 put_further-put_operand-requires t c = (omega (arith, size_at _ _ _ c.loop-part-test.true c.part-item.is), search rules)
 
 pub put_further-loop-part-preserved : goal.put_further-loop-part-preserved
 put_further-loop-part-preserved t c =
-    sym (ap (λ z. put_all (Some (sheet_of c.loop-part.page)) (further (Word c.args.word.now) z)) (terms_left c.args.parts.now c.loop-part.part-index c.part-item.result c.loop-part-test.true c.part-item.is)
-    ∙ put_step (Some (sheet_of c.loop-part.page)) (Some (sheet_of c.word.new.self)) (Some (sheet_of c.put_operand.new.page)) (Word c.args.word.now) (bare_if (stands_alone c.part-item.result) (expr c.part-item.result)) (further (Word c.args.word.now) (terms_of (drop (c.loop-part.part-index + 1) c.args.parts.now))) c.in_ok-word.ensures c.in_ok-put_operand.ensures)
+    sym (ap (λ z. put_all (Some (output_of c.loop-part.buffer)) (further (Word c.args.word.now) z)) (terms_left c.args.parts.now c.loop-part.part-index c.part-item.result c.loop-part-test.true c.part-item.is)
+    ∙ put_step (Some (output_of c.loop-part.buffer)) (Some (output_of c.word.new.self)) (Some (output_of c.put_operand.new.buffer)) (Word c.args.word.now) (bare_if (stands_alone c.part-item.result) (expr c.part-item.result)) (further (Word c.args.word.now) (terms_of (drop (c.loop-part.part-index + 1) c.args.parts.now))) c.in_ok-word.ensures c.in_ok-put_operand.ensures)
     ∙ c.loop-part.invariant
 
 pub put_more-put_expr-requires : goal.put_more-put_expr-requires
@@ -118,8 +118,8 @@ put_more-put_expr-requires t c = (omega (arith, size_at _ _ _ c.loop-expr-test.t
 
 pub put_more-loop-expr-preserved : goal.put_more-loop-expr-preserved
 put_more-loop-expr-preserved t c =
-    sym (ap (λ z. put_all (Some (sheet_of c.loop-expr.page)) (more z)) (terms_left c.args.list.now c.loop-expr.expr-index c.expr-item.result c.loop-expr-test.true c.expr-item.is)
-    ∙ put_step (Some (sheet_of c.loop-expr.page)) (Some (sheet_of c.mark.new.self)) (Some (sheet_of c.put_expr.new.page)) (Marked m.Comma) (expr c.expr-item.result) (more (terms_of (drop (c.loop-expr.expr-index + 1) c.args.list.now))) c.in_ok-mark.ensures c.in_ok-put_expr.ensures)
+    sym (ap (λ z. put_all (Some (output_of c.loop-expr.buffer)) (more z)) (terms_left c.args.list.now c.loop-expr.expr-index c.expr-item.result c.loop-expr-test.true c.expr-item.is)
+    ∙ put_step (Some (output_of c.loop-expr.buffer)) (Some (output_of c.mark.new.self)) (Some (output_of c.put_expr.new.buffer)) (Marked m.Comma) (expr c.expr-item.result) (more (terms_of (drop (c.loop-expr.expr-index + 1) c.args.list.now))) c.in_ok-mark.ensures c.in_ok-put_expr.ensures)
     ∙ c.loop-expr.invariant
 
 pub put_summands-put_operand-requires : goal.put_summands-put_operand-requires
@@ -128,8 +128,8 @@ put_summands-put_operand-requires t c = (omega (arith, size_at _ _ _ c.loop-part
 pub put_summands-loop-part-preserved : goal.put_summands-loop-part-preserved
 put_summands-loop-part-preserved t c =
     let left = terms_of (drop (c.loop-part.part-index + 1) c.args.parts.now) in
-    sym (ap (λ z. put_all (Some (sheet_of c.loop-part.page)) (summands c.loop-part.left.now z)) (terms_left c.args.parts.now c.loop-part.part-index c.part-item.result c.loop-part-test.true c.part-item.is)
-    ∙ ap (λ z. put_all (Some (sheet_of c.loop-part.page)) (summands z (More c.part-item.result left))) c.in-Some.ensures
-    ∙ put_step (Some (sheet_of c.loop-part.page)) (Some (sheet_of c.mark.new.self)) (Some (sheet_of c.put_operand.new.page)) (Marked (sign c.in-Some.sign)) (bare_if (stands_alone c.part-item.result) (expr c.part-item.result)) (summands c.in-Some.rest.now left)
-    (ap (λ z. put (Some (sheet_of c.loop-part.page)) (Marked z)) (sym c.mark_of_sign.ensures) ∙ c.in_ok-mark.ensures) c.in_ok-put_operand.ensures)
+    sym (ap (λ z. put_all (Some (output_of c.loop-part.buffer)) (summands c.loop-part.left.now z)) (terms_left c.args.parts.now c.loop-part.part-index c.part-item.result c.loop-part-test.true c.part-item.is)
+    ∙ ap (λ z. put_all (Some (output_of c.loop-part.buffer)) (summands z (More c.part-item.result left))) c.in-Some.ensures
+    ∙ put_step (Some (output_of c.loop-part.buffer)) (Some (output_of c.mark.new.self)) (Some (output_of c.put_operand.new.buffer)) (Marked (sign c.in-Some.sign)) (bare_if (stands_alone c.part-item.result) (expr c.part-item.result)) (summands c.in-Some.rest.now left)
+    (ap (λ z. put (Some (output_of c.loop-part.buffer)) (Marked z)) (sym c.mark_of_sign.ensures) ∙ c.in_ok-mark.ensures) c.in_ok-put_operand.ensures)
     ∙ c.loop-part.invariant

@@ -2,8 +2,8 @@ use Rattle.std.proofs.Common.{◌≡◌, ◌+◌, ◌*◌, drop, Some}
 use Rattle.rls_expr.specs.ExprTerms.{query_of}
 use Rattle.rls_expr.specs.Terms.{maybe_term, terms_of, term_size, terms_size, query_size}
 use Rattle.rls_printing.specs.ExprForms as form
-use Rattle.rls_printing.specs.Pieces.{Word}
-use Rattle.rls_printing.specs.Sheets.{put_all, sheet_of}
+use Rattle.rls_printing.specs.OutputTokens.{Word}
+use Rattle.rls_printing.specs.Outputs.{put_all, output_of}
 use Rattle.rls_printing.proofs.expression.+printing.Given as goal
 
 -- the size of what is printed; what is made of parts stands above them
@@ -78,10 +78,10 @@ decreases-put_where l = 8 * terms_size (maybe_term l.condition.now) + 1
 
 -- what is left leads to what the whole leads to
 abbrev pub invariant-put_further-loop-part : goal.invariant-put_further-loop-part
-invariant-put_further-loop-part l = put_all (Some (sheet_of l.page)) (form.further (Word l.word) (terms_of (drop l.part-index l.parts))) ≡ put_all (Some (sheet_of l.fn.page)) (form.further (Word l.word) (terms_of l.parts))
+invariant-put_further-loop-part l = put_all (Some (output_of l.buffer)) (form.further (Word l.word) (terms_of (drop l.part-index l.parts))) ≡ put_all (Some (output_of l.fn.buffer)) (form.further (Word l.word) (terms_of l.parts))
 
 abbrev pub invariant-put_summands-loop-part : goal.invariant-put_summands-loop-part
-invariant-put_summands-loop-part l = put_all (Some (sheet_of l.page)) (form.summands l.left (terms_of (drop l.part-index l.parts))) ≡ put_all (Some (sheet_of l.fn.page)) (form.summands l.signs (terms_of l.parts))
+invariant-put_summands-loop-part l = put_all (Some (output_of l.buffer)) (form.summands l.left (terms_of (drop l.part-index l.parts))) ≡ put_all (Some (output_of l.fn.buffer)) (form.summands l.signs (terms_of l.parts))
 
 abbrev pub invariant-put_more-loop-expr : goal.invariant-put_more-loop-expr
-invariant-put_more-loop-expr l = put_all (Some (sheet_of l.page)) (form.more (terms_of (drop l.expr-index l.list))) ≡ put_all (Some (sheet_of l.fn.page)) (form.more (terms_of l.list))
+invariant-put_more-loop-expr l = put_all (Some (output_of l.buffer)) (form.more (terms_of (drop l.expr-index l.list))) ≡ put_all (Some (output_of l.fn.buffer)) (form.more (terms_of l.list))

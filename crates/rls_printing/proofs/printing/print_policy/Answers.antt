@@ -3,7 +3,7 @@ use Rattle.rls_statement.specs.declared.statement.Statement.TheVariants as st
 use Rattle.rls_text.specs.Printing.{IsWritten}
 use Rattle.rls_text.specs.Words.{words_of}
 use Rattle.rls_text.specs.declared.token.Token.{Token}
-use Rattle.rls_printing.specs.Sheets.{sheet_of}
+use Rattle.rls_printing.specs.Outputs.{output_of}
 use Rattle.rls_printing.specs.StatementForms as form
 use Rattle.rls_printing.proofs.Printed.{text_is, words_are, tokens_are, spelled_again, spelled_read, read_again}
 use Rattle.rls_printing.proofs.Reading.{put_text}
@@ -15,11 +15,11 @@ returns c =
     let x = st.CreatePolicy record { table = c.args.table.now; policy = c.args.policy.now } in
     let ps = form.policy c.args.table.now c.args.policy.now in
     let words = words_of (string_bytes c.into_text.result) in
-    let are : (ts : List Token) → IsWritten ts x → words ≡ ts = λ ts k. words_are ps (sheet_of c.new-page.result) (sheet_of c.put_policy.new.page) c.into_text.result ts c.new-page.ensures c.in_ok-put_policy.ensures c.into_text.ensures (written_told x ts k) in
-    let told = tokens_are ps (sheet_of c.new-page.result) (sheet_of c.put_policy.new.page) c.into_text.result c.new-page.ensures c.in_ok-put_policy.ensures c.into_text.ensures in
-    let fit = (put_text ps (sheet_of c.new-page.result) (sheet_of c.put_policy.new.page) c.in_ok-put_policy.ensures).fit in
+    let are : (ts : List Token) → IsWritten ts x → words ≡ ts = λ ts k. words_are ps (output_of c.new-buffer.result) (output_of c.put_policy.new.buffer) c.into_text.result ts c.new-buffer.ensures c.in_ok-put_policy.ensures c.into_text.ensures (written_told x ts k) in
+    let told = tokens_are ps (output_of c.new-buffer.result) (output_of c.put_policy.new.buffer) c.into_text.result c.new-buffer.ensures c.in_ok-put_policy.ensures c.into_text.ensures in
+    let fit = (put_text ps (output_of c.new-buffer.result) (output_of c.put_policy.new.buffer) c.in_ok-put_policy.ensures).fit in
     record {
-      text = text_is ps (sheet_of c.new-page.result) (sheet_of c.put_policy.new.page) c.into_text.result c.new-page.ensures c.in_ok-put_policy.ensures c.into_text.ensures;
+      text = text_is ps (output_of c.new-buffer.result) (output_of c.put_policy.new.buffer) c.into_text.result c.new-buffer.ensures c.in_ok-put_policy.ensures c.into_text.ensures;
       tokens = told;
       words = are;
       spelled = λ tokens k. spelled_again x words tokens are k;

@@ -2,16 +2,16 @@ use Rattle.std.proofs.Common.{ap, sym, ◌∙◌, ◌++◌, ◌∷◌, Some}
 use Rattle.std.specs.Prelude.{codes}
 use Rattle.rls_expr.specs.Terms.{maybe_term}
 use Rattle.rls_printing.specs.ExprForms.{where_}
-use Rattle.rls_printing.specs.Pieces.{Word}
-use Rattle.rls_printing.specs.Sheets.{put, sheet_of}
+use Rattle.rls_printing.specs.OutputTokens.{Word}
+use Rattle.rls_printing.specs.Outputs.{put, output_of}
 use Rattle.rls_printing.specs.StatementForms as form
-use Rattle.rls_printing.proofs.SheetLemmas.{put_on, put_one}
+use Rattle.rls_printing.proofs.OutputLemmas.{put_on, put_one}
 use Rattle.rls_printing.proofs.statements.put_delete.Goals as goal
 
 pub returns : goal.returns
 returns c =
-    put_one (Some (sheet_of c.args.page.now)) (Word (codes "DELETE")) (Word (codes "FROM") ∷ (Word c.args.statement.now.table ∷ ((where_ (maybe_term c.args.statement.now.condition)) ++ (form.returning c.args.statement.now.returning)))) (Some (sheet_of c.word.new.self)) (Some (sheet_of c.put_returning.new.page)) c.put_returning.result
-    c.in_ok-word.ensures (put_one (Some (sheet_of c.word.new.self)) (Word (codes "FROM")) (Word c.args.statement.now.table ∷ ((where_ (maybe_term c.args.statement.now.condition)) ++ (form.returning c.args.statement.now.returning))) (Some (sheet_of c.word-2.new.self)) (Some (sheet_of c.put_returning.new.page)) c.put_returning.result
-    c.in_ok-word-2.ensures (put_one (Some (sheet_of c.word-2.new.self)) (Word c.args.statement.now.table) ((where_ (maybe_term c.args.statement.now.condition)) ++ (form.returning c.args.statement.now.returning)) (Some (sheet_of c.word-3.new.self)) (Some (sheet_of c.put_returning.new.page)) c.put_returning.result
-    (ap (λ z. put (Some (sheet_of c.word-2.new.self)) z) (ap Word (sym c.as_str.ensures.text)) ∙ c.in_ok-word-3.ensures) (put_on (Some (sheet_of c.word-3.new.self)) (where_ (maybe_term c.args.statement.now.condition)) (form.returning c.args.statement.now.returning) (Some (sheet_of c.put_where.new.page)) (Some (sheet_of c.put_returning.new.page)) c.put_returning.result
+    put_one (Some (output_of c.args.buffer.now)) (Word (codes "DELETE")) (Word (codes "FROM") ∷ (Word c.args.statement.now.table ∷ ((where_ (maybe_term c.args.statement.now.condition)) ++ (form.returning c.args.statement.now.returning)))) (Some (output_of c.word.new.self)) (Some (output_of c.put_returning.new.buffer)) c.put_returning.result
+    c.in_ok-word.ensures (put_one (Some (output_of c.word.new.self)) (Word (codes "FROM")) (Word c.args.statement.now.table ∷ ((where_ (maybe_term c.args.statement.now.condition)) ++ (form.returning c.args.statement.now.returning))) (Some (output_of c.word-2.new.self)) (Some (output_of c.put_returning.new.buffer)) c.put_returning.result
+    c.in_ok-word-2.ensures (put_one (Some (output_of c.word-2.new.self)) (Word c.args.statement.now.table) ((where_ (maybe_term c.args.statement.now.condition)) ++ (form.returning c.args.statement.now.returning)) (Some (output_of c.word-3.new.self)) (Some (output_of c.put_returning.new.buffer)) c.put_returning.result
+    (ap (λ z. put (Some (output_of c.word-2.new.self)) z) (ap Word (sym c.as_str.ensures.text)) ∙ c.in_ok-word-3.ensures) (put_on (Some (output_of c.word-3.new.self)) (where_ (maybe_term c.args.statement.now.condition)) (form.returning c.args.statement.now.returning) (Some (output_of c.put_where.new.buffer)) (Some (output_of c.put_returning.new.buffer)) c.put_returning.result
     c.in_ok-put_where.ensures c.put_returning.ensures)))

@@ -1,17 +1,17 @@
 use Rattle.std.proofs.Common.{ap, sym, ◌∙◌, ◌++◌, ◌∷◌, Some}
 use Rattle.std.specs.Prelude.{codes}
-use Rattle.rls_printing.specs.Pieces.{Word}
-use Rattle.rls_printing.specs.Sheets.{put, put_all, sheet_of}
+use Rattle.rls_printing.specs.OutputTokens.{Word}
+use Rattle.rls_printing.specs.Outputs.{put, put_all, output_of}
 use Rattle.rls_printing.specs.StatementForms as form
-use Rattle.rls_printing.proofs.SheetLemmas.{put_on, put_one}
+use Rattle.rls_printing.proofs.OutputLemmas.{put_on, put_one}
 use Rattle.rls_printing.proofs.statements.put_insert.Goals as goal
 
 pub returns : goal.returns
 returns c =
-    put_one (Some (sheet_of c.args.page.now)) (Word (codes "INSERT")) (Word (codes "INTO") ∷ (Word c.args.statement.now.table ∷ ((form.columns_if_any c.args.statement.now.columns) ++ (Word (codes "VALUES") ∷ ((form.listed form.tuple c.args.statement.now.tuples) ++ (form.returning c.args.statement.now.returning)))))) (Some (sheet_of c.word.new.self)) (Some (sheet_of c.put_returning.new.page)) c.put_returning.result
-    c.in_ok-word.ensures (put_one (Some (sheet_of c.word.new.self)) (Word (codes "INTO")) (Word c.args.statement.now.table ∷ ((form.columns_if_any c.args.statement.now.columns) ++ (Word (codes "VALUES") ∷ ((form.listed form.tuple c.args.statement.now.tuples) ++ (form.returning c.args.statement.now.returning))))) (Some (sheet_of c.word-2.new.self)) (Some (sheet_of c.put_returning.new.page)) c.put_returning.result
-    c.in_ok-word-2.ensures (put_one (Some (sheet_of c.word-2.new.self)) (Word c.args.statement.now.table) ((form.columns_if_any c.args.statement.now.columns) ++ (Word (codes "VALUES") ∷ ((form.listed form.tuple c.args.statement.now.tuples) ++ (form.returning c.args.statement.now.returning)))) (Some (sheet_of c.word-3.new.self)) (Some (sheet_of c.put_returning.new.page)) c.put_returning.result
-    (ap (λ z. put (Some (sheet_of c.word-2.new.self)) z) (ap Word (sym c.as_str.ensures.text)) ∙ c.in_ok-word-3.ensures) (put_on (Some (sheet_of c.word-3.new.self)) (form.columns_if_any c.args.statement.now.columns) (Word (codes "VALUES") ∷ ((form.listed form.tuple c.args.statement.now.tuples) ++ (form.returning c.args.statement.now.returning))) (Some (sheet_of c.put_columns_if_any.new.page)) (Some (sheet_of c.put_returning.new.page)) c.put_returning.result
-    c.in_ok-put_columns_if_any.ensures (put_one (Some (sheet_of c.put_columns_if_any.new.page)) (Word (codes "VALUES")) ((form.listed form.tuple c.args.statement.now.tuples) ++ (form.returning c.args.statement.now.returning)) (Some (sheet_of c.word-4.new.self)) (Some (sheet_of c.put_returning.new.page)) c.put_returning.result
-    c.in_ok-word-4.ensures (put_on (Some (sheet_of c.word-4.new.self)) (form.listed form.tuple c.args.statement.now.tuples) (form.returning c.args.statement.now.returning) (Some (sheet_of c.put_tuples.new.page)) (Some (sheet_of c.put_returning.new.page)) c.put_returning.result
-    ((ap (λ z. put_all (Some (sheet_of c.word-4.new.self)) (form.listed form.tuple z)) (sym c.as_slice.ensures)) ∙ c.in_ok-put_tuples.ensures) c.put_returning.ensures)))))
+    put_one (Some (output_of c.args.buffer.now)) (Word (codes "INSERT")) (Word (codes "INTO") ∷ (Word c.args.statement.now.table ∷ ((form.columns_if_any c.args.statement.now.columns) ++ (Word (codes "VALUES") ∷ ((form.listed form.tuple c.args.statement.now.tuples) ++ (form.returning c.args.statement.now.returning)))))) (Some (output_of c.word.new.self)) (Some (output_of c.put_returning.new.buffer)) c.put_returning.result
+    c.in_ok-word.ensures (put_one (Some (output_of c.word.new.self)) (Word (codes "INTO")) (Word c.args.statement.now.table ∷ ((form.columns_if_any c.args.statement.now.columns) ++ (Word (codes "VALUES") ∷ ((form.listed form.tuple c.args.statement.now.tuples) ++ (form.returning c.args.statement.now.returning))))) (Some (output_of c.word-2.new.self)) (Some (output_of c.put_returning.new.buffer)) c.put_returning.result
+    c.in_ok-word-2.ensures (put_one (Some (output_of c.word-2.new.self)) (Word c.args.statement.now.table) ((form.columns_if_any c.args.statement.now.columns) ++ (Word (codes "VALUES") ∷ ((form.listed form.tuple c.args.statement.now.tuples) ++ (form.returning c.args.statement.now.returning)))) (Some (output_of c.word-3.new.self)) (Some (output_of c.put_returning.new.buffer)) c.put_returning.result
+    (ap (λ z. put (Some (output_of c.word-2.new.self)) z) (ap Word (sym c.as_str.ensures.text)) ∙ c.in_ok-word-3.ensures) (put_on (Some (output_of c.word-3.new.self)) (form.columns_if_any c.args.statement.now.columns) (Word (codes "VALUES") ∷ ((form.listed form.tuple c.args.statement.now.tuples) ++ (form.returning c.args.statement.now.returning))) (Some (output_of c.put_columns_if_any.new.buffer)) (Some (output_of c.put_returning.new.buffer)) c.put_returning.result
+    c.in_ok-put_columns_if_any.ensures (put_one (Some (output_of c.put_columns_if_any.new.buffer)) (Word (codes "VALUES")) ((form.listed form.tuple c.args.statement.now.tuples) ++ (form.returning c.args.statement.now.returning)) (Some (output_of c.word-4.new.self)) (Some (output_of c.put_returning.new.buffer)) c.put_returning.result
+    c.in_ok-word-4.ensures (put_on (Some (output_of c.word-4.new.self)) (form.listed form.tuple c.args.statement.now.tuples) (form.returning c.args.statement.now.returning) (Some (output_of c.put_tuples.new.buffer)) (Some (output_of c.put_returning.new.buffer)) c.put_returning.result
+    ((ap (λ z. put_all (Some (output_of c.word-4.new.self)) (form.listed form.tuple z)) (sym c.as_slice.ensures)) ∙ c.in_ok-put_tuples.ensures) c.put_returning.ensures)))))

@@ -10,6 +10,6 @@ invariant-loop-role g l =
     record {
       state : g.S.RowSource.state l.source ≡ g.S.RowSource.state l.fn.source;
       given : whole.gives ≡ rest.gives;
-      noted : l.notes ++ rest.reads ≡ l.fn.notes ++ whole.reads;
+      noted : l.read_set ++ rest.reads ≡ l.fn.read_set ++ whole.reads;
       read : g.S.RowSource.after l.source rest.reads ≡ g.S.RowSource.after l.fn.source whole.reads;
     }

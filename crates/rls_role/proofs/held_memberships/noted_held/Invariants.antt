@@ -9,6 +9,6 @@ invariant-loop-member g l =
     record {
       state : g.S.RowSource.state l.source ≡ now;
       held : l.held ++ held_in now (drop l.member-index l.members) ≡ held_in now l.members;
-      noted : l.notes ++ held_reads (drop l.member-index l.members) ≡ l.fn.notes ++ held_reads l.members;
+      noted : l.read_set ++ held_reads (drop l.member-index l.members) ≡ l.fn.read_set ++ held_reads l.members;
       read : g.S.RowSource.after l.source (held_reads (drop l.member-index l.members)) ≡ g.S.RowSource.after l.fn.source (held_reads l.members);
     }

@@ -1,5 +1,5 @@
 use Rattle.std.proofs.Common.{◌≡◌, ◌≤◌, drop}
-use Rattle.rls_text.specs.Answers as spec
+use Rattle.rls_text.specs.ParseResults as spec
 use Rattle.rls_text.proofs.limits.first_limit.Given as goal
 
 -- what is left passes the limit that the whole passes

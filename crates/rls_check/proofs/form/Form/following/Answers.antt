@@ -1,5 +1,5 @@
 use Rattle.std.proofs.Common.{subst}
-use Rattle.rls_audit.specs.Reading.{Tells}
+use Rattle.rls_audit.specs.Reading.{TellsWhether}
 use Rattle.rls_check.specs.Forms.{Follows, FollowerOf}
 use Rattle.rls_check.proofs.FormLemmas.{follower_means, no_follower, line_refused}
 use Rattle.rls_check.proofs.form.Form.following.Goals as goal
@@ -7,7 +7,7 @@ use Rattle.rls_check.proofs.form.Form.following.Goals as goal
 pub returns-else-follows : goal.returns-else-follows
 returns-else-follows c =
     let used = c.args.self.now.used in
-    no_follower c.args.number c.args.second used c.args.text.now c.in-Ok.line c.in-Ok.ensures (subst (λ b. Tells b (Follows used c.in-Ok.line)) c.if-follows.false c.follows.ensures)
+    no_follower c.args.number c.args.second used c.args.text.now c.in-Ok.line c.in-Ok.ensures (subst (λ b. TellsWhether b (Follows used c.in-Ok.line)) c.if-follows.false c.follows.ensures)
 
 pub returns-in-Err : goal.returns-in-Err
 returns-in-Err c =

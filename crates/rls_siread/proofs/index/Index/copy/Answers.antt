@@ -5,7 +5,7 @@ use Rattle.std.specs.Map.Iter.{deref}
 use Rattle.std.proofs.lemmas.Map.Iter.{rest_more}
 use Rattle.rls_value.specs.declared.object.Object.{Object}
 use Rattle.rls_source.specs.Footprints.{is_among}
-use Rattle.rls_siread.specs.Index.{Held, held_at}
+use Rattle.rls_siread.specs.Index.{HolderList, held_at}
 use Rattle.rls_siread.proofs.IndexLaws.{nobody_at}
 use Rattle.rls_siread.proofs.CopyLaws.{no_entry, copied_object}
 use Rattle.rls_siread.proofs.index.Index.copy.Goals as goal
@@ -13,7 +13,7 @@ use Rattle.rls_siread.proofs.index.Index.copy.Goals as goal
 pub loop-object-init : goal.loop-object-init
 loop-object-init c = λ object none.
     let it : c.into_iter-object-iterator.result ≡ keys_of c.args.self.now.holders.entries = c.into_iter-object-iterator.ensures.into_iter_gives ∙ c.keys-object-items.ensures.rest in
-    ap (λ (places : List (Object × Held)). held_at places object) c.new-copied.ensures
+    ap (λ (places : List (Object × HolderList)). held_at places object) c.new-copied.ensures
     ∙ sym (nobody_at c.args.self.now.holders.entries object c.keys-object-items.ensures.ordered (no_entry c.args.self.now.holders.entries object (ap (λ list. is_among list object) (sym it) ∙ none)))
 
 pub loop-object-preserved : goal.loop-object-preserved

@@ -5,7 +5,7 @@ use Rattle.std.proofs.Common.{ap, sym, ◌∙◌}
 use Rattle.std.proofs.lemmas.Bool.{true≢false}
 use Rattle.rls_value.specs.declared.object.Object.{Object}
 use Rattle.rls_siread.specs.Locks.{without}
-use Rattle.rls_siread.specs.Index.{Held, held_at}
+use Rattle.rls_siread.specs.Index.{HolderList, held_at}
 use Rattle.rls_siread.proofs.IndexLaws.{entry_at, changed_at, same_at, held_here, nobody_at}
 use Rattle.rls_siread.proofs.index.Index.take_out.Goals as goal
 
@@ -26,6 +26,6 @@ returns-in-None c =
     let nobody : held_at c.args.self.now.holders.entries c.args.object.now ≡ [] =
     nobody_at c.args.self.now.holders.entries c.args.object.now c.get_mut.ensures.ordered (sym c.get_mut.ensures.value ∙ ap option_copied_mut c.in-None.is) in
     record {
-      held = λ other. ap (λ (places : BTreeMap Object Held). held_at places.entries other) c.get_mut.follows.holds-at-none ∙ same_at (λ txns. without txns c.args.txn) c.args.self.now.holders.entries c.args.object.now (ap (λ txns. without txns c.args.txn) nobody ∙ sym nobody) other;
+      held = λ other. ap (λ (places : BTreeMap Object HolderList). held_at places.entries other) c.get_mut.follows.holds-at-none ∙ same_at (λ txns. without txns c.args.txn) c.args.self.now.holders.entries c.args.object.now (ap (λ txns. without txns c.args.txn) nobody ∙ sym nobody) other;
       nobody = λ empty. absurd (true≢false (sym empty));
     }

@@ -1,5 +1,0 @@
-use Rattle.rls_evaluation.proofs.Absorbing.{holds_new}
-use Rattle.rls_evaluation.proofs.memo.Work.new.Goals as goal
-
-pub returns-clause-holds : goal.returns-clause-holds
-returns-clause-holds c = λ fences user s. holds_new fences user s _ c.new.ensures c.new-2.ensures.empty c.new-3.ensures.items

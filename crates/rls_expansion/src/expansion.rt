@@ -1,0 +1,327 @@
+//! The policy expansion of a statement.
+
+ghost use Rattle.std.specs.Prelude.{◌≡◌, [], ◌++◌, IfOk, OnOk};
+ghost use Rattle.std.specs.Option.{option_copied};
+ghost use Rattle.rls_value.specs.Giving.{Gives};
+ghost use Rattle.rls_expr.specs.Scopes.{in_scope};
+ghost use Rattle.rls_source.specs.Answering.{Answers};
+ghost use Rattle.rls_expansion.specs.Expanding as spec;
+
+use crate::dependencies::dependencies_of;
+use crate::policies::policies_for;
+use crate::relations::{known_in, relations_of};
+use crate::used::tables_used;
+use rls_catalog::Side;
+use rls_evaluation::SecuredRelation;
+use rls_expr::{FromTable, NamedTable, Policy};
+use rls_guard::{PolicyScope, RolePrivileges, RowCheck, row_checks_by};
+use rls_recursion::{PolicyDependency, Reached, search};
+use rls_source::{Reads, RowSource};
+use rls_value::{Items, Kind, Name, Refusal};
+use std::alloc::{AllocError, Global};
+
+/// What a statement's policies expand to.
+#[derive(Drop)]
+pub struct PolicyExpansion<'c> {
+    /// The checks of the rows of its table as they stand.
+    pub old: Items<RowCheck<'c>>,
+    /// The checks of its new rows.
+    pub new: Items<RowCheck<'c>>,
+    /// What subqueries look through, those of policies too.
+    pub relations: Items<SecuredRelation<'c>>,
+    /// The other tables, in the order in which the SELECT privilege is asked.
+    pub permission_checks: Items<Name>,
+}
+
+/// A type of command, and whether it reads its table.
+#[derive(Clone, Copy)]
+struct Command {
+    kind: Kind,
+    reads: bool,
+}
+
+/// The policy expansion of a statement of that type on the table: the policies that count, and those of every table that
+/// its subqueries and the policies' lead to, each read once. `Recursion` names the first table that a chain of policies
+/// meets again (PostgreSQL: 42P17).
+#[tactic(auto, unfolding(crate::specs::Expanding::expansion_of))]
+pub fn expansion_of<'c, 'x, S: RowSource<'c>>(
+    alloc: Global,
+    source: &mut S,
+    read_set: &mut Reads,
+    role_privileges: &RolePrivileges,
+    from: FromTable<'x>,
+    kind: Kind,
+    reads: bool,
+    queries: &[Name],
+) -> Result<PolicyExpansion<'c>, Refusal>
+    ensures { Answers S.state S.after (spec.expansion_of role_privileges.now from.entry.name.now from.entry.table.now kind reads queries.now) source.old source.new read_set.old read_set.new result }
+{
+    let policies = policies_for(
+        alloc,
+        source,
+        read_set,
+        role_privileges,
+        from.name,
+        from.table,
+    )?;
+    let command = Command { kind, reads };
+    past_policies(
+        alloc,
+        source,
+        read_set,
+        role_privileges,
+        from,
+        command,
+        policies,
+        queries,
+    )
+}
+
+/// The policies of the table being known.
+#[tactic(auto, unfolding(crate::specs::Expanding::past_policies))]
+fn past_policies<'c, 'x, S: RowSource<'c>>(
+    alloc: Global,
+    source: &mut S,
+    read_set: &mut Reads,
+    role_privileges: &RolePrivileges,
+    from: FromTable<'x>,
+    command: Command,
+    policies: Option<&'c [Policy]>,
+    queries: &[Name],
+) -> Result<PolicyExpansion<'c>, Refusal>
+    ensures { Answers S.state S.after (spec.past_policies role_privileges.now from.entry.name.now from.entry.table.now command.kind command.reads queries.now (option_copied policies.entry)) source.old source.new read_set.old read_set.new result }
+{
+    let tables = tables_from(alloc, role_privileges, command, policies, queries)?;
+    let dependencies = dependencies_of(
+        alloc,
+        source,
+        read_set,
+        role_privileges,
+        tables.as_slice(),
+    )?;
+    drop(tables);
+    expand(
+        alloc,
+        role_privileges,
+        from,
+        command,
+        policies,
+        queries,
+        dependencies.as_slice(),
+    )
+}
+
+/// The tables that the policies lead to, then those of the statement's subqueries.
+fn tables_from(
+    alloc: Global,
+    role_privileges: &RolePrivileges,
+    command: Command,
+    policies: Option<&[Policy]>,
+    queries: &[Name],
+) -> Result<Items<Name>, AllocError>
+    ensures { IfOk result (λ tables. tables ≡ spec.own_tables role_privileges.now command.kind command.reads (option_copied policies.entry) ++ queries.now) }
+{
+    let mut tables = own_tables(alloc, role_privileges, command, policies)?;
+    for name in queries {
+        tables.push(name.copy()?)?;
+    }
+    Ok(tables)
+}
+
+fn own_tables(
+    alloc: Global,
+    role_privileges: &RolePrivileges,
+    command: Command,
+    policies: Option<&[Policy]>,
+) -> Result<Items<Name>, AllocError>
+    ensures { IfOk result (λ tables. tables ≡ spec.own_tables role_privileges.now command.kind command.reads (option_copied policies.entry)) }
+{
+    match policies {
+        None => Ok(Items::new(alloc)),
+        Some(policies) => {
+            let asks = asks_of(alloc, command)?;
+            tables_used(alloc, policies, &role_privileges.effective_roles, &asks)
+        }
+    }
+}
+
+fn asks_of(alloc: Global, command: Command) -> Result<Vec<(Kind, Side)>, AllocError>
+    ensures { IfOk result (λ asks. asks.items ≡ spec.asks_of command.kind command.reads) }
+{
+    let mut asks = Vec::with_capacity(alloc, 4)?;
+    put_asks(&mut asks, judges_old(command.kind), command, Side::Old)?;
+    put_asks(&mut asks, judges_new(command.kind), command, Side::New)?;
+    Ok(asks)
+}
+
+fn put_asks(
+    asks: &mut Vec<(Kind, Side)>,
+    judges: bool,
+    command: Command,
+    side: Side,
+) -> Result<(), AllocError>
+    ensures { OnOk result (asks.new.items ≡ asks.old.items ++ spec.asks_on judges command.kind command.reads side) }
+{
+    if judges {
+        asks.push((command.kind, side))?;
+        if command.reads {
+            asks.push((Kind::Select, side))?;
+        }
+    }
+    Ok(())
+}
+
+fn judges_old(kind: Kind) -> bool
+    ensures { result ≡ spec.judges_old kind }
+{
+    match kind {
+        Kind::Select | Kind::Update | Kind::Delete => true,
+        Kind::Insert => false,
+    }
+}
+
+fn judges_new(kind: Kind) -> bool
+    ensures { result ≡ spec.judges_new kind }
+{
+    match kind {
+        Kind::Insert | Kind::Update => true,
+        Kind::Select | Kind::Delete => false,
+    }
+}
+
+/// What is made of the dependencies, unless a chain of policies never ends.
+fn expand<'c, 'x>(
+    alloc: Global,
+    role_privileges: &RolePrivileges,
+    from: FromTable<'x>,
+    command: Command,
+    policies: Option<&'c [Policy]>,
+    queries: &[Name],
+    dependencies: &[PolicyDependency<'c>],
+) -> Result<PolicyExpansion<'c>, Refusal>
+    ensures { Gives result (spec.expansion_by role_privileges.now command.kind command.reads (in_scope from.entry) (option_copied policies.entry) queries.now dependencies.now) }
+{
+    let own = own_tables(alloc, role_privileges, command, policies)?;
+    let reached = search(alloc, dependencies, from.name, own.as_slice(), queries);
+    drop(own);
+    let reached = reached?;
+    let made = expanded_from(
+        alloc,
+        role_privileges,
+        from,
+        command,
+        policies,
+        dependencies,
+        reached,
+    )?;
+    Ok(made)
+}
+
+fn expanded_from<'c, 'x>(
+    alloc: Global,
+    role_privileges: &RolePrivileges,
+    from: FromTable<'x>,
+    command: Command,
+    policies: Option<&'c [Policy]>,
+    dependencies: &[PolicyDependency<'c>],
+    reached: Reached,
+) -> Result<PolicyExpansion<'c>, AllocError>
+    ensures { IfOk result (λ made. made ≡ spec.expanded_from role_privileges.now command.kind command.reads (in_scope from.entry) (option_copied policies.entry) dependencies.now reached) }
+{
+    let Reached {
+        secured,
+        permission_checks,
+    } = reached;
+    let found = known_in(alloc, dependencies)?;
+    let relations = relations_of(alloc, found.as_slice(), dependencies, secured.as_slice())?;
+    drop(secured);
+    let row_checks = both_sides(
+        alloc,
+        role_privileges,
+        from,
+        command,
+        policies,
+        found.as_slice(),
+    );
+    drop(found);
+    match row_checks {
+        Ok((old, new)) => Ok(PolicyExpansion {
+            old,
+            new,
+            relations,
+            permission_checks,
+        }),
+        Err(refused) => {
+            drop(relations);
+            drop(permission_checks);
+            Err(refused)
+        }
+    }
+}
+
+/// The checks of the rows of the table, as they stand and of new ones.
+fn both_sides<'c, 'x>(
+    alloc: Global,
+    role_privileges: &RolePrivileges,
+    from: FromTable<'x>,
+    command: Command,
+    policies: Option<&'c [Policy]>,
+    found: &'x [NamedTable<'x>],
+) -> Result<(Items<RowCheck<'c>>, Items<RowCheck<'c>>), AllocError>
+    ensures old { IfOk result (λ both. both.0 ≡ spec.row_checks_if (spec.judges_old command.kind) role_privileges.now command.kind command.reads (in_scope from.entry) found.now (option_copied policies.entry) Side.Old) }
+    ensures new { IfOk result (λ both. both.1 ≡ spec.row_checks_if (spec.judges_new command.kind) role_privileges.now command.kind command.reads (in_scope from.entry) found.now (option_copied policies.entry) Side.New) }
+{
+    let scope = PolicyScope { from, found };
+    let judges = judges_old(command.kind);
+    let old = row_checks_if(
+        alloc,
+        judges,
+        role_privileges,
+        scope,
+        command,
+        policies,
+        Side::Old,
+    )?;
+    let judges = judges_new(command.kind);
+    match row_checks_if(
+        alloc,
+        judges,
+        role_privileges,
+        scope,
+        command,
+        policies,
+        Side::New,
+    ) {
+        Ok(new) => Ok((old, new)),
+        Err(refused) => {
+            drop(old);
+            Err(refused)
+        }
+    }
+}
+
+fn row_checks_if<'c, 'x>(
+    alloc: Global,
+    judges: bool,
+    role_privileges: &RolePrivileges,
+    scope: PolicyScope<'x>,
+    command: Command,
+    policies: Option<&'c [Policy]>,
+    side: Side,
+) -> Result<Items<RowCheck<'c>>, AllocError>
+    ensures { IfOk result (λ row_checks. row_checks ≡ spec.row_checks_if judges role_privileges.now command.kind command.reads (in_scope scope.entry.from) scope.entry.found.now (option_copied policies.entry) side) }
+{
+    if judges {
+        row_checks_by(
+            alloc,
+            role_privileges,
+            scope,
+            command.kind,
+            command.reads,
+            side,
+            policies,
+        )
+    } else {
+        Ok(Items::new(alloc))
+    }
+}

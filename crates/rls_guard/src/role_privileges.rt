@@ -1,0 +1,105 @@
+//! Who the current role is for a statement: its attributes, and whose privileges it has.
+
+ghost use Rattle.std.specs.Prelude.{◌≡◌};
+ghost use Rattle.rls_value.specs.Giving.{Gives};
+ghost use Rattle.rls_catalog.specs.Verdict.{exempts};
+ghost use Rattle.rls_source.specs.Answering.{Answers, Tells};
+ghost use Rattle.rls_guard.specs.RolePrivileges as spec;
+
+use rls_catalog::RoleDef;
+use rls_expr::TableDef;
+use rls_grant::is_granted;
+use rls_policy::exempt;
+use rls_role::{EffectiveRoles, noted_effective_roles};
+use rls_source::{Reads, RowSource, noted_grants, noted_role};
+use rls_value::{Name, Privilege, Refusal, Why};
+use std::alloc::{AllocError, Global};
+
+/// The current role, as its attributes and its memberships make it.
+#[derive(Drop)]
+pub struct RolePrivileges {
+    pub attributes: RoleDef,
+    pub effective_roles: EffectiveRoles,
+}
+
+/// The role's privileges. It reads the role and, unless that is a superuser, each role whose privileges it has.
+#[tactic(auto, unfolding(rls_source::specs::Asked::role_at, rls_role::specs::Reaching::effective_roles_in, rls_role::specs::Reaching::effective_roles_reads_in, crate::specs::RolePrivileges::role_privileges_in, crate::specs::RolePrivileges::role_privileges_reads))]
+pub fn role_privileges_of<'c, S: RowSource<'c>>(
+    alloc: Global,
+    source: &mut S,
+    read_set: &mut Reads,
+    role: &Name,
+) -> Result<RolePrivileges, AllocError>
+    ensures { Tells S.state S.after (spec.role_privileges_of role.now) source.old source.new read_set.old read_set.new result }
+{
+    let attributes = RoleDef::known(noted_role(alloc, source, read_set, role)?);
+    let effective_roles = noted_effective_roles(alloc, source, read_set, role)?;
+    Ok(RolePrivileges {
+        attributes,
+        effective_roles,
+    })
+}
+
+/// Denied where the role hasn't the privileges of the table's owner.
+#[tactic(auto, unfolding(crate::specs::RolePrivileges::ownership))]
+pub fn require_ownership<'c, S: RowSource<'c>>(
+    alloc: Global,
+    source: &mut S,
+    read_set: &mut Reads,
+    role: &Name,
+    name: &Name,
+    table: &TableDef,
+) -> Result<(), Refusal>
+    ensures { Answers S.state S.after (spec.ownership role.now name.now table.now) source.old source.new read_set.old read_set.new result }
+{
+    let role_privileges = role_privileges_of(alloc, source, read_set, role)?;
+    let owned = role_privileges.require_owner(name, table);
+    drop(role_privileges);
+    owned
+}
+
+impl RolePrivileges {
+    /// Denied where the role lacks the privilege on the table. It reads the grants, unless the role is a superuser.
+    pub fn require_privilege<'c, S: RowSource<'c>>(
+        &self,
+        alloc: Global,
+        source: &mut S,
+        read_set: &mut Reads,
+        privilege: Privilege,
+        table: &Name,
+    ) -> Result<(), Refusal>
+        ensures { Answers S.state S.after (spec.privilege_or_denied self.now privilege table.now) source.old source.new read_set.old read_set.new result }
+    {
+        if self.effective_roles.superuser {
+            return Ok(());
+        }
+        let grants = noted_grants(alloc, source, read_set, table)?;
+        if is_granted(grants, privilege, &self.effective_roles) {
+            Ok(())
+        } else {
+            Err(Refusal::Denied(Why::Privilege(privilege, table.copy()?)))
+        }
+    }
+
+    /// Denied where the role hasn't the privileges of the table's owner.
+    pub fn require_owner(&self, name: &Name, table: &TableDef) -> Result<(), Refusal>
+        ensures { Gives result (spec.owner_or_denied self.now name.now table.now) }
+    {
+        if self.effective_roles.has(&table.owner) {
+            Ok(())
+        } else {
+            Err(Refusal::Denied(Why::Owner(name.copy()?)))
+        }
+    }
+
+    /// Whether row security doesn't apply to the role on the table.
+    pub fn is_exempt(&self, table: &TableDef) -> bool
+        ensures { result ≡ exempts self.now.attributes table.now (spec.has_owner self.now table.now) }
+    {
+        exempt(
+            &self.attributes,
+            table,
+            self.effective_roles.has(&table.owner),
+        )
+    }
+}

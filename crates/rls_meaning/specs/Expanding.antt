@@ -1,0 +1,37 @@
+-- What the expansion of a command's policies comes to, in the words of a state (PostgreSQL manual, 5.8, and CREATE POLICY,
+-- "Policies Applied by Command Type").
+use Rattle.std.specs.Prelude.{◌≡◌, ℕ, List, [], Bool, Some, None, Result, Ok, Err, if◌then◌else◌}
+use Rattle.rls_value.specs.declared.refusal.Refusal.{Refusal}
+use Rattle.rls_value.specs.declared.refusal.Refusal.TheVariants.{Recursion}
+use Rattle.rls_expr.specs.Terms.{Term}
+use Rattle.rls_catalog.specs.{declared.verdict.Side.Side, Membership.Within, State.State}
+use Rattle.rls_catalog.specs.declared.verdict.Side.TheVariants as side
+use Rattle.rls_evaluation.specs.{Environments.Environment, Eval.value_of, Showing.shows}
+use Rattle.rls_guard.specs.{declared.quals.RowCheck.RowCheck, RolePrivileges.role_privileges_in}
+use Rattle.rls_expansion.specs.{declared.expansion.PolicyExpansion.PolicyExpansion, Expanding.judges_new, Expanding.judges_old, Expanding.expansion_of, Used.tables_of}
+use Rattle.rls_depth.specs.Deep.{JudgeAlike}
+use Rattle.rls_meaning.specs.{Commands.Command, Commands.closing_in, Commands.needed_in, Rows.checks, Rows.sees}
+
+-- the command's policy expansion
+abbrev pub expansion_in : State → Command → Result PolicyExpansion Refusal
+expansion_in s c = ((expansion_of (role_privileges_in s c.role) c.name c.table c.kind c.reads c.queries).in_state s).gives
+
+-- the checks of rows of one side, where the command judges it
+abbrev pub checks_if : Bool → State → Command → Side → List RowCheck
+checks_if judges s c which = if judges then checks s c which else []
+
+-- it says what the state says: whose privilege is asked, in order; what rows are checked for; what expressions come to over
+-- the tables that are asked for; and what the checks say of each row
+pub record IsExpansionIn (s : State) (c : Command) (p : PolicyExpansion) : Type 0 where
+  pub permission_checks : p.permission_checks ≡ needed_in s c
+  pub old : p.old ≡ checks_if (judges_old c.kind) s c side.Old
+  pub new : p.new ≡ checks_if (judges_new c.kind) s c side.New
+  pub value : (t : Term) (env : Environment) → Within (tables_of t) p.permission_checks → (value_of t (shows p.relations c.role) env).in_state s ≡ (value_of t (sees s c) env).in_state s
+  pub judged_old : JudgeAlike s c.role (shows p.relations c.role) (sees s c) p.old
+  pub judged_new : JudgeAlike s c.role (shows p.relations c.role) (sees s c) p.new
+
+-- the expansion is refused where the state's chains close, for the table that the first one closes on; else it is made, and
+-- expands the command's policies as the state says
+pub data IsExpanded (s : State) (c : Command) : Type 0 where
+  Refused : (t : List ℕ) → expansion_in s c ≡ Err (Recursion t) → closing_in s c ≡ Some t → IsExpanded s c
+  Made : (p : PolicyExpansion) → expansion_in s c ≡ Ok p → closing_in s c ≡ None → IsExpansionIn s c p → IsExpanded s c

@@ -1,5 +1,0 @@
-use Rattle.rls_printing.proofs.SheetLemmas.{text_grows}
-use Rattle.rls_printing.proofs.page.write.Goals as goal
-
-pub returns : goal.returns
-returns c = text_grows c.push_str.result c.args.text.now c.push_str.new.self c.args.more.now c.push_str.ensures.bytes

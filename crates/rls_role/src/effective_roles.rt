@@ -1,0 +1,137 @@
+//! Whose privileges a role has.
+
+ghost use Rattle.std.specs.Prelude.{◌≡◌, ◌↔◌, ◌||◌, if◌then◌else◌, [], true, IfOk, OnOk};
+ghost use Rattle.rls_value.specs.Names.{one_of};
+ghost use Rattle.rls_catalog.specs.{Membership.attributes_of, Membership.walked_by, Membership.walk_reads, Membership.effective_roles_reads, Membership.has_privileges_of, HasPrivileges.HasPrivilegesOf, Privileges.includes, State.State, State.AgreesOn, Paths.MaySet, Paths.can_set_reads, Paths.reached_where};
+ghost use Rattle.rls_catalog.specs.Paths as paths;
+ghost use Rattle.rls_role.specs.Steps.{takes, walked_where, walked_reads};
+
+use crate::names::is_among;
+use crate::walking::{Step, reached};
+use rls_catalog::RoleDef;
+use rls_expr::Grantee;
+use rls_source::RowSource;
+use rls_value::{Items, Name};
+use std::alloc::{AllocError, Global};
+
+/// Whose privileges a role has, so that one walk over memberships serves many questions.
+#[derive(Drop)]
+pub struct EffectiveRoles {
+    /// It has those of every role.
+    pub superuser: bool,
+    /// The role and those whose privileges it inherits; none for a superuser.
+    pub names: Items<Name>,
+}
+
+impl EffectiveRoles {
+    /// Whether the role has the privileges of the other.
+    pub fn has(&self, of: &Name) -> bool
+        ensures { result ≡ (self.now.superuser || one_of self.now.names of.now) }
+    {
+        self.superuser || is_among(self.names.as_slice(), of)
+    }
+
+    /// Whether what is for the grantee is for the role: the grantee is PUBLIC, or one whose privileges the role has.
+    pub fn includes(&self, grantee: &Grantee) -> bool
+        ensures { result ≡ includes self.now.superuser self.now.names grantee.now }
+    {
+        match grantee {
+            Grantee::Public => true,
+            Grantee::Role(name) => self.has(name),
+        }
+    }
+}
+
+/// Whose privileges the role has. It reads the role and, unless that is a superuser, each role that it reaches.
+#[tactic(auto, using(crate::proofs::StepLaws::walked_inherit))]
+pub fn effective_roles_of<'c, S: RowSource<'c>>(
+    alloc: Global,
+    source: &mut S,
+    role: &Name,
+) -> Result<EffectiveRoles, AllocError>
+    ensures superuser { IfOk result (λ effective_roles. effective_roles.superuser ≡ (attributes_of (S.state source.old) role.now).superuser) }
+    ensures names { IfOk result (λ effective_roles. effective_roles.names ≡ walked_by (S.state source.old) role.now) }
+    ensures read { OnOk result (source.new ≡ S.after source.old (effective_roles_reads (S.state source.old) role.now)) }
+    ensures state { S.state source.new ≡ S.state source.old }
+{
+    let effective_roles = effective_roles_by(alloc, source, role, Step::Inherit)?;
+    Ok(effective_roles)
+}
+
+/// Which roles the role reaches over such memberships; a superuser's aren't asked. It reads the role and each that it
+/// reaches.
+pub fn effective_roles_by<'c, S: RowSource<'c>>(
+    alloc: Global,
+    source: &mut S,
+    role: &Name,
+    step: Step,
+) -> Result<EffectiveRoles, AllocError>
+    ensures superuser { IfOk result (λ effective_roles. effective_roles.superuser ≡ (attributes_of (S.state source.old) role.now).superuser) }
+    ensures names { IfOk result (λ effective_roles. effective_roles.names ≡ walked_where step (S.state source.old) role.now) }
+    ensures read { OnOk result (source.new ≡ S.after source.old (walked_reads step (S.state source.old) role.now)) }
+    ensures state { S.state source.new ≡ S.state source.old }
+{
+    let superuser = RoleDef::known(source.role(alloc, role)?).superuser;
+    let names = walked(alloc, source, role, superuser, step)?;
+    Ok(EffectiveRoles { superuser, names })
+}
+
+fn walked<'c, S: RowSource<'c>>(
+    alloc: Global,
+    source: &mut S,
+    role: &Name,
+    superuser: bool,
+    step: Step,
+) -> Result<Items<Name>, AllocError>
+    ensures names { IfOk result (λ names. names ≡ (if superuser then [] else reached_where (takes step) (S.state source.old) role.now)) }
+    ensures read { OnOk result (source.new ≡ S.after source.old (walk_reads (if superuser then [] else reached_where (takes step) (S.state source.old) role.now))) }
+    ensures state { S.state source.new ≡ S.state source.old }
+{
+    if superuser {
+        return Ok(Items::new(alloc));
+    }
+    let names = reached(alloc, source, &[], role, step)?;
+    Ok(names)
+}
+
+/// Whether the role has the privileges of the other: it is a superuser itself, or reaches it over memberships whose
+/// INHERIT option is true (PostgreSQL manual, 22.3). In every state that agrees on what is read the answer is the same.
+#[tactic(auto, using(rls_catalog::proofs::HasPrivilegesLaws::has_privileges_means, rls_catalog::proofs::Frames::has_frame))]
+pub fn has<'c, S: RowSource<'c>>(
+    alloc: Global,
+    source: &mut S,
+    role: &Name,
+    of: &Name,
+) -> Result<bool, AllocError>
+    ensures has { IfOk result (λ has. has ≡ has_privileges_of (S.state source.old) role.now of.now) }
+    ensures means { (has_privileges_of (S.state source.old) role.now of.now ≡ true) ↔ HasPrivilegesOf (S.state source.old) role.now of.now }
+    ensures frame { (other : State) → AgreesOn (S.state source.old) other (effective_roles_reads (S.state source.old) role.now) → has_privileges_of other role.now of.now ≡ has_privileges_of (S.state source.old) role.now of.now }
+    ensures read { OnOk result (source.new ≡ S.after source.old (effective_roles_reads (S.state source.old) role.now)) }
+    ensures state { S.state source.new ≡ S.state source.old }
+{
+    let effective_roles = effective_roles_of(alloc, source, role)?;
+    let has = effective_roles.has(of);
+    drop(effective_roles);
+    Ok(has)
+}
+
+/// Whether the login may set the role: it is a superuser, or reaches it over memberships whose SET option is true
+/// (PostgreSQL manual, SET ROLE). In every state that agrees on what is read the answer is the same.
+#[tactic(auto, using(rls_catalog::proofs::Reaching::can_set_is, rls_catalog::proofs::PathFrames::can_set_frame, crate::proofs::StepLaws::can_set_walked, crate::proofs::StepLaws::can_set_reads_walked))]
+pub fn can_set<'c, S: RowSource<'c>>(
+    alloc: Global,
+    source: &mut S,
+    login: &Name,
+    role: &Name,
+) -> Result<bool, AllocError>
+    ensures can { IfOk result (λ can. can ≡ paths.can_set (S.state source.old) login.now role.now) }
+    ensures means { (paths.can_set (S.state source.old) login.now role.now ≡ true) ↔ MaySet (S.state source.old) login.now role.now }
+    ensures frame { (other : State) → AgreesOn (S.state source.old) other (can_set_reads (S.state source.old) login.now) → paths.can_set other login.now role.now ≡ paths.can_set (S.state source.old) login.now role.now }
+    ensures read { OnOk result (source.new ≡ S.after source.old (can_set_reads (S.state source.old) login.now)) }
+    ensures state { S.state source.new ≡ S.state source.old }
+{
+    let effective_roles = effective_roles_by(alloc, source, login, Step::Set)?;
+    let can = effective_roles.has(role);
+    drop(effective_roles);
+    Ok(can)
+}
