@@ -41,7 +41,7 @@ impl Alone {
         ensures ordered { IfOk result (λ alone. alone.ordered ≡ []) }
     {
         let ctx = first_ctx(txn, begin)?;
-        match state.copy(alloc) {
+        match state.copy() {
             Ok(state) => Ok(Alone {
                 state,
                 ctx,
@@ -161,7 +161,7 @@ fn state_after(alloc: Global, state: &State, effect: &Effect) -> Result<State, A
 {
     match effect {
         Effect::Done(_, _, delta, _) => state.with(alloc, delta),
-        Effect::Refused(_, _) => state.copy(alloc),
+        Effect::Refused(_, _) => state.copy(),
     }
 }
 

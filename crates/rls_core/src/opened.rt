@@ -61,7 +61,7 @@ impl Open {
         ensures { IfOk result (λ it. it ≡ opened_on txn begin state.now) }
     {
         let ctx = first_ctx(txn, &begin)?;
-        let view = state.copy(alloc)?;
+        let view = state.copy()?;
         Ok(Open {
             begin: Share::new(alloc, begin)?,
             posts: Vec::new(alloc),
@@ -223,7 +223,7 @@ fn state_after(alloc: Global, state: &State, effect: &Effect) -> Result<State, A
 {
     match effect {
         Effect::Done(_, _, delta, _) => state.with(alloc, delta),
-        Effect::Refused(_, _) => state.copy(alloc),
+        Effect::Refused(_, _) => state.copy(),
     }
 }
 

@@ -300,7 +300,7 @@ fn first_view<N: Named>(
     ensures ctx { IfOk result (λ first. first.1 ≡ first_ctx txn begin.now) }
 {
     let view = match base {
-        Some(place) => place.state(commits).copy(alloc)?,
+        Some(place) => place.state(commits).copy()?,
         None => State::opening(alloc)?,
     };
     match first_ctx(txn, begin) {
@@ -373,7 +373,7 @@ fn commit_of(alloc: Global, ready: &Ready) -> Result<Commit, AllocError>
     ensures { IfOk result (λ commit. (commit.entry ≡ ready.now.entry) × (commit.state ≡ ready.now.state)) }
 {
     let entry = ready.entry.copy()?;
-    match ready.state.copy(alloc) {
+    match ready.state.copy() {
         Ok(state) => Ok(Commit { entry, state }),
         Err(refused) => {
             drop(entry);

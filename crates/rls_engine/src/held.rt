@@ -180,7 +180,7 @@ fn view_after(alloc: Global, state: &State, effect: &Effect) -> Result<State, Al
 {
     match effect {
         Effect::Done(_, _, delta, _) => state.with(alloc, delta),
-        Effect::Refused(_, _) => state.copy(alloc),
+        Effect::Refused(_, _) => state.copy(),
     }
 }
 

@@ -5,13 +5,14 @@ ghost use Rattle.rls_catalog.specs.Changed.{opening, changed_all};
 
 use crate::snapshot::Snapshot;
 use rls_catalog::{Catalog, Delta};
+use shared_map::Share;
 use std::alloc::{AllocError, Global};
 use std::marker::Model;
 
 /// A state that nothing changes. Copies share everything, and a state with changes on shares all that they leave.
 #[derive(Drop)]
 pub struct State {
-    catalog: Catalog,
+    catalog: Share<Catalog>,
 }
 
 impl Model for State {
@@ -31,16 +32,16 @@ impl State {
         ensures { IfOk result (λ state. state ≡ opening) }
     {
         Ok(State {
-            catalog: Catalog::new(alloc)?,
+            catalog: Share::new(alloc, Catalog::new(alloc)?)?,
         })
     }
 
     /// The same state, all of it shared.
-    pub fn copy(&self, alloc: Global) -> Result<State, AllocError>
+    pub fn copy(&self) -> Result<State, AllocError>
         ensures { IfOk result (λ copy. copy ≡ self.now) }
     {
         Ok(State {
-            catalog: self.catalog.copy(alloc)?,
+            catalog: self.catalog.copy()?,
         })
     }
 
@@ -48,15 +49,20 @@ impl State {
     pub fn with(&self, alloc: Global, delta: &Delta) -> Result<State, AllocError>
         ensures { IfOk result (λ state. state ≡ changed_all self.now delta.now) }
     {
-        let mut catalog = self.catalog.copy(alloc)?;
+        if delta.as_slice().is_empty() {
+            return self.copy();
+        }
+        let mut catalog = self.catalog.get().copy(alloc)?;
         catalog.apply(alloc, delta)?;
-        Ok(State { catalog })
+        Ok(State {
+            catalog: Share::new(alloc, catalog)?,
+        })
     }
 
     /// What statements read.
     pub fn view(&self) -> Snapshot<'_>
         ensures { result ≡ self.now }
     {
-        Snapshot::new(&self.catalog)
+        Snapshot::new(self.catalog.get())
     }
 }
