@@ -2,7 +2,7 @@ use Rattle.std.proofs.Common.{refl, ◌≡◌, rules}
 use Rattle.rls_value.specs.declared.object.Object.TheVariants as o
 use Rattle.rls_evaluation.proofs.Absorbing.{holds_noted}
 use Rattle.rls_evaluation.proofs.Telling.{rows_told, key_told, on_ok}
-use Rattle.rls_evaluation.proofs.evaluation.permission_checks.Goals as goal
+use Rattle.rls_evaluation.proofs.evaluation.asked.Goals as goal
 
 pub returns-in_ok-note_of-in-Rows-clause-tells : goal.returns-in_ok-note_of-in-Rows-clause-tells
 returns-in_ok-note_of-in-Rows-clause-tells g c =
