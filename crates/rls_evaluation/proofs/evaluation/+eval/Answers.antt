@@ -111,9 +111,9 @@ eval-returns-in-Exists-clause-tells g t c =
     let same : terms.Exists (query_of c.deref-in-Exists.result.now) ≡ c.args.expr.now = search rules in
     subst (λ k. Evaluates (value_of k (shows (drop c.args.visible.from c.args.visible.relations.now) c.args.env.now.user.now) (env_of c.args.env.now)) (g.S.Tables.state c.args.source.now) (g.S.Tables.state c.exists.new.source) c.args.execution.now.read_set c.exists.new.execution.read_set (datum_now c.exists.result)) same c.exists.ensures.tells
 
-pub eval-returns-in-Within-clause-tells : goal.eval-returns-in-Within-clause-tells
-eval-returns-in-Within-clause-tells g t c =
-    let same : terms.Within c.deref-in-Within.result.now (query_of c.deref-in-Within-2.result.now) ≡ c.args.expr.now = search rules in
+pub eval-returns-in-InSubquery-clause-tells : goal.eval-returns-in-InSubquery-clause-tells
+eval-returns-in-InSubquery-clause-tells g t c =
+    let same : terms.InSubquery c.deref-in-InSubquery.result.now (query_of c.deref-in-InSubquery-2.result.now) ≡ c.args.expr.now = search rules in
     subst (λ k. Evaluates (value_of k (shows (drop c.args.visible.from c.args.visible.relations.now) c.args.env.now.user.now) (env_of c.args.env.now)) (g.S.Tables.state c.args.source.now) (g.S.Tables.state c.within.new.source) c.args.execution.now.read_set c.within.new.execution.read_set (datum_now c.within.result)) same c.within.ensures.tells
 
 pub eval-returns-in-NotInSubquery-clause-tells : goal.eval-returns-in-NotInSubquery-clause-tells
@@ -203,16 +203,16 @@ put_judgements-loop-policy-preserved g t c =
       holds = c.in_ok-datum.ensures.holds;
     }
 
-pub seen-shown_once-requires : goal.cached_rows-shown_once-requires
+pub seen-shown_once-requires : goal.seen-shown_once-requires
 seen-shown_once-requires g t c κs within = (omega (arith, c.decreases, size_found c.args.visible.relations.now (drop c.args.visible.from c.args.visible.relations.now) c.args.visible.from c.in-Some.place c.args.table.now refl (sym c.in-Some.ensures)), search rules)
 
-pub seen-returns-in-None-clause-tells : goal.cached_rows-returns-in-None-clause-tells
+pub seen-returns-in-None-clause-tells : goal.seen-returns-in-None-clause-tells
 seen-returns-in-None-clause-tells g t c =
     tells_unread ((shows (drop c.args.visible.from c.args.visible.relations.now) c.args.user.now) c.args.table.now c.args.key) (g.S.Tables.state c.args.source.now) _ c.args.execution.now.read_set [] c.new-in-None.result
     (shows_none (drop c.args.visible.from c.args.visible.relations.now) c.args.visible.from c.args.user.now c.args.table.now c.args.key (g.S.Tables.state c.args.source.now) (sym c.in-None.ensures)) refl
     (subst (λ xs. IfOk c.new-in-None.result (λ found. found ≡ xs)) c.new.ensures.items c.new-in-None.ensures)
 
-pub seen-returns-in_ok-object-in-Some-clause-tells : goal.cached_rows-returns-in_ok-object-in-Some-clause-tells
+pub seen-returns-in_ok-object-in-Some-clause-tells : goal.seen-returns-in_ok-object-in-Some-clause-tells
 seen-returns-in_ok-object-in-Some-clause-tells g t c =
     tells_same ((shows (drop c.args.visible.from c.args.visible.relations.now) c.args.user.now) c.args.table.now c.args.key) (shown_at c.args.visible.relations.now c.args.user.now c.in-Some.place c.in_ok-object-in-Some.object) _ _ _ _ _
     (shows_found c.args.visible.relations.now c.args.visible.from c.in-Some.place c.args.user.now c.args.table.now c.args.key (g.S.Tables.state c.args.source.now) (sym c.in-Some.ensures)
