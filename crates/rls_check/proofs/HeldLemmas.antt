@@ -31,7 +31,8 @@ use Rattle.rls_check.specs.declared.running.RanAlong.TheVariants as along
 use Rattle.rls_check.specs.Audited.{written_of, answered_of, shown_of, lines_between, lines_of, transaction_at, asked_of}
 use Rattle.rls_check.specs.Checking.{IsAnswer, FirstOther, ArePuts, IsRunAlone, RunsAlong, EndsAs, AgreeWhere, IsFoundAlong, IsPlaced, history_of, numbers_of, ctx_of, effects_in, state_behind, state_by, no_changes, wide_of_all}
 use Rattle.rls_check.proofs.OrderLemmas.{among, placed_among, apart, in_range, began_at, own_among, one_order, next_began}
-use Rattle.rls_check.proofs.HoldsLemmas.{effects_at, IsShown, effects_here, effects_later, deltas_along, delta_at, deltas_many, end_along, no_changes_many, get_map, length_map, stands}
+use Rattle.rls_check.proofs.CommittingLemmas.{no_changes_many}
+use Rattle.rls_check.proofs.HoldsLemmas.{effects_at, IsShown, effects_here, effects_later, deltas_along, delta_at, deltas_many, end_along, get_map, length_map, stands}
 
 -- ---- what the lines show
 

@@ -1,7 +1,7 @@
 -- An audit in which all is found to hold holds: the records are those that the run along its order makes.
 use Rattle.std.specs.Prelude.{◌≡◌, refl, ℕ, zero, suc, ◌+◌, ◌==◌, ◌<◌, ◌≤◌, ltb, Bool, true, false, ◌||◌, ◌&&◌, cond, List, [], ◌∷◌, ◌++◌, map, length, get_or, set, Option, Some, None}
 use Rattle.std.specs.List.{flat_map}
-use Rattle.std.proofs.Common.{ap, sym, ◌∙◌, subst, inl, inr, ◌⊎◌, arith, eq-eqb, eqb-true, lt-ltb, add-one}
+use Rattle.std.proofs.Common.{ap, sym, ◌∙◌, subst, inl, inr, ◌⊎◌, arith, eq-eqb, eqb-true, lt-ltb}
 use Rattle.std.proofs.lemmas.Bool.{cases_Bool, cases_lt, or_parts, or_cases, or_left, or_right, true≢false}
 use Rattle.std.proofs.lemmas.List.{get_or-set_same, get_or-set_other, length-set}
 use Rattle.rls_value.specs.declared.object.Object.{Object}
@@ -29,6 +29,7 @@ use Rattle.rls_check.specs.declared.running.RanAlong.{RanAlong}
 use Rattle.rls_check.specs.declared.running.RanAlong.TheVariants as along
 use Rattle.rls_check.specs.Audited.{written_of, answered_of, shown_of, lines_between, lines_of, transaction_at, asked_of}
 use Rattle.rls_check.specs.Checking.{FirstOther, IsRunAlone, RunsAlong, EndsAs, AgreeWhere, IsFoundAlong, IsPlaced, history_of, ctx_of, effects_in, state_behind, state_by, no_changes}
+use Rattle.rls_check.proofs.CommittingLemmas.{no_changes_many}
 use Rattle.rls_check.proofs.OrderLemmas.{among, placed_among, apart, in_range, began_at, own_among, one_order, next_began}
 use Rattle.rls_check.proofs.EndLemmas.{UncoveredStays, IsWide, agrees_itself, agrees_on, stays_all, uncovered_at, covers_one, agree_everywhere}
 
@@ -302,17 +303,6 @@ named_same e ts (p ∷ ps) h =
     ∙ ap (λ (ns : List ℕ). (record_at (records_from e ts) p).txn ∷ ns) (named_same e ts ps (λ i later. h i (or_right (i == p) (among ps i) later)))
 
 -- ---- all together
-
-pub no_changes_many : (n : ℕ) → length (no_changes n) ≡ n
-no_changes_many zero = refl
-no_changes_many (suc n) = let rest = no_changes_many n in omega (arith, rest)
-
-pushed : (n : ℕ) → no_changes n ++ [] ∷ [] ≡ no_changes (suc n)
-pushed zero = refl
-pushed (suc n) = ap (λ (rest : List (List Change)). [] ∷ rest) (pushed n)
-
-pub no_changes_push : (n : ℕ) → no_changes n ++ [] ∷ [] ≡ no_changes (n + 1)
-no_changes_push n = pushed n ∙ ap no_changes (sym (add-one n))
 
 -- what an order of all gives of them
 module _ (ts : List Transaction) (places : List ℕ) (order : IsOrder (history_of ts) places) where

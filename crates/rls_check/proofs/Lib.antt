@@ -5,7 +5,7 @@ pub mod HoldsLemmas
 pub mod HeldLemmas
 pub mod FirstLemmas
 pub mod ExplainedLemmas
-pub mod CommittedLemmas
+pub mod CommittingLemmas
 pub mod RunningLemmas
 pub mod FormLemmas
 pub mod StoredLemmas

@@ -1,38 +1,79 @@
 -- One transaction more along the order.
-use Rattle.std.specs.Prelude.{◌≡◌, refl, ◌+◌, ◌<◌, ◌≤◌, ℕ, zero, suc, List, [], ◌∷◌, length, drop, get_or, set}
-use Rattle.std.proofs.Common.{inl, inr, sym, subst, arith}
-use Rattle.std.proofs.lemmas.List.{drop_more}
+use Rattle.std.specs.Prelude.{◌≡◌, refl, ◌↔◌, ◌+◌, ◌<◌, ◌≤◌, ℕ, zero, suc, Bool, true, false, List, [], ◌∷◌, length, drop, get_or, set}
+use Rattle.std.proofs.Common.{inl, inr, sym, ◌∙◌, subst, arith}
+use Rattle.std.proofs.lemmas.Bool.{true≢false}
+use Rattle.std.proofs.lemmas.List.{drop_more, length-set}
 use Rattle.rls_catalog.specs.declared.change.Change.{Change}
 use Rattle.rls_catalog.specs.State.{State}
+use Rattle.rls_catalog.specs.Changed.{opening}
+use Rattle.rls_history.specs.Orders.{StandInTurn, IsOrder, placed_by, with_placed, none_placed}
 use Rattle.rls_check.specs.declared.transaction.Transaction.{Transaction}
+use Rattle.rls_check.specs.declared.committing.Committing.{Committing}
 use Rattle.rls_check.specs.declared.finding.Finding.{Finding}
+use Rattle.rls_check.specs.declared.finding.Finding.TheVariants as f
 use Rattle.rls_check.specs.declared.running.RanAlone.TheVariants as alone
 use Rattle.rls_check.specs.declared.running.RanAlong.{RanAlong}
 use Rattle.rls_check.specs.declared.running.RanAlong.TheVariants as along
 use Rattle.rls_check.specs.Audited.{transaction_at}
-use Rattle.rls_check.specs.Checking.{IsRunAlone, RunsAlong}
+use Rattle.rls_check.specs.Checking.{AgreeWhere, IsFoundAlong, IsRunAlone, RunsAlong, history_of, no_changes, state_by}
+use Rattle.rls_check.specs.Committing.{HasRunAlong, IsCommitting}
+use Rattle.rls_check.proofs.CommittingLemmas.{no_changes_many}
 
--- it comes to what is shown
-pub one_agrees : (ts : List Transaction) (s after : State) (deltas left : List (List Change)) (changes : List Change) (place : ℕ) (places : List ℕ) (ran : RanAlong)
-    → IsRunAlone s (transaction_at ts place) (alone.Agrees after changes) → RunsAlong ts after (set deltas place changes) places ran left → RunsAlong ts s deltas (place ∷ places) ran left
-one_agrees ts s after deltas left changes place places ran one rest = inl (after, changes, one, rest)
+-- what the run of the rest comes to is what the run of all does
+pub record IsRunning (ts : List Transaction) (places rest : List ℕ) (s : State) (it : Committing) : Type 0 where
+  pub deltas : List (List Change)
+  pub placed : ℕ → Bool
+  pub size : length deltas ≡ length ts
+  pub committing : IsCommitting deltas placed it
+  pub turns : StandInTurn (history_of ts) placed rest
+  pub all : placed_by placed rest ≡ placed_by none_placed places
+  pub run : (ran : RanAlong) (left : List (List Change)) → RunsAlong ts s deltas rest ran left → RunsAlong ts opening (no_changes (length ts)) places ran left
 
--- it differs
-pub one_differs : (ts : List Transaction) (s : State) (deltas left : List (List Change)) (place : ℕ) (places : List ℕ) (found : Finding)
-    → IsRunAlone s (transaction_at ts place) (alone.Differs found) → RunsAlong ts s deltas (place ∷ places) (along.Differs found) left
-one_differs ts s deltas left place places found one = inr (found, one, refl)
+pub runs_at_first : (ts : List Transaction) (places : List ℕ) (s : State) (it : Committing) → StandInTurn (history_of ts) none_placed places → IsCommitting (no_changes (length ts)) none_placed it → s ≡ opening → IsRunning ts places places s it
+runs_at_first ts places s it turns committing is = record {
+  deltas = no_changes (length ts);
+  placed = none_placed;
+  size = no_changes_many (length ts);
+  committing = committing;
+  turns = turns;
+  all = refl;
+  run = λ ran left runs. subst (λ (x : State). RunsAlong ts x (no_changes (length ts)) places ran left) is runs;
+}
 
 -- ---- as a loop finds them
 
-pub next_agrees : (ts : List Transaction) (s after : State) (deltas left : List (List Change)) (changes : List Change) (places : List ℕ) (i : ℕ) (ran : RanAlong) → i < length places
-    → IsRunAlone s (transaction_at ts (get_or places i 0)) (alone.Agrees after changes) → RunsAlong ts after (set deltas (get_or places i 0) changes) (drop (i + 1) places) ran left → RunsAlong ts s deltas (drop i places) ran left
-next_agrees ts s after deltas left changes places i ran lt one rest =
-    subst (λ (ps : List ℕ). RunsAlong ts s deltas ps ran left) (sym (drop_more places i 0 lt)) (one_agrees ts s after deltas left changes (get_or places i 0) (drop (i + 1) places) ran one rest)
+module _ (ts : List Transaction) (places : List ℕ) (i : ℕ) (s : State) (it : Committing) (running : IsRunning ts places (drop i places) s it) where
+  opened : i < length places → IsRunning ts places (get_or places i 0 ∷ drop (i + 1) places) s it
+  opened lt = subst (λ (ps : List ℕ). IsRunning ts places ps s it) (drop_more places i 0 lt) running
 
-pub next_differs : (ts : List Transaction) (s : State) (deltas left : List (List Change)) (places : List ℕ) (i : ℕ) (found : Finding) → i < length places
-    → IsRunAlone s (transaction_at ts (get_or places i 0)) (alone.Differs found) → RunsAlong ts s deltas (drop i places) (along.Differs found) left
-next_differs ts s deltas left places i found lt one =
-    subst (λ (ps : List ℕ). RunsAlong ts s deltas ps (along.Differs found) left) (sym (drop_more places i 0 lt)) (one_differs ts s deltas left (get_or places i 0) (drop (i + 1) places) found one)
+  pub next_within : i < length places → get_or places i 0 < length ts
+  next_within lt = (opened lt).turns.0.within
+
+  pub next_waits_within : i < length places → get_or places i 0 < length it.waiting.items
+  next_waits_within lt = (let within = next_within lt in let one = running.size in let other = running.committing.put_on.size in omega (arith, within, one, other))
+
+  -- it comes to what is shown
+  pub next_agrees : (behind : State) (after : Committing) (changes : List Change) → i < length places → IsRunAlone s (transaction_at ts (get_or places i 0)) (alone.Agrees behind changes)
+      → ((deltas : List (List Change)) (placed : ℕ → Bool) → IsCommitting deltas placed it → placed (get_or places i 0) ≡ false → IsCommitting (set deltas (get_or places i 0) changes) (with_placed placed (get_or places i 0)) after)
+      → IsRunning ts places (drop (i + 1) places) behind after
+  next_agrees behind after changes lt one put =
+      let place = get_or places i 0 in
+      let h = opened lt in
+      record {
+        deltas = set h.deltas place changes;
+        placed = with_placed h.placed place;
+        size = length-set h.deltas place changes ∙ h.size;
+        committing = put h.deltas h.placed h.committing h.turns.0.is_left;
+        turns = h.turns.1;
+        all = h.all;
+        run = λ ran left runs. h.run ran left (inl (behind, changes, one, runs));
+      }
+
+  -- it differs
+  pub next_differs : (after : Committing) (found : Finding) → i < length places → IsRunAlone s (transaction_at ts (get_or places i 0)) (alone.Differs found) → HasRunAlong ts places (along.Differs found) after
+  next_differs after found lt one =
+      let h = opened lt in
+      record { deltas = h.deltas; size = h.size; runs = h.run (along.Differs found) h.deltas (inr (found, one, refl)); committed = tt }
 
 no_more : (places : List ℕ) (i : ℕ) → length places ≤ i → drop i places ≡ []
 no_more [] zero l = refl
@@ -40,5 +81,32 @@ no_more [] (suc i) l = refl
 no_more (p ∷ places) zero l = absurd (omega (arith, l))
 no_more (p ∷ places) (suc i) l = no_more places i (omega (arith, l))
 
-pub ran_all : (ts : List Transaction) (s : State) (deltas : List (List Change)) (places : List ℕ) (i : ℕ) → length places ≤ i → RunsAlong ts s deltas (drop i places) (along.Agrees s) deltas
-ran_all ts s deltas places i l = subst (λ (ps : List ℕ). RunsAlong ts s deltas ps (along.Agrees s) deltas) (sym (no_more places i l)) (refl, refl)
+pub all_ran : (ts : List Transaction) (places : List ℕ) (i : ℕ) (s : State) (it : Committing) → IsRunning ts places (drop i places) s it → length places ≤ i → HasRunAlong ts places (along.Agrees s) it
+all_ran ts places i s it running l =
+    let h : IsRunning ts places [] s it = subst (λ (ps : List ℕ). IsRunning ts places ps s it) (no_more places i l) running in
+    record {
+      deltas = h.deltas;
+      size = h.size;
+      runs = h.run (along.Agrees s) h.deltas (refl, refl);
+      committed = subst (λ (placed : ℕ → Bool). IsCommitting h.deltas placed it) h.all h.committing;
+    }
+
+-- ---- what is found
+
+-- whether the end is the committed state is told
+abbrev pub Tells : State → Committing → Bool → Type 0
+Tells end it same =
+    (deltas : List (List Change)) (placed : ℕ → Bool) → IsCommitting deltas placed it → ((i : ℕ) → i < length deltas → placed i ≡ true) → (same ≡ true) ↔ AgreeWhere deltas end (state_by deltas (length deltas))
+
+module _ (ts : List Transaction) (places : List ℕ) (it : Committing) where
+  told : (end : State) (same : Bool) (ran : HasRunAlong ts places (along.Agrees end) it) → IsOrder (history_of ts) places → Tells end it same → (same ≡ true) ↔ AgreeWhere ran.deltas end (state_by ran.deltas (length ran.deltas))
+  told end same ran order tells = tells ran.deltas (placed_by none_placed places) ran.committed (λ i l. order.all i (subst (λ (n : ℕ). i < n) ran.size l))
+
+  pub same_end : (end : State) (same : Bool) → HasRunAlong ts places (along.Agrees end) it → IsOrder (history_of ts) places → Tells end it same → same ≡ true → IsFoundAlong ts places f.Holds
+  same_end end same ran order tells is = (along.Agrees end, ran.deltas, ran.runs, inl ((told end same ran order tells).0 is, refl))
+
+  pub other_end : (end : State) (same : Bool) → HasRunAlong ts places (along.Agrees end) it → IsOrder (history_of ts) places → Tells end it same → same ≡ false → IsFoundAlong ts places f.FinalState
+  other_end end same ran order tells is = (along.Agrees end, ran.deltas, ran.runs, inr ((λ agree. true≢false (sym ((told end same ran order tells).1 agree) ∙ is)), refl))
+
+  pub stopped : (found : Finding) → HasRunAlong ts places (along.Differs found) it → IsFoundAlong ts places found
+  stopped found ran = (along.Differs found, ran.deltas, ran.runs, refl)

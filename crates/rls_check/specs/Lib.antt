@@ -1,6 +1,7 @@
 pub mod Audited
 pub mod Checking
 pub mod Placing
+pub mod Committing
 pub mod Explaining
 pub mod Findings
 pub mod Forms

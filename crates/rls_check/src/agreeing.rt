@@ -2,33 +2,18 @@
 
 ghost use Rattle.std.specs.Prelude.{◌≡◌, ◌↔◌, true, map, IfOk, OnOk};
 ghost use Rattle.rls_catalog.specs.State.{AgreesOn};
-ghost use Rattle.rls_source.specs.Footprints.{footprint_of, with_reads};
-ghost use Rattle.rls_check.specs.Checking.{AgreeWhere, wide_of, wide_of_all};
+ghost use Rattle.rls_source.specs.Footprints.{with_reads};
+ghost use Rattle.rls_check.specs.Checking.{wide_of};
 
 use rls_agreement::agrees_on;
-use rls_catalog::{Change, Delta};
+use rls_catalog::Change;
 use rls_rows::State;
 use rls_source::Footprint;
 use rls_value::Object;
 use std::alloc::{AllocError, Global};
 
-/// Whether the two states have the same content at each object that the changes write.
-pub(crate) fn agree(
-    alloc: Global,
-    left: &State,
-    right: &State,
-    deltas: &[Delta],
-) -> Result<bool, AllocError>
-    ensures { IfOk result (λ same. (same ≡ true) ↔ AgreeWhere deltas.now left.now right.now) }
-{
-    let changed = changed_objects(alloc, deltas)?;
-    let agrees = agree_on(alloc, left, right, &changed);
-    drop(changed);
-    agrees
-}
-
-/// Whether they have the same content at these.
-fn agree_on<'x>(
+/// Whether the two states have the same content at these.
+pub(crate) fn agree_on<'x>(
     alloc: Global,
     left: &'x State,
     right: &'x State,
@@ -41,18 +26,8 @@ fn agree_on<'x>(
     agrees_on(alloc, &mut left, &mut right, objects)
 }
 
-/// The objects that are changed; a row's is its whole table.
-fn changed_objects(alloc: Global, deltas: &[Delta]) -> Result<Footprint, AllocError>
-    ensures { IfOk result (λ objects. objects ≡ footprint_of (wide_of_all deltas.now)) }
-{
-    let mut objects = Footprint::new(alloc);
-    for delta in deltas {
-        note_changed(&mut objects, delta.as_slice())?;
-    }
-    Ok(objects)
-}
-
-fn note_changed(objects: &mut Footprint, changes: &[Change]) -> Result<(), AllocError>
+/// Notes the objects that are changed; a row's is its whole table.
+pub(crate) fn note_changed(objects: &mut Footprint, changes: &[Change]) -> Result<(), AllocError>
     ensures { OnOk result (objects.new ≡ with_reads objects.old (map wide_of changes.now)) }
 {
     for change in changes {

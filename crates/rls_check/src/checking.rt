@@ -1,20 +1,18 @@
 //! Checks an audit.
 
-ghost use Rattle.std.specs.Prelude.{◌≡◌, ◌↔◌, ◌<◌, length, IfOk};
-ghost use Rattle.std.specs.List.{All};
+ghost use Rattle.std.specs.Prelude.{◌≡◌, ◌↔◌, IfOk};
+ghost use Rattle.rls_history.specs.Orders.{IsOrder};
 ghost use Rattle.rls_audit.specs.Audits.{AuditHolds};
 ghost use Rattle.rls_check.specs.Audited.{lines_of};
-ghost use Rattle.rls_check.specs.Checking.{EndsAs, IsFirst, IsFoundAlong, no_changes};
+ghost use Rattle.rls_check.specs.Checking.{IsFirst, IsFoundAlong, history_of};
 ghost use Rattle.rls_check.specs.declared.finding.Finding.TheVariants.{Holds};
 
-use crate::agreeing::agree;
 use crate::audit::Audit;
-use crate::committed::committed;
+use crate::committing::Committing;
 use crate::finding::Finding;
 use crate::ordering::places_of;
 use crate::running::{RanAlong, run_along};
 use crate::stored::Stored;
-use rls_catalog::Delta;
 use rls_source::uncovered_stays;
 use std::alloc::{AllocError, Global};
 
@@ -48,40 +46,18 @@ fn check_along(
     transactions: &[Stored],
     places: &[usize],
 ) -> Result<Finding, AllocError>
-    requires { All (λ place. place < length transactions.now) places.now }
+    requires { IsOrder (history_of transactions.now) places.now }
     ensures { IfOk result (IsFoundAlong transactions.now places.now) }
 {
-    let mut deltas = no_changes(alloc, transactions.len())?;
-    let ran = run_along(alloc, transactions, places, deltas.as_mut_slice())?;
-    finding_of(alloc, &ran, deltas.as_slice())
-}
-
-/// What is found once all have run.
-fn finding_of(alloc: Global, ran: &RanAlong, deltas: &[Delta]) -> Result<Finding, AllocError>
-    ensures { IfOk result (EndsAs ran.now deltas.now) }
-{
-    match ran {
+    let mut committing = Committing::new(alloc, transactions.len())?;
+    match run_along(alloc, transactions, places, &mut committing)? {
         RanAlong::Agrees(end) => {
-            let committed = committed(alloc, deltas)?;
-            if agree(alloc, end, &committed, deltas)? {
+            if committing.ends_in(alloc, &end)? {
                 Ok(Finding::Holds)
             } else {
                 Ok(Finding::FinalState)
             }
         }
-        RanAlong::Differs(finding) => Ok(*finding),
+        RanAlong::Differs(finding) => Ok(finding),
     }
-}
-
-/// No changes, at so many places.
-#[tactic(auto, using(crate::proofs::HoldsLemmas::no_changes_push))]
-fn no_changes(alloc: Global, count: usize) -> Result<Vec<Delta>, AllocError>
-    ensures { IfOk result (λ deltas. deltas.items ≡ no_changes count) }
-{
-    let mut deltas = Vec::with_capacity(alloc, count)?;
-    for i in 0..count {
-        let _place = i;
-        deltas.push(Delta::new(alloc))?;
-    }
-    Ok(deltas)
 }

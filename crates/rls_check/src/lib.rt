@@ -5,7 +5,7 @@ mod agreeing;
 mod alone;
 mod audit;
 mod checking;
-mod committed;
+mod committing;
 mod converting;
 mod explaining;
 mod finding;

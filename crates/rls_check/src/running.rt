@@ -1,14 +1,16 @@
 //! Runs the transactions of an audit alone, and compares what they come to with what is shown.
 
-ghost use Rattle.std.specs.Prelude.{◌≡◌, ◌<◌, ◌++◌, length, None, IfOk, OnOk, IsNone, IfSome};
-ghost use Rattle.std.specs.List.{All, flat_map};
-ghost use Rattle.rls_catalog.specs.Changed.{opening};
+ghost use Rattle.std.specs.Prelude.{◌≡◌, ◌++◌, length, None, IfOk, OnOk, IsNone, IfSome};
+ghost use Rattle.std.specs.List.{flat_map};
 ghost use Rattle.rls_audit.specs.Lines.{ordered_changes};
+ghost use Rattle.rls_history.specs.Orders.{StandInTurn, none_placed};
 ghost use Rattle.rls_core.specs.Alone.{effects_alone, state_alone, changes_made};
 ghost use Rattle.rls_check.specs.Audited.{asked_of};
-ghost use Rattle.rls_check.specs.Checking.{FirstOther, IsRunAlone, RunsAlong};
+ghost use Rattle.rls_check.specs.Checking.{FirstOther, IsRunAlone, history_of, no_changes};
+ghost use Rattle.rls_check.specs.Committing.{HasRunAlong, IsCommitting};
 
 use crate::alone::Alone;
+use crate::committing::Committing;
 use crate::finding::Finding;
 use crate::matching::{are_puts, is_answer};
 use crate::ordering::transaction_at;
@@ -32,17 +34,17 @@ pub(crate) enum RanAlong {
     Differs(Finding),
 }
 
-/// Runs the transactions alone in this order. The changes of each are put at its place.
-#[tactic(auto, using(crate::proofs::RunningLemmas::ran_all))]
+/// Runs the transactions alone in this order. What each changes is put on in the order of commits.
+#[tactic(auto, using(crate::proofs::RunningLemmas::runs_at_first))]
 pub(crate) fn run_along(
     alloc: Global,
     transactions: &[Stored],
     places: &[usize],
-    deltas: &mut [Delta],
+    committing: &mut Committing,
 ) -> Result<RanAlong, AllocError>
-    requires within { All (λ place. place < length transactions.now) places.now }
-    requires room { length deltas.old ≡ length transactions.now }
-    ensures { IfOk result (λ ran. RunsAlong transactions.now opening deltas.old places.now ran deltas.new) }
+    requires in_turn { StandInTurn (history_of transactions.now) none_placed places.now }
+    requires none_has_run { IsCommitting (no_changes (length transactions.now)) none_placed committing.old }
+    ensures { IfOk result (λ ran. HasRunAlong transactions.now places.now ran committing.new) }
 {
     let mut state = State::opening(alloc)?;
     for place in places {
@@ -50,7 +52,7 @@ pub(crate) fn run_along(
         match run_alone(alloc, &state, &transaction)? {
             RanAlone::Agrees(after, changes) => {
                 state = after;
-                deltas[*place] = changes;
+                committing.put(alloc, *place, changes)?;
             }
             RanAlone::Differs(finding) => return Ok(RanAlong::Differs(finding)),
         }

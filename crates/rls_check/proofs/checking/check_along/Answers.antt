@@ -1,8 +1,19 @@
-use Rattle.std.specs.Prelude.{List, length}
-use Rattle.std.proofs.Common.{ap, ◌∙◌}
-use Rattle.rls_catalog.specs.declared.change.Change.{Change}
-use Rattle.rls_check.proofs.HoldsLemmas.{no_changes_many}
+use Rattle.std.proofs.Common.{subst}
+use Rattle.rls_check.specs.declared.running.RanAlong.TheVariants as along
+use Rattle.rls_check.specs.Committing.{HasRunAlong}
+use Rattle.rls_check.proofs.RunningLemmas.{same_end, other_end}
 use Rattle.rls_check.proofs.checking.check_along.Goals as goal
 
-pub run_along-requires-clause-room : goal.run_along-requires-clause-room
-run_along-requires-clause-room c = ap (λ (deltas : List (List Change)). length deltas) (c.as_mut_slice.ensures.value ∙ c.in_ok-deltas.ensures) ∙ no_changes_many (length c.args.transactions.now)
+pub returns-then-branch : goal.returns-then-branch
+returns-then-branch c =
+    let ts = c.args.transactions.now in
+    let it = c.run_along.new.committing in
+    let ran : HasRunAlong ts c.args.places.now (along.Agrees c.in-Agrees.end) it = subst (λ ran. HasRunAlong ts c.args.places.now ran it) c.in-Agrees.is c.in_ok-end.ensures in
+    same_end ts c.args.places.now it c.in-Agrees.end c.in_ok-ends_in-in-Agrees.field-0 ran c.requires (λ deltas placed h all. c.in_ok-ends_in-in-Agrees.ensures deltas placed h all) c.if-branch.true
+
+pub returns-in-Agrees : goal.returns-in-Agrees
+returns-in-Agrees c =
+    let ts = c.args.transactions.now in
+    let it = c.run_along.new.committing in
+    let ran : HasRunAlong ts c.args.places.now (along.Agrees c.in-Agrees.end) it = subst (λ ran. HasRunAlong ts c.args.places.now ran it) c.in-Agrees.is c.in_ok-end.ensures in
+    other_end ts c.args.places.now it c.in-Agrees.end c.in_ok-ends_in-in-Agrees.field-0 ran c.requires (λ deltas placed h all. c.in_ok-ends_in-in-Agrees.ensures deltas placed h all) c.if-branch.false

@@ -1,11 +1,13 @@
 use Rattle.std.specs.Prelude.{get_or}
 use Rattle.std.proofs.Common.{◌∙◌, subst}
-use Rattle.std.proofs.lemmas.List.{length-set}
 use Rattle.rls_check.specs.declared.running.RanAlone.TheVariants as alone
 use Rattle.rls_check.specs.Audited.{transaction_at}
 use Rattle.rls_check.specs.Checking.{IsRunAlone}
-use Rattle.rls_check.proofs.RunningLemmas.{next_agrees, next_differs}
+use Rattle.rls_check.proofs.RunningLemmas.{next_agrees, next_differs, all_ran}
 use Rattle.rls_check.proofs.running.run_along.Goals as goal
+
+pub returns : goal.returns
+returns c = all_ran c.args.transactions.now c.args.places.now c.loop-place.place-index c.loop-place.state c.loop-place.committing c.loop-place.invariant c.loop-place-test.false
 
 pub returns-in-Differs : goal.returns-in-Differs
 returns-in-Differs c =
@@ -13,7 +15,7 @@ returns-in-Differs c =
     let place = get_or c.args.places.now c.loop-place.place-index 0 in
     let one : IsRunAlone c.loop-place.state (transaction_at ts place) (alone.Differs c.in-Differs.finding) =
     subst (IsRunAlone c.loop-place.state (transaction_at ts place)) c.in-Differs.is (subst (λ t. IsRunAlone c.loop-place.state t c.in_ok-after.field-0) (c.in_ok-transaction.ensures ∙ c.transaction_at.ensures) c.in_ok-after.ensures) in
-    c.loop-place.invariant.run _ _ (next_differs ts c.loop-place.state c.loop-place.deltas c.loop-place.deltas c.args.places.now c.loop-place.place-index c.in-Differs.finding c.loop-place-test.true one)
+    next_differs ts c.args.places.now c.loop-place.place-index c.loop-place.state c.loop-place.committing c.loop-place.invariant c.loop-place.committing c.in-Differs.finding c.loop-place-test.true one
 
 pub loop-place-preserved : goal.loop-place-preserved
 loop-place-preserved c =
@@ -21,9 +23,5 @@ loop-place-preserved c =
     let place = get_or c.args.places.now c.loop-place.place-index 0 in
     let one : IsRunAlone c.loop-place.state (transaction_at ts place) (alone.Agrees c.in-Agrees.after c.in-Agrees.changes) =
     subst (IsRunAlone c.loop-place.state (transaction_at ts place)) c.in-Agrees.is (subst (λ t. IsRunAlone c.loop-place.state t c.in_ok-after.field-0) (c.in_ok-transaction.ensures ∙ c.transaction_at.ensures) c.in_ok-after.ensures) in
-    record {
-      room = length-set c.loop-place.deltas place c.in-Agrees.changes ∙ c.loop-place.invariant.room;
-      run = λ ran left h.
-          c.loop-place.invariant.run ran left
-          (next_agrees ts c.loop-place.state c.in-Agrees.after c.loop-place.deltas left c.in-Agrees.changes c.args.places.now c.loop-place.place-index ran c.loop-place-test.true one h);
-    }
+    next_agrees ts c.args.places.now c.loop-place.place-index c.loop-place.state c.loop-place.committing c.loop-place.invariant c.in-Agrees.after c.put.new.self c.in-Agrees.changes c.loop-place-test.true one
+    (λ deltas placed h free. c.in_ok-put-in-Agrees.ensures deltas placed h free)

@@ -1,13 +1,7 @@
-use Rattle.std.proofs.Common.{◌≡◌, ℕ, List, length, drop}
-use Rattle.rls_catalog.specs.Changed.{opening}
-use Rattle.rls_catalog.specs.declared.change.Change.{Change}
-use Rattle.rls_check.specs.declared.running.RanAlong.{RanAlong}
-use Rattle.rls_check.specs.Checking.{RunsAlong}
+use Rattle.std.proofs.Common.{drop}
+use Rattle.rls_check.proofs.RunningLemmas.{IsRunning}
 use Rattle.rls_check.proofs.running.run_along.Given as goal
 
--- what the run of those that are left comes to is what the run of all does
+-- those before have run
 abbrev pub invariant-loop-place : goal.invariant-loop-place
-invariant-loop-place l = record {
-  room : length l.deltas ≡ length l.transactions;
-  run : (ran : RanAlong) (left : List (List Change)) → RunsAlong l.transactions l.state l.deltas (drop l.place-index l.places) ran left → RunsAlong l.transactions opening l.fn.deltas l.places ran left;
-}
+invariant-loop-place l = IsRunning l.transactions l.places (drop l.place-index l.places) l.state l.committing
