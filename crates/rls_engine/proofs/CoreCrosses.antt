@@ -117,7 +117,7 @@ record_inside_sync = declared_sync Record_Inside.the_type (search of_record_sync
 pub record_sync : IsSync Record_.the_row
 record_sync = search (sendable, record_inside_sync) depth 3
 
-ruleset of_state_send = (kept, catalog_send)
+ruleset of_state_send = (kept, Share.the_send, Share.the_sync, catalog_send, catalog_sync)
 
 state_inside_send : IsSend State_Inside.the_row
 state_inside_send = declared_send State_Inside.the_type (search of_state_send depth 16 fits 20000, tt)
@@ -125,7 +125,7 @@ state_inside_send = declared_send State_Inside.the_type (search of_state_send de
 pub state_send : IsSend State_.the_row
 state_send = search (sendable, state_inside_send) depth 3
 
-ruleset of_state_sync = (kept, catalog_sync)
+ruleset of_state_sync = (kept, Share.the_send, Share.the_sync, catalog_send, catalog_sync)
 
 state_inside_sync : IsSync State_Inside.the_row
 state_inside_sync = declared_sync State_Inside.the_type (search of_state_sync depth 16 fits 20000, tt)
