@@ -123,8 +123,7 @@ pub fn add_unseen(
     ensures names { OnOk result (names.new.items ≡ names.old.items ++ fresh names.old.items (name.now ∷ [])) }
     ensures seen { OnOk result (IsSetOf seen.new names.new.items) }
 {
-    if !seen.contains(name) {
-        seen.insert(name.copy()?)?;
+    if seen.insert(name.copy()?)? {
         names.push(name.copy()?)?;
     }
     Ok(())

@@ -1,12 +1,12 @@
 //! Promotion of keys to the rows of their tables.
 
-ghost use Rattle.std.specs.Prelude.{◌≡◌, ◌&&◌, true, not, if◌then◌else◌, IfOk, IfSome, OnOk, length, filter};
+ghost use Rattle.std.specs.Prelude.{◌≡◌, ◌&&◌, ◌++◌, true, not, if◌then◌else◌, IfOk, IfSome, OnOk, length, filter};
 ghost use Rattle.std.specs.List.{list_any};
 ghost use Rattle.rls_value.specs.declared.object.Object.{Object as Read};
 ghost use Rattle.rls_source.specs.Footprints.{with_object, with_reads, is_among, IsInOrder};
 ghost use Rattle.rls_siread.specs.Promotion.{is_key_of, is_rows, is_plain, is_crowded, stands_for, promoted, noted_with};
 
-use rls_source::Footprint;
+use rls_source::{Footprint, Reads};
 use rls_value::{Name, Object, Row};
 use std::alloc::{AllocError, Global};
 
@@ -51,9 +51,10 @@ fn with_fresh(
     ensures ordered { IsInOrder objects.now }
 {
     let _in_order = objects.iter();
-    let mut all = objects.copy(alloc)?;
-    add_all(alloc, &mut all, fresh)?;
-    Ok(all)
+    let mut all = Reads::with_capacity(alloc, objects.len())?;
+    put_all(alloc, &mut all, objects)?;
+    put_all(alloc, &mut all, fresh)?;
+    Footprint::from_reads(alloc, all)
 }
 
 /// The objects promoted, with what is new among them, and what was noted before and isn't there any longer.
@@ -108,20 +109,21 @@ pub(crate) fn missing(
 ) -> Result<Footprint, AllocError>
     ensures { IfOk result (λ missing. (object : Read) → is_among missing object ≡ (is_among objects.now object && not (is_among others.now object))) }
 {
-    let mut missing = Footprint::new(alloc);
+    let mut missing = Reads::new(alloc);
     for object in objects.iter() {
         if !others.contains(object) {
             missing.note(object.copy(alloc)?)?;
         }
     }
-    Ok(missing)
+    Footprint::from_reads(alloc, missing)
 }
 
-fn add_all(alloc: Global, objects: &mut Footprint, reads: &Footprint) -> Result<(), AllocError>
-    ensures { OnOk result (objects.new ≡ with_reads objects.old reads.now) }
+/// Puts copies of the objects behind the reads.
+fn put_all(alloc: Global, reads: &mut Reads, objects: &Footprint) -> Result<(), AllocError>
+    ensures { OnOk result (reads.new ≡ reads.old ++ objects.now) }
 {
-    for object in reads.iter() {
-        objects.note(object.copy(alloc)?)?;
+    for object in objects.iter() {
+        reads.note(object.copy(alloc)?)?;
     }
     Ok(())
 }

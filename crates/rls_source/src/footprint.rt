@@ -99,14 +99,13 @@ impl Footprint {
         self.objects.iter()
     }
 
+    /// The same objects, in time linear in their number.
     #[tactic(auto, using(crate::proofs::FootprintOrderLaws::footprint_ordered))]
     pub fn copy(&self, alloc: Global) -> Result<Footprint, AllocError>
         ensures { IfOk result (λ footprint. footprint ≡ self.now) }
     {
-        let mut footprint = Footprint::new(alloc);
-        for object in self.objects.iter() {
-            footprint.note(object.copy(alloc)?)?;
-        }
-        Ok(footprint)
+        let _in_order = self.iter();
+        let objects = self.to_vec(alloc)?;
+        Footprint::from_reads(alloc, Reads::from_vec(objects))
     }
 }

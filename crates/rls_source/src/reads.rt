@@ -60,6 +60,13 @@ impl Reads {
         Ok(())
     }
 
+    /// The objects of the list.
+    pub fn from_vec(objects: Vec<Object>) -> Reads
+        ensures { result ≡ objects.items }
+    {
+        Reads { objects }
+    }
+
     /// Gives the list back; no memory is needed.
     pub fn into_vec(self) -> Vec<Object>
         ensures { result.items ≡ self }

@@ -1,3 +1,4 @@
 mod NameLemmas
 pub mod ListingLaws
 pub mod ObjectOrderLaws
+pub mod NameHeadLemmas

@@ -1,6 +1,7 @@
 pub mod Truths
 pub mod Values
 pub mod Names
+pub mod NameHeads
 pub mod NameRefusals
 pub mod Words
 pub mod Refusals

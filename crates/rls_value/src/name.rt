@@ -1,7 +1,8 @@
 //! Names of roles, tables, columns and policies.
 
-ghost use Rattle.std.specs.Prelude.{◌≡◌, ◌<◌, ◌↔◌, true, false, map, length, IfOk, IfErr, IsErrOf};
+ghost use Rattle.std.specs.Prelude.{◌≡◌, ◌<◌, ◌↔◌, true, false, map, length, ◌≤◌, IfOk, IfErr, IsErrOf};
 ghost use Rattle.std.specs.{Str.bytes_eq, List.list_all, Cmp.Lexicographic.slice_cmp, Ordering.nat_cmp, Ordering.as_partial_cmp};
+ghost use Rattle.rls_value.specs.NameHeads.{head_of, weight};
 ghost use Rattle.rls_value.specs.Names as spec;
 ghost use Rattle.rls_value.specs.Names.{folded, spells_name, is_name_text, one_of, reserved, IsName};
 
@@ -19,12 +20,14 @@ pub const MAX_NAME: usize = 63;
 /// A name, in lower case, seen as its bytes (PostgreSQL manual, 4.1.1, without quoted names).
 #[derive(Drop)]
 pub struct Name {
+    // Its first eight bytes as a number, the first counting most: by it most names are told apart.
+    head: u64,
     // Shared by the copies, so that a copy takes no memory.
     letters: ArcStr,
 }
 
 impl Model for Name {
-    ghost use Rattle.std.specs.Prelude.{List, ℕ};
+    ghost use Rattle.std.specs.Prelude.{◌≡◌, List, ℕ};
     ghost use Rattle.std.specs.Arc.{arc_str_bytes};
     ghost use Rattle.rls_value.specs.Names.{IsName};
 
@@ -32,7 +35,9 @@ impl Model for Name {
 
     ghost view = { λ name. arc_str_bytes name.letters };
 
-    ghost invariant = { λ name. IsName (arc_str_bytes name.letters) };
+    ghost use Rattle.rls_value.specs.NameHeads.{head_of};
+
+    ghost invariant = { λ name. IsName (arc_str_bytes name.letters) × (name.head ≡ head_of 8 (arc_str_bytes name.letters)) };
 }
 
 impl Name {
@@ -57,7 +62,9 @@ impl Name {
         if is_reserved(letters.as_bytes()) {
             return Err(Refusal::Syntax);
         }
+        let head = head_of(8, letters.as_bytes());
         Ok(Name {
+            head,
             letters: ArcStr::from_string(letters)?,
         })
     }
@@ -67,6 +74,7 @@ impl Name {
         ensures { IfOk result (λ name. name ≡ Rattle.rls_value.specs.Names.postgres) }
     {
         Ok(Name {
+            head: head_of(8, b"postgres"),
             letters: ArcStr::from_str(alloc, "postgres")?,
         })
     }
@@ -83,6 +91,7 @@ impl Name {
         ensures { IfOk result (λ name. name ≡ self.now) }
     {
         Ok(Name {
+            head: self.head,
             letters: self.letters.clone()?,
         })
     }
@@ -91,7 +100,7 @@ impl Name {
     pub fn is(&self, other: &Name) -> bool
         ensures { result ≡ bytes_eq self.now other.now }
     {
-        self.letters.as_str() == other.letters.as_str()
+        self.head == other.head && self.letters.as_str() == other.letters.as_str()
     }
 }
 
@@ -135,7 +144,10 @@ impl Ord for Name {
     ghost matches_eq = { Prim.search (comparing, rules) };
 
     fn cmp(&self, other: &Name) -> Ordering {
-        self.letters.as_str().cmp(other.letters.as_str())
+        match self.head.cmp(&other.head) {
+            Ordering::Equal => self.letters.as_str().cmp(other.letters.as_str()),
+            order => order,
+        }
     }
 }
 
@@ -167,7 +179,7 @@ impl PartialEq for Name {
     ghost laws = { Prim.search (comparing, rules) };
 
     fn eq(&self, other: &Name) -> bool {
-        self.letters.as_str() == other.letters.as_str()
+        self.is(other)
     }
 }
 
@@ -176,6 +188,38 @@ impl Eq for Name {
     ghost use Rattle.std.specs.Cmp.Rules.{comparing};
 
     ghost laws = { Prim.search (comparing, rules) };
+}
+
+/// The first so many bytes as a number, the first counting most; 0 stands for each that isn't there.
+fn head_of(count: u32, bytes: &[u8]) -> u64
+    requires { count ≤ 8 }
+    ensures value { result ≡ head_of count bytes.now }
+    ensures below { result < weight count }
+{
+    if count == 0 {
+        return 0;
+    }
+    match bytes {
+        [first, rest @ ..] => u64::from(*first) * weight(count - 1) + head_of(count - 1, rest),
+        [] => 0,
+    }
+}
+
+/// 256 as often multiplied by itself.
+fn weight(count: u32) -> u64
+    requires { count < 8 }
+    ensures { result ≡ weight count }
+{
+    match count {
+        0 => 1,
+        1 => 0x100,
+        2 => 0x1_0000,
+        3 => 0x100_0000,
+        4 => 0x1_0000_0000,
+        5 => 0x100_0000_0000,
+        6 => 0x1_0000_0000_0000,
+        _ => 0x100_0000_0000_0000,
+    }
 }
 
 fn is_name_text_of(bytes: &[u8]) -> bool
