@@ -1,6 +1,6 @@
 //! One statement.
 
-ghost use Rattle.std.specs.Prelude.{◌≡◌, ◌++◌, IfOk, OnOk};
+ghost use Rattle.std.specs.Prelude.{◌≡◌, ◌++◌, IfOk, OnOk, OnErr};
 ghost use Rattle.rls_value.specs.Giving.{Gives};
 ghost use Rattle.rls_catalog.specs.State.{State, AgreesOn};
 ghost use Rattle.rls_source.specs.{Footprints.footprint_of, Answering.Answers};
@@ -25,7 +25,7 @@ const USUAL_READS: usize = 32;
 
 /// Runs the statement over the source: what it comes to, with its changes, which the source doesn't get; what it read;
 /// and the role afterwards. All that it depends on is in the footprint, and a source that is borrowed has made just these
-/// reads.
+/// reads; where memory runs out it has made none.
 pub fn run_statement<'c, S: RowSource<'c>>(
     alloc: Global,
     source: &mut S,
@@ -37,7 +37,24 @@ pub fn run_statement<'c, S: RowSource<'c>>(
     ensures frame { IfOk result (λ outcome. (other : State) → AgreesOn (S.state source.old) other outcome.footprint → (step ctx.now statement.now).in_state other ≡ (step ctx.now statement.now).in_state (S.state source.old)) }
     ensures role { IfOk result (λ outcome. outcome.role ≡ spec.role_after ctx.now.role outcome.effect) }
     ensures read { OnOk result (source.new ≡ S.after source.old ((step ctx.now statement.now).in_state (S.state source.old)).reads) }
+    ensures unread { OnErr result (source.new ≡ source.old) }
     ensures state { S.state source.new ≡ S.state source.old }
+{
+    let mut unread = source.unread(alloc)?;
+    let outcome = outcome_of(alloc, &mut unread, ctx, statement)?;
+    source.mark_all(alloc, &outcome.footprint)?;
+    Ok(outcome)
+}
+
+fn outcome_of<'c, S: RowSource<'c>>(
+    alloc: Global,
+    source: &mut S,
+    ctx: &Ctx,
+    statement: &Statement,
+) -> Result<Outcome, AllocError>
+    ensures effect { IfOk result (λ outcome. outcome.effect ≡ effect_in (S.state source.old) ctx.now statement.now) }
+    ensures footprint { IfOk result (λ outcome. outcome.footprint ≡ footprint_of ((step ctx.now statement.now).in_state (S.state source.old)).reads) }
+    ensures role { IfOk result (λ outcome. outcome.role ≡ spec.role_after ctx.now.role outcome.effect) }
 {
     let mut reads = Reads::with_capacity(alloc, USUAL_READS)?;
     let effect = effect_of(alloc, source, &mut reads, ctx, statement)?;

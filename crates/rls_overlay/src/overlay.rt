@@ -5,7 +5,7 @@ ghost use Rattle.std.specs.Prelude.{◌≡◌, IfOk};
 use crate::own_changes::OwnChanges;
 use rls_catalog::{BorrowedRow, Change, Grant, Membership, RoleDef};
 use rls_expr::{Policy, TableDef};
-use rls_source::RowSource;
+use rls_source::{Footprint, RowSource};
 use rls_value::{Items, Name, Object, Row};
 use std::alloc::{AllocError, Global};
 
@@ -110,9 +110,26 @@ impl<'c, S: RowSource<'c>> RowSource<'c> for Overlay<'c, S> {
         self.source.mark(alloc, objects)
     }
 
+    fn mark_all(&mut self, alloc: Global, objects: &Footprint) -> Result<(), AllocError> {
+        self.source.mark_all(alloc, objects)
+    }
+
+    fn unread(&self, alloc: Global) -> Result<Overlay<'c, S>, AllocError> {
+        let changes = OwnChanges::new(alloc, self.changes.changes())?;
+        match self.source.unread(alloc) {
+            Ok(source) => Ok(Overlay { source, changes }),
+            Err(refused) => {
+                drop(changes);
+                Err(refused)
+            }
+        }
+    }
+
     ghost stands = { λ s os. ap (λ state. changed_all state s.changes) (S.stands s.source os) };
 
     ghost after_none = { λ s i. record { source = S.after_none s.source i; changes = s.changes } };
 
     ghost after_more = { λ s os more i. record { source = S.after_more s.source os more i; changes = s.changes } };
+
+    ghost after_each = { λ s os i. record { source = S.after_each s.source os i; changes = s.changes } };
 }

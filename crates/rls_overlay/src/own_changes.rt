@@ -52,6 +52,13 @@ impl<'c> OwnChanges<'c> {
         }
     }
 
+    /// The changes.
+    pub(crate) fn changes(&self) -> &'c [Change]
+        ensures { result.now ≡ self.now }
+    {
+        self.changes
+    }
+
     /// The role as it was written, or else as it was found.
     pub(crate) fn role_over(&self, found: Option<&'c RoleDef>, name: &Name) -> Option<&'c RoleDef>
         ensures { option_copied result ≡ over (at name.now (what_they_wrote self.now).roles) (option_copied found.entry) }

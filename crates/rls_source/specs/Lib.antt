@@ -1,5 +1,6 @@
 pub mod Footprints
 pub mod FootprintLaws
+pub mod FootprintSets
 pub mod Readings
 pub mod Askings
 pub mod Once

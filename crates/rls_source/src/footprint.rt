@@ -66,6 +66,16 @@ impl Footprint {
         Ok(())
     }
 
+    /// The objects, with copies of the others in their places.
+    pub fn with_all(&self, alloc: Global, others: &Footprint) -> Result<Footprint, AllocError>
+        ensures { IfOk result (λ all. all ≡ with_reads self.now others.now) }
+    {
+        let mut all = self.copy(alloc)?;
+        let others = others.to_vec(alloc)?;
+        all.note_all(alloc, others.as_slice())?;
+        Ok(all)
+    }
+
     /// Copies of the objects, in order.
     pub fn to_vec(&self, alloc: Global) -> Result<Vec<Object>, AllocError>
         ensures { IfOk result (λ objects. objects.items ≡ self.now) }

@@ -2,6 +2,7 @@
 
 ghost use Rattle.std.specs.Prelude.{◌≡◌, refl};
 
+use crate::footprint::Footprint;
 use crate::source::RowSource;
 use rls_catalog::{BorrowedRow, Catalog, Grant, Membership, RoleDef};
 use rls_expr::{Policy, TableDef};
@@ -77,9 +78,19 @@ impl<'c> RowSource<'c> for Plain<'c> {
         Ok(())
     }
 
+    fn mark_all(&mut self, _: Global, _: &Footprint) -> Result<(), AllocError> {
+        Ok(())
+    }
+
+    fn unread(&self, _: Global) -> Result<Plain<'c>, AllocError> {
+        Ok(*self)
+    }
+
     ghost stands = { λ s os. refl };
 
     ghost after_none = { λ s. refl };
 
     ghost after_more = { λ s os more. refl };
+
+    ghost after_each = { λ s os. refl };
 }

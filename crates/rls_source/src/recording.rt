@@ -3,6 +3,7 @@
 ghost use Rattle.std.specs.Prelude.{◌≡◌, []};
 ghost use Rattle.rls_source.specs.Footprints.{with_reads};
 ghost use Rattle.rls_source.specs.FootprintLaws.{with_reads_more};
+ghost use Rattle.rls_source.specs.FootprintSets.{with_footprint};
 
 use crate::footprint::Footprint;
 use crate::source::RowSource;
@@ -107,9 +108,29 @@ impl<'c, S: RowSource<'c>> RowSource<'c> for Recording<S> {
         self.footprint.note_all(alloc, objects)
     }
 
+    fn mark_all(&mut self, alloc: Global, objects: &Footprint) -> Result<(), AllocError> {
+        let noted = self.footprint.with_all(alloc, objects)?;
+        match self.source.mark_all(alloc, objects) {
+            Ok(()) => {
+                self.footprint = noted;
+                Ok(())
+            }
+            Err(refused) => {
+                drop(noted);
+                Err(refused)
+            }
+        }
+    }
+
+    fn unread(&self, alloc: Global) -> Result<Recording<S>, AllocError> {
+        Ok(Recording::new(alloc, self.source.unread(alloc)?))
+    }
+
     ghost stands = { λ s os. S.stands s.source os };
 
     ghost after_none = { λ s i. record { source = S.after_none s.source i; footprint = s.footprint } };
 
     ghost after_more = { λ s os more i. record { source = S.after_more s.source os more i; footprint = with_reads_more s.footprint os more i } };
+
+    ghost after_each = { λ s os i. record { source = S.after_each s.source os i; footprint = with_footprint s.footprint os i } };
 }

@@ -4,5 +4,5 @@ use Rattle.rls_access.specs.Statements.{step}
 use Rattle.rls_access.proofs.statement.run_statement.Goals as goal
 
 -- the frame law
-pub returns-in-Ok-clause-frame : goal.returns-in-Ok-clause-frame
-returns-in-Ok-clause-frame g c = framed_by (step c.args.ctx.now c.args.statement.now) (g.S.RowSource.state c.args.source.now) c.in-Ok.footprint (search rules)
+pub returns-clause-frame : goal.returns-clause-frame
+returns-clause-frame g c = framed_by (step c.args.ctx.now c.args.statement.now) (g.S.RowSource.state c.args.source.now) c.in_ok-outcome.outcome.footprint (search rules)
