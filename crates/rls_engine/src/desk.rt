@@ -8,6 +8,7 @@ ghost use Rattle.rls_core.specs.Seen.{nothing_yet, newest_state, world_of};
 ghost use Rattle.rls_core.specs.Calls.{NotBegun, NotReady};
 ghost use Rattle.rls_core.specs.Opened.{Looks};
 ghost use Rattle.rls_core.specs.Headline.{HaveOrder, AreExplained, EachFindsSnapshots};
+ghost use Rattle.rls_engine.specs.Led.{IsLed};
 ghost use Rattle.rls_engine.specs.Stands.{IsWorkOn};
 ghost use Rattle.rls_engine.specs.Places.{ArePlaced, IsBase, base_state};
 ghost use Rattle.boxcar.specs.Table.{Shows};
@@ -42,7 +43,7 @@ pub(crate) struct Desk<N: Named> {
 
 impl<N: Named> Model for Desk<N> {
     ghost use Rattle.rls_engine.specs.Views.{Kept, kept_code};
-    ghost use Rattle.rls_engine.specs.Keeps.{IsKept};
+    ghost use Rattle.rls_engine.specs.{Keeps.IsKept, Led.IsLed};
 
     ghost Value = { Kept };
 
@@ -50,11 +51,12 @@ impl<N: Named> Model for Desk<N> {
 
     ghost view = { λ it. record { seen = it.core; total = it.total.total } };
 
-    ghost invariant = { λ it. IsKept N.commits N.steps it.core it.total.total it.rest.parts it.rest.amount it.tokens.items it.running.entries };
+    ghost invariant = { λ it. IsKept N.commits N.steps it.core it.total.total it.rest.parts it.rest.amount it.tokens.items it.running.entries × IsLed N.asks it.core };
 }
 
 impl<N: Named> Desk<N> {
     /// A core in which nothing happened, with the whole ledger.
+    #[tactic(auto, using(crate::proofs::LedLemmas::led_new))]
     pub(crate) fn new(alloc: Global, core: Core, total: Total<N>, rest: Share<N>) -> Desk<N>
         requires core { core ≡ nothing_yet }
         requires total { total.total ≡ 0 }
@@ -72,11 +74,12 @@ impl<N: Named> Desk<N> {
     }
 
     /// What holds whenever the lock is got: the committed transactions have an order that keeps what has to stand before what, and
-    /// each such order explains them; and the ledger's total is their number.
+    /// each such order explains them; events led here, of statements that were asked so; and the ledger's total is their number.
     pub(crate) fn kept(&self)
         ensures ordered { HaveOrder (world_of self.now.seen) }
         ensures explained { AreExplained (world_of self.now.seen) }
         ensures found { EachFindsSnapshots (world_of self.now.seen) }
+        ensures led { IsLed N.asks self.now.seen }
         ensures total { self.now.total ≡ length self.now.seen.committed }
     {
         let _total = &self.total;
@@ -195,6 +198,7 @@ impl<N: Named> Desk<N> {
     ) -> Result<Pushed<Step>, Refusal>
         requires steps { steps.now ≡ N.steps }
         requires work { IsWorkOn held.now.stand work }
+        requires asked { N.asks work.statement }
         requires txn { work.txn ≡ held.now.txn }
         ensures ok { IfOk result (HasPosted N.steps held.now work.statement self.old self.new) }
         ensures err { IfErr result (PostStops held.now work.statement self.old self.new) }

@@ -4,6 +4,7 @@ ghost use Rattle.std.specs.Prelude.{◌≡◌, ◌≢◌, ◌≤◌, false, leng
 ghost use Rattle.rls_value.specs.declared.refusal.Refusal.TheVariants.{Foreign};
 ghost use Rattle.rls_core.specs.Seen.{world_of};
 ghost use Rattle.rls_core.specs.Headline.{HaveOrder, AreExplained};
+ghost use Rattle.rls_engine.specs.Led.{IsLed};
 ghost use Rattle.rls_engine.specs.Stands.{IsWorkOf};
 ghost use Rattle.rls_engine.specs.Drafts.{BeganAs, IsReceiptOf, RefusesBegin, StopsCommit, IsNext, WhenPosted};
 
@@ -127,7 +128,8 @@ impl<N: Named> Engine<N> {
 
     /// Posts what is pending, which is run again if what it came to isn't here any more.
     pub(crate) fn post<R: Wait>(&self, rt: &R, held: &Held<N>, pending: Pending) -> Posting
-        requires { IfSome pending.work (IsWorkOf held.now.txn held.now.stand pending.statement) }
+        requires asked { N.asks pending.statement }
+        requires work { IfSome pending.work (IsWorkOf held.now.txn held.now.stand pending.statement) }
         ensures { WhenPosted N.steps held.now pending.statement result }
     {
         let Pending { statement, work } = pending;
@@ -156,6 +158,7 @@ impl<N: Named> Engine<N> {
         work: Work,
         next: Next,
     ) -> Posting
+        requires asked { N.asks statement }
         requires work { IsWorkOf held.now.txn held.now.stand statement work }
         requires next { IsNext held.now.stand statement next }
         ensures { WhenPosted N.steps held.now statement result }
@@ -228,12 +231,14 @@ impl<N: Named> Engine<N> {
         self.commits.agrees(&one.token, &other.token);
     }
 
-    /// Ends the engine. Its book has at least as many records as the `Seen` has learnt and as receipts count in it; a `Seen` of
-    /// another engine, or one that has seen more, is `Foreign`, and the engine comes back.
+    /// Ends the engine. Its book has at least as many records as the `Seen` has learnt and as receipts count in it, and is where
+    /// events led, of statements that were asked so; a `Seen` of another engine, or one that has seen more, is `Foreign`, and the
+    /// engine comes back.
     pub fn close(self, seen: &Seen<N>) -> Result<Book, (Engine<N>, Refusal)>
         ensures commits { IfOk result (λ book. book.commits ≡ N.commits) }
         ensures ordered { IfOk result (λ book. HaveOrder (world_of book.seen)) }
         ensures explained { IfOk result (λ book. AreExplained (world_of book.seen)) }
+        ensures led { IfOk result (λ book. IsLed N.asks book.seen) }
         ensures learnt { IfOk result (λ book. seen.now.number ≤ length book.seen.committed) }
         ensures told { IfOk result (λ book. seen.now.told ≤ length book.seen.committed) }
         ensures err { IfErr result (λ left. (left.0 ≡ self) × (left.1 ≡ Foreign)) }

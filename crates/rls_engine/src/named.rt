@@ -9,15 +9,20 @@ use std::alloc::{AllocError, Global};
 use std::marker::Brand;
 use std::sync::ledger::{Blank, Ledger};
 
-/// Names a vector of commits, a vector of steps and a ledger of commits. `Brand` stands for any.
+/// Names a vector of commits, a vector of steps and a ledger of commits, and says what is known of each statement that is run.
+/// `Brand` stands for any.
 pub trait Named: Ledger {
     ghost use Rattle.boxcar.specs.Table.{Shelves};
+    ghost use Rattle.rls_statement.specs.declared.statement.Statement.{Statement};
 
     /// The vector of commits.
     ghost commits: { Shelves };
 
     /// The vector of the steps of transactions.
     ghost steps: { Shelves };
+
+    /// What is known of each statement that is run.
+    ghost asks: { Statement → Type 0 };
 }
 
 impl Named for Brand {
@@ -26,6 +31,8 @@ impl Named for Brand {
     ghost commits = { record { tag = []; buckets = [] } };
 
     ghost steps = { record { tag = []; buckets = [] } };
+
+    ghost asks = { λ _. Unit {0} };
 }
 
 /// Two empty vectors and an empty ledger, which have no name yet.

@@ -41,7 +41,7 @@ impl<'a, N: Named> Model for Txn<'a, N> {
 
     ghost view = { λ it. record { tag = it.engine.now; txn = it.held.txn; stand = it.held.stand; pending = option_map (λ pending. pending.statement) it.pending; over = it.over } };
 
-    ghost invariant = { λ it. IfSome it.pending (λ pending. IfSome pending.work (IsWorkOf it.held.txn it.held.stand pending.statement)) };
+    ghost invariant = { λ it. IfSome it.pending (λ pending. N.asks pending.statement × IfSome pending.work (IsWorkOf it.held.txn it.held.stand pending.statement)) };
 }
 
 /// Why a post didn't happen.
@@ -105,6 +105,7 @@ impl<'a, N: Named> Txn<'a, N> {
     /// Computes a statement on the snapshot under the transaction's own changes, and leaves it pending, in place of one that was
     /// pending before. It waits for nobody. Where the transaction is over it does nothing.
     pub fn run(&mut self, statement: &Statement) -> Result<(), AllocError>
+        requires { N.asks statement.now }
         ensures ok { OnOk result (self.old.over ≡ None → self.new ≡ with_pending self.old statement.now) }
         ensures over { is_some self.old.over ≡ true → self.new ≡ self.old }
         ensures err { OnErr result (self.new ≡ self.old) }
@@ -146,6 +147,7 @@ impl<'a, N: Named> Txn<'a, N> {
     fn take_pending(&mut self) -> Option<Pending>
         ensures taken { self.new ≡ without_pending self.old }
         ensures some { IfSome result (λ pending. (self.old.pending ≡ Some pending.statement) × IfSome pending.work (IsWorkOf self.old.txn self.old.stand pending.statement)) }
+        ensures asked { IfSome result (λ pending. N.asks pending.statement) }
         ensures none { IfNone result (self.old.pending ≡ None) }
     {
         self.pending.take()

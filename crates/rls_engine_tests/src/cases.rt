@@ -1,6 +1,7 @@
 //! Each public call once, and worked rows, on an engine of their own.
 
 ghost use Rattle.std.specs.Prelude.{◌≡◌};
+ghost use Rattle.rls_engine.specs.Led.{AsksNothing};
 
 use crate::checking::{has_record, keeps_before};
 use crate::opening::{begin_as_postgres, finish, post_text};
@@ -29,6 +30,7 @@ fn play_named<N: Named, R: Wait + Abort>(
     requires steps { records.steps ≡ N.steps }
     requires name { records.blank.name ≡ N.name }
     requires parts { records.blank.parts ≡ N.parts }
+    requires asks { AsksNothing N.asks }
 {
     let Ok(engine) = Engine::<N>::new(alloc, 1, records) else {
         return Err(Refusal::NoMemory);
@@ -49,7 +51,9 @@ fn commit_first<N: Named, R: Wait + Abort>(
     alloc: Global,
     engine: &Engine<N>,
     seen: &Seen<N>,
-) -> Result<Receipt<N>, Refusal> {
+) -> Result<Receipt<N>, Refusal>
+    requires asks { AsksNothing N.asks }
+{
     let mut txn = engine.begin(rt, begin_as_postgres(alloc)?, seen)?;
     match post_first(rt, alloc, &mut txn) {
         Ok(()) => finish(rt, txn),
@@ -64,7 +68,9 @@ fn post_first<N: Named, R: Wait + Abort>(
     rt: &R,
     alloc: Global,
     txn: &mut Txn<'_, N>,
-) -> Result<(), Refusal> {
+) -> Result<(), Refusal>
+    requires asks { AsksNothing N.asks }
+{
     assert!(rt;
         txn.tag() == 1 && txn.snapshot().is_none() && txn.over().is_none(),
         "it begins"

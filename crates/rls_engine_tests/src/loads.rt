@@ -1,6 +1,7 @@
 //! Loads of transactions, by threads.
 
 ghost use Rattle.std.specs.Prelude.{◌≡◌};
+ghost use Rattle.rls_engine.specs.Led.{AsksNothing};
 
 use crate::checking::{has_record, keeps_before};
 use crate::opening::{begin_as_postgres, post_text, run_alone};
@@ -54,6 +55,7 @@ fn run_named<N: Named + Send + Sync, R: Threads + Wait + Sync>(
     requires steps { records.steps ≡ N.steps }
     requires name { records.blank.name ≡ N.name }
     requires parts { records.blank.parts ≡ N.parts }
+    requires asks { AsksNothing N.asks }
 {
     let Ok(engine) = Engine::<N>::new(alloc, 1, records) else {
         return Err(Refusal::NoMemory);
@@ -93,6 +95,7 @@ fn open<N: Named, R: Wait>(
     keys: u64,
 ) -> Result<(), Refusal>
     requires wide { N.parts ≡ 18446744073709551615 }
+    requires asks { AsksNothing N.asks }
 {
     let mut rows = "INSERT INTO x VALUES (0, 0)".to_string(alloc)?;
     for key in 1..keys {
@@ -114,6 +117,7 @@ fn run_all<N: Named + Send + Sync, R: Threads + Wait + Sync>(
     load: Load,
 ) -> Result<Vec<Worker<N>>, AllocError>
     requires wide { N.parts ≡ 18446744073709551615 }
+    requires asks { AsksNothing N.asks }
 {
     let mut seats = seated(alloc, engine, seen, load)?;
     run_seats(rt, seats.as_mut_slice(), load.threads);
@@ -141,13 +145,15 @@ fn run_seats<N: Named + Send + Sync, R: Threads + Wait + Sync>(
     threads: usize,
 )
     requires wide { N.parts ≡ 18446744073709551615 }
+    requires asks { AsksNothing N.asks }
 {
     thread::for_each_mut(
         rt,
         seats,
         threads.max(1),
         &|_i, seat: &mut Seat<'_, N>|
-            requires { N.parts ≡ 18446744073709551615 }
+            requires wide { N.parts ≡ 18446744073709551615 }
+            requires asks { AsksNothing N.asks }
         { seat.run(rt) },
     );
 }
@@ -177,7 +183,9 @@ fn total<N: Named, R: Wait>(
     alloc: Global,
     engine: &Engine<N>,
     seen: &Seen<N>,
-) -> Result<u64, Refusal> {
+) -> Result<u64, Refusal>
+    requires asks { AsksNothing N.asks }
+{
     let mut txn: Txn<'_, N> = engine.begin(rt, begin_as_postgres(alloc)?, seen)?;
     let reply = post_text(rt, alloc, &mut txn, "SELECT v FROM x");
     txn.rollback(rt);

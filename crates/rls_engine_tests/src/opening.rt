@@ -1,5 +1,7 @@
 //! Transactions and their statements.
 
+ghost use Rattle.rls_engine.specs.Led.{AsksNothing};
+
 use rls_access::{Mode, Reply};
 use rls_core::Begin;
 use rls_engine::{CommitFault, Engine, Named, PostFault, Receipt, Seen, Txn};
@@ -25,7 +27,9 @@ pub fn post_text<N: Named, R: Wait>(
     alloc: Global,
     txn: &mut Txn<'_, N>,
     text: &str,
-) -> Result<Reply, Refusal> {
+) -> Result<Reply, Refusal>
+    requires asks { AsksNothing N.asks }
+{
     let statement = parse(alloc, text)?;
     let ran = txn.run(&statement);
     drop(statement);
@@ -68,7 +72,9 @@ pub fn run_alone<N: Named, R: Wait>(
     engine: &Engine<N>,
     seen: &Seen<N>,
     texts: &[&str],
-) -> Result<Receipt<N>, Refusal> {
+) -> Result<Receipt<N>, Refusal>
+    requires asks { AsksNothing N.asks }
+{
     let mut txn = engine.begin(rt, begin_as_postgres(alloc)?, seen)?;
     match post_all(rt, alloc, &mut txn, texts) {
         Ok(()) => finish(rt, txn),
@@ -84,7 +90,9 @@ fn post_all<N: Named, R: Wait>(
     alloc: Global,
     txn: &mut Txn<'_, N>,
     texts: &[&str],
-) -> Result<(), Refusal> {
+) -> Result<(), Refusal>
+    requires asks { AsksNothing N.asks }
+{
     for text in texts {
         let reply = post_text(rt, alloc, txn, text)?;
         drop(reply);

@@ -1,6 +1,7 @@
 //! Two transactions beside each other.
 
 ghost use Rattle.std.specs.Prelude.{◌≡◌};
+ghost use Rattle.rls_engine.specs.Led.{AsksNothing};
 
 use crate::opening::{begin_as_postgres, finish, post_text};
 use rls_engine::{Engine, Named, Receipt, Seen, Txn};
@@ -17,6 +18,7 @@ pub fn play_pairs<N: Named, R: Wait + Abort>(
     seen: &mut Seen<N>,
 ) -> Result<(), Refusal>
     requires wide { N.parts ≡ 18446744073709551615 }
+    requires asks { AsksNothing N.asks }
 {
     play_second_writer(rt, alloc, engine, seen)?;
     play_write_skew(rt, alloc, engine, seen)
@@ -30,6 +32,7 @@ fn play_second_writer<N: Named, R: Wait + Abort>(
     seen: &mut Seen<N>,
 ) -> Result<(), Refusal>
     requires wide { N.parts ≡ 18446744073709551615 }
+    requires asks { AsksNothing N.asks }
 {
     let one = [
         "UPDATE x SET v = 1 WHERE id = 1",
@@ -53,6 +56,7 @@ fn play_write_skew<N: Named, R: Wait + Abort>(
     seen: &mut Seen<N>,
 ) -> Result<(), Refusal>
     requires wide { N.parts ≡ 18446744073709551615 }
+    requires asks { AsksNothing N.asks }
 {
     let one = [
         "SELECT v FROM x WHERE id = 1",
@@ -85,6 +89,7 @@ fn play_pair<N: Named, R: Wait>(
     other: &[&str],
 ) -> Result<Refusal, Refusal>
     requires wide { N.parts ≡ 18446744073709551615 }
+    requires asks { AsksNothing N.asks }
 {
     let (committed, refused) = end_pair(rt, alloc, engine, seen, one, other)?;
     match committed {
@@ -114,7 +119,9 @@ fn end_pair<N: Named, R: Wait>(
     seen: &Seen<N>,
     one: &[&str],
     other: &[&str],
-) -> Result<(Result<Receipt<N>, Refusal>, Option<Refusal>), Refusal> {
+) -> Result<(Result<Receipt<N>, Refusal>, Option<Refusal>), Refusal>
+    requires asks { AsksNothing N.asks }
+{
     let first = begin(rt, alloc, engine, seen)?;
     match begin(rt, alloc, engine, seen) {
         Ok(second) => Ok(run_pair(rt, alloc, first, second, one, other)),
@@ -141,7 +148,9 @@ fn run_pair<N: Named, R: Wait>(
     second: Txn<'_, N>,
     one: &[&str],
     other: &[&str],
-) -> (Result<Receipt<N>, Refusal>, Option<Refusal>) {
+) -> (Result<Receipt<N>, Refusal>, Option<Refusal>)
+    requires asks { AsksNothing N.asks }
+{
     let mut first = first;
     let mut second = second;
     let posted = post_in_turn(rt, alloc, &mut first, &mut second, one, other);
@@ -174,7 +183,9 @@ fn post_in_turn<N: Named, R: Wait>(
     second: &mut Txn<'_, N>,
     one: &[&str],
     other: &[&str],
-) -> Result<(), Refusal> {
+) -> Result<(), Refusal>
+    requires asks { AsksNothing N.asks }
+{
     for (text, next) in one.iter().zip(other.iter()) {
         drop(post_text(rt, alloc, first, text)?);
         drop(post_text(rt, alloc, second, next)?);

@@ -1,6 +1,7 @@
 //! The transactions of one thread.
 
 ghost use Rattle.std.specs.Prelude.{◌≡◌};
+ghost use Rattle.rls_engine.specs.Led.{AsksNothing};
 
 use crate::opening::{begin_as_postgres, finish, post_text};
 use rls_engine::{Engine, Named, Receipt, Seen, Txn};
@@ -96,6 +97,7 @@ impl<'a, N: Named> Seat<'a, N> {
     /// Runs its transactions.
     pub fn run<R: Wait>(&mut self, rt: &R)
         requires wide { N.parts ≡ 18446744073709551615 }
+        requires asks { AsksNothing N.asks }
     {
         for turn in 0..self.load.turns {
             self.turn(rt, turn);
@@ -105,6 +107,7 @@ impl<'a, N: Named> Seat<'a, N> {
     /// One transaction.
     fn turn<R: Wait>(&mut self, rt: &R, turn: u64)
         requires wide { N.parts ≡ 18446744073709551615 }
+        requires asks { AsksNothing N.asks }
     {
         let lot = self.worker.place.wrapping_mul(1_000_003).wrapping_add(turn);
         let seen = &self.worker.seen;
@@ -126,7 +129,9 @@ fn transact<N: Named, R: Wait>(
     seen: &Seen<N>,
     load: Load,
     lot: u64,
-) -> Result<Receipt<N>, Refusal> {
+) -> Result<Receipt<N>, Refusal>
+    requires asks { AsksNothing N.asks }
+{
     let mut txn = engine.begin(rt, begin_as_postgres(alloc)?, seen)?;
     match post_drawn(rt, alloc, &mut txn, load, lot) {
         Ok(()) => finish(rt, txn),
@@ -144,7 +149,9 @@ fn post_drawn<N: Named, R: Wait>(
     txn: &mut Txn<'_, N>,
     load: Load,
     lot: u64,
-) -> Result<(), Refusal> {
+) -> Result<(), Refusal>
+    requires asks { AsksNothing N.asks }
+{
     let mut lot = lot;
     for _ in 0..load.reads {
         lot = drawn(lot);
@@ -173,7 +180,9 @@ fn read<N: Named, R: Wait>(
     alloc: Global,
     txn: &mut Txn<'_, N>,
     key: u64,
-) -> Result<(), Refusal> {
+) -> Result<(), Refusal>
+    requires asks { AsksNothing N.asks }
+{
     let text = format!(in alloc; "SELECT v FROM x WHERE id = {key}")?;
     let reply = post_text(rt, alloc, txn, text.as_str())?;
     drop(reply);
@@ -185,7 +194,9 @@ fn count_up<N: Named, R: Wait>(
     alloc: Global,
     txn: &mut Txn<'_, N>,
     key: u64,
-) -> Result<(), Refusal> {
+) -> Result<(), Refusal>
+    requires asks { AsksNothing N.asks }
+{
     let text = format!(in alloc; "UPDATE x SET v = v + 1 WHERE id = {key}")?;
     let reply = post_text(rt, alloc, txn, text.as_str())?;
     drop(reply);

@@ -10,6 +10,7 @@ pub mod PlanLemmas
 pub mod RenderingLemmas
 pub mod RuleLemmas
 pub mod ScriptLemmas
+pub mod SpelledLemmas
 pub mod TaskLemmas
 pub mod TextLemmas
 pub mod TrackLemmas

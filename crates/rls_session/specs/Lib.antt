@@ -3,6 +3,7 @@ pub mod Connects
 pub mod Sessions
 pub mod Parts
 pub mod Requests
+pub mod Spelled
 pub mod Blocks
 pub mod Stops
 pub mod Books

@@ -5,6 +5,7 @@ ghost use Rattle.rls_value.specs.declared.refusal.Refusal.TheVariants.{NoMemory}
 ghost use Rattle.rls_session.specs.Blocks.{Carries, Executes, RefusesAnyBegin};
 ghost use Rattle.rls_session.specs.Connects.{ConnectsToLongName};
 ghost use Rattle.rls_session.specs.Requests.{IsAtOnce, status_of};
+ghost use Rattle.rls_session.specs.Spelled.{AsksTexts, IfAsked, IfRequested};
 ghost use Rattle.rls_session.specs.Stops.{IsFault, StopsBegin};
 ghost use Rattle.rls_session.specs.declared.requesting.Ask.TheVariants as a;
 ghost use Rattle.rls_session.specs.declared.requesting.Request.TheVariants as q;
@@ -70,6 +71,7 @@ impl<'a, N: Named> Label<'a, N> {
         command: &str,
     ) -> Result<Answer, Refusal>
         requires wide { N.parts ≡ 18446744073709551615 }
+        requires texts { AsksTexts N.asks }
         ensures ok { IfOk result (λ answer. Executes notes.old self.old command.now answer notes.new self.new) }
         ensures memory { IfErr result (λ why. why ≡ NoMemory → (self.new ≡ self.old) × (notes.new ≡ notes.old)) }
         ensures fault { IfErr result IsFault }
@@ -83,7 +85,7 @@ impl<'a, N: Named> Label<'a, N> {
         answer
     }
 
-    #[tactic(auto, using(crate::proofs::RuleLemmas::executes_as))]
+    #[tactic(auto, using(crate::proofs::RuleLemmas::executes_as, crate::proofs::SpelledLemmas::may_request))]
     fn answer<R: Wait + Clock, G: Gate>(
         &mut self,
         rt: &R,
@@ -93,6 +95,7 @@ impl<'a, N: Named> Label<'a, N> {
         command: &str,
     ) -> Result<Answer, Refusal>
         requires wide { N.parts ≡ 18446744073709551615 }
+        requires texts { AsksTexts N.asks }
         ensures ok { IfOk result (λ answer. Executes notes.old self.old command.now answer notes.new self.new) }
         ensures memory { IfErr result (λ why. why ≡ NoMemory → (self.new ≡ self.old) × (notes.new ≡ notes.old)) }
         ensures fault { IfErr result IsFault }
@@ -123,6 +126,7 @@ impl<'a, N: Named> Label<'a, N> {
         request: Request,
     ) -> Result<Answer, Refusal>
         requires wide { N.parts ≡ 18446744073709551615 }
+        requires known { IfRequested N.asks request }
         ensures ok { IfOk result (λ answer. Carries notes.old self.old request answer notes.new self.new) }
         ensures memory { IfErr result (λ why. why ≡ NoMemory → (self.new ≡ self.old) × (notes.new ≡ notes.old)) }
         ensures fault { IfErr result IsFault }
@@ -144,6 +148,7 @@ impl<'a, N: Named> Label<'a, N> {
         ask: Ask,
     ) -> Result<Answer, Refusal>
         requires wide { N.parts ≡ 18446744073709551615 }
+        requires known { IfAsked N.asks ask }
         ensures ok { IfOk result (λ answer. Carries notes.old self.old (q.Ask ask) answer notes.new self.new) }
         ensures memory { IfErr result (λ why. why ≡ NoMemory → (self.new ≡ self.old) × (notes.new ≡ notes.old)) }
         ensures fault { IfErr result IsFault }

@@ -4,6 +4,7 @@ ghost use Rattle.std.specs.Prelude.{◌≡◌, ◌<◌, ◌≤◌, [], length, L
 ghost use Rattle.std.specs.Str.{bytes_eq};
 ghost use Rattle.rls_session.specs.Labels as spec;
 ghost use Rattle.rls_session.specs.Labels.{AnswersUnder, ExecutesUnder};
+ghost use Rattle.rls_session.specs.Spelled.{AsksTexts};
 
 use crate::answer::Answer;
 use crate::fault::RunFault;
@@ -102,6 +103,7 @@ impl<'a, N: Named> Labels<'a, N> {
         command: &str,
     ) -> Result<Answer, RunFault>
         requires wide { N.parts ≡ 18446744073709551615 }
+        requires texts { AsksTexts N.asks }
         ensures ok { IfOk result (λ answer. AnswersUnder record { labels = self.old; notes = notes.old } name.now command.now answer record { labels = self.new; notes = notes.new }) }
         ensures read { ¬ IsErrOf result RunFault.Read }
         ensures write { ¬ IsErrOf result RunFault.Write }
@@ -131,6 +133,7 @@ impl<'a, N: Named> Labels<'a, N> {
         command: &str,
     ) -> Result<Answer, Refusal>
         requires wide { N.parts ≡ 18446744073709551615 }
+        requires texts { AsksTexts N.asks }
         requires place { place < length self.old }
         ensures { IfOk result (λ answer. (name : List ℕ) → place ≡ spec.place_of self.old name → ExecutesUnder notes.old self.old name command.now answer notes.new self.new) }
     {
@@ -151,6 +154,7 @@ impl<'a, N: Named> Labels<'a, N> {
         command: &str,
     ) -> Result<Answer, Refusal>
         requires wide { N.parts ≡ 18446744073709551615 }
+        requires texts { AsksTexts N.asks }
         requires new { length self.old ≤ spec.place_of self.old name.now }
         ensures { IfOk result (λ answer. ExecutesUnder notes.old self.old name.now command.now answer notes.new self.new) }
     {

@@ -101,6 +101,7 @@ impl<'a, N: Named> Open<'a, N> {
         at: &At<'_, G>,
         asked: &Statement,
     ) -> Result<(Open<'a, N>, Result<Reply, Refusal>), Stopped<'a, N>>
+        requires { N.asks asked.now }
         ensures ok { IfOk result (λ done. HasPosted self.entry asked.now done.0 done.1) }
         ensures err { IfErr result (WhenStopped self.entry) }
     {

@@ -6,6 +6,7 @@ ghost use Rattle.rls_session.specs.Labels.{opening_script};
 ghost use Rattle.rls_session.specs.Scripts.{GrewBy};
 ghost use Rattle.rls_session.specs.Phases.{AreLate, Passes, RunsPhases, is_late, late_text, notes_after, opening_seats, texts_of};
 ghost use Rattle.rls_session.specs.Plans.{place_in};
+ghost use Rattle.rls_session.specs.Spelled.{AsksTexts};
 ghost use Rattle.rls_session.specs.Works.{IsRan, Work, entered, finished, tracks_of, work_seats};
 
 use crate::answer::Answer;
@@ -68,6 +69,7 @@ where
     G: Gate + Sync,
     O: ScriptOut,
     requires wide { N.parts ≡ 18446744073709551615 }
+    requires texts { AsksTexts N.asks }
     requires seats { work_seats workers.old ≡ opening_seats names.now (min (length names.now) 65) }
     requires fresh { notes.old ≡ opening_script.notes }
     ensures text { OnOk result (GrewBy (O.taken output.old) (O.taken output.new) (λ written. RunsPhases names.now (map (λ phase. phase.items) phases.now) written record { seats = work_seats workers.new; notes = notes.new })) }
@@ -97,6 +99,7 @@ where
     G: Gate + Sync,
     O: ScriptOut,
     requires wide { N.parts ≡ 18446744073709551615 }
+    requires texts { AsksTexts N.asks }
     ensures text { OnOk result (GrewBy (O.taken output.old) (O.taken output.new) (λ written. Passes names.now record { seats = work_seats workers.old; notes = notes.old } tasks.now written record { seats = work_seats workers.new; notes = notes.new })) }
     ensures ok { OnOk result (O.failures output.new ≡ O.failures output.old) }
     ensures read { ¬ IsErrOf result RunFault.Read }
@@ -125,6 +128,7 @@ where
     R: Threads + Wait + Clock + Sync,
     G: Gate + Sync,
     requires wide { N.parts ≡ 18446744073709551615 }
+    requires texts { AsksTexts N.asks }
     ensures { (i : ℕ) (d : Work) → i < length workers.old → IsRan (slice_index_or workers.old i d) tasks.now (slice_index_or workers.new i d) }
 {
     thread::for_each_mut(
@@ -132,7 +136,8 @@ where
         workers,
         SEATS,
         &|_i, worker: &mut Worker<'_, N, G>|
-            requires { N.parts ≡ 18446744073709551615 }
+            requires wide { N.parts ≡ 18446744073709551615 }
+            requires texts { AsksTexts N.asks }
             ensures { IsRan worker.entry.now tasks.entry.now worker.exit.now }
         { worker.run(rt, tasks) },
     );

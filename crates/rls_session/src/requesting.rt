@@ -5,6 +5,8 @@ ghost use Rattle.rls_session.specs.Requests as spec;
 ghost use Rattle.rls_session.specs.Requests.{AsksAs, AsksOf, IsAtOnce, IsReadAs, Requests, RequestsAs, requested_connect};
 ghost use Rattle.rls_session.specs.Connects.{ConnectsToLongName, is_long_name, role_named};
 ghost use Rattle.rls_session.specs.Sessions.{within_line};
+ghost use Rattle.rls_session.specs.Spelled.{IfAsked, IfRequested, IsSpellable};
+ghost use Rattle.rls_text.specs.Commands.{IfRun};
 
 use crate::connect::{behind_connect, role_in};
 use rls_access::Mode;
@@ -56,6 +58,7 @@ pub(crate) fn request_for(
     command: &str,
 ) -> Result<Request, AllocError>
     ensures requests { IfOk result (Requests status command.now) }
+    ensures spelled { IfOk result (IfRequested IsSpellable) }
 
     // A name over its limit is refused as such, and never as want of memory.
     ensures long_name { ConnectsToLongName command.now → IsOkAnd result IsAtOnce }
@@ -68,6 +71,7 @@ pub(crate) fn request_for(
 
 fn request_connect(alloc: Global, command: &str, behind: &str) -> Result<Request, AllocError>
     ensures requests { IfOk result (λ request. request ≡ requested_connect (within_line command.now (role_named behind.now))) }
+    ensures spelled { IfOk result (IfRequested IsSpellable) }
     ensures long_name { is_long_name behind.now ≡ true → IsOkAnd result IsAtOnce }
 {
     if command.len() > MAX_COMMAND {
@@ -81,7 +85,8 @@ fn request_connect(alloc: Global, command: &str, behind: &str) -> Result<Request
 }
 
 fn request_as(alloc: Global, status: Status, command: &str) -> Result<Request, AllocError>
-    ensures { IfOk result (RequestsAs status command.now) }
+    ensures requests { IfOk result (RequestsAs status command.now) }
+    ensures spelled { IfOk result (IfRequested IsSpellable) }
 {
     match ask_as(alloc, status, command) {
         Ok(Ok(ask)) => Ok(Request::Ask(ask)),
@@ -91,7 +96,8 @@ fn request_as(alloc: Global, status: Status, command: &str) -> Result<Request, A
 }
 
 fn ask_as(alloc: Global, status: Status, command: &str) -> Result<Result<Ask, Refusal>, AllocError>
-    ensures { IfOk result (AsksAs status command.now) }
+    ensures asks { IfOk result (AsksAs status command.now) }
+    ensures spelled { IfOk result (λ given. IfOk given (IfAsked IsSpellable)) }
 {
     match status {
         Status::Nobody => Ok(Err(Refusal::NoLogin(None))),
@@ -102,12 +108,14 @@ fn ask_as(alloc: Global, status: Status, command: &str) -> Result<Result<Ask, Re
 }
 
 /// What a command that is no `\connect` asks of a session that stands so, or why it is refused at once.
+#[tactic(auto, using(crate::proofs::SpelledLemmas::asked_spelled))]
 pub(crate) fn ask_of(
     alloc: Global,
     status: Status,
     command: &str,
 ) -> Result<Result<Ask, Refusal>, AllocError>
-    ensures { IfOk result (AsksOf status command.now) }
+    ensures asks { IfOk result (AsksOf status command.now) }
+    ensures spelled { IfOk result (λ given. IfOk given (IfAsked IsSpellable)) }
 {
     match read(alloc, command) {
         Ok(read) => Ok(asked(status, read)),
@@ -116,8 +124,10 @@ pub(crate) fn ask_of(
 }
 
 /// What the command is read as. Want of memory ends the run, and is no answer.
+#[tactic(auto, using(crate::proofs::SpelledLemmas::run_spelled))]
 fn read(alloc: Global, command: &str) -> Result<Result<Command, Refusal>, AllocError>
-    ensures { IfOk result (IsReadAs (nat_lt 65536 (length command.now)) command.now) }
+    ensures reads { IfOk result (IsReadAs (nat_lt 65536 (length command.now)) command.now) }
+    ensures spelled { IfOk result (λ given. IfOk given (λ command. IfRun command IsSpellable)) }
 {
     if command.len() > MAX_COMMAND {
         return Ok(Err(Refusal::Limit(Limit::Line)));

@@ -3,10 +3,12 @@
 ghost use Rattle.std.specs.Prelude.{◌≡◌, [], ◌⊎◌, ◌+◌, ◌<◌, ◌≤◌, ◌++◌, length, true, All, IfOk, OnOk, OnErr, IsErrOf};
 ghost use Rattle.rls_core.specs.Seen.{world_of};
 ghost use Rattle.rls_core.specs.Headline.{HaveOrder, AreExplained};
+ghost use Rattle.rls_engine.specs.Led.{IsLed};
 ghost use Rattle.rls_session.specs.Books.{IsBooked};
 ghost use Rattle.rls_session.specs.Rendering.{answer_text};
 ghost use Rattle.rls_session.specs.Labels.{opening_script};
 ghost use Rattle.rls_session.specs.Scripts.{GrewBy, IsScriptText, LeadsTo, RunsRead, RunsScript};
+ghost use Rattle.rls_session.specs.Spelled.{AsksTexts, IsSpellable};
 
 use crate::answer::Answer;
 use crate::fault::RunFault;
@@ -41,6 +43,7 @@ pub fn run_script<R: Wait + Clock, I: ScriptIn, O: ScriptOut>(
     ensures text { IfOk result (λ book. RunsScript (I.given input.old) (I.given input.new) (O.taken output.old) (O.taken output.new) book.seen.committed) }
     ensures ordered { IfOk result (λ book. HaveOrder (world_of book.seen)) }
     ensures explained { IfOk result (λ book. AreExplained (world_of book.seen)) }
+    ensures led { IfOk result (λ book. IsLed IsSpellable book.seen) }
     ensures ended { OnOk result (I.ended input.new ≡ true) }
     ensures read { IsErrOf result RunFault.Read → (I.failures input.old < I.failures input.new) ⊎ (length (I.given input.old) + MAX_SCRIPT < length (I.given input.new)) }
     ensures read_failed { I.failures input.old < I.failures input.new → IsErrOf result RunFault.Read }
@@ -119,9 +122,11 @@ fn run_named<N: Named, R: Wait + Clock, O: ScriptOut>(
     requires steps { records.steps ≡ N.steps }
     requires name { records.blank.name ≡ N.name }
     requires parts { records.blank.parts ≡ N.parts }
+    requires texts { AsksTexts N.asks }
     ensures text { IfOk result (λ book. GrewBy (O.taken output.old) (O.taken output.new) (λ written. IsScriptText script.now written book.seen.committed)) }
     ensures ordered { IfOk result (λ book. HaveOrder (world_of book.seen)) }
     ensures explained { IfOk result (λ book. AreExplained (world_of book.seen)) }
+    ensures led { IfOk result (λ book. IsLed N.asks book.seen) }
     ensures read { ¬ IsErrOf result RunFault.Read }
     ensures write { IsErrOf result RunFault.Write → O.failures output.old < O.failures output.new }
     ensures write_failed { O.failures output.old < O.failures output.new → IsErrOf result RunFault.Write }
@@ -146,6 +151,7 @@ pub(crate) fn close<N: Named>(engine: Engine<N>, notes: Notes<N>) -> Result<Book
     ensures enough { IfOk result (λ book. length notes.shown ≤ length book.seen.committed) }
     ensures ordered { IfOk result (λ book. HaveOrder (world_of book.seen)) }
     ensures explained { IfOk result (λ book. AreExplained (world_of book.seen)) }
+    ensures led { IfOk result (λ book. IsLed N.asks book.seen) }
     ensures read { ¬ IsErrOf result RunFault.Read }
     ensures write { ¬ IsErrOf result RunFault.Write }
 {
@@ -171,6 +177,7 @@ fn run_engine<N: Named, R: Wait + Clock, O: ScriptOut>(
     output: &mut O,
 ) -> Result<(), RunFault>
     requires wide { N.parts ≡ 18446744073709551615 }
+    requires texts { AsksTexts N.asks }
     requires fresh { notes.old ≡ opening_script.notes }
     ensures text { OnOk result (GrewBy (O.taken output.old) (O.taken output.new) (λ written. LeadsTo script.now written notes.new)) }
     ensures read { ¬ IsErrOf result RunFault.Read }
@@ -192,6 +199,7 @@ fn run_lines<N: Named, R: Wait + Clock, O: ScriptOut>(
     output: &mut O,
 ) -> Result<(), RunFault>
     requires wide { N.parts ≡ 18446744073709551615 }
+    requires texts { AsksTexts N.asks }
     requires fresh { (labels.old ≡ []) × (notes.old ≡ opening_script.notes) }
     ensures text { OnOk result (GrewBy (O.taken output.old) (O.taken output.new) (λ written. LeadsTo script.now written notes.new)) }
     ensures read { ¬ IsErrOf result RunFault.Read }
@@ -217,6 +225,7 @@ fn run_line<N: Named, R: Wait + Clock, O: ScriptOut>(
     output: &mut O,
 ) -> Result<(), RunFault>
     requires wide { N.parts ≡ 18446744073709551615 }
+    requires texts { AsksTexts N.asks }
     ensures text { OnOk result (GrewBy (O.taken output.old) (O.taken output.new) (λ written. RunsRead line.entry record { labels = labels.old; notes = notes.old } written record { labels = labels.new; notes = notes.new })) }
     ensures ok { OnOk result (O.failures output.new ≡ O.failures output.old) }
     ensures read { ¬ IsErrOf result RunFault.Read }

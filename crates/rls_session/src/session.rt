@@ -6,6 +6,7 @@ ghost use Rattle.rls_guard.specs.declared.context.Mode.TheVariants.{Write};
 ghost use Rattle.rls_session.specs.Blocks.{Carries, ExecutesIn, RefusesAnyBegin, begin_of, inside, outside};
 ghost use Rattle.rls_session.specs.Parts.{noted};
 ghost use Rattle.rls_session.specs.Requests.{status_of};
+ghost use Rattle.rls_session.specs.Spelled.{AsksTexts, IfAsked};
 ghost use Rattle.rls_session.specs.Stops.{CommitsAlone, IsConflictAnswer, IsFault, IsStarted, StopsBegin};
 ghost use Rattle.rls_session.specs.declared.requesting.Ask.TheVariants as a;
 ghost use Rattle.rls_session.specs.declared.requesting.Request.TheVariants as q;
@@ -108,6 +109,7 @@ impl<'a, N: Named> Session<'a, N> {
         command: &str,
     ) -> Result<Answer, Refusal>
         requires wide { N.parts ≡ 18446744073709551615 }
+        requires texts { AsksTexts N.asks }
         ensures ok { IfOk result (λ answer. ExecutesIn notes.old self.old command.now answer notes.new self.new) }
         ensures memory { IfErr result (λ why. why ≡ NoMemory → (self.new ≡ self.old) × (notes.new ≡ notes.old)) }
         ensures fault { IfErr result IsFault }
@@ -121,7 +123,7 @@ impl<'a, N: Named> Session<'a, N> {
     }
 
     /// The same, at a gate.
-    #[tactic(auto, using(crate::proofs::RuleLemmas::executes_nothing, crate::proofs::RuleLemmas::executes_asked))]
+    #[tactic(auto, using(crate::proofs::RuleLemmas::executes_nothing, crate::proofs::RuleLemmas::executes_asked, crate::proofs::SpelledLemmas::may_ask))]
     pub fn execute_at<R: Wait + Clock, G: Gate>(
         &mut self,
         rt: &R,
@@ -131,6 +133,7 @@ impl<'a, N: Named> Session<'a, N> {
         command: &str,
     ) -> Result<Answer, Refusal>
         requires wide { N.parts ≡ 18446744073709551615 }
+        requires texts { AsksTexts N.asks }
         ensures ok { IfOk result (λ answer. ExecutesIn notes.old self.old command.now answer notes.new self.new) }
         ensures memory { IfErr result (λ why. why ≡ NoMemory → (self.new ≡ self.old) × (notes.new ≡ notes.old)) }
         ensures fault { IfErr result IsFault }
@@ -167,6 +170,7 @@ impl<'a, N: Named> Session<'a, N> {
         ask: Ask,
     ) -> Result<Answer, Refusal>
         requires wide { N.parts ≡ 18446744073709551615 }
+        requires known { IfAsked N.asks ask }
         ensures ok { IfOk result (λ answer. Carries notes.old (Some self.old) (q.Ask ask) answer notes.new (Some self.new)) }
         ensures memory { IfErr result (λ why. why ≡ NoMemory → (self.new ≡ self.old) × (notes.new ≡ notes.old)) }
         ensures fault { IfErr result IsFault }
@@ -213,6 +217,7 @@ impl<'a, N: Named> Session<'a, N> {
         notes: &Notes<N>,
         asked: Statement,
     ) -> Result<Answer, Refusal>
+        requires known { N.asks asked }
         ensures ok { IfOk result (λ answer. Carries notes.now (Some self.old) (q.Ask (a.Post asked)) answer notes.now (Some self.new)) }
         ensures memory { IfErr result (λ why. why ≡ NoMemory → self.new ≡ self.old) }
         ensures fault { IfErr result IsFault }
@@ -284,6 +289,7 @@ impl<'a, N: Named> Session<'a, N> {
         asked: Statement,
     ) -> Result<Answer, Refusal>
         requires wide { N.parts ≡ 18446744073709551615 }
+        requires known { N.asks asked }
         ensures ok { IfOk result (λ answer. Carries notes.old (Some self.old) (q.Ask (a.Run asked)) answer notes.new (Some self.new)) }
         ensures same { OnErr result ((self.new ≡ self.old) × (notes.new ≡ notes.old)) }
         ensures fault { IfErr result IsFault }
@@ -311,6 +317,7 @@ impl<'a, N: Named> Session<'a, N> {
         asked: Statement,
     ) -> Result<Answer, Refusal>
         requires wide { N.parts ≡ 18446744073709551615 }
+        requires known { N.asks asked }
         requires started { IsStarted notes.old.newest (begin_of self.old Write) «open» }
         ensures ok { IfOk result (λ answer. Carries notes.old (Some self.old) (q.Ask (a.Run asked)) answer notes.new (Some self.new)) }
         ensures same { OnErr result ((self.new ≡ self.old) × (notes.new ≡ notes.old)) }

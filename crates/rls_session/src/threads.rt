@@ -3,8 +3,10 @@
 ghost use Rattle.std.specs.Prelude.{◌≡◌, ◌⊎◌, ◌+◌, ◌<◌, ◌≤◌, length, true, All, IfOk, OnOk, IsErrOf};
 ghost use Rattle.rls_core.specs.Seen.{world_of};
 ghost use Rattle.rls_core.specs.Headline.{HaveOrder, AreExplained};
+ghost use Rattle.rls_engine.specs.Led.{IsLed};
 ghost use Rattle.rls_session.specs.Labels.{opening_script};
 ghost use Rattle.rls_session.specs.Scripts.{GrewBy};
+ghost use Rattle.rls_session.specs.Spelled.{AsksTexts, IsSpellable};
 ghost use Rattle.rls_session.specs.Texts.{IsPhasesText, LeadsTo, RunsInPhases};
 
 use crate::fault::RunFault;
@@ -42,6 +44,7 @@ where
     ensures text { IfOk result (λ book. RunsInPhases (I.given input.old) (I.given input.new) (O.taken output.old) (O.taken output.new) book.seen.committed) }
     ensures ordered { IfOk result (λ book. HaveOrder (world_of book.seen)) }
     ensures explained { IfOk result (λ book. AreExplained (world_of book.seen)) }
+    ensures led { IfOk result (λ book. IsLed IsSpellable book.seen) }
     ensures ended { OnOk result (I.ended input.new ≡ true) }
     ensures read { IsErrOf result RunFault.Read → (I.failures input.old < I.failures input.new) ⊎ (length (I.given input.old) + MAX_SCRIPT < length (I.given input.new)) }
     ensures read_failed { I.failures input.old < I.failures input.new → IsErrOf result RunFault.Read }
@@ -77,9 +80,11 @@ where
     requires steps { records.steps ≡ N.steps }
     requires name { records.blank.name ≡ N.name }
     requires parts { records.blank.parts ≡ N.parts }
+    requires texts { AsksTexts N.asks }
     ensures text { IfOk result (λ book. GrewBy (O.taken output.old) (O.taken output.new) (λ written. IsPhasesText script.now written book.seen.committed)) }
     ensures ordered { IfOk result (λ book. HaveOrder (world_of book.seen)) }
     ensures explained { IfOk result (λ book. AreExplained (world_of book.seen)) }
+    ensures led { IfOk result (λ book. IsLed N.asks book.seen) }
     ensures read { ¬ IsErrOf result RunFault.Read }
     ensures write { IsErrOf result RunFault.Write → O.failures output.old < O.failures output.new }
     ensures write_failed { O.failures output.old < O.failures output.new → IsErrOf result RunFault.Write }
@@ -117,6 +122,7 @@ where
     O: ScriptOut,
     G: Gate + Sync,
     requires wide { N.parts ≡ 18446744073709551615 }
+    requires texts { AsksTexts N.asks }
     requires fresh { notes.old ≡ opening_script.notes }
     ensures text { OnOk result (GrewBy (O.taken output.old) (O.taken output.new) (λ written. LeadsTo plan.entry written notes.new)) }
     ensures read { ¬ IsErrOf result RunFault.Read }

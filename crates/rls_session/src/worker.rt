@@ -6,6 +6,7 @@ ghost use Rattle.rls_session.specs.Parts.{joined, alike};
 ghost use Rattle.rls_session.specs.Rendering.{answer_text};
 ghost use Rattle.rls_session.specs.Phases.{Follows, RunsAs, RunsServed, RunsTask, opening_seat, refused_text};
 ghost use Rattle.rls_session.specs.Plans.{standing_of};
+ghost use Rattle.rls_session.specs.Spelled.{AsksTexts};
 ghost use Rattle.rls_session.specs.Works.{IsRan, entered, finished};
 
 use crate::answer::Answer;
@@ -107,6 +108,7 @@ impl<'a, N: Named, G: Gate> Worker<'a, N, G> {
     /// Runs its lines of a phase.
     pub(crate) fn run<R: Wait + Clock>(&mut self, rt: &R, tasks: &[Task<'_>])
         requires wide { N.parts ≡ 18446744073709551615 }
+        requires texts { AsksTexts N.asks }
         ensures { IsRan self.old tasks.now self.new }
     {
         if let Err(fault) = self.run_tasks(rt, tasks) {
@@ -116,6 +118,7 @@ impl<'a, N: Named, G: Gate> Worker<'a, N, G> {
 
     fn run_tasks<R: Wait + Clock>(&mut self, rt: &R, tasks: &[Task<'_>]) -> Result<(), Refusal>
         requires wide { N.parts ≡ 18446744073709551615 }
+        requires texts { AsksTexts N.asks }
         ensures { OnOk result (Follows self.old.track tasks.now self.new.track) }
     {
         for task in tasks {
@@ -127,6 +130,7 @@ impl<'a, N: Named, G: Gate> Worker<'a, N, G> {
     /// Runs a line, if it is the label's.
     fn run_task<R: Wait + Clock>(&mut self, rt: &R, task: &Task<'_>) -> Result<(), Refusal>
         requires wide { N.parts ≡ 18446744073709551615 }
+        requires texts { AsksTexts N.asks }
         ensures { OnOk result (RunsTask self.old.track task.now self.new.track) }
     {
         if task.place != self.place {
@@ -137,6 +141,7 @@ impl<'a, N: Named, G: Gate> Worker<'a, N, G> {
 
     fn run_own<R: Wait + Clock>(&mut self, rt: &R, line: u32, command: &str) -> Result<(), Refusal>
         requires wide { N.parts ≡ 18446744073709551615 }
+        requires texts { AsksTexts N.asks }
         ensures { OnOk result (RunsAs self.old.track.seat.standing self.old.track command.now self.new.track) }
     {
         match self.standing {
@@ -149,6 +154,7 @@ impl<'a, N: Named, G: Gate> Worker<'a, N, G> {
     /// Executes a command in the label's session.
     fn execute<R: Wait + Clock>(&mut self, rt: &R, line: u32, command: &str) -> Result<(), Refusal>
         requires wide { N.parts ≡ 18446744073709551615 }
+        requires texts { AsksTexts N.asks }
         ensures { OnOk result (RunsServed self.old.track command.now self.new.track) }
     {
         let at = At {

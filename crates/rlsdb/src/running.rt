@@ -1,9 +1,11 @@
 //! The command that runs a script.
 
-ghost use Rattle.std.specs.Prelude.{OnOk};
+ghost use Rattle.std.specs.Prelude.{IfOk, OnOk};
 ghost use Rattle.std.specs.List.{All};
 ghost use Rattle.rls_audit.specs.Lines.{audit_of, lines_from};
 ghost use Rattle.rls_audit.specs.Showing.{AreTexts};
+ghost use Rattle.rls_engine.specs.Led.{IsLed};
+ghost use Rattle.rls_session.specs.Spelled.{IsSpellable};
 ghost use Rattle.rlsdb.specs.AuditLines.{WritesLines};
 
 use crate::audit_file::write_audit_line;
@@ -12,6 +14,7 @@ use crate::fault::Fault;
 use crate::same_file::is_same_file;
 use crate::words::ScriptFile;
 use rls_audit::{Line, line_of_record};
+use rls_laws::records_are_texts;
 use rls_session::{Book, NoGate, RunFault, ScriptOut, run_script, run_threads};
 use rls_value::Items;
 use std::alloc::Global;
@@ -54,6 +57,7 @@ fn run_from<'a, W, R>(
 where
     W: Threads + Wait + Clock + Sync,
     R: Read + Drop,
+    ensures { IfOk result (λ book. IsLed IsSpellable book.seen) }
 {
     let alloc = rt.alloc();
     let mut input = DeviceIn::new(alloc, reader)?;
@@ -70,7 +74,9 @@ where
 }
 
 /// Writes the audit of the book. The file is opened once the order is found.
-fn write_audit<'a>(rt: &HostRuntime, name: &'a str, book: &Book) -> Result<(), Fault<'a>> {
+fn write_audit<'a>(rt: &HostRuntime, name: &'a str, book: &Book) -> Result<(), Fault<'a>>
+    requires { IsLed IsSpellable book.now.seen }
+{
     let order = book.order(rt.alloc())?;
     let file = File::create(rt, name).map_err(|error| Fault::of_create(name, error))?;
     let mut output = DeviceOut::new(rt.alloc(), file)?;
@@ -78,8 +84,8 @@ fn write_audit<'a>(rt: &HostRuntime, name: &'a str, book: &Book) -> Result<(), F
     Ok(output.finish()?)
 }
 
-/// Writes the head, the records in the order of their commits, and the end with the numbers of the order. Where texts spell what
-/// the records have of statements and policies, the lines show just them.
+/// Writes the head, the records in the order of their commits, and the end with the numbers of the order. The lines show just them,
+/// since texts spell what events recorded that post what texts spell.
 #[tactic(auto, using(crate::proofs::BookLemmas::whole))]
 fn write_book<'a, O: ScriptOut>(
     alloc: Global,
@@ -87,8 +93,10 @@ fn write_book<'a, O: ScriptOut>(
     order: Vec<u64>,
     output: &mut O,
 ) -> Result<(), Fault<'a>>
-    ensures { OnOk result (All AreTexts book.now.seen.committed → WritesLines (audit_of book.now.seen.committed order.items) (O.taken output.old) (O.taken output.new)) }
+    requires { IsLed IsSpellable book.now.seen }
+    ensures { OnOk result (WritesLines (audit_of book.now.seen.committed order.items) (O.taken output.old) (O.taken output.new)) }
 {
+    records_are_texts();
     write_audit_line(alloc, &Line::Head, output)?;
     write_records(alloc, book, output)?;
     let end = Line::End(book.records().len() as u64, Items::from_vec(order));

@@ -8,6 +8,7 @@ use Rattle.rls_engine.specs.Views.{Hold, Kept}
 use Rattle.rls_engine.specs.Steps.{Fits}
 use Rattle.rls_engine.proofs.TokenLemmas.{has_token, leads_on}
 use Rattle.rls_engine.proofs.KeepLemmas.{posted_kept, refused_kept}
+use Rattle.rls_engine.proofs.LedLemmas.{led_on, refused_led}
 use Rattle.rls_engine.proofs.desk.Desk.post.Goals as goal
 
 pub set_token-requires : goal.set_token-requires
@@ -16,7 +17,7 @@ set_token-requires g c =
     let seen : s.core ≡ c.args.self.now.seen = ap (λ (k : Kept). k.seen) c.self.view_is in
     let held : Hold = record { txn = c.held.inside.txn; stand = c.held.inside.at.value } in
     let fits : Fits s.core held = subst (λ (h : Hold). Fits s.core h) (sym c.held.view_is) (subst (λ (k : Seen). Fits k c.args.held.now) (sym seen) (c.fits.ensures c.if-not-fits.false)) in
-    has_token g.N.Named.steps s.core s.running.entries held c.self.invariant.stand fits
+    has_token g.N.Named.steps s.core s.running.entries held c.self.invariant.0.stand fits
 
 pub invariant_of-self : goal.invariant_of-self
 invariant_of-self g c =
@@ -26,12 +27,14 @@ invariant_of-self g c =
     let seen : s.core ≡ c.args.self.now.seen = ap (λ (k : Kept). k.seen) c.self.view_is in
     let held : Hold = record { txn = c.held.inside.txn; stand = c.held.inside.at.value } in
     let number : c.args.work.txn ≡ held.txn = c.requires.txn ∙ sym (ap (λ (h : Hold). h.txn) c.held.view_is) in
-    let fits : Fits s.core held = subst (λ (h : Hold). Fits s.core h) (sym c.held.view_is) (subst (λ (k : Seen). Fits k c.args.held.now) (sym seen) (c.fits.ensures c.if-not-fits.false)) in
-    posted_kept _ _ _ _ _ _ _ _ c.self.invariant c.admit.new.self c.set_token.new.running.entries held asked t fits
-    (subst (λ (n : ℕ). Happens (Event.Posts n asked) s.core c.admit.new.self) number c.in-Ok-admit.ensures.ok)
-    c.set_token.ensures
-    (subst (λ (u : Where Stand). Shows g.N.Named.steps u) (sym c.again.ensures) (subst (λ (v : Shelves). Shows v c.in-Ok.at) c.requires.steps c.in-Ok.ensures.0.0))
-    (leads_on s.core held asked t fits (ap (λ (u : Where Stand). u.value) c.again.ensures ∙ c.in-Ok.ensures.0.1 ∙ c.posted.ensures))
+    let fits : Fits s.core held = subst (λ (h : Hold). Fits s.core h) (sym c.held.view_is) (subst (λ (k : Seen). Fits k c.args.held.now) (sym seen) (c.fits.ensures c.if-not-fits.false)) in (
+      posted_kept _ _ _ _ _ _ _ _ c.self.invariant.0 c.admit.new.self c.set_token.new.running.entries held asked t fits
+          (subst (λ (n : ℕ). Happens (Event.Posts n asked) s.core c.admit.new.self) number c.in-Ok-admit.ensures.ok)
+          c.set_token.ensures
+          (subst (λ (u : Where Stand). Shows g.N.Named.steps u) (sym c.again.ensures) (subst (λ (v : Shelves). Shows v c.in-Ok.at) c.requires.steps c.in-Ok.ensures.0.0))
+          (leads_on s.core held asked t fits (ap (λ (u : Where Stand). u.value) c.again.ensures ∙ c.in-Ok.ensures.0.1 ∙ c.posted.ensures)),
+      led_on g.N.Named.asks s.core c.admit.new.self (Event.Posts c.args.work.txn asked) c.self.invariant.1 c.in-Ok-admit.ensures.ok c.requires.asked,
+    )
 
 pub returns-in-Ok-admit-clause-ok : goal.returns-in-Ok-admit-clause-ok
 returns-in-Ok-admit-clause-ok g c =
@@ -44,7 +47,7 @@ returns-in-Ok-admit-clause-ok g c =
     record {
       event = record {
         happens = subst (λ (k : Seen). Happens (Event.Posts H.txn asked) k c.admit.new.self) seen (subst (λ (n : ℕ). Happens (Event.Posts n asked) s.core c.admit.new.self) c.requires.txn c.in-Ok-admit.ensures.ok);
-        counted = (invariant_of-self g c).counted;
+        counted = (invariant_of-self g c).0.counted;
       };
       shows = subst (λ (v : Shelves). Shows v c.in-Ok.at) c.requires.steps c.in-Ok.ensures.0.0;
       leads = leads_on s.core H asked c.in-Ok.at fits (c.in-Ok.ensures.0.1 ∙ c.posted.ensures ∙ ap (λ (n : ℕ). posted_on (stand_at s.core.committed (runs_at s.core n)) asked) txn);
@@ -57,6 +60,8 @@ invariant_of-self-in-Err-admit g c =
     let seen : s.core ≡ c.args.self.now.seen = ap (λ (k : Kept). k.seen) c.self.view_is in
     let held : Hold = record { txn = c.held.inside.txn; stand = c.held.inside.at.value } in
     let number : c.args.work.txn ≡ held.txn = c.requires.txn ∙ sym (ap (λ (h : Hold). h.txn) c.held.view_is) in
-    let fits : Fits s.core held = subst (λ (h : Hold). Fits s.core h) (sym c.held.view_is) (subst (λ (k : Seen). Fits k c.args.held.now) (sym seen) (c.fits.ensures c.if-not-fits.false)) in
-    refused_kept _ _ _ _ _ _ _ _ c.self.invariant c.admit.new.self held asked c.in-Err.refusal fits
-    (subst (λ (n : ℕ). NotPosted n asked s.core c.admit.new.self c.in-Err.refusal) number c.in-Err.ensures.err)
+    let fits : Fits s.core held = subst (λ (h : Hold). Fits s.core h) (sym c.held.view_is) (subst (λ (k : Seen). Fits k c.args.held.now) (sym seen) (c.fits.ensures c.if-not-fits.false)) in (
+      refused_kept _ _ _ _ _ _ _ _ c.self.invariant.0 c.admit.new.self held asked c.in-Err.refusal fits
+          (subst (λ (n : ℕ). NotPosted n asked s.core c.admit.new.self c.in-Err.refusal) number c.in-Err.ensures.err),
+      refused_led g.N.Named.asks s.core c.admit.new.self c.args.work.txn asked c.in-Err.refusal c.self.invariant.1 c.requires.asked c.in-Err.ensures.err,
+    )
