@@ -15,7 +15,7 @@ use rls_ddl::{
 };
 use rls_dml::{run_delete, run_insert, run_select, run_update};
 use rls_guard::{Ctx, Effect, Mode};
-use rls_source::{Footprint, Reads, RowSource};
+use rls_source::{Footprint, Reads, RowSource, StatementSource};
 use rls_statement::Statement;
 use rls_value::{Name, Refusal, Tag, TxnState};
 use std::alloc::{AllocError, Global};
@@ -26,7 +26,7 @@ const USUAL_READS: usize = 32;
 /// Runs the statement over the source: what it comes to, with its changes, which the source doesn't get; what it read;
 /// and the role afterwards. All that it depends on is in the footprint, and a source that is borrowed has made just these
 /// reads; where memory runs out it has made none.
-pub fn run_statement<'c, S: RowSource<'c>>(
+pub fn run_statement<'c, S: StatementSource<'c> + Drop>(
     alloc: Global,
     source: &mut S,
     ctx: &Ctx,

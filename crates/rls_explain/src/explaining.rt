@@ -11,14 +11,14 @@ use crate::asking::said_on;
 use crate::explanation::{Explained, Explanation, Said};
 use crate::finding::{is_same_id, row_judged};
 use rls_access::{Ctx, Decision, Effect, Outcome, run_statement};
-use rls_source::RowSource;
+use rls_source::{RowSource, StatementSource};
 use rls_statement::Statement;
 use rls_value::{Items, Name, Row, RowId};
 use std::alloc::{AllocError, Global};
 
 /// What the statement comes to and, of the row that is asked for, each decision with what policies say. The source is only
 /// read.
-pub fn explain_row<'c, S: RowSource<'c>>(
+pub fn explain_row<'c, S: StatementSource<'c> + Drop>(
     alloc: Global,
     source: &mut S,
     ctx: &Ctx,

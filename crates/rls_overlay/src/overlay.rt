@@ -5,7 +5,7 @@ ghost use Rattle.std.specs.Prelude.{◌≡◌, IfOk};
 use crate::own_changes::OwnChanges;
 use rls_catalog::{BorrowedRow, Change, Grant, Membership, RoleDef};
 use rls_expr::{Policy, TableDef};
-use rls_source::{Footprint, RowSource};
+use rls_source::{Footprint, RowSource, StatementSource};
 use rls_value::{Items, Name, Object, Row};
 use std::alloc::{AllocError, Global};
 
@@ -110,6 +110,14 @@ impl<'c, S: RowSource<'c>> RowSource<'c> for Overlay<'c, S> {
         self.source.mark(alloc, objects)
     }
 
+    ghost stands = { λ s os. ap (λ state. changed_all state s.changes) (S.stands s.source os) };
+
+    ghost after_none = { λ s i. record { source = S.after_none s.source i; changes = s.changes } };
+
+    ghost after_more = { λ s os more i. record { source = S.after_more s.source os more i; changes = s.changes } };
+}
+
+impl<'c, S: StatementSource<'c>> StatementSource<'c> for Overlay<'c, S> {
     fn mark_all(&mut self, alloc: Global, objects: &Footprint) -> Result<(), AllocError> {
         self.source.mark_all(alloc, objects)
     }
@@ -125,11 +133,5 @@ impl<'c, S: RowSource<'c>> RowSource<'c> for Overlay<'c, S> {
         }
     }
 
-    ghost stands = { λ s os. ap (λ state. changed_all state s.changes) (S.stands s.source os) };
-
-    ghost after_none = { λ s i. record { source = S.after_none s.source i; changes = s.changes } };
-
-    ghost after_more = { λ s os more i. record { source = S.after_more s.source os more i; changes = s.changes } };
-
-    ghost after_each = { λ s os i. record { source = S.after_each s.source os i; changes = s.changes } };
+    ghost counts_once = { λ s. record { counted = λ os i. record { source = (S.counts_once s.source).counted os i; changes = s.changes } } };
 }

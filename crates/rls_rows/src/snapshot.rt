@@ -4,7 +4,7 @@ ghost use Rattle.std.specs.Prelude.{◌≡◌, refl};
 
 use rls_catalog::{BorrowedRow, Catalog, Grant, Membership, RoleDef};
 use rls_expr::{Policy, TableDef};
-use rls_source::{Footprint, RowSource};
+use rls_source::{Footprint, RowSource, StatementSource};
 use rls_value::{Items, Name, Object, Row};
 use std::alloc::{AllocError, Global};
 use std::marker::Model;
@@ -89,6 +89,14 @@ impl<'c> RowSource<'c> for Snapshot<'c> {
         Ok(())
     }
 
+    ghost stands = { λ s os. refl };
+
+    ghost after_none = { λ s. refl };
+
+    ghost after_more = { λ s os more. refl };
+}
+
+impl<'c> StatementSource<'c> for Snapshot<'c> {
     fn mark_all(&mut self, _: Global, _: &Footprint) -> Result<(), AllocError> {
         Ok(())
     }
@@ -99,11 +107,5 @@ impl<'c> RowSource<'c> for Snapshot<'c> {
         })
     }
 
-    ghost stands = { λ s os. refl };
-
-    ghost after_none = { λ s. refl };
-
-    ghost after_more = { λ s os more. refl };
-
-    ghost after_each = { λ s os. refl };
+    ghost counts_once = { λ s. record { counted = λ os. refl } };
 }

@@ -1,5 +1,5 @@
 -- A footprint: the objects that were read, each once, in the order of objects.
-use Rattle.std.specs.Prelude.{List, [], ◌∷◌, Bool}
+use Rattle.std.specs.Prelude.{◌≡◌, List, [], ◌∷◌, Bool}
 use Rattle.std.specs.BTreeMap.{is_at}
 use Rattle.std.specs.BTreeSet.{insert_key}
 use Rattle.std.specs.List.{list_any}
@@ -31,3 +31,7 @@ is_among objects object = list_any (is_object object) objects
 -- they stand in the order of objects, each once
 abbrev pub IsInOrder : List Object → Type 0
 IsInOrder objects = IsStrictlySortedBy object_order objects
+
+-- reads count as a set: those of a footprint lead where those lead that it is made of
+pub record CountsOnce {S : Type 0} (after : List Object → S) : Type 0 where
+  pub counted : (reads : List Object) → after (footprint_of reads) ≡ after reads

@@ -11,6 +11,7 @@ mod plain;
 mod reads;
 mod recording;
 mod source;
+mod statement_source;
 
 pub use covering::covers;
 pub use footprint::Footprint;
@@ -23,3 +24,4 @@ pub use plain::Plain;
 pub use reads::Reads;
 pub use recording::Recording;
 pub use source::RowSource;
+pub use statement_source::StatementSource;

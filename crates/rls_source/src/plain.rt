@@ -4,6 +4,7 @@ ghost use Rattle.std.specs.Prelude.{◌≡◌, refl};
 
 use crate::footprint::Footprint;
 use crate::source::RowSource;
+use crate::statement_source::StatementSource;
 use rls_catalog::{BorrowedRow, Catalog, Grant, Membership, RoleDef};
 use rls_expr::{Policy, TableDef};
 use rls_value::{Items, Name, Object, Row};
@@ -78,6 +79,14 @@ impl<'c> RowSource<'c> for Plain<'c> {
         Ok(())
     }
 
+    ghost stands = { λ s os. refl };
+
+    ghost after_none = { λ s. refl };
+
+    ghost after_more = { λ s os more. refl };
+}
+
+impl<'c> StatementSource<'c> for Plain<'c> {
     fn mark_all(&mut self, _: Global, _: &Footprint) -> Result<(), AllocError> {
         Ok(())
     }
@@ -86,11 +95,5 @@ impl<'c> RowSource<'c> for Plain<'c> {
         Ok(*self)
     }
 
-    ghost stands = { λ s os. refl };
-
-    ghost after_none = { λ s. refl };
-
-    ghost after_more = { λ s os more. refl };
-
-    ghost after_each = { λ s os. refl };
+    ghost counts_once = { λ s. record { counted = λ os. refl } };
 }

@@ -7,6 +7,7 @@ ghost use Rattle.rls_source.specs.FootprintSets.{with_footprint};
 
 use crate::footprint::Footprint;
 use crate::source::RowSource;
+use crate::statement_source::StatementSource;
 use rls_catalog::{BorrowedRow, Grant, Membership, RoleDef};
 use rls_expr::{Policy, TableDef};
 use rls_value::{Items, Name, Object, Row};
@@ -108,6 +109,14 @@ impl<'c, S: RowSource<'c>> RowSource<'c> for Recording<S> {
         self.footprint.note_all(alloc, objects)
     }
 
+    ghost stands = { λ s os. S.stands s.source os };
+
+    ghost after_none = { λ s i. record { source = S.after_none s.source i; footprint = s.footprint } };
+
+    ghost after_more = { λ s os more i. record { source = S.after_more s.source os more i; footprint = with_reads_more s.footprint os more i } };
+}
+
+impl<'c, S: StatementSource<'c>> StatementSource<'c> for Recording<S> {
     fn mark_all(&mut self, alloc: Global, objects: &Footprint) -> Result<(), AllocError> {
         let noted = self.footprint.with_all(alloc, objects)?;
         match self.source.mark_all(alloc, objects) {
@@ -126,11 +135,5 @@ impl<'c, S: RowSource<'c>> RowSource<'c> for Recording<S> {
         Ok(Recording::new(alloc, self.source.unread(alloc)?))
     }
 
-    ghost stands = { λ s os. S.stands s.source os };
-
-    ghost after_none = { λ s i. record { source = S.after_none s.source i; footprint = s.footprint } };
-
-    ghost after_more = { λ s os more i. record { source = S.after_more s.source os more i; footprint = with_reads_more s.footprint os more i } };
-
-    ghost after_each = { λ s os i. record { source = S.after_each s.source os i; footprint = with_footprint s.footprint os i } };
+    ghost counts_once = { λ s. record { counted = λ os i. record { source = (S.counts_once s.source).counted os i; footprint = with_footprint s.footprint os i } } };
 }

@@ -4,11 +4,9 @@ ghost use Rattle.std.specs.Prelude.{◌≡◌, List, [], ◌∷◌, ◌++◌, If
 ghost use Rattle.std.specs.Option.{option_copied};
 ghost use Rattle.rls_catalog.specs.InOrder.{RowsInOrder};
 ghost use Rattle.rls_catalog.specs.PolicyLists.{InNameOrder};
-ghost use Rattle.rls_source.specs.Footprints.{footprint_of};
 ghost use Rattle.rls_catalog.specs.State.{State, role_of, members_of, table_of, grants_of, policies_of, rows_of, rows_with_key};
 ghost use Rattle.rls_value.specs.declared.object.Object.{Object as Read};
 
-use crate::footprint::Footprint;
 use rls_catalog::{BorrowedRow, Grant, Membership, RoleDef};
 use rls_expr::{Policy, TableDef};
 use rls_value::{Items, Name, Object, Row};
@@ -16,7 +14,7 @@ use std::alloc::{AllocError, Global};
 
 /// Stands for one state, which no read changes. What is found is borrowed for the lifetime `'c`. Each look-up is a read of one object; after
 /// an `Err` the source still stands for its state.
-pub trait RowSource<'c>: Drop {
+pub trait RowSource<'c> {
     /// The state that it stands for.
     ghost state: { Self → State };
 
@@ -94,15 +92,6 @@ pub trait RowSource<'c>: Drop {
         ensures read { OnOk result (self.new ≡ after self.old objects.now) }
         ensures err { OnErr result (state self.new ≡ state self.old) };
 
-    /// Marks that the objects of the footprint were read. After an `Err` the source is as before.
-    fn mark_all(&mut self, alloc: Global, objects: &Footprint) -> Result<(), AllocError>
-        ensures read { OnOk result (self.new ≡ after self.old objects.now) }
-        ensures err { OnErr result (self.new ≡ self.old) };
-
-    /// Another source that stands for the same state, of which nothing is read yet.
-    fn unread(&self, alloc: Global) -> Result<Self, AllocError>
-        ensures { IfOk result (λ other. state other ≡ state self.now) };
-
     /// No read changes the state.
     ghost stands: { (s : Self) (os : List Read) → state (after s os) ≡ state s };
 
@@ -111,7 +100,4 @@ pub trait RowSource<'c>: Drop {
 
     /// Reads after reads are the reads of both, in order.
     ghost after_more: { (s : Self) (os more : List Read) → after (after s os) more ≡ after s (os ++ more) };
-
-    /// Reads count as a set: those of a footprint are those that it is made of.
-    ghost after_each: { (s : Self) (os : List Read) → after s (footprint_of os) ≡ after s os };
 }
