@@ -23,8 +23,15 @@ use rls_core::{Begin, Core, Work};
 use rls_statement::Statement;
 use rls_value::{Name, Refusal};
 use std::alloc::{AllocError, Global};
+use std::hint::spin_loop;
 use std::marker::Model;
-use std::sync::{Mutex, Wait};
+use std::sync::{Mutex, MutexGuard, Wait};
+
+/// So often the lock is tried before a thread sleeps.
+const TRIES: u32 = 400;
+
+/// So many pauses lie between two tries.
+const PAUSES: u32 = 20;
 
 /// A core under a lock, beside the places of its commits and of the steps of its transactions. Contracts see its tag.
 #[derive(Drop)]
@@ -99,7 +106,7 @@ impl<N: Named> Engine<N> {
         if seen.tag != self.tag {
             return Err(Refusal::Foreign);
         }
-        let mut desk = self.desk.lock(rt);
+        let mut desk = self.enter(rt);
         if seen.number > desk.commits() {
             return Err(Refusal::Foreign);
         }
@@ -107,6 +114,17 @@ impl<N: Named> Engine<N> {
             Ok(held) => Ok(Txn::new(self, held)),
             Err(refusal) => Err(refusal),
         }
+    }
+
+    /// Gets the lock. It is held so shortly that most who wait for it get it before they would sleep.
+    fn enter<R: Wait>(&self, rt: &R) -> MutexGuard<'_, Desk<N>> {
+        for _ in 0..TRIES {
+            if let Some(desk) = self.desk.try_lock() {
+                return desk;
+            }
+            pause();
+        }
+        self.desk.lock(rt)
     }
 
     /// What the statement comes to on what is held, as it is pending.
@@ -163,10 +181,7 @@ impl<N: Named> Engine<N> {
         requires next { IsNext held.now.stand statement next }
         ensures { WhenPosted N.steps held.now statement result }
     {
-        let posted = self
-            .desk
-            .lock(rt)
-            .post(rt, self.alloc, &self.steps, held, work);
+        let posted = self.enter(rt).post(rt, self.alloc, &self.steps, held, work);
         match posted {
             Ok(at) => Posting::Done(next, at),
             Err(Refusal::NoMemory) => Posting::NoMemory(Pending::asked(statement)),
@@ -187,8 +202,7 @@ impl<N: Named> Engine<N> {
         ensures why { IfErr result (StopsCommit held.now.stand) }
     {
         let made = self
-            .desk
-            .lock(rt)
+            .enter(rt)
             .commit(rt, self.alloc, &self.commits, &self.steps, held);
         match made {
             Ok((number, token, share, entry)) => Ok(Receipt {
@@ -208,7 +222,7 @@ impl<N: Named> Engine<N> {
 
     /// Ends a transaction: one hold of the lock.
     pub(crate) fn rollback<R: Wait>(&self, rt: &R, txn: u64) {
-        self.desk.lock(rt).rollback(txn);
+        self.enter(rt).rollback(txn);
     }
 
     /// How many have committed: no fewer than receipts count in the `Seen`.
@@ -216,7 +230,7 @@ impl<N: Named> Engine<N> {
         ensures told { seen.new.told ≤ result }
         ensures same { seen.new ≡ seen.old }
     {
-        let mut desk = self.desk.lock(rt);
+        let mut desk = self.enter(rt);
         if let Some(share) = &mut seen.share {
             desk.audit(share);
         }
@@ -265,5 +279,12 @@ impl<N: Named> Engine<N> {
             return Err((engine, Refusal::Foreign));
         }
         Ok(Book::new(desk, commits))
+    }
+}
+
+/// Waits between two tries of the lock.
+fn pause() {
+    for _ in 0..PAUSES {
+        spin_loop();
     }
 }

@@ -1,6 +1,6 @@
 -- What calls leave of read locks.
 use Rattle.std.specs.Prelude.{◌≡◌, ◌<◌, ◌≤◌, ◌+◌, refl, ℕ, List, [], ◌∷◌, ◌++◌, Bool, true, false, not, ◌||◌, ◌&&◌, nat_eq, min, cond, if◌then◌else◌, Option, Some, None, unwrap_or}
-use Rattle.std.specs.Option.{is_some}
+use Rattle.std.specs.Option.{is_some, option_map}
 use Rattle.std.specs.List.{list_any}
 use Rattle.std.specs.BTreeMap.{is_at}
 use Rattle.std.specs.Ordering.{is_eq, nat_cmp}
@@ -17,11 +17,12 @@ use Rattle.std.proofs.lemmas.List.Folds.{list_any-append}
 use Rattle.std.proofs.lemmas.Map.Views.{any-filter_same}
 use Rattle.rls_value.specs.declared.object.Object.{Object}
 use Rattle.rls_catalog.specs.declared.change.Change.{Change}
-use Rattle.rls_source.specs.Footprints.{footprint_of, is_among}
+use Rattle.rls_source.specs.Footprints.{with_reads, footprint_of, is_among}
 use Rattle.rls_siread.specs.Covering.{covered_by}
-use Rattle.rls_siread.specs.Locks.{Notes, Locks, is_number_in, is_reader, arrived, all_arrived, with_holders, holders_of, without, held_with, held_by, objects_in, commit_in, held_in, notes_at, noted_by, marked, commit_of, is_committed_by, promoted_notes, HasNoted, HasForgotten, HasPromoted}
+use Rattle.rls_siread.specs.Locks.{Notes, Locks, is_number_in, is_reader, arrived, all_arrived, with_holders, holders_of, without, held_with, held_by, objects_in, commit_in, held_in, notes_at, noted_by, noting, marked, commit_of, is_committed_by, promoted_notes, HasNoted, HasForgotten, HasPromoted}
 use Rattle.rls_siread.specs.Index.{HolderList, shown, held_at, IsIndexed, CommitsFrom, locks_of}
 use Rattle.rls_siread.proofs.CoveringLaws.{any_same, reads_covered}
+use Rattle.rls_siread.proofs.PlainLaws.{fresh_is_new, nothing_is_gone}
 
 -- ---- numbers
 
@@ -254,6 +255,49 @@ renewed old room noted new notes left txn put objects fresh dropped indexed same
     (λ object. holds object ∙ (λ i. if is_among fresh object then arrived (held_in (same_shown i) object) txn else held_in (same_shown i) object))
     releases in
     record { indexed = still_indexed old new notes left txn objects indexed held objects_are; noted = record { notes = notes_are; holders = held } }
+
+-- ---- what one object more leaves
+
+there_case : (found : Option Notes) (fresh : List Object) → is_some found ≡ true → option_map (noting fresh) found ≡ Some (record { commit = commit_in found; objects = with_reads (objects_in found) fresh })
+there_case (Some notes) fresh there = refl
+there_case None fresh there = absurd (true≢false (sym there))
+
+puts_case : (same : Bool) (txn t : ℕ) (notes : List (ℕ × Notes)) (fresh : List Object) → nat_eq txn t ≡ same → is_some (notes_at notes txn) ≡ true
+    → (if same then option_map (noting fresh) (notes_at notes t) else notes_at notes t)
+    ≡ (if same then Some (record { commit = commit_in (notes_at notes txn); objects = with_reads (objects_in (notes_at notes txn)) fresh }) else notes_at notes t)
+puts_case true txn t notes fresh is there =
+    ap (λ (n : ℕ). option_map (noting fresh) (notes_at notes n)) (sym (same_number txn t is)) ∙ there_case (notes_at notes txn) fresh there
+puts_case false txn t notes fresh is there = refl
+
+apart_case : (fresh noted : Bool) → (fresh ≡ true → noted ≡ false) → fresh ≡ (fresh && not noted)
+apart_case true noted apart = sym (ap not (apart refl))
+apart_case false noted apart = refl
+
+-- room is made, the fresh objects are put beside the notes, and held
+pub added : (old room new : List (Object × HolderList)) (notes left : List (ℕ × Notes)) (txn : ℕ) (fresh : List Object) → IsIndexed old notes → is_some (notes_at notes txn) ≡ true
+    → ((object : Object) → is_among fresh object ≡ true → is_among (objects_in (notes_at notes txn)) object ≡ false)
+    → shown room ≡ shown old → ((t : ℕ) → notes_at left t ≡ (if nat_eq txn t then option_map (noting fresh) (notes_at notes t) else notes_at notes t))
+    → ((object : Object) → held_at new object ≡ (if is_among fresh object then arrived (held_at room object) txn else held_at room object))
+    → IsRenewed old new notes left txn (with_reads (objects_in (notes_at notes txn)) fresh)
+added old room new notes left txn fresh indexed there apart same_shown puts holds =
+    let noted : List Object = objects_in (notes_at notes txn) in
+    let put : Notes = record { commit = commit_in (notes_at notes txn); objects = with_reads noted fresh } in
+    renewed old room new new notes left txn put (with_reads noted fresh) fresh [] indexed refl refl
+    (fresh_is_new noted fresh fresh (with_reads noted fresh) refl (λ object. apart_case (is_among fresh object) (is_among noted object) (apart object)))
+    (nothing_is_gone noted fresh (with_reads noted fresh) refl)
+    same_shown
+    (λ t. puts t ∙ puts_case (nat_eq txn t) txn t notes fresh refl there ∙ sym (λ i. cond (number_at txn t i) (Some put) (notes_at notes t)))
+    holds (λ object. refl)
+
+option_commit : (same : Bool) (fresh : List Object) (found : Option Notes) → commit_in (if same then option_map (noting fresh) found else found) ≡ commit_in found
+option_commit true fresh (Some notes) = refl
+option_commit true fresh None = refl
+option_commit false fresh found = refl
+
+-- they leave the commits
+pub commits_added : (old new : List (ℕ × Notes)) (txn : ℕ) (fresh : List Object) → ((t : ℕ) → notes_at new t ≡ (if nat_eq txn t then option_map (noting fresh) (notes_at old t) else notes_at old t))
+    → (t : ℕ) → commit_in (notes_at new t) ≡ commit_in (notes_at old t)
+commits_added old new txn fresh puts t = ap commit_in (puts t) ∙ option_commit (nat_eq txn t) fresh (notes_at old t)
 
 -- ---- who is found
 

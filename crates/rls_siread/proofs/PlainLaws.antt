@@ -1,14 +1,18 @@
 -- Where there are few objects, and none is all rows of a table, nothing is promoted.
-use Rattle.std.specs.Prelude.{◌≡◌, ◌≤◌, refl, ℕ, List, [], ◌∷◌, Bool, true, false, not, ◌||◌, ◌&&◌, nat_lt, nat_le, map, filter, length, suc, if◌then◌else◌}
+use Rattle.std.specs.Prelude.{◌≡◌, ◌≤◌, ◌<◌, refl, ℕ, List, [], ◌∷◌, Bool, true, false, not, ◌||◌, ◌&&◌, nat_lt, nat_le, map, filter, length, suc, if◌then◌else◌}
 use Rattle.std.specs.List.{list_any}
 use Rattle.std.proofs.Common.{ap, sym, ◌∙◌, arith}
-use Rattle.std.proofs.lemmas.Bool.{true≢false, leb-true, le-ltb}
+use Rattle.std.specs.Ordering.{match_ordering}
+use Rattle.std.specs.declared.cmp.Ordering.{Ordering}
+use Rattle.std.specs.declared.cmp.Ordering.TheVariants.{Less, Equal, Greater}
+use Rattle.std.proofs.lemmas.Bool.{true≢false, leb-true, le-leb, le-ltb}
+use Rattle.rls_value.specs.Objects.{object_order}
 use Rattle.rls_value.specs.declared.object.Object.{Object}
 use Rattle.rls_value.specs.declared.object.Object.TheVariants as o
-use Rattle.rls_source.specs.Footprints.{with_reads, is_object, is_among, IsInOrder}
+use Rattle.rls_source.specs.Footprints.{with_object, with_reads, is_object, is_among, IsInOrder}
 use Rattle.rls_source.specs.FootprintLaws.{is_object_same, among_with_reads}
 use Rattle.rls_source.proofs.FootprintOrderLaws.{footprint_ordered, with_reads_in_order, same_in_order}
-use Rattle.rls_siread.specs.Promotion.{is_key_of, is_rows, is_plain, is_crowded, stands_for, promoted, noted_with}
+use Rattle.rls_siread.specs.Promotion.{is_key_of, is_rows, is_plain, is_crowded, stands_for, promoted}
 
 -- ---- no table is crowded
 
@@ -109,3 +113,42 @@ gone_case false false = refl
 pub nothing_is_gone : (noted reads all : List Object) → all ≡ with_reads noted reads → (object : Object) → false ≡ (is_among noted object && not (is_among all object))
 nothing_is_gone noted reads all all_are object =
     gone_case (is_among reads object) (is_among noted object) ∙ ap (λ b. is_among noted object && not b) (sym (among_with_reads noted reads object) ∙ ap (λ list. is_among list object) (sym all_are))
+
+-- ---- one object more leaves them plain
+
+one_more_if : (order : Ordering) (x read : Object) (objects more : List Object) → length more ≤ suc (length objects) → length (match_ordering order (read ∷ x ∷ objects) (x ∷ objects) (x ∷ more)) ≤ suc (suc (length objects))
+one_more_if Less x read objects more most = omega arith
+one_more_if Equal x read objects more most = omega arith
+one_more_if Greater x read objects more most = omega (arith, most)
+
+one_more : (objects : List Object) (read : Object) → length (with_object objects read) ≤ suc (length objects)
+one_more [] read = omega arith
+one_more (x ∷ objects) read = one_more_if (object_order read x) x read objects (with_object objects read) (one_more objects read)
+
+or_both_false : (a b : Bool) → (a || b) ≡ false → (a ≡ false) × (b ≡ false)
+or_both_false true b is = absurd (true≢false is)
+or_both_false false b is = (refl, is)
+
+no_rows_if : (order : Ordering) (x read : Object) (objects more : List Object) → is_rows x ≡ false → is_rows read ≡ false → list_any is_rows objects ≡ false → list_any is_rows more ≡ false
+    → list_any is_rows (match_ordering order (read ∷ x ∷ objects) (x ∷ objects) (x ∷ more)) ≡ false
+no_rows_if Less x read objects more one other none further = or_none (is_rows read) (is_rows x || list_any is_rows objects) other (or_none (is_rows x) (list_any is_rows objects) one none)
+no_rows_if Equal x read objects more one other none further = or_none (is_rows x) (list_any is_rows objects) one none
+no_rows_if Greater x read objects more one other none further = or_none (is_rows x) (list_any is_rows more) one further
+
+no_rows_more : (objects : List Object) (read : Object) → list_any is_rows objects ≡ false → is_rows read ≡ false → list_any is_rows (with_object objects read) ≡ false
+no_rows_more [] read none other = or_none (is_rows read) false other refl
+no_rows_more (x ∷ objects) read none other =
+    let both = or_both_false (is_rows x) (list_any is_rows objects) none in
+    no_rows_if (object_order read x) x read objects (with_object objects read) both.0 other both.1 (no_rows_more objects read both.1 other)
+
+plain_of : (limit : ℕ) (objects : List Object) → length objects ≤ limit → list_any is_rows objects ≡ false → is_plain limit objects ≡ true
+plain_of limit objects most none = ap (λ (b : Bool). b && not (list_any is_rows objects)) (le-leb (length objects) limit most) ∙ ap not none
+
+-- at most one object more leaves plain objects plain, where it fits and is no rows of a table
+pub plain_with_few : (limit : ℕ) (objects fresh : List Object) → length fresh ≤ 1 → length objects < limit → list_any is_rows objects ≡ false → list_any is_rows fresh ≡ false
+    → is_plain limit (with_reads objects fresh) ≡ true
+plain_with_few limit objects [] few fits none other = plain_of limit objects (omega (arith, fits)) none
+plain_with_few limit objects (read ∷ []) few fits none other =
+    let most : length (with_object objects read) ≤ suc (length objects) = one_more objects read in
+    plain_of limit (with_object objects read) (omega (arith, fits, most)) (no_rows_more objects read none (or_both_false (is_rows read) false other).0)
+plain_with_few limit objects (read ∷ other_read ∷ more) few fits none other = absurd (omega (arith, few))

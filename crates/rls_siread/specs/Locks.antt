@@ -9,7 +9,7 @@ use Rattle.rls_value.specs.declared.object.Object.{Object}
 use Rattle.rls_value.specs.Objects.{object_order}
 use Rattle.rls_catalog.specs.declared.change.Change.{Change}
 use Rattle.rls_catalog.specs.Bases.{covers}
-use Rattle.rls_source.specs.Footprints.{footprint_of, is_among}
+use Rattle.rls_source.specs.Footprints.{with_reads, footprint_of, is_among}
 use Rattle.rls_siread.specs.Covering.{covered_by}
 use Rattle.rls_siread.specs.Promotion.{promoted}
 
@@ -112,6 +112,10 @@ held_with false txns txn = without txns txn
 pub record HasNoted (txn : ℕ) (objects : List Object) (old new : Locks) : Type 0 where
   pub notes : (other : ℕ) → notes_at new.notes other ≡ (if nat_eq txn other then Some (record { commit = commit_of old txn; objects = objects }) else notes_at old.notes other)
   pub holders : (object : Object) → held_by new object ≡ held_with (is_among objects object) (held_by old object) txn
+
+-- the notes, with these objects too
+abbrev pub noting : List Object → Notes → Notes
+noting objects notes = record { commit = notes.commit; objects = with_reads notes.objects objects }
 
 -- the notes, with the number of the commit
 abbrev pub marked : ℕ → Option Notes → Option Notes

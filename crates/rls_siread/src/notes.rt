@@ -1,6 +1,8 @@
 //! What a transaction noted.
 
-ghost use Rattle.std.specs.Prelude.{◌≡◌, Some, IfOk};
+ghost use Rattle.std.specs.Prelude.{◌≡◌, ◌≤◌, [], Some, length, IfOk, OnOk, OnErr};
+ghost use Rattle.rls_source.specs.Footprints.{IsInOrder};
+ghost use Rattle.rls_siread.specs.Locks.{noting};
 
 use rls_source::Footprint;
 use std::alloc::{AllocError, Global};
@@ -47,6 +49,27 @@ impl Noted {
         ensures { result ≡ self.now.commit }
     {
         self.commit
+    }
+
+    /// Has these objects, of none before.
+    pub(crate) fn put(&mut self, objects: Footprint)
+        requires { self.old.objects ≡ [] }
+        ensures { IsInOrder objects → self.new ≡ noting objects self.old }
+    {
+        self.objects = objects;
+    }
+
+    /// Puts a copy of the object in its place, if there is one.
+    pub(crate) fn add(&mut self, alloc: Global, fresh: &Footprint) -> Result<(), AllocError>
+        requires { length fresh.now ≤ 1 }
+        ensures ok { OnOk result (self.new ≡ noting fresh.now self.old) }
+        ensures err { OnErr result (self.new ≡ self.old) }
+    {
+        let mut objects = fresh.iter();
+        match objects.next() {
+            Some(object) => self.objects.note(object.copy(alloc)?),
+            None => Ok(()),
+        }
     }
 
     /// Its transaction's commit has that number.

@@ -1,6 +1,6 @@
 //! Promotion of keys to the rows of their tables.
 
-ghost use Rattle.std.specs.Prelude.{◌≡◌, ◌&&◌, ◌++◌, true, not, if◌then◌else◌, IfOk, IfSome, OnOk, length, filter};
+ghost use Rattle.std.specs.Prelude.{◌≡◌, ◌≤◌, ◌&&◌, ◌++◌, true, not, if◌then◌else◌, IfOk, IfSome, OnOk, length, filter};
 ghost use Rattle.std.specs.List.{list_any};
 ghost use Rattle.rls_value.specs.declared.object.Object.{Object as Read};
 ghost use Rattle.rls_source.specs.Footprints.{with_object, with_reads, is_among, IsInOrder};
@@ -79,10 +79,25 @@ fn promoted_more(
 }
 
 /// Whether no table is crowded for sure: there are no more objects than the limit, and none is all rows of a table.
-fn is_plain(objects: &Footprint, limit: usize) -> bool
+pub(crate) fn is_plain(objects: &Footprint, limit: usize) -> bool
     ensures { result ≡ true → is_plain limit objects.now ≡ true }
 {
     objects.len() <= limit && !has_rows(objects)
+}
+
+/// Whether the fresh objects are one at most, and no table is crowded for sure where they are put among the others.
+#[tactic(auto, using(crate::proofs::PlainLaws::plain_with_few))]
+pub(crate) fn stay_plain(objects: &Footprint, fresh: &Footprint, limit: usize) -> bool
+    ensures few { result ≡ true → length fresh.now ≤ 1 }
+    ensures plain { result ≡ true → is_plain limit (with_reads objects.now fresh.now) ≡ true }
+{
+    if fresh.len() > 1 || objects.len() >= limit {
+        return false;
+    }
+    if has_rows(objects) {
+        return false;
+    }
+    !has_rows(fresh)
 }
 
 /// Whether one of them is all rows of a table.

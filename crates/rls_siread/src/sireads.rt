@@ -1,16 +1,17 @@
 //! Read locks.
 
-ghost use Rattle.std.specs.Prelude.{◌≡◌, ◌<◌, ℕ, [], true, false, ◌&&◌, not, if◌then◌else◌, length, is_some, Some, IfOk, OnOk, OnErr, MatchOption, nat_eq, min};
+ghost use Rattle.std.specs.Prelude.{◌≡◌, ◌<◌, ◌≤◌, ℕ, [], true, false, ◌&&◌, not, if◌then◌else◌, length, is_some, Some, IfOk, OnOk, OnErr, MatchOption, nat_eq, min};
 ghost use Rattle.rls_value.specs.declared.object.Object.{Object as Read};
-ghost use Rattle.rls_source.specs.Footprints.{is_among};
+ghost use Rattle.std.specs.Option.{option_map};
+ghost use Rattle.rls_source.specs.Footprints.{with_reads, is_among, IsInOrder};
 ghost use Rattle.rls_siread.specs.Index.{IsIndexed, locks_of};
 ghost use Rattle.rls_siread.specs.Promotion.{noted_with};
-ghost use Rattle.rls_siread.specs.Locks.{no_locks, held_by, noted_by, notes_at, objects_in, commit_in, commit_of, marked, is_number_in, is_reader, is_committed_by, holders_of, HasNoted, HasCommitted, HasForgotten, HasPromoted};
+ghost use Rattle.rls_siread.specs.Locks.{no_locks, held_by, noted_by, notes_at, objects_in, commit_in, commit_of, marked, noting, is_number_in, is_reader, is_committed_by, holders_of, HasNoted, HasCommitted, HasForgotten, HasPromoted};
 
 use crate::covering::covered_by_one;
 use crate::index::Index;
 use crate::notes::Noted;
-use crate::promotion::{More, noted_more};
+use crate::promotion::{More, is_plain, missing, noted_more, stay_plain};
 use rls_catalog::Change;
 use rls_source::Footprint;
 use rls_value::Object;
@@ -163,6 +164,165 @@ impl Sireads {
 
 /// Puts the notes of the transaction anew, once more was read. All memory is had before anything changes.
 fn renew(
+    alloc: Global,
+    index: &mut Index,
+    notes: &mut BTreeMap<u64, Noted>,
+    txn: u64,
+    footprint: &Footprint,
+    limit: usize,
+) -> Result<(), AllocError>
+    requires { IsIndexed index.old.holders.entries notes.old.entries }
+    ensures indexed { IsIndexed index.new.holders.entries notes.new.entries }
+    ensures ok { OnOk result (HasNoted txn (noted_with limit (objects_in (notes_at notes.old.entries txn)) footprint.now) (locks_of index.old.holders.entries notes.old.entries) (locks_of index.new.holders.entries notes.new.entries)) }
+    ensures err { OnErr result (locks_of index.new.holders.entries notes.new.entries ≡ locks_of index.old.holders.entries notes.old.entries) }
+    ensures commits { (other : ℕ) → commit_in (notes_at notes.new.entries other) ≡ commit_in (notes_at notes.old.entries other) }
+{
+    // Most statements are the first of their transaction, or read one object that those before it didn't, its key.
+    if put_plainly(alloc, index, notes, txn, footprint, limit)?
+        || add_plainly(alloc, index, notes, txn, footprint, limit)?
+    {
+        return Ok(());
+    }
+    renew_all(alloc, index, notes, txn, footprint, limit)
+}
+
+/// Notes the reads of a transaction that has noted nothing, where nothing is promoted; whether it did.
+fn put_plainly(
+    alloc: Global,
+    index: &mut Index,
+    notes: &mut BTreeMap<u64, Noted>,
+    txn: u64,
+    footprint: &Footprint,
+    limit: usize,
+) -> Result<bool, AllocError>
+    requires { IsIndexed index.old.holders.entries notes.old.entries }
+    ensures indexed { IsIndexed index.new.holders.entries notes.new.entries }
+    ensures done { IfOk result (λ done. done ≡ true → HasNoted txn (noted_with limit (objects_in (notes_at notes.old.entries txn)) footprint.now) (locks_of index.old.holders.entries notes.old.entries) (locks_of index.new.holders.entries notes.new.entries)) }
+    ensures left { IfOk result (λ done. done ≡ false → (locks_of index.new.holders.entries notes.new.entries ≡ locks_of index.old.holders.entries notes.old.entries)) }
+    ensures err { OnErr result (locks_of index.new.holders.entries notes.new.entries ≡ locks_of index.old.holders.entries notes.old.entries) }
+    ensures commits { (other : ℕ) → commit_in (notes_at notes.new.entries other) ≡ commit_in (notes_at notes.old.entries other) }
+{
+    let Some(noted) = notes.get(&txn) else {
+        return Ok(false);
+    };
+    if noted.objects().len() > 0 || !is_plain(footprint, limit) {
+        return Ok(false);
+    }
+    put_first(alloc, index, notes, txn, footprint)?;
+    Ok(true)
+}
+
+/// Notes the first reads of a transaction. All memory is had before anything changes.
+fn put_first(
+    alloc: Global,
+    index: &mut Index,
+    notes: &mut BTreeMap<u64, Noted>,
+    txn: u64,
+    footprint: &Footprint,
+) -> Result<(), AllocError>
+    requires indexed { IsIndexed index.old.holders.entries notes.old.entries }
+    requires there { is_some (notes_at notes.old.entries txn) ≡ true }
+    requires nothing { objects_in (notes_at notes.old.entries txn) ≡ [] }
+    ensures indexed { IsIndexed index.new.holders.entries notes.new.entries }
+    ensures ok { OnOk result (HasNoted txn footprint.now (locks_of index.old.holders.entries notes.old.entries) (locks_of index.new.holders.entries notes.new.entries)) }
+    ensures err { OnErr result (locks_of index.new.holders.entries notes.new.entries ≡ locks_of index.old.holders.entries notes.old.entries) }
+    ensures commits { (other : ℕ) → commit_in (notes_at notes.new.entries other) ≡ commit_in (notes_at notes.old.entries other) }
+    ensures ordered { IsInOrder footprint.now }
+{
+    let _in_order = footprint.iter();
+    let objects = footprint.copy(alloc)?;
+    index.make_room(alloc, txn, footprint)?;
+    put_at(notes, txn, objects);
+    index.hold_all(txn, footprint);
+    Ok(())
+}
+
+/// Puts the first objects that the transaction noted.
+fn put_at(notes: &mut BTreeMap<u64, Noted>, txn: u64, objects: Footprint)
+    requires { objects_in (notes_at notes.old.entries txn) ≡ [] }
+    ensures { IsInOrder objects → (other : ℕ) → notes_at notes.new.entries other ≡ (if nat_eq txn other then option_map (noting objects) (notes_at notes.old.entries other) else notes_at notes.old.entries other) }
+{
+    match notes.get_mut(&txn) {
+        Some(noted) => noted.put(objects),
+        None => drop(objects),
+    }
+}
+
+/// Notes what is fresh of the reads beside what is there, where that is one object at most and nothing is promoted; whether
+/// it did.
+fn add_plainly(
+    alloc: Global,
+    index: &mut Index,
+    notes: &mut BTreeMap<u64, Noted>,
+    txn: u64,
+    footprint: &Footprint,
+    limit: usize,
+) -> Result<bool, AllocError>
+    requires { IsIndexed index.old.holders.entries notes.old.entries }
+    ensures indexed { IsIndexed index.new.holders.entries notes.new.entries }
+    ensures done { IfOk result (λ done. done ≡ true → HasNoted txn (noted_with limit (objects_in (notes_at notes.old.entries txn)) footprint.now) (locks_of index.old.holders.entries notes.old.entries) (locks_of index.new.holders.entries notes.new.entries)) }
+    ensures left { IfOk result (λ done. done ≡ false → locks_of index.new.holders.entries notes.new.entries ≡ locks_of index.old.holders.entries notes.old.entries) }
+    ensures err { OnErr result (locks_of index.new.holders.entries notes.new.entries ≡ locks_of index.old.holders.entries notes.old.entries) }
+    ensures commits { (other : ℕ) → commit_in (notes_at notes.new.entries other) ≡ commit_in (notes_at notes.old.entries other) }
+{
+    let Some(noted) = notes.get(&txn) else {
+        return Ok(false);
+    };
+    let objects = noted.objects();
+    let _in_order = objects.iter();
+    let fresh = missing(alloc, footprint, objects)?;
+    if !stay_plain(objects, &fresh, limit) {
+        return Ok(false);
+    }
+    add_one(alloc, index, notes, txn, &fresh)?;
+    Ok(true)
+}
+
+/// Notes one object at most, beside what is there. All memory is had before anything changes.
+fn add_one(
+    alloc: Global,
+    index: &mut Index,
+    notes: &mut BTreeMap<u64, Noted>,
+    txn: u64,
+    fresh: &Footprint,
+) -> Result<(), AllocError>
+    requires indexed { IsIndexed index.old.holders.entries notes.old.entries }
+    requires few { length fresh.now ≤ 1 }
+    requires there { is_some (notes_at notes.old.entries txn) ≡ true }
+    requires new { (object : Read) → is_among fresh.now object ≡ true → is_among (objects_in (notes_at notes.old.entries txn)) object ≡ false }
+    ensures indexed { IsIndexed index.new.holders.entries notes.new.entries }
+    ensures ok { OnOk result (HasNoted txn (with_reads (objects_in (notes_at notes.old.entries txn)) fresh.now) (locks_of index.old.holders.entries notes.old.entries) (locks_of index.new.holders.entries notes.new.entries)) }
+    ensures err { OnErr result (locks_of index.new.holders.entries notes.new.entries ≡ locks_of index.old.holders.entries notes.old.entries) }
+    ensures commits { (other : ℕ) → commit_in (notes_at notes.new.entries other) ≡ commit_in (notes_at notes.old.entries other) }
+{
+    index.make_room(alloc, txn, fresh)?;
+    add_at(alloc, notes, txn, fresh)?;
+    index.hold_all(txn, fresh);
+    Ok(())
+}
+
+/// Puts one object at most among those that the transaction noted.
+fn add_at(
+    alloc: Global,
+    notes: &mut BTreeMap<u64, Noted>,
+    txn: u64,
+    fresh: &Footprint,
+) -> Result<(), AllocError>
+    requires { length fresh.now ≤ 1 }
+    ensures ok { OnOk result ((other : ℕ) → notes_at notes.new.entries other ≡ (if nat_eq txn other then option_map (noting fresh.now) (notes_at notes.old.entries other) else notes_at notes.old.entries other)) }
+    ensures err { OnErr result (notes.new.entries ≡ notes.old.entries) }
+{
+    match notes.get_mut(&txn) {
+        Some(noted) => match noted.add(alloc, fresh) {
+            Ok(()) => Ok(()),
+            Err(refused) => Err(refused),
+        },
+        None => Ok(()),
+    }
+}
+
+/// Puts the notes of the transaction anew, once more was read. All memory is had before anything changes.
+fn renew_all(
     alloc: Global,
     index: &mut Index,
     notes: &mut BTreeMap<u64, Noted>,

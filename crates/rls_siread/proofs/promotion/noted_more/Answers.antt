@@ -1,8 +1,8 @@
-use Rattle.std.specs.Prelude.{◌≡◌, ◌&&◌, refl, true, not, IfOk}
+use Rattle.std.specs.Prelude.{◌≡◌, refl, IfOk}
 use Rattle.std.proofs.Common.{ap, sym, subst, ◌∙◌}
 use Rattle.rls_source.specs.Footprints.{with_reads, is_among, IsInOrder}
 use Rattle.rls_source.proofs.FootprintOrderLaws.{with_reads_in_order}
-use Rattle.rls_siread.specs.Promotion.{is_plain, promoted, noted_with}
+use Rattle.rls_siread.specs.Promotion.{promoted}
 use Rattle.rls_siread.proofs.PlainLaws.{plain_promoted, with_fresh_reads, fresh_is_new, nothing_is_gone}
 use Rattle.rls_siread.proofs.promotion.noted_more.Goals as goal
 

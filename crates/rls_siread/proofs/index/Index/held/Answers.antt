@@ -1,7 +1,6 @@
 use Rattle.std.specs.Prelude.{◌≡◌, Some}
 use Rattle.std.specs.Option.{option_copied}
 use Rattle.std.proofs.Common.{ap, sym, ◌∙◌}
-use Rattle.rls_siread.specs.Index.{held_at}
 use Rattle.rls_siread.proofs.IndexLaws.{entry_at, txns_in, seen, nobody_at}
 use Rattle.rls_siread.proofs.index.Index.held.Goals as goal
 

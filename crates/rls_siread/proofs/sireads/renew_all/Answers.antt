@@ -1,7 +1,7 @@
 use Rattle.rls_siread.specs.Promotion.{noted_with}
 use Rattle.rls_siread.specs.Locks.{objects_in, notes_at}
 use Rattle.rls_siread.proofs.LocksLaws.{renewed}
-use Rattle.rls_siread.proofs.sireads.renew.Goals as goal
+use Rattle.rls_siread.proofs.sireads.renew_all.Goals as goal
 
 pub returns-clause-indexed : goal.returns-clause-indexed
 returns-clause-indexed c =
