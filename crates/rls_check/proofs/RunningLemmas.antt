@@ -46,12 +46,6 @@ module _ (ts : List Transaction) (places : List ℕ) (i : ℕ) (s : State) (it :
   opened : i < length places → IsRunning ts places (get_or places i 0 ∷ drop (i + 1) places) s it
   opened lt = subst (λ (ps : List ℕ). IsRunning ts places ps s it) (drop_more places i 0 lt) running
 
-  pub next_within : i < length places → get_or places i 0 < length ts
-  next_within lt = (opened lt).turns.0.within
-
-  pub next_waits_within : i < length places → get_or places i 0 < length it.waiting.items
-  next_waits_within lt = (let within = next_within lt in let one = running.size in let other = running.committing.put_on.size in omega (arith, within, one, other))
-
   -- it comes to what is shown
   pub next_agrees : (behind : State) (after : Committing) (changes : List Change) → i < length places → IsRunAlone s (transaction_at ts (get_or places i 0)) (alone.Agrees behind changes)
       → ((deltas : List (List Change)) (placed : ℕ → Bool) → IsCommitting deltas placed it → placed (get_or places i 0) ≡ false → IsCommitting (set deltas (get_or places i 0) changes) (with_placed placed (get_or places i 0)) after)
@@ -107,6 +101,3 @@ module _ (ts : List Transaction) (places : List ℕ) (it : Committing) where
 
   pub other_end : (end : State) (same : Bool) → HasRunAlong ts places (along.Agrees end) it → IsOrder (history_of ts) places → Tells end it same → same ≡ false → IsFoundAlong ts places f.FinalState
   other_end end same ran order tells is = (along.Agrees end, ran.deltas, ran.runs, inr ((λ agree. true≢false (sym ((told end same ran order tells).1 agree) ∙ is)), refl))
-
-  pub stopped : (found : Finding) → HasRunAlong ts places (along.Differs found) it → IsFoundAlong ts places found
-  stopped found ran = (along.Differs found, ran.deltas, ran.runs, refl)
