@@ -1,3 +1,4 @@
+use Rattle.std.proofs.Common.{rules}
 use Rattle.rlsdb.proofs.BookLemmas.{led_texts, whole}
 use Rattle.rlsdb.proofs.running.write_book.Goals as goal
 
