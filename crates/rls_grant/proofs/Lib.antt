@@ -1,3 +1,4 @@
+pub mod SeenNames
 pub mod GrantOptions
 pub mod HandedLemmas
 pub mod HolderLemmas

@@ -1,5 +1,6 @@
 pub use Rattle.rls_catalog.specs.Privileges
 pub mod Holders
+pub mod Seen
 pub mod Considered
 pub mod Handed
 pub mod Optioned

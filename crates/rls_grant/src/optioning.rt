@@ -5,7 +5,7 @@ ghost use Rattle.std.specs.{BTreeMap.is_at, BTreeSet.contains, Map.lookup, Optio
 ghost use Rattle.rls_value.specs.declared.verb.Privilege.{Privilege as Kind};
 ghost use Rattle.rls_catalog.specs.GrantOptions as given;
 ghost use Rattle.rls_catalog.specs.{GrantOptions.without_options_of, Membership.fresh, declared.grant.Grant.Grant as Given, State.State, State.AgreesOn, State.name_order};
-ghost use Rattle.rls_role.specs.Seen.{IsSetOf};
+ghost use Rattle.rls_grant.specs.Seen.{IsSetOf};
 ghost use Rattle.rls_grant.specs.Considered as seen;
 ghost use Rattle.rls_grant.specs.{Considered.considered, Considered.considered_one, Handed.HandsOn, Handed.under, Optioned.AreHolders, Optioned.HoldsOption, Optioned.HoldsOn, Optioned.option_reads};
 ghost use Rattle.rls_grant.specs.Handed as handed;
@@ -13,7 +13,6 @@ ghost use Rattle.rls_grant.specs.Handed as handed;
 use crate::holding::is_same_privilege;
 use rls_catalog::Grant;
 use rls_expr::{Grantee, TableDef};
-use rls_role::add_unseen;
 use rls_source::RowSource;
 use rls_value::{Items, Name, Privilege};
 use std::alloc::{AllocError, Global};
@@ -220,6 +219,22 @@ fn add_each(
 {
     for name in more {
         add_unseen(names, seen, name)?;
+    }
+    Ok(())
+}
+
+/// Adds the name to the list and to the set of the same names, unless it is there. An `Err` may leave it in the set alone.
+fn add_unseen(
+    names: &mut Vec<Name>,
+    seen: &mut BTreeSet<Name>,
+    name: &Name,
+) -> Result<(), AllocError>
+    requires { IsSetOf seen.old names.old.items }
+    ensures names { OnOk result (names.new.items ≡ names.old.items ++ fresh names.old.items (name.now ∷ [])) }
+    ensures seen { OnOk result (IsSetOf seen.new names.new.items) }
+{
+    if seen.insert(name.copy()?)? {
+        names.push(name.copy()?)?;
     }
     Ok(())
 }

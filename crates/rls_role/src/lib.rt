@@ -7,6 +7,7 @@ mod held_memberships;
 mod holding;
 mod laws;
 mod managing;
+mod name_set;
 mod names;
 mod noting;
 mod revoking;
@@ -16,7 +17,8 @@ pub use effective_roles::{EffectiveRoles, can_set, effective_roles_by, effective
 pub use granting::grant_member;
 pub use holding::HeldMembership;
 pub use laws::memberships_mean;
+pub use name_set::NameSet;
 pub use names::{is_among, lesser_name};
 pub use noting::{note_effective_roles, note_walk, noted_effective_roles};
 pub use revoking::revoke_member;
-pub use walking::{Step, add_unseen, reached};
+pub use walking::{Step, reached};

@@ -1,17 +1,17 @@
 //! A walk over memberships: over those whose INHERIT or SET option is true, or over all.
 
-ghost use Rattle.std.specs.Prelude.{◌≡◌, [], ◌∷◌, ◌++◌, slice_get, IfOk, OnOk, OnErr};
+ghost use Rattle.std.specs.Prelude.{◌≡◌, ◌++◌, slice_get, IfOk, OnOk, OnErr};
 ghost use Rattle.std.specs.Option.{option_copied};
 ghost use Rattle.rls_catalog.specs.Membership.{fresh, visit_reads, walk_reads};
 ghost use Rattle.rls_catalog.specs.Paths.{granted_where, held_by, reached_where};
-ghost use Rattle.rls_role.specs.{Holdings.with_held, Seen.IsSetOf, Steps.takes};
+ghost use Rattle.rls_role.specs.{Holdings.with_held, Steps.takes};
 
 use crate::holding::HeldMembership;
+use crate::name_set::NameSet;
 use rls_catalog::Membership;
 use rls_source::RowSource;
-use rls_value::{Items, Name};
+use rls_value::Name;
 use std::alloc::{AllocError, Global};
-use std::collections::BTreeSet;
 
 /// Which memberships a walk takes.
 #[derive(Clone, Copy, PartialEq, Eq)]
@@ -44,21 +44,20 @@ pub fn reached<'c, S: RowSource<'c>>(
     held: &[HeldMembership],
     role: &Name,
     step: Step,
-) -> Result<Items<Name>, AllocError>
+) -> Result<NameSet, AllocError>
     ensures names { IfOk result (λ names. names ≡ reached_where (takes step) (with_held held.now (S.state source.old)) role.now) }
     ensures read { OnOk result (source.new ≡ S.after source.old (walk_reads (reached_where (takes step) (with_held held.now (S.state source.old)) role.now))) }
     ensures state { S.state source.new ≡ S.state source.old }
 {
-    let mut names = Vec::new(alloc);
-    let mut seen = BTreeSet::new(alloc);
-    add_unseen(&mut names, &mut seen, role)?;
+    let mut names = NameSet::new(alloc);
+    names.add(role)?;
     let mut next = 0;
-    while let Some(name) = name_at(&names, next) {
+    while let Some(name) = name_at(names.as_slice(), next) {
         let name = name.copy()?;
-        visit(alloc, source, held, &mut names, &mut seen, &name, step)?;
+        visit(alloc, source, held, &mut names, &name, step)?;
         next += 1;
     }
-    Ok(Items::from_vec(names))
+    Ok(names)
 }
 
 fn name_at(names: &[Name], index: usize) -> Option<&Name>
@@ -73,14 +72,11 @@ fn visit<'c, S: RowSource<'c>>(
     alloc: Global,
     source: &mut S,
     held: &[HeldMembership],
-    names: &mut Vec<Name>,
-    seen: &mut BTreeSet<Name>,
+    names: &mut NameSet,
     name: &Name,
     step: Step,
 ) -> Result<(), AllocError>
-    requires { IsSetOf seen.old names.old.items }
-    ensures names { OnOk result (names.new.items ≡ names.old.items ++ fresh names.old.items (granted_where (takes step) (held_by (with_held held.now (S.state source.old)) name.now))) }
-    ensures seen { OnOk result (IsSetOf seen.new names.new.items) }
+    ensures names { OnOk result (names.new ≡ names.old ++ fresh names.old (granted_where (takes step) (held_by (with_held held.now (S.state source.old)) name.now))) }
     ensures read { OnOk result (source.new ≡ S.after source.old (visit_reads name.now)) }
     ensures err { OnErr result (S.state source.new ≡ S.state source.old) }
 {
@@ -90,41 +86,18 @@ fn visit<'c, S: RowSource<'c>>(
         return Ok(());
     }
     match HeldMembership::find(held, name) {
-        Some(held) => add_fresh(names, seen, held.memberships.as_slice(), step),
-        None => add_fresh(names, seen, memberships, step),
+        Some(held) => add_fresh(names, held.memberships.as_slice(), step),
+        None => add_fresh(names, memberships, step),
     }
 }
 
-fn add_fresh(
-    names: &mut Vec<Name>,
-    seen: &mut BTreeSet<Name>,
-    memberships: &[Membership],
-    step: Step,
-) -> Result<(), AllocError>
-    requires { IsSetOf seen.old names.old.items }
-    ensures names { OnOk result (names.new.items ≡ names.old.items ++ fresh names.old.items (granted_where (takes step) memberships.now)) }
-    ensures seen { OnOk result (IsSetOf seen.new names.new.items) }
+fn add_fresh(names: &mut NameSet, memberships: &[Membership], step: Step) -> Result<(), AllocError>
+    ensures { OnOk result (names.new ≡ names.old ++ fresh names.old (granted_where (takes step) memberships.now)) }
 {
     for membership in memberships {
         if step.takes(membership) {
-            add_unseen(names, seen, &membership.role)?;
+            names.add(&membership.role)?;
         }
-    }
-    Ok(())
-}
-
-/// Adds the name to the list and to the set of the same names, unless it is there. An `Err` may leave it in the set alone.
-pub fn add_unseen(
-    names: &mut Vec<Name>,
-    seen: &mut BTreeSet<Name>,
-    name: &Name,
-) -> Result<(), AllocError>
-    requires { IsSetOf seen.old names.old.items }
-    ensures names { OnOk result (names.new.items ≡ names.old.items ++ fresh names.old.items (name.now ∷ [])) }
-    ensures seen { OnOk result (IsSetOf seen.new names.new.items) }
-{
-    if seen.insert(name.copy()?)? {
-        names.push(name.copy()?)?;
     }
     Ok(())
 }

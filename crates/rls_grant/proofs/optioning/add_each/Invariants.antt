@@ -1,6 +1,6 @@
 use Rattle.std.proofs.Common.{◌≡◌, ◌++◌, drop}
 use Rattle.rls_catalog.specs.Membership.{fresh}
-use Rattle.rls_role.specs.Seen.{IsSetOf}
+use Rattle.rls_grant.specs.Seen.{IsSetOf}
 use Rattle.rls_grant.proofs.optioning.add_each.Given as goal
 
 -- what is left leads to the whole, and the set is that of the list

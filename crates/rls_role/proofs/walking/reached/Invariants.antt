@@ -2,20 +2,18 @@ use Rattle.std.proofs.Common.{◌≡◌, ◌-◌, ◌+◌, ◌^◌, ℕ, [], ◌
 use Rattle.rls_catalog.specs.Membership.{walk, walk_reads}
 use Rattle.rls_catalog.specs.Paths.{inheriting}
 use Rattle.rls_role.specs.Holdings.{with_held}
-use Rattle.rls_role.specs.Seen.{IsSetOf}
 use Rattle.rls_role.specs.Steps.{takes}
 use Rattle.rls_role.proofs.walking.reached.Given as goal
 
--- the state stands, the walk leads where it did, the first were visited, and the set is that of the list
+-- the state stands, the walk leads where it did, and the first were visited
 abbrev pub invariant-loop-name : goal.invariant-loop-name
 invariant-loop-name g l =
     let now = g.S.RowSource.state l.fn.source in
     let marked = inheriting (takes l.step) (with_held l.held now) in
     record {
       state : g.S.RowSource.state l.source ≡ now;
-      leads : (n : ℕ) → walk n marked l.names.items l.next ≡ walk (n + l.next) marked (l.fn.role ∷ []) 0;
-      reads : l.source ≡ g.S.RowSource.after l.fn.source (walk_reads (take l.next l.names.items));
-      seen : IsSetOf l.seen l.names.items;
+      leads : (n : ℕ) → walk n marked l.names l.next ≡ walk (n + l.next) marked (l.fn.role ∷ []) 0;
+      reads : l.source ≡ g.S.RowSource.after l.fn.source (walk_reads (take l.next l.names));
     }
 
 abbrev pub decreases-loop-name : goal.decreases-loop-name

@@ -1,6 +1,6 @@
 use Rattle.std.proofs.Common.{rules, ◌≡◌, ◌++◌, ◌∷◌, []}
-use Rattle.rls_role.proofs.SeenNames.{set_put}
-use Rattle.rls_role.proofs.walking.add_unseen.Goals as goal
+use Rattle.rls_grant.proofs.SeenNames.{set_put}
+use Rattle.rls_grant.proofs.optioning.add_unseen.Goals as goal
 
 pub returns-in_ok-push-clause-seen : goal.returns-in_ok-push-clause-seen
 returns-in_ok-push-clause-seen c =
