@@ -3,6 +3,7 @@ pub mod Listing
 pub mod States
 pub mod Dependencies
 pub mod Expanding
+pub mod Evaluating
 pub mod Qualifying
 pub mod Constraining
 pub mod Selecting

@@ -2,6 +2,7 @@ pub mod Naming
 pub mod Needing
 pub mod Chains
 pub mod Commands
+pub mod Evaluating
 pub mod Rows
 pub mod Constraints
 pub mod Selecting
