@@ -9,9 +9,9 @@ use Rattle.rls_expr.specs.declared.expr.Sign.{Sign}
 use Rattle.rls_expr.specs.Terms.{Term, Terms, Query, Literal, Column, Var, CurrentUser, Compare, And, Or, Not, IsNull, IsNotNull, InList, NotInList, Exists, InSubquery, NotInSubquery, Scalar, Sum, End, More, Select}
 use Rattle.rls_catalog.specs.State.{State}
 use Rattle.rls_source.specs.Askings.{Asking, asked_if, followed_by, known}
-use Rattle.rls_evaluation.specs.{Environments.Environment, Environments.compared, Environments.inside, Environments.joined, Environments.number_or_null, Gathering.gathered, Keys.key_of}
+use Rattle.rls_evaluation.specs.{Environments.Environment, Environments.compared, Environments.inside, Environments.joined, Environments.number_or_null, Gathering.gathered, Keys.key_of, Tableless.no_objects, Tableless.value_given, Tableless.value_in}
 use Rattle.rls_evaluation.specs.Eval.{Shows, among_items, and_value, first_item, has_row, item_if, item_of, item_or, meets, or_equal, or_item, or_value, sum_from as machine_sum_from, sum_of, together, value_of}
-use Rattle.rls_meaning.specs.Evaluating.{Shown, any_equal, conjunction, disjunction, first_or_null, is_met, selected, sum, sum_from, value, values}
+use Rattle.rls_meaning.specs.Evaluating.{Shown, any_equal, conjunction, disjunction, first_or_null, is_met, no_rows, selected, sum, sum_from, value, values}
 
 -- ---- what is shown
 
@@ -178,3 +178,9 @@ mutual
       (λ row. item_if_told (meets condition sees (inside row env)) (item_of items sees (inside row env)) s (is_met condition shown (inside row env)) (first_or_null (values items shown (inside row env)))
       (meets_told s sees shown alike condition (inside row env)) (item_told s sees shown alike items (inside row env))) rows i))
       ∙ ap Ok (first_row (λ row. is_met condition shown (inside row env)) (λ row. first_or_null (values items shown (inside row env))) (shown from.table (key_of key condition env)))
+
+-- ---- where no table shows a row
+
+-- the value of what is listed
+pub listed_told : (t : Term) (env : Environment) → value_in t env ≡ value t no_rows env
+listed_told t env = ap value_given (value_told no_objects (λ table key. known (Ok [])) no_rows (λ table key. refl) t env)

@@ -10,6 +10,7 @@ pub mod Selecting
 pub mod Inserting
 pub mod Updating
 pub mod Deleting
+pub mod Showing
 pub mod Defining
 pub mod Granting
 pub mod Joining

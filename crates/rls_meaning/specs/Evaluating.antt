@@ -78,3 +78,7 @@ abbrev mutual
   pub selected : Query → Shown → Environment → List Value
   selected (Select from key selects items condition) shown env =
       map (λ row. first_or_null (values items shown (inside row env))) (filter (λ row. is_met condition shown (inside row env)) (shown from.table (key_of key condition env)))
+
+-- no table shows a row: what is listed has no subquery
+abbrev pub no_rows : Shown
+no_rows table key = []

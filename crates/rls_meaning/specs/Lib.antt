@@ -3,7 +3,9 @@ pub mod Needing
 pub mod Chains
 pub mod Commands
 pub mod Evaluating
+pub mod Showing
 pub mod Rows
+pub mod Qualifying
 pub mod Constraints
 pub mod Selecting
 pub mod Inserting
