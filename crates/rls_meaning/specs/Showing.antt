@@ -1,6 +1,6 @@
 -- What row security says of a row, and what tables show by it (PostgreSQL manual, 5.8, "Row Security Policies", and CREATE POLICY): a policy's condition has the row
 -- alone in scope, and its subqueries see what their tables show, and so on, so many policies deep.
-use Rattle.std.specs.Prelude.{ℕ, zero, suc, List, [], ◌∷◌, Bool, ◌&&◌, Option, Some, None, map, filter, if◌then◌else◌}
+use Rattle.std.specs.Prelude.{ℕ, zero, suc, List, [], Bool, ◌&&◌, Option, Some, None, map, filter, if◌then◌else◌}
 use Rattle.std.specs.List.{list_all, list_any}
 use Rattle.std.specs.Option.{option_map}
 use Rattle.rls_value.specs.{declared.row.RowId.RowId, declared.value.Value.Value, Values.is_null, Values.truth_in}
