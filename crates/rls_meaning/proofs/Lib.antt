@@ -3,12 +3,14 @@ pub mod Listing
 pub mod States
 pub mod Dependencies
 pub mod Expanding
+pub mod Evaluating
 pub mod Qualifying
 pub mod Constraining
 pub mod Selecting
 pub mod Inserting
 pub mod Updating
 pub mod Deleting
+pub mod Showing
 pub mod Defining
 pub mod Granting
 pub mod Joining

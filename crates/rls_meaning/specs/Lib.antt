@@ -2,7 +2,10 @@ pub mod Naming
 pub mod Needing
 pub mod Chains
 pub mod Commands
+pub mod Evaluating
+pub mod Showing
 pub mod Rows
+pub mod Qualifying
 pub mod Constraints
 pub mod Selecting
 pub mod Inserting

@@ -1,24 +1,19 @@
 -- The rows that a command scans, those that qualify and those that it puts (PostgreSQL manual, 5.8, "Row Security Policies", and CREATE POLICY, "Policies
 -- Applied by Command Type").
-use Rattle.std.specs.Prelude.{ℕ, List, [], ◌∷◌, Option, Some, None, Result, if◌then◌else◌}
-use Rattle.std.specs.List.{list_any}
-use Rattle.std.specs.Option.{option_map}
-use Rattle.rls_value.specs.{declared.refusal.Refusal.Refusal, declared.value.Value.Value, declared.verb.Kind.Kind, Values.is_null}
+use Rattle.std.specs.Prelude.{List, [], ◌∷◌, Option, Result, if◌then◌else◌}
+use Rattle.rls_value.specs.{declared.refusal.Refusal.Refusal, declared.verb.Kind.Kind}
 use Rattle.rls_value.specs.declared.verb.Kind.TheVariants as k
 use Rattle.rls_expr.specs.Terms.{Term, maybe_term}
-use Rattle.rls_catalog.specs.{declared.stored.Stored.Stored, declared.verdict.Side.Side, State.State, State.rows_of, State.rows_with_key, State.table_of}
+use Rattle.rls_catalog.specs.{declared.stored.Stored.Stored, declared.verdict.Side.Side, State.State}
 use Rattle.rls_catalog.specs.declared.verdict.Side.TheVariants as side
-use Rattle.rls_evaluation.specs.{declared.relation.SecurityQuals.SecurityQuals, Eval.Shows, Gathering.gathered}
+use Rattle.rls_evaluation.specs.{Eval.Shows, Gathering.gathered}
 use Rattle.rls_guard.specs.{declared.quals.RowCheck.RowCheck, declared.reply.Decision.Decision}
 use Rattle.rls_depth.specs.Deep.{ruled, shows_deep}
 use Rattle.rls_judging.specs.{ScannedRows.pinned_key, Judging.decisions_on, Judging.judged_old, Judging.with_decisions, Judging.with_judged}
 use Rattle.rls_meaning.specs.Commands.{Command, depth_of}
+pub use Rattle.rls_meaning.specs.Showing.{rows_at_key, select_quals}
 
 -- ---- what row security says
-
--- the security quals of each table that subqueries look at
-abbrev pub select_quals : State → List ℕ → List ℕ → Option SecurityQuals
-select_quals s role name = option_map (λ table. ruled s role k.Select side.Old (name, table)) (table_of s name)
 
 -- what tables show to the role, in its subqueries and in those of policies
 abbrev pub sees : State → Command → Shows
@@ -33,11 +28,6 @@ abbrev pub checks : State → Command → Side → List RowCheck
 checks s c which = check s c which c.kind ∷ (if c.reads then check s c which k.Select ∷ [] else [])
 
 -- ---- rows
-
--- the rows that a command looks at: those with the key that WHERE pins, else all; a key with a null is nobody's
-abbrev pub rows_at_key : State → List ℕ → Option (List Value) → List Stored
-rows_at_key s name None = rows_of s name
-rows_at_key s name (Some key) = if list_any is_null key then [] else rows_with_key s name key
 
 -- the decisions on them, and those that qualify: allowed by each check, and WHERE is true
 abbrev pub qualifying_rows_in : State → Command → Option Term → Result (List Decision × List Stored) Refusal
