@@ -9,7 +9,7 @@ use Rattle.rls_evaluation.specs.{declared.relation.SecurityQuals.SecurityQuals, 
 use Rattle.rls_guard.specs.declared.quals.RowCheck.{RowCheck}
 use Rattle.rls_expansion.specs.declared.expansion.PolicyExpansion.{PolicyExpansion}
 use Rattle.rls_depth.specs.Deep.{ruled}
-use Rattle.rls_meaning.specs.{Commands.Command, Commands.closing_in, Rows.sees}
+use Rattle.rls_meaning.specs.{Commands.Command, Commands.closing_in, Expanding.sees}
 use Rattle.rls_explain.specs.declared.explanation.Said.{Said}
 
 -- ---- one policy

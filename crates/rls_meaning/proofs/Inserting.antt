@@ -1,21 +1,22 @@
 -- INSERT comes to what it means.
-use Rattle.std.specs.Prelude.{◌≡◌, refl, ℕ, List, [], ◌∷◌, Result, Ok}
-use Rattle.std.proofs.Common.{ap}
+use Rattle.std.specs.Prelude.{◌≡◌, refl, ℕ, List, [], ◌∷◌, Result, Ok, Err, map}
+use Rattle.std.proofs.Common.{ap, ◌∙◌}
 use Rattle.rls_value.specs.{declared.refusal.Refusal.Refusal, declared.verb.Privilege.Privilege, declared.tag.Tag.Tag, Giving.and_then}
 use Rattle.rls_value.specs.declared.verb.Kind.TheVariants as k
 use Rattle.rls_expr.specs.{declared.table.TableDef.TableDef, Terms.Term}
-use Rattle.rls_catalog.specs.{Membership.Within, State.State}
-use Rattle.rls_source.specs.Readings.{read_then, unread}
+use Rattle.rls_catalog.specs.{declared.stored.Stored.Stored, Membership.Within, State.State}
+use Rattle.rls_catalog.specs.declared.verdict.Side.TheVariants as side
+use Rattle.rls_source.specs.{Readings.read_then, Readings.unread, Sequences.each_of}
 use Rattle.rls_statement.specs.declared.statement.Insert.{Insert}
 use Rattle.rls_evaluation.specs.{Environments.Environment, Environments.alone, Eval.Shows, Eval.value_of, Gathering.gathered, Showing.shows}
-use Rattle.rls_guard.specs.{declared.context.Ctx.Ctx, declared.effect.Effect.Effect, Effects.shown, RolePrivileges.role_privileges_in}
+use Rattle.rls_guard.specs.{declared.context.Ctx.Ctx, declared.effect.Effect.Effect, declared.reply.Decision.Decision, declared.reply.Reply.Reply, Effects.shown, RolePrivileges.role_privileges_in}
 use Rattle.rls_expansion.specs.{declared.expansion.PolicyExpansion.PolicyExpansion, Used.all_tables, Used.tables_of}
 use Rattle.rls_depth.proofs.Tables.{within_first, within_last}
 use Rattle.rls_judging.specs.Valuing.{values_on, values_put, with_values}
-use Rattle.rls_dml.specs.{declared.analysed_insert.AnalysedInsert.AnalysedInsert, Checking.returning_names, Checking.returning_reads, Inserting.analysed_insert_for, Inserting.analysed_insert_in, Inserting.insert_as, Inserting.insert_with_quals, Inserting.insert_into, Inserting.insert_judged, Inserting.insert_made, Inserting.insert_rows as insert_new, Inserting.insert_values, Inserting.inserted, Inserting.new_rows, Inserting.places_of, Inserting.tuples_names, Inserting.tuples_tables, Writing.order_of}
+use Rattle.rls_dml.specs.{declared.analysed_insert.AnalysedInsert.AnalysedInsert, Checking.returning_names, Checking.returning_reads, Inserting.analysed_insert_for, Inserting.analysed_insert_in, Inserting.insert_as, Inserting.insert_with_quals, Inserting.insert_into, Inserting.insert_judged, Inserting.insert_made, Inserting.insert_rows as insert_new, Inserting.insert_values, Inserting.inserted as machine_inserted, Inserting.new_rows, Inserting.numbered, Inserting.places_of, Inserting.row_of_tuple as machine_row, Inserting.tuples_names, Inserting.tuples_tables, Writing.each_with, Writing.order_of}
 use Rattle.rls_access.specs.Statements.{mode_or_refused}
-use Rattle.rls_meaning.specs.{Commands.Command, Constraints.allowed_in, Inserting.InsertMeans, Inserting.insert_parts, Inserting.insert_rows, Inserting.tuple_values, Expanding.IsExpanded, Expanding.IsExpansionIn, Rows.decisions_in, Rows.sees}
-use Rattle.rls_meaning.proofs.{Constraining.allowed_told, Qualifying.decisions_told, Qualifying.privileges_told, Qualifying.queries_checked, Qualifying.under_told, Naming.named_told, Naming.table_told}
+use Rattle.rls_meaning.specs.{Commands.Command, Commands.permitted_in, Constraints.allowed_in, Inserting.InsertMeans, Inserting.insert_parts, Inserting.insert_rows, Inserting.inserted, Inserting.row_of_tuple, Expanding.IsExpanded, Expanding.IsExpansionIn, Expanding.sees, Replies.done_or_refused, Replies.reply_of, Rows.decisions}
+use Rattle.rls_meaning.proofs.{Asking.decisions_in, Asking.put_value, Asking.put_values, Asking.tuple_values, Replying.made_then, Replying.reply_told, Replying.with_its_own, Showing.decisions_told as plain_decisions, Showing.put_values_told, Constraining.allowed_told, Qualifying.decisions_told, Qualifying.privileges_told, Qualifying.queries_checked, Qualifying.under_told, Naming.named_told, Naming.table_told}
 
 -- ---- values
 
@@ -53,7 +54,34 @@ rest_in s ctx parts c =
     and_then (tuple_values s c parts.tuples) (λ values.
     and_then (new_rows ctx c.table parts values) (λ rows.
     and_then (decisions_in s c rows) (λ decided.
-    Ok (inserted c.name parts.returning c.role decided rows (allowed_in s c.name c.table.columns (order_of parts.places c.table.columns) decided [] rows)))))
+    Ok (machine_inserted c.name parts.returning c.role decided rows (allowed_in s c.name c.table.columns (order_of parts.places c.table.columns) decided [] rows)))))
+
+-- the end, from the decisions on new rows on
+abbrev end_in : State → AnalysedInsert → Command → List Stored → Result Effect Refusal
+end_in s parts c new =
+    and_then (decisions_in s c new) (λ decided.
+    Ok (machine_inserted c.name parts.returning c.role decided new (allowed_in s c.name c.table.columns (order_of parts.places c.table.columns) decided [] new)))
+
+-- the same of the meaning
+abbrev plain_end : State → AnalysedInsert → Command → List Stored → Result Effect Refusal
+plain_end s parts c new =
+    Ok (done_or_refused (allowed_in s c.name c.table.columns (order_of parts.places c.table.columns) (decisions s c side.New new) [] new) (reply_of parts.returning c.role new) (decisions s c side.New new) (map (inserted c.name) new))
+
+done_told : (allowed : Result (Unit {0}) Refusal) (name role : List ℕ) (parts : AnalysedInsert) (decided : List Decision) (new : List Stored)
+    → machine_inserted name parts.returning role decided new allowed ≡ done_or_refused allowed (reply_of parts.returning role new) decided (map (inserted name) new)
+done_told (Ok _) name role parts decided new = ap (λ answer. done_or_refused (Ok tt) answer decided (map (inserted name) new)) (reply_told parts.returning role new)
+done_told (Err refusal) name role parts decided new = refl
+
+end_told : (s : State) (parts : AnalysedInsert) (c : Command) (new : List Stored) → end_in s parts c new ≡ plain_end s parts c new
+end_told s parts c new =
+    ap (λ found. and_then found (λ decided. Ok (machine_inserted c.name parts.returning c.role decided new (allowed_in s c.name c.table.columns (order_of parts.places c.table.columns) decided [] new)))) (plain_decisions s c new)
+    ∙ ap Ok (done_told (allowed_in s c.name c.table.columns (order_of parts.places c.table.columns) (decisions s c side.New new) [] new) c.name c.role parts (decisions s c side.New new) new)
+
+rest_told : (s : State) (ctx : Ctx) (parts : AnalysedInsert) (c : Command) → rest_in s ctx parts c ≡ and_then (each_of (row_of_tuple s c parts.places) parts.tuples) (λ rows. plain_end s parts c (numbered c.table.key ctx.txn ctx.next rows))
+rest_told s ctx parts c =
+    ap (λ found. and_then found (λ values. and_then (new_rows ctx c.table parts values) (end_in s parts c))) (put_values_told s c parts.tuples)
+    ∙ made_then (each_with (machine_row c.table parts.places) parts.tuples (put_values s c parts.tuples)) (numbered c.table.key ctx.txn ctx.next) (end_in s parts c)
+    ∙ (λ i. and_then (with_its_own (machine_row c.table parts.places) (put_value s c) parts.tuples i) (λ rows. end_told s parts c (numbered c.table.key ctx.txn ctx.next rows) i))
 
 from_told : ((s : State) (c : Command) → IsExpanded s c) → (s : State) (ctx : Ctx) (name : List ℕ) (table : TableDef) (parts : AnalysedInsert)
     → ((insert_into ctx name table parts).in_state s).gives
@@ -66,8 +94,9 @@ from_told expanded s ctx name table parts =
     and_then (tuples_told s c p parts.tuples (λ other is. is) protects i) (λ values.
     and_then (new_rows ctx table parts values) (λ rows.
     and_then (decisions_told s c p refl protects rows i) (λ decided.
-    Ok (inserted name parts.returning ctx.role decided rows (allowed_told s name table.columns (order_of parts.places table.columns) decided [] rows i)))))))
+    Ok (machine_inserted name parts.returning ctx.role decided rows (allowed_told s name table.columns (order_of parts.places table.columns) decided [] rows i)))))))
     (expanded s c)
+    ∙ ap (λ rest. and_then (permitted_in s c) (λ _. rest)) (rest_told s ctx parts c)
 
 pub insert_told : ((s : State) (c : Command) → IsExpanded s c) → InsertMeans
 insert_told expanded s ctx asked =

@@ -4,13 +4,15 @@ pub mod States
 pub mod Dependencies
 pub mod Expanding
 pub mod Evaluating
+pub mod Asking
+pub mod Showing
+pub mod Replying
 pub mod Qualifying
 pub mod Constraining
 pub mod Selecting
 pub mod Inserting
 pub mod Updating
 pub mod Deleting
-pub mod Showing
 pub mod Defining
 pub mod Granting
 pub mod Joining

@@ -12,8 +12,9 @@ use Rattle.rls_evaluation.specs.Showing.{allows, asked_for, is_allowed, judgemen
 use Rattle.rls_guard.specs.{declared.quals.RowCheck.RowCheck, declared.reply.Decision.Decision}
 use Rattle.rls_depth.specs.Deep.{shown_by, shows_deep}
 use Rattle.rls_judging.specs.{Judging.are_allowed, Judging.decision_by, Judging.decisions_on as machine_decisions_on, Judging.judged_old, Judging.qualifies_if, Judging.row_if_qualifying, Judging.with_judged, Valuing.values_on}
-use Rattle.rls_meaning.specs.{Commands.Command, Commands.depth_of, Evaluating.Shown, Evaluating.is_met, Evaluating.value, Inserting.tuple_values, Qualifying.decisions, Qualifying.looked_at, Qualifying.put_values, Qualifying.qualifying, Qualifying.set_values, Qualifying.shown_to}
-use Rattle.rls_meaning.specs.{Rows.checks, Rows.decisions_in, Rows.qualifying_rows_in, Rows.sees, Showing.allowed_by, Showing.decisions_on, Showing.qualifies, Showing.rows_at_key, Showing.select_quals, Showing.shows, Showing.verdict_on, Updating.row_values}
+use Rattle.rls_meaning.specs.{Commands.Command, Commands.depth_of, Evaluating.Shown, Evaluating.is_met, Evaluating.value, Expanding.sees}
+use Rattle.rls_meaning.specs.{Rows.checks, Rows.decisions, Rows.qualifying, Rows.scanned, Rows.shown_to, Showing.allowed_by, Showing.decisions_on, Showing.qualifies, Showing.rows_at_key, Showing.select_quals, Showing.shows, Showing.verdict_on}
+use Rattle.rls_meaning.proofs.Asking.{decisions_in, put_values, qualifying_rows_in, row_values, set_values, tuple_values}
 use Rattle.rls_meaning.proofs.Evaluating.{Alike, gathered_told, meets_told, put_all, value_told}
 
 -- ---- lists
@@ -121,12 +122,12 @@ judged_put decided is [] = refl
 judged_put decided is (stored ∷ rows) = ap (with_judged stored (decided stored, is stored)) (judged_put decided is rows) ∙ ap (λ kept. (decided stored ++ flat_map decided rows, kept)) (row_more (is stored) stored (filter is rows))
 
 -- the decisions on the rows that it looks at, and those that qualify
-pub qualifying_told : (s : State) (c : Command) (condition : Option Term) → qualifying_rows_in s c condition ≡ Ok (decisions s c side.Old (looked_at s c condition), qualifying s c condition)
+pub qualifying_told : (s : State) (c : Command) (condition : Option Term) → qualifying_rows_in s c condition ≡ Ok (decisions s c side.Old (scanned s c condition), qualifying s c condition)
 qualifying_told s c condition =
     gathered_told with_judged ([], []) (judged_old (checks s c side.Old) (maybe_term condition) (sees s c) c.role)
     (λ stored. (decisions_on (checks s c side.Old) (shown_to s c) c.role stored.id stored.row, qualifies (checks s c side.Old) (maybe_term condition) (shown_to s c) c.role stored.row)) s
-    (judged_told s (sees s c) (shown_to s c) (sees_told s c) (checks s c side.Old) (maybe_term condition) c.role) (looked_at s c condition)
-    ∙ ap Ok (judged_put (λ stored. decisions_on (checks s c side.Old) (shown_to s c) c.role stored.id stored.row) (λ stored. qualifies (checks s c side.Old) (maybe_term condition) (shown_to s c) c.role stored.row) (looked_at s c condition))
+    (judged_told s (sees s c) (shown_to s c) (sees_told s c) (checks s c side.Old) (maybe_term condition) c.role) (scanned s c condition)
+    ∙ ap Ok (judged_put (λ stored. decisions_on (checks s c side.Old) (shown_to s c) c.role stored.id stored.row) (λ stored. qualifies (checks s c side.Old) (maybe_term condition) (shown_to s c) c.role stored.row) (scanned s c condition))
 
 -- the decisions on new rows
 pub decisions_told : (s : State) (c : Command) (rows : List Stored) → decisions_in s c rows ≡ Ok (decisions s c side.New rows)

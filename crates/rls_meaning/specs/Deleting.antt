@@ -1,27 +1,33 @@
 -- DELETE (PostgreSQL manual, DELETE): names, then types, then support; then the qualifying rows, which go.
-use Rattle.std.specs.Prelude.{◌≡◌, [], ◌∷◌, Result, Ok}
+use Rattle.std.specs.Prelude.{◌≡◌, ℕ, List, [], ◌∷◌, Some, None, Result, Ok, map}
 use Rattle.rls_value.specs.{declared.refusal.Refusal.Refusal, declared.tag.Tag.Tag, Giving.and_then}
 use Rattle.rls_value.specs.declared.verb.Kind.TheVariants as k
 use Rattle.rls_expr.specs.declared.table.TableDef.{TableDef}
-use Rattle.rls_catalog.specs.State.{State}
+use Rattle.rls_catalog.specs.{declared.change.Change.Change, declared.stored.Stored.Stored, State.State}
+use Rattle.rls_catalog.specs.declared.verdict.Side.TheVariants as side
 use Rattle.rls_statement.specs.declared.changing.Delete.{Delete}
 use Rattle.rls_statement.specs.declared.statement.Statement.TheVariants as statement
 use Rattle.rls_guard.specs.{declared.context.Ctx.Ctx, declared.effect.Effect.Effect, Effects.shown}
+use Rattle.rls_guard.specs.declared.effect.Effect.TheVariants as effect
 use Rattle.rls_expansion.specs.Used.{tables_if}
-use Rattle.rls_dml.specs.{declared.deleting.AnalysedDelete.AnalysedDelete, Deleting.deleted, Deleting.analysed_delete_in, Deleting.analysed_delete_names, Deleting.analysed_delete_reads}
+use Rattle.rls_dml.specs.{declared.deleting.AnalysedDelete.AnalysedDelete, Deleting.analysed_delete_in, Deleting.analysed_delete_names, Deleting.analysed_delete_reads}
 use Rattle.rls_access.specs.Statements.{effect_in, mode_or_refused}
-use Rattle.rls_meaning.specs.{Commands.Command, Commands.permitted_in, Naming.named_in, Naming.table_in, Rows.qualifying_rows_in}
+use Rattle.rls_meaning.specs.{Commands.Command, Commands.permitted_in, Naming.named_in, Naming.table_in, Replies.kept, Replies.reply_of, Replies.row_change, Rows.decisions, Rows.qualifying, Rows.scanned}
 
 -- the parts of the statement: names, then types, then support
 abbrev pub delete_parts : State → Delete → TableDef → Result AnalysedDelete Refusal
 delete_parts s asked table = and_then (named_in s (analysed_delete_names asked) ((asked.table, table) ∷ []) []) (analysed_delete_in asked (asked.table, table))
 
+-- the row goes
+abbrev pub deleted : List ℕ → Stored → Change
+deleted table stored = row_change table stored.id (Some (kept stored)) None
+
 -- the qualifying rows go, and are answered
 abbrev pub delete_rows : State → AnalysedDelete → Command → Result Effect Refusal
 delete_rows s parts c =
     and_then (permitted_in s c) (λ _.
-    and_then (qualifying_rows_in s c parts.condition) (λ judged.
-    Ok (deleted c.name parts c.role judged)))
+    let old : List Stored = qualifying s c parts.condition in
+    Ok (effect.Done (reply_of parts.returning c.role old) (decisions s c side.Old (scanned s c parts.condition)) (map (deleted c.name) old) None))
 
 -- the table, the parts, and then the rows
 abbrev pub delete_in : State → Ctx → Delete → Result Effect Refusal

@@ -6,15 +6,19 @@ use Rattle.rls_value.specs.declared.refusal.Refusal.TheVariants.{Recursion}
 use Rattle.rls_expr.specs.Terms.{Term}
 use Rattle.rls_catalog.specs.{declared.verdict.Side.Side, Membership.Within, State.State}
 use Rattle.rls_catalog.specs.declared.verdict.Side.TheVariants as side
-use Rattle.rls_evaluation.specs.{Environments.Environment, Eval.value_of, Showing.shows}
+use Rattle.rls_evaluation.specs.{Environments.Environment, Eval.Shows, Eval.value_of, Showing.shows}
 use Rattle.rls_guard.specs.{declared.quals.RowCheck.RowCheck, RolePrivileges.role_privileges_in}
 use Rattle.rls_expansion.specs.{declared.expansion.PolicyExpansion.PolicyExpansion, Expanding.judges_new, Expanding.judges_old, Expanding.expansion_of, Used.tables_of}
-use Rattle.rls_depth.specs.Deep.{JudgeAlike}
-use Rattle.rls_meaning.specs.{Commands.Command, Commands.closing_in, Commands.needed_in, Rows.checks, Rows.sees}
+use Rattle.rls_depth.specs.Deep.{JudgeAlike, shows_deep}
+use Rattle.rls_meaning.specs.{Commands.Command, Commands.closing_in, Commands.depth_of, Commands.needed_in, Rows.checks, Showing.select_quals}
 
 -- the command's policy expansion
 abbrev pub expansion_in : State → Command → Result PolicyExpansion Refusal
 expansion_in s c = ((expansion_of (role_privileges_in s c.role) c.name c.table c.kind c.reads c.queries).in_state s).gives
+
+-- what tables show to the role, in its subqueries and in those of policies, as a question of the state
+abbrev pub sees : State → Command → Shows
+sees s c = shows_deep (depth_of s c) (select_quals s c.role) c.role
 
 -- the checks of rows of one side, where the command judges it
 abbrev pub checks_if : Bool → State → Command → Side → List RowCheck

@@ -5,7 +5,7 @@ pub mod Commands
 pub mod Evaluating
 pub mod Showing
 pub mod Rows
-pub mod Qualifying
+pub mod Replies
 pub mod Constraints
 pub mod Selecting
 pub mod Inserting

@@ -1,23 +1,20 @@
--- The rows that a command scans, those that qualify and those that it puts (PostgreSQL manual, 5.8, "Row Security Policies", and CREATE POLICY, "Policies
--- Applied by Command Type").
-use Rattle.std.specs.Prelude.{List, [], ◌∷◌, Option, Result, if◌then◌else◌}
-use Rattle.rls_value.specs.{declared.refusal.Refusal.Refusal, declared.verb.Kind.Kind}
+-- The rows that a command scans, those that qualify, and the decisions on them and on new ones (PostgreSQL manual, 5.8, "Row Security Policies", and CREATE POLICY,
+-- "Policies Applied by Command Type").
+use Rattle.std.specs.Prelude.{ℕ, List, [], ◌∷◌, Option, filter, if◌then◌else◌}
+use Rattle.std.specs.List.{flat_map}
+use Rattle.rls_value.specs.declared.verb.Kind.{Kind}
 use Rattle.rls_value.specs.declared.verb.Kind.TheVariants as k
 use Rattle.rls_expr.specs.Terms.{Term, maybe_term}
 use Rattle.rls_catalog.specs.{declared.stored.Stored.Stored, declared.verdict.Side.Side, State.State}
 use Rattle.rls_catalog.specs.declared.verdict.Side.TheVariants as side
-use Rattle.rls_evaluation.specs.{Eval.Shows, Gathering.gathered}
 use Rattle.rls_guard.specs.{declared.quals.RowCheck.RowCheck, declared.reply.Decision.Decision}
-use Rattle.rls_depth.specs.Deep.{ruled, shows_deep}
-use Rattle.rls_judging.specs.{ScannedRows.pinned_key, Judging.decisions_on, Judging.judged_old, Judging.with_decisions, Judging.with_judged}
-use Rattle.rls_meaning.specs.Commands.{Command, depth_of}
-pub use Rattle.rls_meaning.specs.Showing.{rows_at_key, select_quals}
+use Rattle.rls_depth.specs.Deep.{ruled}
+use Rattle.rls_judging.specs.ScannedRows.{pinned_key}
+use Rattle.rls_meaning.specs.{Commands.Command, Commands.depth_of, Evaluating.Shown, Showing.decisions_on, Showing.qualifies, Showing.rows_at_key, Showing.shows}
 
--- ---- what row security says
-
--- what tables show to the role, in its subqueries and in those of policies
-abbrev pub sees : State → Command → Shows
-sees s c = shows_deep (depth_of s c) (select_quals s c.role) c.role
+-- what tables show to its role
+abbrev pub shown_to : State → Command → Shown
+shown_to s c = shows (depth_of s c) s c.role
 
 -- one check of a row: by the policies that apply to the role for that type of command
 abbrev pub check : State → Command → Side → Kind → RowCheck
@@ -27,13 +24,14 @@ check s c which kind = record { kind = kind; side = which; quals = ruled s c.rol
 abbrev pub checks : State → Command → Side → List RowCheck
 checks s c which = check s c which c.kind ∷ (if c.reads then check s c which k.Select ∷ [] else [])
 
--- ---- rows
+-- the rows that it scans: those with the key that WHERE pins, else all
+abbrev pub scanned : State → Command → Option Term → List Stored
+scanned s c condition = rows_at_key s c.name (pinned_key c.role c.table.key condition)
 
--- the decisions on them, and those that qualify: allowed by each check, and WHERE is true
-abbrev pub qualifying_rows_in : State → Command → Option Term → Result (List Decision × List Stored) Refusal
-qualifying_rows_in s c condition =
-    ((gathered with_judged ([], []) (judged_old (checks s c side.Old) (maybe_term condition) (sees s c) c.role) (rows_at_key s c.name (pinned_key c.role c.table.key condition))).in_state s).gives
+-- those of them that qualify: each check allows them, and WHERE is true
+abbrev pub qualifying : State → Command → Option Term → List Stored
+qualifying s c condition = filter (λ stored. qualifies (checks s c side.Old) (maybe_term condition) (shown_to s c) c.role stored.row) (scanned s c condition)
 
--- the decisions on new rows
-abbrev pub decisions_in : State → Command → List Stored → Result (List Decision) Refusal
-decisions_in s c rows = ((gathered with_decisions [] (λ stored. decisions_on (checks s c side.New) (sees s c) c.role stored.id stored.row) rows).in_state s).gives
+-- the decisions on rows: those scanned, on the old side, or new ones
+abbrev pub decisions : State → Command → Side → List Stored → List Decision
+decisions s c which rows = flat_map (λ stored. decisions_on (checks s c which) (shown_to s c) c.role stored.id stored.row) rows

@@ -1,16 +1,19 @@
 -- SELECT (PostgreSQL manual, SELECT): names, then types, then support; then the qualifying rows, which are answered.
-use Rattle.std.specs.Prelude.{◌≡◌, [], ◌∷◌, false, Result, Ok}
+use Rattle.std.specs.Prelude.{◌≡◌, [], ◌∷◌, false, None, Result, Ok}
 use Rattle.rls_value.specs.{declared.refusal.Refusal.Refusal, declared.tag.Tag.Tag, Giving.and_then}
 use Rattle.rls_value.specs.declared.verb.Kind.TheVariants as k
 use Rattle.rls_expr.specs.declared.table.TableDef.{TableDef}
 use Rattle.rls_catalog.specs.State.{State}
+use Rattle.rls_catalog.specs.declared.verdict.Side.TheVariants as side
 use Rattle.rls_statement.specs.declared.statement.Select.{Select}
 use Rattle.rls_statement.specs.declared.statement.Statement.TheVariants as statement
 use Rattle.rls_guard.specs.{declared.context.Ctx.Ctx, declared.effect.Effect.Effect, Effects.shown}
+use Rattle.rls_guard.specs.declared.effect.Effect.TheVariants as effect
+use Rattle.rls_guard.specs.declared.reply.Reply.TheVariants as reply
 use Rattle.rls_expansion.specs.Used.{tables_if}
-use Rattle.rls_dml.specs.{declared.selecting.AnalysedSelect.AnalysedSelect, Selecting.listed_by, Selecting.qualifier_of, Selecting.analysed_select_in, Selecting.analysed_select_names}
+use Rattle.rls_dml.specs.{declared.selecting.AnalysedSelect.AnalysedSelect, Selecting.qualifier_of, Selecting.analysed_select_in, Selecting.analysed_select_names}
 use Rattle.rls_access.specs.Statements.{effect_in, mode_or_refused}
-use Rattle.rls_meaning.specs.{Commands.Command, Commands.permitted_in, Naming.named_in, Naming.table_in, Rows.qualifying_rows_in}
+use Rattle.rls_meaning.specs.{Commands.Command, Commands.permitted_in, Naming.named_in, Naming.table_in, Replies.answered, Rows.decisions, Rows.qualifying, Rows.scanned}
 
 -- the parts of the statement: names, then types, then support
 abbrev pub select_parts : State → Select → TableDef → Result AnalysedSelect Refusal
@@ -20,8 +23,7 @@ select_parts s asked table = and_then (named_in s (analysed_select_names asked) 
 abbrev pub select_rows : State → AnalysedSelect → Command → Result Effect Refusal
 select_rows s parts c =
     and_then (permitted_in s c) (λ _.
-    and_then (qualifying_rows_in s c parts.condition) (λ judged.
-    Ok (listed_by parts c.role judged)))
+    Ok (effect.Done (reply.Rows (answered parts.items c.role (qualifying s c parts.condition))) (decisions s c side.Old (scanned s c parts.condition)) [] None))
 
 -- the table, the parts, and then the rows
 abbrev pub select_in : State → Ctx → Select → Result Effect Refusal

@@ -1,36 +1,44 @@
 -- UPDATE (PostgreSQL manual, UPDATE): names, then types, then support; then what it may not do; then the qualifying rows,
 -- their new values and ranges; then the new rows are judged: row security, NOT NULL, the primary key.
-use Rattle.std.specs.Prelude.{◌≡◌, ℕ, List, [], ◌∷◌, ◌++◌, Result, Ok, map}
-use Rattle.rls_value.specs.{declared.refusal.Refusal.Refusal, declared.value.Value.Value, declared.tag.Tag.Tag, Giving.and_then}
+use Rattle.std.specs.Prelude.{◌≡◌, ℕ, List, [], ◌∷◌, ◌++◌, Some, Result, Ok, map}
+use Rattle.rls_value.specs.{declared.refusal.Refusal.Refusal, declared.tag.Tag.Tag, Giving.and_then}
 use Rattle.rls_value.specs.declared.verb.Kind.TheVariants as k
 use Rattle.rls_expr.specs.{declared.table.TableDef.TableDef, Terms.Term}
-use Rattle.rls_catalog.specs.{declared.stored.Stored.Stored, State.State}
+use Rattle.rls_catalog.specs.{declared.change.Change.Change, declared.stored.Stored.Stored, State.State}
+use Rattle.rls_catalog.specs.declared.verdict.Side.TheVariants as side
+use Rattle.rls_source.specs.Sequences.{each_of}
 use Rattle.rls_statement.specs.declared.changing.Update.{Update}
 use Rattle.rls_statement.specs.declared.statement.Statement.TheVariants as statement
-use Rattle.rls_evaluation.specs.{Environments.over, Gathering.gathered}
-use Rattle.rls_guard.specs.{declared.context.Ctx.Ctx, declared.effect.Effect.Effect, Effects.shown}
-use Rattle.rls_judging.specs.Valuing.{values_on, with_row_values}
-use Rattle.rls_dml.specs.{declared.analysed_update.AnalysedUpdate.AnalysedUpdate, Updating.places_set, Updating.analysed_update_in, Updating.analysed_update_names, Updating.analysed_update_reads, Updating.analysed_update_tables, Updating.updated, Updating.updated_rows, Writing.order_of}
+use Rattle.rls_evaluation.specs.Environments.{over}
+use Rattle.rls_guard.specs.{declared.context.Ctx.Ctx, declared.effect.Effect.Effect, declared.reply.Decision.Decision, Effects.shown}
+use Rattle.rls_dml.specs.{declared.analysed_update.AnalysedUpdate.AnalysedUpdate, Updating.places_set, Updating.analysed_update_in, Updating.analysed_update_names, Updating.analysed_update_reads, Updating.analysed_update_tables, Writing.assigned, Writing.key_at, Writing.order_of}
 use Rattle.rls_access.specs.Statements.{effect_in, mode_or_refused}
-use Rattle.rls_meaning.specs.{Commands.Command, Commands.permitted_in, Constraints.allowed_in, Naming.named_in, Naming.table_in, Rows.decisions_in, Rows.qualifying_rows_in, Rows.sees}
+use Rattle.rls_meaning.specs.{Commands.Command, Commands.permitted_in, Constraints.allowed_in, Evaluating.value, Naming.named_in, Naming.table_in, Replies.done_or_refused, Replies.kept, Replies.reply_of, Replies.row_change, Rows.decisions, Rows.qualifying, Rows.scanned, Rows.shown_to}
 
 -- the parts of the statement: names, then types, then support
 abbrev pub update_parts : State → Update → TableDef → Result AnalysedUpdate Refusal
 update_parts s asked table = and_then (named_in s (analysed_update_names asked) ((asked.table, table) ∷ []) []) (analysed_update_in asked (asked.table, table))
 
--- what the rows are set to, over each row as it stands
-abbrev pub row_values : State → Command → List (ℕ × Term) → List Stored → Result (List Value) Refusal
-row_values s c assignments rows = ((gathered with_row_values [] (λ stored. values_on (map (λ assignment. assignment.1) assignments) (sees s c) (over c.role stored.row)) rows).in_state s).gives
+-- the row with its new values, over the row as it stands, at the places that are set; its number stays
+abbrev pub new_version : State → Command → List (ℕ × Term) → Stored → Result Stored Refusal
+new_version s c assignments stored =
+    and_then (assigned c.table.columns (places_set assignments) (map (λ assignment. value assignment.1 (shown_to s c) (over c.role stored.row)) assignments) stored.row) (λ row.
+    Ok (record { id = stored.id; key = key_at c.table.key row; row = row }))
+
+-- each row and the one in its place
+abbrev pub updated : List ℕ → List Stored → List Stored → List Change
+updated table (old ∷ olds) (new ∷ news) = row_change table old.id (Some (kept old)) (Some (kept new)) ∷ updated table olds news
+updated table _ _ = []
 
 -- the qualifying rows, the new ones in their place, and what these are refused for
 abbrev pub update_rows : State → AnalysedUpdate → Command → Result Effect Refusal
 update_rows s parts c =
     and_then (permitted_in s c) (λ _.
-    and_then (qualifying_rows_in s c parts.condition) (λ judged.
-    and_then (row_values s c parts.assignments judged.1) (λ values.
-    and_then (updated_rows c.table (places_set parts.assignments) judged.1 values) (λ new.
-    and_then (decisions_in s c new) (λ decided.
-    Ok (updated c.name parts c.role (judged.0 ++ decided) judged.1 new (allowed_in s c.name c.table.columns (order_of (places_set parts.assignments) c.table.columns) decided judged.1 new)))))))
+    let old : List Stored = qualifying s c parts.condition in
+    and_then (each_of (new_version s c parts.assignments) old) (λ new.
+    let decided : List Decision = decisions s c side.New new in
+    Ok (done_or_refused (allowed_in s c.name c.table.columns (order_of (places_set parts.assignments) c.table.columns) decided old new)
+    (reply_of parts.returning c.role new) (decisions s c side.Old (scanned s c parts.condition) ++ decided) (updated c.name old new))))
 
 -- the table, the parts, and then the rows
 abbrev pub update_in : State → Ctx → Update → Result Effect Refusal
