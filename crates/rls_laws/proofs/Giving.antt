@@ -2,11 +2,10 @@
 use Rattle.std.specs.Prelude.{◌≡◌, refl, List, [], ◌∷◌, Bool, true, false, Option, Some, None, Result, Ok, Err, if◌then◌else◌}
 use Rattle.std.specs.List.{AllByRecursion}
 use Rattle.rls_value.specs.{declared.refusal.Refusal.Refusal, Giving.and_then}
-use Rattle.rls_catalog.specs.{declared.change.Change.Change, State.State}
-use Rattle.rls_source.specs.{Askings.Asking, Askings.asked_if, Askings.followed_by, Askings.known, Named.found_or, Sequences.each_of, Sequences.each_or_refused}
+use Rattle.rls_catalog.specs.declared.change.Change.{Change}
+use Rattle.rls_source.specs.{Named.found_or, Sequences.each_of, Sequences.each_or_refused}
 use Rattle.rls_guard.specs.{declared.effect.Effect.Effect, Effects.shown}
 use Rattle.rls_guard.specs.declared.effect.Effect.TheVariants as effect
-use Rattle.rls_evaluation.specs.Gathering.{gathered}
 use Rattle.rls_audit.specs.RefusalCodecs.{IsAudited}
 use Rattle.rls_meaning.specs.Naming.{provided}
 
@@ -69,30 +68,6 @@ each_gives give all (x ∷ xs) = after (all x) (λ y _. after (each_gives give a
 pub each_passes : {A : Type 0} (test : A → Result (Unit {0}) Refusal) → ((x : A) → Gives Any (test x)) → (xs : List A) → Gives Any (each_or_refused test xs)
 each_passes test all [] = record { is = tt }
 each_passes test all (x ∷ xs) = after (all x) (λ _ _. each_passes test all xs)
-
--- ---- questions
-
--- in the state the question gives something, or a refusal that an audit has
-pub record Asks {A : Type 0} (s : State) (asking : Asking A) : Type 0 where
-  pub given : Gives Any (asking.in_state s).gives
-
-pub asks_known : {A : Type 0} (s : State) (a : A) → Asks s (known (Ok a))
-asks_known s a = record { given = record { is = tt } }
-
-pub asks_then : {A B : Type 0} {s : State} {first : Asking A} {next : A → Asking B} → Asks s first → ((a : A) → Asks s (next a)) → Asks s (followed_by first next)
-asks_then one more = record { given = after one.given (λ a _. (more a).given) }
-
--- a value made of what is asked
-pub asks_told : {A B : Type 0} {s : State} {first : Asking A} (f : A → B) → Asks s first → Asks s (followed_by first (λ a. known (Ok (f a))))
-asks_told {s = s} f one = record { given = after one.given (λ a _. gives Any (f a) tt) }
-
-pub asks_if : {A : Type 0} {s : State} {one other : Asking A} (b : Bool) → Asks s one → Asks s other → Asks s (asked_if b one other)
-asks_if true first second = record { given = first.given }
-asks_if false first second = record { given = second.given }
-
-pub asks_each : {A B R : Type 0} (s : State) (put : A → B → R → R) (none : R) (ask : A → Asking B) → ((x : A) → Asks s (ask x)) → (xs : List A) → Asks s (gathered put none ask xs)
-asks_each s put none ask all [] = asks_known s none
-asks_each s put none ask all (x ∷ xs) = asks_then (all x) (λ y. asks_told (λ rest. put x y rest) (asks_each s put none ask all xs))
 
 -- ---- effects
 

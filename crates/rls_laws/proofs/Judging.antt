@@ -1,5 +1,5 @@
 -- What statements on rows come to: SELECT, INSERT, UPDATE, DELETE. They change rows alone.
-use Rattle.std.specs.Prelude.{ℕ, ◌+◌, List, [], ◌∷◌, ◌++◌, Bool, false, ◌||◌, ◌&&◌, not, nat_le, Option, Some, None, Result, Ok, Err, length, map, slice_get, slice_set, take, drop}
+use Rattle.std.specs.Prelude.{ℕ, ◌+◌, List, [], ◌∷◌, ◌++◌, Bool, false, ◌||◌, ◌&&◌, not, nat_le, Option, Some, None, Result, Ok, Err, length, map, slice_get, slice_set}
 use Rattle.std.specs.List.{AllByRecursion, list_all, list_any}
 use Rattle.rls_value.specs.{Values.fits_type, Values.is_null, Values.value_at, declared.refusal.Refusal.Refusal, declared.value.Value.Value, declared.verb.Privilege.Privilege}
 use Rattle.rls_value.specs.declared.refusal.Refusal.TheVariants as r
@@ -7,27 +7,28 @@ use Rattle.rls_value.specs.declared.refusal.Limit.TheVariants as limit
 use Rattle.rls_value.specs.declared.refusal.Why.TheVariants as why
 use Rattle.rls_value.specs.declared.verb.Kind.{Kind}
 use Rattle.rls_value.specs.declared.verb.Kind.TheVariants as k
-use Rattle.rls_expr.specs.{Resolving.Names, Scopes.InScope, Tables.column_named, Terms.Term, Terms.maybe_term, declared.table.Column.Column, declared.table.TableDef.TableDef}
-use Rattle.rls_catalog.specs.{Privileges.holds, State.State, declared.stored.Stored.Stored, declared.verdict.Verdict.Verdict}
+use Rattle.rls_expr.specs.{Resolving.Names, Scopes.InScope, Tables.column_named, Terms.Term, declared.table.Column.Column, declared.table.TableDef.TableDef}
+use Rattle.rls_catalog.specs.{Privileges.holds, State.State, declared.change.Change.Change, declared.stored.Stored.Stored, declared.verdict.Verdict.Verdict}
 use Rattle.rls_catalog.specs.declared.verdict.Side.TheVariants as side
 use Rattle.rls_catalog.specs.declared.verdict.Verdict.TheVariants as verdict
-use Rattle.rls_statement.specs.{declared.changing.Delete.Delete, declared.changing.Assignment.Assignment, declared.changing.Update.Update, declared.statement.Insert.Insert, declared.statement.Select.Select, declared.statement.Selected.Selected}
+use Rattle.rls_statement.specs.{declared.changing.Delete.Delete, declared.changing.Assignment.Assignment, declared.changing.Update.Update, declared.statement.Insert.Insert, declared.statement.Select.Select}
 use Rattle.rls_evaluation.specs.Environments.{alone, over}
-use Rattle.rls_guard.specs.{declared.context.Ctx.Ctx, declared.reply.Decision.Decision, Checks.is_unsupported, Naming.names_over}
+use Rattle.rls_guard.specs.{declared.context.Ctx.Ctx, declared.reply.Decision.Decision, declared.reply.Reply.Reply, Checks.is_unsupported, Naming.names_over}
+use Rattle.rls_guard.specs.declared.effect.Effect.TheVariants as effect
+use Rattle.rls_guard.specs.declared.reply.Reply.TheVariants as reply
 use Rattle.rls_expansion.specs.Used.{tables_if}
-use Rattle.rls_judging.specs.{ScannedRows.pinned_key, Judging.decisions_on, Judging.judged_old, Judging.with_decisions, Judging.with_judged, Valuing.values_on, Valuing.with_row_values, Valuing.with_values}
 use Rattle.rls_dml.specs.{declared.analysed_insert.AnalysedInsert.AnalysedInsert, declared.deleting.AnalysedDelete.AnalysedDelete, declared.analysed_update.AnalysedUpdate.AnalysedUpdate, declared.selecting.AnalysedSelect.AnalysedSelect}
 use Rattle.rls_dml.specs.{Checking.fitting_or_fault, Checking.found_or_undefined, Checking.resolved_in, Checking.place_or_undefined, Checking.returning_fits, Checking.returning_names, Checking.returning_reads, Checking.returning_unsupported, Checking.selection_fits, Checking.selection_unsupported, Checking.supported_or_refused, Checking.where_fits, Checking.where_unsupported}
-use Rattle.rls_dml.specs.{Deleting.deleted, Deleting.deleted_row, Deleting.analysed_delete_in, Deleting.analysed_delete_names, Deleting.analysed_delete_resolved, Deleting.analysed_delete_reads}
-use Rattle.rls_dml.specs.{Inserting.analysed_insert_in, Inserting.analysed_insert_resolved, Inserting.inserted, Inserting.inserted_row, Inserting.new_rows, Inserting.nulls, Inserting.numbered, Inserting.places_of, Inserting.row_of_tuple, Inserting.tuple_fits, Inserting.tuples_names, Inserting.tuples_tables}
-use Rattle.rls_dml.specs.{Selecting.listed_by, Selecting.qualifier_of, Selecting.analysed_select_in, Selecting.analysed_select_names, Selecting.analysed_select_resolved}
-use Rattle.rls_dml.specs.{Updating.changed_rows, Updating.places_set, Updating.analysed_update_in, Updating.analysed_update_names, Updating.analysed_update_resolved, Updating.analysed_update_reads, Updating.analysed_update_tables, Updating.assignment_resolved, Updating.assignments_fit, Updating.assignments_unsupported, Updating.updated, Updating.updated_row, Updating.updated_rows}
-use Rattle.rls_dml.specs.{Writing.assigned, Writing.each_taking, Writing.each_with, Writing.first_denial, Writing.first_of, Writing.behind_first, Writing.given_to, Writing.has_doubles, Writing.has_values, Writing.keys_of, Writing.order_of, Writing.unless_denied, Writing.value_or_not_null, Writing.verdict_or_denied}
-use Rattle.rls_meaning.specs.{Commands.Command, Commands.closing_in, Commands.depth_of, Commands.needed_in, Commands.permitted, Commands.permitted_in, Commands.privilege_of, Commands.required, Commands.unless_closed, Constraints.allowed_in, Constraints.taken_in}
-use Rattle.rls_meaning.specs.Updating as meaning
-use Rattle.rls_meaning.specs.{Deleting.delete_in, Inserting.insert_in, Inserting.insert_rows, Inserting.tuple_values, Rows.checks, Rows.decisions_in, Rows.qualifying_rows_in, Rows.select_quals, Rows.rows_at_key, Rows.sees, Selecting.select_in, Updating.row_values, Updating.update_in, Updating.update_parts}
-use Rattle.rls_laws.proofs.{Defining.named_gives, Defining.table_gives, Evaluating.Show, Evaluating.decisions_ask, Evaluating.deep_shows, Evaluating.judged_asks, Evaluating.values_ask, Fitting.Fits}
-use Rattle.rls_laws.proofs.Giving.{Any, Ends, Gives, after, asks_each, each_gives, each_passes, gives, provided_gives, tested, untested}
+use Rattle.rls_dml.specs.{Deleting.analysed_delete_in, Deleting.analysed_delete_names, Deleting.analysed_delete_resolved, Deleting.analysed_delete_reads}
+use Rattle.rls_dml.specs.{Inserting.analysed_insert_in, Inserting.analysed_insert_resolved, Inserting.nulls, Inserting.numbered, Inserting.places_of, Inserting.tuple_fits, Inserting.tuples_names, Inserting.tuples_tables}
+use Rattle.rls_dml.specs.{Selecting.qualifier_of, Selecting.analysed_select_in, Selecting.analysed_select_names, Selecting.analysed_select_resolved}
+use Rattle.rls_dml.specs.{Updating.places_set, Updating.analysed_update_in, Updating.analysed_update_names, Updating.analysed_update_resolved, Updating.analysed_update_reads, Updating.analysed_update_tables, Updating.assignment_resolved, Updating.assignments_fit, Updating.assignments_unsupported}
+use Rattle.rls_dml.specs.{Writing.assigned, Writing.first_denial, Writing.given_to, Writing.has_doubles, Writing.has_values, Writing.keys_of, Writing.order_of, Writing.unless_denied, Writing.value_or_not_null, Writing.verdict_or_denied}
+use Rattle.rls_meaning.specs.{Commands.Command, Commands.closing_in, Commands.needed_in, Commands.permitted, Commands.permitted_in, Commands.privilege_of, Commands.required, Commands.unless_closed, Constraints.allowed_in, Constraints.taken_in}
+use Rattle.rls_meaning.specs.{Deleting.delete_in, Deleting.deleted, Evaluating.value, Inserting.insert_in, Inserting.insert_rows, Inserting.inserted, Inserting.row_of_tuple, Replies.answered, Replies.done_or_refused, Replies.reply_of, Rows.decisions, Rows.qualifying, Rows.scanned, Rows.shown_to}
+use Rattle.rls_meaning.specs.{Selecting.select_in, Updating.new_version, Updating.update_in, Updating.update_parts, Updating.update_rows, Updating.updated}
+use Rattle.rls_laws.proofs.{Defining.named_gives, Defining.table_gives, Fitting.Fits}
+use Rattle.rls_laws.proofs.Giving.{Any, Ends, Gives, after, each_gives, each_passes, gives, provided_gives, tested, untested}
 
 -- ---- parts
 
@@ -90,27 +91,6 @@ all_permitted s role (p ∷ ps) = after (provided_gives (holds s role p.0 p.1) (
 permitted_gives : (s : State) (c : Command) → Gives Any (permitted_in s c)
 permitted_gives s c = after (closed_gives (closing_in s c)) (λ _ _. all_permitted s c.role (required (privilege_of c.kind) c.reads c.name (needed_in s c)))
 
--- ---- rows
-
-sees_shows : (s : State) (c : Command) → Show s (sees s c)
-sees_shows s c = deep_shows (depth_of s c) (select_quals s c.role) c.role s
-
-qualifying_rows_give : (s : State) (c : Command) (condition : Option Term) → Gives Any (qualifying_rows_in s c condition)
-qualifying_rows_give s c condition =
-    (asks_each s with_judged ([], []) (judged_old (checks s c side.Old) (maybe_term condition) (sees s c) c.role) (λ stored. judged_asks (checks s c side.Old) (maybe_term condition) (sees s c) c.role stored s (sees_shows s c))
-    (rows_at_key s c.name (pinned_key c.role c.table.key condition))).given
-
-decisions_give : (s : State) (c : Command) (rows : List Stored) → Gives Any (decisions_in s c rows)
-decisions_give s c rows =
-    (asks_each s with_decisions [] (λ stored. decisions_on (checks s c side.New) (sees s c) c.role stored.id stored.row) (λ stored. decisions_ask (checks s c side.New) (sees s c) c.role stored.id stored.row s (sees_shows s c)) rows).given
-
-tuples_give : (s : State) (c : Command) (tuples : List (List Term)) → Gives Any (tuple_values s c tuples)
-tuples_give s c tuples = (asks_each s with_values [] (λ tuple. values_on tuple (sees s c) (alone c.role)) (λ tuple. values_ask tuple (sees s c) (alone c.role) s (sees_shows s c)) tuples).given
-
-assignments_give : (s : State) (c : Command) (assignments : List (ℕ × Term)) (rows : List Stored) → Gives Any (row_values s c assignments rows)
-assignments_give s c assignments rows =
-    (asks_each s with_row_values [] (λ stored. values_on (map (λ assignment. assignment.1) assignments) (sees s c) (over c.role stored.row)) (λ stored. values_ask (map (λ assignment. assignment.1) assignments) (sees s c) (over c.role stored.row) s (sees_shows s c)) rows).given
-
 -- ---- values in their columns
 
 given_gives : (column : Option Column) (value : Value) → Gives Any (given_to column value)
@@ -122,22 +102,12 @@ assigned_gives columns places [] row = record { is = tt }
 assigned_gives columns [] (value ∷ values) row = record { is = tt }
 assigned_gives columns (place ∷ places) (value ∷ values) row = after (given_gives (slice_get columns place) value) (λ given _. assigned_gives columns places values (slice_set row place given))
 
-with_each : {A B : Type 0} (give : A → List Value → Result B Refusal) → ((x : A) (values : List Value) → Gives Any (give x values)) → (xs : List A) (values : List (List Value)) → Gives Any (each_with give xs values)
-with_each give all [] values = record { is = tt }
-with_each give all (x ∷ xs) values = after (all x (first_of values)) (λ y _. after (with_each give all xs (behind_first values)) (λ ys _. gives Any (y ∷ ys) tt))
+row_gives : (s : State) (c : Command) (places : List ℕ) (tuple : List Term) → Gives Any (row_of_tuple s c places tuple)
+row_gives s c places tuple = assigned_gives c.table.columns places (map (λ term. value term (shown_to s c) (alone c.role)) tuple) (nulls c.table.columns)
 
-taking_each : {A B : Type 0} (many : ℕ) (give : A → List Value → Result B Refusal) → ((x : A) (values : List Value) → Gives Any (give x values)) → (xs : List A) (values : List Value) → Gives Any (each_taking many give xs values)
-taking_each many give all [] values = record { is = tt }
-taking_each many give all (x ∷ xs) values = after (all x (take many values)) (λ y _. after (taking_each many give all xs (drop many values)) (λ ys _. gives Any (y ∷ ys) tt))
-
-new_rows_give : (ctx : Ctx) (table : TableDef) (analysed_insert : AnalysedInsert) (values : List (List Value)) → Gives Any (new_rows ctx table analysed_insert values)
-new_rows_give ctx table analysed_insert values =
-    after (with_each (row_of_tuple table analysed_insert.places) (λ tuple values. assigned_gives table.columns analysed_insert.places values (nulls table.columns)) analysed_insert.tuples values) (λ rows _.
-    gives Any (numbered table.key ctx.txn ctx.next rows) tt)
-
-updated_rows_give : (table : TableDef) (places : List ℕ) (old : List Stored) (values : List Value) → Gives Any (updated_rows table places old values)
-updated_rows_give table places old values =
-    taking_each (length places) (updated_row table places) (λ stored values. after (assigned_gives table.columns places values stored.row) (λ row _. record { is = tt })) old values
+version_gives : (s : State) (c : Command) (assignments : List (ℕ × Term)) (stored : Stored) → Gives Any (new_version s c assignments stored)
+version_gives s c assignments stored =
+    after (assigned_gives c.table.columns (places_set assignments) (map (λ assignment. value assignment.1 (shown_to s c) (over c.role stored.row)) assignments) stored.row) (λ row _. record { is = tt })
 
 -- ---- what new rows are refused for
 
@@ -166,26 +136,22 @@ allowed_gives s name columns order decided replaced rows =
 
 -- ---- changes of rows
 
-deleted_fit : (Known : Type 0) (s : State) (name : List ℕ) (rows : List Stored) → AllByRecursion (Fits s Known) (map (deleted_row name) rows)
+deleted_fit : (Known : Type 0) (s : State) (name : List ℕ) (rows : List Stored) → AllByRecursion (Fits s Known) (map (deleted name) rows)
 deleted_fit Known s name [] = tt
 deleted_fit Known s name (row ∷ rows) = (record { ordered = λ _. tt; told = λ _. tt; spelled = λ _ _ _. tt }, deleted_fit Known s name rows)
 
-inserted_fit : (Known : Type 0) (s : State) (name : List ℕ) (rows : List Stored) → AllByRecursion (Fits s Known) (map (inserted_row name) rows)
+inserted_fit : (Known : Type 0) (s : State) (name : List ℕ) (rows : List Stored) → AllByRecursion (Fits s Known) (map (inserted name) rows)
 inserted_fit Known s name [] = tt
 inserted_fit Known s name (row ∷ rows) = (record { ordered = λ _. tt; told = λ _. tt; spelled = λ _ _ _. tt }, inserted_fit Known s name rows)
 
-changed_fit : (Known : Type 0) (s : State) (name : List ℕ) (olds news : List Stored) → AllByRecursion (Fits s Known) (changed_rows name olds news)
-changed_fit Known s name olds [] = tt
-changed_fit Known s name [] (new ∷ news) = tt
-changed_fit Known s name (old ∷ olds) (new ∷ news) = (record { ordered = λ _. tt; told = λ _. tt; spelled = λ _ _ _. tt }, changed_fit Known s name olds news)
+updated_fit : (Known : Type 0) (s : State) (name : List ℕ) (olds news : List Stored) → AllByRecursion (Fits s Known) (updated name olds news)
+updated_fit Known s name [] news = tt
+updated_fit Known s name (old ∷ olds) [] = tt
+updated_fit Known s name (old ∷ olds) (new ∷ news) = (record { ordered = λ _. tt; told = λ _. tt; spelled = λ _ _ _. tt }, updated_fit Known s name olds news)
 
-inserted_ends : (Known : Type 0) (s : State) (name : List ℕ) (returning : Option Selected) (role : List ℕ) (decided : List Decision) (rows : List Stored) (allowed : Result (Unit {0}) Refusal) → Gives Any allowed → Ends (Fits s Known) (inserted name returning role decided rows allowed)
-inserted_ends Known s name returning role decided rows (Ok u) is = inserted_fit Known s name rows
-inserted_ends Known s name returning role decided rows (Err refusal) is = is.is
-
-updated_ends : (Known : Type 0) (s : State) (name : List ℕ) (parts : AnalysedUpdate) (role : List ℕ) (decided : List Decision) (old new : List Stored) (allowed : Result (Unit {0}) Refusal) → Gives Any allowed → Ends (Fits s Known) (updated name parts role decided old new allowed)
-updated_ends Known s name parts role decided old new (Ok u) is = changed_fit Known s name old new
-updated_ends Known s name parts role decided old new (Err refusal) is = is.is
+done_ends : (Known : Type 0) (s : State) (reply : Reply) (decided : List Decision) (changes : List Change) (allowed : Result (Unit {0}) Refusal) → Gives Any allowed → AllByRecursion (Fits s Known) changes → Ends (Fits s Known) (done_or_refused allowed reply decided changes)
+done_ends Known s reply decided changes (Ok u) is fit = fit
+done_ends Known s reply decided changes (Err refusal) is fit = is.is
 
 -- ---- the statements
 
@@ -195,8 +161,7 @@ select_gives Known s ctx asked =
     after (after (named_gives s (analysed_select_names asked) ((qualifier_of asked, table) ∷ []) []) (λ found _. analysed_select_gives asked (qualifier_of asked, table) found)) (λ parts _.
     let c : Command = record { role = ctx.role; name = asked.table; table = table; kind = k.Select; reads = false; queries = tables_if parts.condition } in
     after (permitted_gives s c) (λ _ _.
-    after (qualifying_rows_give s c parts.condition) (λ judged _.
-    gives (Ends (Fits s Known)) (listed_by parts ctx.role judged) tt))))
+    gives (Ends (Fits s Known)) (effect.Done (reply.Rows (answered parts.items c.role (qualifying s c parts.condition))) (decisions s c side.Old (scanned s c parts.condition)) [] None) tt)))
 
 pub delete_gives : (Known : Type 0) (s : State) (ctx : Ctx) (asked : Delete) → Gives (Ends (Fits s Known)) (delete_in s ctx asked)
 delete_gives Known s ctx asked =
@@ -204,18 +169,18 @@ delete_gives Known s ctx asked =
     after (after (named_gives s (analysed_delete_names asked) ((asked.table, table) ∷ []) []) (λ found _. analysed_delete_gives asked (asked.table, table) found)) (λ parts _.
     let c : Command = record { role = ctx.role; name = asked.table; table = table; kind = k.Delete; reads = analysed_delete_reads parts; queries = tables_if parts.condition } in
     after (permitted_gives s c) (λ _ _.
-    after (qualifying_rows_give s c parts.condition) (λ judged _.
-    gives (Ends (Fits s Known)) (deleted asked.table parts ctx.role judged) (deleted_fit Known s asked.table judged.1)))))
+    let old : List Stored = qualifying s c parts.condition in
+    gives (Ends (Fits s Known)) (effect.Done (reply_of parts.returning c.role old) (decisions s c side.Old (scanned s c parts.condition)) (map (deleted c.name) old) None) (deleted_fit Known s c.name old))))
 
 insert_rows_give : (Known : Type 0) (s : State) (ctx : Ctx) (parts : AnalysedInsert) (c : Command) → Gives (Ends (Fits s Known)) (insert_rows s ctx parts c)
 insert_rows_give Known s ctx parts c =
     after (permitted_gives s c) (λ _ _.
-    after (tuples_give s c parts.tuples) (λ values _.
-    after (new_rows_give ctx c.table parts values) (λ rows _.
-    after (decisions_give s c rows) (λ decided _.
-    let allowed : Result (Unit {0}) Refusal = allowed_in s c.name c.table.columns (order_of parts.places c.table.columns) decided [] rows in
-    gives (Ends (Fits s Known)) (inserted c.name parts.returning c.role decided rows allowed)
-    (inserted_ends Known s c.name parts.returning c.role decided rows allowed (allowed_gives s c.name c.table.columns (order_of parts.places c.table.columns) decided [] rows))))))
+    after (each_gives (row_of_tuple s c parts.places) (row_gives s c parts.places) parts.tuples) (λ rows _.
+    let new : List Stored = numbered c.table.key ctx.txn ctx.next rows in
+    let decided : List Decision = decisions s c side.New new in
+    let allowed : Result (Unit {0}) Refusal = allowed_in s c.name c.table.columns (order_of parts.places c.table.columns) decided [] new in
+    gives (Ends (Fits s Known)) (done_or_refused allowed (reply_of parts.returning c.role new) decided (map (inserted c.name) new))
+    (done_ends Known s (reply_of parts.returning c.role new) decided (map (inserted c.name) new) allowed (allowed_gives s c.name c.table.columns (order_of parts.places c.table.columns) decided [] new) (inserted_fit Known s c.name new))))
 
 pub insert_gives : (Known : Type 0) (s : State) (ctx : Ctx) (asked : Insert) → Gives (Ends (Fits s Known)) (insert_in s ctx asked)
 insert_gives Known s ctx asked =
@@ -225,16 +190,16 @@ insert_gives Known s ctx asked =
     analysed_insert_gives ctx.next asked (asked.table, table) places found))) (λ parts _.
     insert_rows_give Known s ctx parts (record { role = ctx.role; name = asked.table; table = table; kind = k.Insert; reads = returning_reads parts.returning; queries = tuples_tables parts.tuples })))
 
-update_rows_give : (Known : Type 0) (s : State) (parts : AnalysedUpdate) (c : Command) → Gives (Ends (Fits s Known)) (meaning.update_rows s parts c)
+update_rows_give : (Known : Type 0) (s : State) (parts : AnalysedUpdate) (c : Command) → Gives (Ends (Fits s Known)) (update_rows s parts c)
 update_rows_give Known s parts c =
     after (permitted_gives s c) (λ _ _.
-    after (qualifying_rows_give s c parts.condition) (λ judged _.
-    after (assignments_give s c parts.assignments judged.1) (λ values _.
-    after (updated_rows_give c.table (places_set parts.assignments) judged.1 values) (λ new _.
-    after (decisions_give s c new) (λ decided _.
-    let allowed : Result (Unit {0}) Refusal = allowed_in s c.name c.table.columns (order_of (places_set parts.assignments) c.table.columns) decided judged.1 new in
-    gives (Ends (Fits s Known)) (updated c.name parts c.role (judged.0 ++ decided) judged.1 new allowed)
-    (updated_ends Known s c.name parts c.role (judged.0 ++ decided) judged.1 new allowed (allowed_gives s c.name c.table.columns (order_of (places_set parts.assignments) c.table.columns) decided judged.1 new)))))))
+    let old : List Stored = qualifying s c parts.condition in
+    after (each_gives (new_version s c parts.assignments) (version_gives s c parts.assignments) old) (λ new _.
+    let decided : List Decision = decisions s c side.New new in
+    let both : List Decision = decisions s c side.Old (scanned s c parts.condition) ++ decided in
+    let allowed : Result (Unit {0}) Refusal = allowed_in s c.name c.table.columns (order_of (places_set parts.assignments) c.table.columns) decided old new in
+    gives (Ends (Fits s Known)) (done_or_refused allowed (reply_of parts.returning c.role new) both (updated c.name old new))
+    (done_ends Known s (reply_of parts.returning c.role new) both (updated c.name old new) allowed (allowed_gives s c.name c.table.columns (order_of (places_set parts.assignments) c.table.columns) decided old new) (updated_fit Known s c.name old new))))
 
 pub update_gives : (Known : Type 0) (s : State) (ctx : Ctx) (asked : Update) → Gives (Ends (Fits s Known)) (update_in s ctx asked)
 update_gives Known s ctx asked =

@@ -7,7 +7,6 @@ pub mod GrantsAscending
 pub mod MembershipsAscending
 pub mod Fitting
 pub mod Giving
-pub mod Evaluating
 pub mod Defining
 pub mod Handing
 pub mod Judging
