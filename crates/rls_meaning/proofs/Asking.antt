@@ -8,7 +8,7 @@ use Rattle.rls_catalog.specs.declared.verdict.Side.TheVariants as side
 use Rattle.rls_evaluation.specs.{Environments.alone, Environments.over, Gathering.gathered}
 use Rattle.rls_guard.specs.declared.reply.Decision.{Decision}
 use Rattle.rls_judging.specs.{Judging.decisions_on, Judging.judged_old, Judging.with_decisions, Judging.with_judged, Valuing.values_on, Valuing.with_row_values, Valuing.with_values}
-use Rattle.rls_meaning.specs.{Commands.Command, Evaluating.value, Expanding.sees, Rows.checks, Rows.scanned, Rows.shown_to}
+use Rattle.rls_meaning.specs.{Commands.Command, Evaluating.value, Expanding.sees, Expanding.checks, Rows.scanned, Rows.shown_to}
 
 -- ---- as questions
 

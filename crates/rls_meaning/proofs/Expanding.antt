@@ -14,7 +14,7 @@ use Rattle.rls_expansion.specs.{declared.expansion.PolicyExpansion.PolicyExpansi
 use Rattle.rls_depth.specs.Deep.{JudgeAlike, policies_in, ruled, shows_deep, state_quals}
 use Rattle.rls_evaluation.specs.{Environments.Environment, Eval.Shows, Eval.value_of, Showing.shows}
 use Rattle.rls_depth.proofs.{Deepening.relations_few, ExpansionLaws.policies_told, Stating.reached_read, Tables.within_first, Tables.within_last, Walking.AreRead, Walking.are_read}
-use Rattle.rls_meaning.specs.{Chains.depth, Chains.first_closing, Chains.subquery_tables_in, Commands.Command, Commands.closing_in, Commands.depth_of, Commands.needed_in, Commands.own_of, Needing.needs, Expanding.IsExpanded, Expanding.IsExpansionIn, Expanding.Made, Expanding.Refused, Expanding.expansion_in, Expanding.sees, Rows.check, Showing.select_quals}
+use Rattle.rls_meaning.specs.{Chains.depth, Chains.first_closing, Chains.subquery_tables_in, Commands.Command, Commands.closing_in, Commands.depth_of, Commands.needed_in, Commands.own_of, Needing.needs, Expanding.IsExpanded, Expanding.IsExpansionIn, Expanding.Made, Expanding.Refused, Expanding.expansion_in, Expanding.sees, Expanding.check, Expanding.select_quals}
 use Rattle.rls_meaning.proofs.{Listing.checks_in_order, Listing.search_told, Dependencies.Dependencies, Dependencies.dependencies_read, Dependencies.Same, Dependencies.same_dependencies, Dependencies.closing_same, Dependencies.needs_same, Dependencies.in_order_few, Dependencies.tables_few, States.own_told}
 
 -- what the laws of the search say

@@ -1,19 +1,22 @@
 -- What the machine says of rows, and what its tables show, are what the meaning says; and so are the rows of a command.
-use Rattle.std.specs.Prelude.{◌≡◌, refl, ℕ, zero, suc, List, [], ◌∷◌, ◌++◌, Bool, true, false, ◌&&◌, cond, Option, Some, None, Ok, map, filter}
+use Rattle.std.specs.Prelude.{◌≡◌, refl, ℕ, zero, suc, List, [], ◌∷◌, ◌++◌, Bool, true, false, ◌&&◌, cond, Option, Some, None, Ok, map, filter, if◌then◌else◌}
 use Rattle.std.specs.List.{flat_map, list_all, list_any}
+use Rattle.std.specs.Option.{option_map}
 use Rattle.std.proofs.Common.{ap, ◌∙◌}
-use Rattle.rls_value.specs.{declared.row.RowId.RowId, declared.value.Value.Value, Giving.and_then, Values.is_null, Values.truth_in}
-use Rattle.rls_expr.specs.{declared.policy.Policy.Policy, Terms.Term, Terms.Terms, Terms.maybe_term}
-use Rattle.rls_catalog.specs.{declared.stored.Stored.Stored, State.State, Verdict.verdict_of}
+use Rattle.rls_value.specs.{declared.row.RowId.RowId, declared.value.Value.Value, declared.verb.Kind.Kind, Giving.and_then, Values.is_null, Values.truth_in}
+use Rattle.rls_value.specs.declared.verb.Kind.TheVariants as k
+use Rattle.rls_expr.specs.{declared.policy.Policy.Policy, declared.table.TableDef.TableDef, Scopes.InScope, Terms.Term, Terms.Terms, Terms.maybe_term}
+use Rattle.rls_catalog.specs.{declared.stored.Stored.Stored, declared.verdict.Side.Side, declared.verdict.Verdict.Verdict, State.State, State.table_of, Verdict.applying_of, Verdict.is_exempt, Verdict.verdict_of}
 use Rattle.rls_catalog.specs.declared.verdict.Side.TheVariants as side
+use Rattle.rls_catalog.specs.declared.verdict.Verdict.TheVariants as v
 use Rattle.rls_source.specs.{Asked.asked_key, Asked.keyed_at, Asked.rows_at, Askings.Asking, Askings.asked_if, Askings.followed_by, Askings.known}
 use Rattle.rls_evaluation.specs.{declared.relation.SecurityQuals.SecurityQuals, declared.relation.SecurityQuals.TheVariants.Exempt, declared.relation.SecurityQuals.TheVariants.Policies, Environments.Environment, Environments.alone, Environments.over, Eval.Shows, Eval.value_of, Gathering.gathered, Gathering.kept, Gathering.with_row}
 use Rattle.rls_evaluation.specs.Showing.{allows, asked_for, is_allowed, judgements_on, values_of, verdict_on as machine_verdict_on}
-use Rattle.rls_guard.specs.{declared.quals.RowCheck.RowCheck, declared.reply.Decision.Decision}
-use Rattle.rls_depth.specs.Deep.{shown_by, shows_deep}
+use Rattle.rls_guard.specs.{declared.quals.RowCheck.RowCheck, declared.reply.Decision.Decision, SecurityQuals.conditions_of}
+use Rattle.rls_depth.specs.Deep.{ruled, shown_by, shows_deep}
 use Rattle.rls_judging.specs.{Judging.are_allowed, Judging.decision_by, Judging.decisions_on as machine_decisions_on, Judging.judged_old, Judging.qualifies_if, Judging.row_if_qualifying, Judging.with_judged, Valuing.values_on}
-use Rattle.rls_meaning.specs.{Commands.Command, Commands.depth_of, Evaluating.Shown, Evaluating.is_met, Evaluating.value, Expanding.sees}
-use Rattle.rls_meaning.specs.{Rows.checks, Rows.decisions, Rows.qualifying, Rows.scanned, Rows.shown_to, Showing.allowed_by, Showing.decisions_on, Showing.qualifies, Showing.rows_at_key, Showing.select_quals, Showing.shows, Showing.verdict_on}
+use Rattle.rls_meaning.specs.{Commands.Command, Commands.depth_of, Evaluating.Shown, Evaluating.is_met, Evaluating.value, Expanding.check, Expanding.checks, Expanding.sees, Expanding.select_quals}
+use Rattle.rls_meaning.specs.{Rows.decisions, Rows.kinds_of, Rows.qualifying, Rows.scanned, Rows.shown_to, Rows.verdict, Showing.allowed_rows, Showing.rows_at_key, Showing.shows, Showing.verdict_in}
 use Rattle.rls_meaning.proofs.Asking.{decisions_in, put_values, qualifying_rows_in, row_values, set_values, tuple_values}
 use Rattle.rls_meaning.proofs.Evaluating.{Alike, gathered_told, meets_told, put_all, value_told}
 
@@ -50,22 +53,39 @@ kept_told ask is s told rows = gathered_told with_row [] ask is s told rows ∙ 
 
 -- ---- a row
 
+-- the verdict by quals
+abbrev verdict_by : SecurityQuals → Shown → List ℕ → List Value → Verdict
+verdict_by Exempt shown role row = v.Exempt
+verdict_by (Policies conditions) shown role row = verdict_of (map (λ condition. (condition.0, truth_in (value condition.1 shown (over role row)))) conditions)
+
+-- the decision of a check
+abbrev decision_of : Shown → List ℕ → RowId → List Value → RowCheck → Decision
+decision_of shown role id row row_check = record { id = id; side = row_check.side; kind = row_check.kind; verdict = verdict_by row_check.quals shown role row }
+
 judgements_told : (s : State) (sees : Shows) (shown : Shown) → Alike s sees shown → (conditions : List (Policy × Term)) (role : List ℕ) (row : List Value)
     → ((judgements_on conditions sees role row).in_state s).gives ≡ Ok (map (λ condition. (condition.0, truth_in (value condition.1 shown (over role row)))) conditions)
 judgements_told s sees shown alike [] role row = refl
 judgements_told s sees shown alike ((policy, term) ∷ conditions) role row =
     λ i. and_then (value_told s sees shown alike term (over role row) i) (λ v. and_then (judgements_told s sees shown alike conditions role row i) (λ judgements. Ok ((policy, truth_in v) ∷ judgements)))
 
--- the verdict on a row
-pub verdict_told : (s : State) (sees : Shows) (shown : Shown) → Alike s sees shown → (quals : SecurityQuals) (role : List ℕ) (row : List Value) → ((machine_verdict_on quals sees role row).in_state s).gives ≡ Ok (verdict_on quals shown role row)
+verdict_told : (s : State) (sees : Shows) (shown : Shown) → Alike s sees shown → (quals : SecurityQuals) (role : List ℕ) (row : List Value) → ((machine_verdict_on quals sees role row).in_state s).gives ≡ Ok (verdict_by quals shown role row)
 verdict_told s sees shown alike Exempt role row = refl
 verdict_told s sees shown alike (Policies conditions) role row = λ i. and_then (judgements_told s sees shown alike conditions role row i) (λ judgements. Ok (verdict_of judgements))
 
+ruled_if : (b : Bool) (conditions : List (Policy × Term)) (shown : Shown) (role : List ℕ) (row : List Value)
+    → verdict_by (if b then Exempt else Policies conditions) shown role row ≡ (if b then v.Exempt else verdict_of (map (λ condition. (condition.0, truth_in (value condition.1 shown (over role row)))) conditions))
+ruled_if true conditions shown role row = refl
+ruled_if false conditions shown role row = refl
+
+-- by the quals of the state it is that of the meaning
+verdict_ruled : (s : State) (shown : Shown) (role : List ℕ) (from : InScope) (kind : Kind) (which : Side) (row : List Value) → verdict_by (ruled s role kind which from) shown role row ≡ verdict_in s shown role from kind which row
+verdict_ruled s shown role from kind which row = ruled_if (is_exempt s role from.1) (conditions_of kind which from s.tables (applying_of s role from.0 kind which)) shown role row
+
 -- the decisions on a row
-pub decisions_on_told : (s : State) (sees : Shows) (shown : Shown) → Alike s sees shown → (row_checks : List RowCheck) (role : List ℕ) (id : RowId) (row : List Value)
-    → ((machine_decisions_on row_checks sees role id row).in_state s).gives ≡ Ok (decisions_on row_checks shown role id row)
+decisions_on_told : (s : State) (sees : Shows) (shown : Shown) → Alike s sees shown → (row_checks : List RowCheck) (role : List ℕ) (id : RowId) (row : List Value)
+    → ((machine_decisions_on row_checks sees role id row).in_state s).gives ≡ Ok (map (decision_of shown role id row) row_checks)
 decisions_on_told s sees shown alike row_checks role id row =
-    each_told (decision_by sees role id row) (λ row_check. record { id = id; side = row_check.side; kind = row_check.kind; verdict = verdict_on row_check.quals shown role row }) s
+    each_told (decision_by sees role id row) (decision_of shown role id row) s
     (λ row_check. λ i. and_then (verdict_told s sees shown alike row_check.quals role row i) (λ verdict. Ok (record { id = id; side = row_check.side; kind = row_check.kind; verdict = verdict }))) row_checks
 
 -- ---- tables
@@ -80,17 +100,18 @@ unfolding rows_at keyed_at
 asked_for_told s name None = refl
 asked_for_told s name (Some key) = with_key (list_any is_null key) s name key
 
-shown_by_told : (s : State) (sees : Shows) (shown : Shown) → Alike s sees shown → (quals : Option SecurityQuals) (role name : List ℕ) (key : Option (List Value))
-    → ((shown_by quals sees role name key).in_state s).gives ≡ Ok (allowed_by quals shown role (rows_at_key s name key))
+shown_by_told : (s : State) (sees : Shows) (shown : Shown) → Alike s sees shown → (found : Option TableDef) (role name : List ℕ) (key : Option (List Value))
+    → ((shown_by (option_map (λ table. ruled s role k.Select side.Old (name, table)) found) sees role name key).in_state s).gives ≡ Ok (allowed_rows s shown role name found (rows_at_key s name key))
 shown_by_told s sees shown alike None role name key = refl
-shown_by_told s sees shown alike (Some quals) role name key =
+shown_by_told s sees shown alike (Some table) role name key =
     λ i. and_then (asked_for_told s name key i) (λ rows.
-    kept_told (is_allowed quals sees role) (λ row. allows (verdict_on quals shown role row)) s (λ row. λ j. and_then (verdict_told s sees shown alike quals role row j) (λ verdict. Ok (allows verdict))) rows i)
+    kept_told (is_allowed (ruled s role k.Select side.Old (name, table)) sees role) (λ row. allows (verdict_in s shown role (name, table) k.Select side.Old row)) s
+    (λ row. (λ j. and_then (verdict_told s sees shown alike (ruled s role k.Select side.Old (name, table)) role row j) (λ verdict. Ok (allows verdict))) ∙ ap (λ verdict. Ok (allows verdict)) (verdict_ruled s shown role (name, table) k.Select side.Old row)) rows i)
 
 -- tables show what they show by the meaning
 pub shows_told : (n : ℕ) (s : State) (role : List ℕ) → Alike s (shows_deep n (select_quals s role) role) (shows n s role)
 shows_told zero s role name key = refl
-shows_told (suc n) s role name key = shown_by_told s (shows_deep n (select_quals s role) role) (shows n s role) (shows_told n s role) (select_quals s role name) role name key
+shows_told (suc n) s role name key = shown_by_told s (shows_deep n (select_quals s role) role) (shows n s role) (shows_told n s role) (table_of s name) role name key
 
 pub sees_told : (s : State) (c : Command) → Alike s (sees s c) (shown_to s c)
 sees_told s c = shows_told (depth_of s c) s c.role
@@ -102,16 +123,33 @@ qualifies_if_told : (b : Bool) (s : State) (sees : Shows) (shown : Shown) → Al
 qualifies_if_told true s sees shown alike condition role row = meets_told s sees shown alike condition (over role row)
 qualifies_if_told false s sees shown alike condition role row = refl
 
-all_allow : (shown : Shown) (row_checks : List RowCheck) (role : List ℕ) (id : RowId) (row : List Value) → are_allowed (decisions_on row_checks shown role id row) ≡ list_all (λ row_check. allows (verdict_on row_check.quals shown role row)) row_checks
-all_allow shown [] role id row = refl
-all_allow shown (row_check ∷ row_checks) role id row = ap (λ rest. allows (verdict_on row_check.quals shown role row) && rest) (all_allow shown row_checks role id row)
+-- the decision of the meaning
+abbrev decision_for : State → Command → Side → RowId → List Value → Kind → Decision
+decision_for s c which id row kind = record { id = id; side = which; kind = kind; verdict = verdict s c which row kind }
 
-judged_told : (s : State) (sees : Shows) (shown : Shown) → Alike s sees shown → (row_checks : List RowCheck) (condition : Terms) (role : List ℕ) (stored : Stored)
-    → ((judged_old row_checks condition sees role stored).in_state s).gives ≡ Ok (decisions_on row_checks shown role stored.id stored.row, qualifies row_checks condition shown role stored.row)
-judged_told s sees shown alike row_checks condition role stored =
-    (λ i. and_then (decisions_on_told s sees shown alike row_checks role stored.id stored.row i) (λ decided.
-    and_then (qualifies_if_told (are_allowed decided) s sees shown alike condition role stored.row i) (λ is. Ok (decided, is))))
-    ∙ ap (λ b. Ok (decisions_on row_checks shown role stored.id stored.row, b && is_met condition shown (over role stored.row))) (all_allow shown row_checks role stored.id stored.row)
+checked_if : (reads : Bool) (s : State) (c : Command) (which : Side) (id : RowId) (row : List Value) → map (decision_of (shown_to s c) c.role id row) (check s c which c.kind ∷ (if reads then check s c which k.Select ∷ [] else []))
+    ≡ map (decision_for s c which id row) (c.kind ∷ (if reads then k.Select ∷ [] else []))
+checked_if true s c which id row =
+    λ i. record { id = id; side = which; kind = c.kind; verdict = verdict_ruled s (shown_to s c) c.role (c.name, c.table) c.kind which row i }
+    ∷ record { id = id; side = which; kind = k.Select; verdict = verdict_ruled s (shown_to s c) c.role (c.name, c.table) k.Select which row i } ∷ []
+checked_if false s c which id row = λ i. record { id = id; side = which; kind = c.kind; verdict = verdict_ruled s (shown_to s c) c.role (c.name, c.table) c.kind which row i } ∷ []
+
+-- the decisions on a row of a command
+row_told : (s : State) (c : Command) (which : Side) (stored : Stored)
+    → ((machine_decisions_on (checks s c which) (sees s c) c.role stored.id stored.row).in_state s).gives ≡ Ok (map (decision_for s c which stored.id stored.row) (kinds_of c))
+row_told s c which stored = decisions_on_told s (sees s c) (shown_to s c) (sees_told s c) (checks s c which) c.role stored.id stored.row ∙ ap Ok (checked_if c.reads s c which stored.id stored.row)
+
+all_allow : (s : State) (c : Command) (which : Side) (id : RowId) (row : List Value) (kinds : List Kind) → are_allowed (map (decision_for s c which id row) kinds) ≡ list_all (λ kind. allows (verdict s c which row kind)) kinds
+all_allow s c which id row [] = refl
+all_allow s c which id row (kind ∷ kinds) = ap (λ rest. allows (verdict s c which row kind) && rest) (all_allow s c which id row kinds)
+
+judged_told : (s : State) (c : Command) (condition : Terms) (stored : Stored)
+    → ((judged_old (checks s c side.Old) condition (sees s c) c.role stored).in_state s).gives
+    ≡ Ok (map (decision_for s c side.Old stored.id stored.row) (kinds_of c), list_all (λ kind. allows (verdict s c side.Old stored.row kind)) (kinds_of c) && is_met condition (shown_to s c) (over c.role stored.row))
+judged_told s c condition stored =
+    (λ i. and_then (row_told s c side.Old stored i) (λ decided.
+    and_then (qualifies_if_told (are_allowed decided) s (sees s c) (shown_to s c) (sees_told s c) condition c.role stored.row i) (λ is. Ok (decided, is))))
+    ∙ ap (λ b. Ok (map (decision_for s c side.Old stored.id stored.row) (kinds_of c), b && is_met condition (shown_to s c) (over c.role stored.row))) (all_allow s c side.Old stored.id stored.row (kinds_of c))
 
 row_more : (b : Bool) (stored : Stored) (rows : List Stored) → row_if_qualifying b stored ++ rows ≡ cond b (stored ∷ rows) rows
 row_more true stored rows = refl
@@ -121,19 +159,18 @@ judged_put : (decided : Stored → List Decision) (is : Stored → Bool) (rows :
 judged_put decided is [] = refl
 judged_put decided is (stored ∷ rows) = ap (with_judged stored (decided stored, is stored)) (judged_put decided is rows) ∙ ap (λ kept. (decided stored ++ flat_map decided rows, kept)) (row_more (is stored) stored (filter is rows))
 
--- the decisions on the rows that it looks at, and those that qualify
+-- the decisions on the rows that are scanned, and those that qualify
 pub qualifying_told : (s : State) (c : Command) (condition : Option Term) → qualifying_rows_in s c condition ≡ Ok (decisions s c side.Old (scanned s c condition), qualifying s c condition)
 qualifying_told s c condition =
-    gathered_told with_judged ([], []) (judged_old (checks s c side.Old) (maybe_term condition) (sees s c) c.role)
-    (λ stored. (decisions_on (checks s c side.Old) (shown_to s c) c.role stored.id stored.row, qualifies (checks s c side.Old) (maybe_term condition) (shown_to s c) c.role stored.row)) s
-    (judged_told s (sees s c) (shown_to s c) (sees_told s c) (checks s c side.Old) (maybe_term condition) c.role) (scanned s c condition)
-    ∙ ap Ok (judged_put (λ stored. decisions_on (checks s c side.Old) (shown_to s c) c.role stored.id stored.row) (λ stored. qualifies (checks s c side.Old) (maybe_term condition) (shown_to s c) c.role stored.row) (scanned s c condition))
+    let is : Stored → Bool = λ stored. list_all (λ kind. allows (verdict s c side.Old stored.row kind)) (kinds_of c) && is_met (maybe_term condition) (shown_to s c) (over c.role stored.row) in
+    gathered_told with_judged ([], []) (judged_old (checks s c side.Old) (maybe_term condition) (sees s c) c.role) (λ stored. (map (decision_for s c side.Old stored.id stored.row) (kinds_of c), is stored)) s
+    (judged_told s c (maybe_term condition)) (scanned s c condition)
+    ∙ ap Ok (judged_put (λ stored. map (decision_for s c side.Old stored.id stored.row) (kinds_of c)) is (scanned s c condition))
 
 -- the decisions on new rows
 pub decisions_told : (s : State) (c : Command) (rows : List Stored) → decisions_in s c rows ≡ Ok (decisions s c side.New rows)
 decisions_told s c rows =
-    all_told (λ stored. machine_decisions_on (checks s c side.New) (sees s c) c.role stored.id stored.row) (λ stored. decisions_on (checks s c side.New) (shown_to s c) c.role stored.id stored.row) s
-    (λ stored. decisions_on_told s (sees s c) (shown_to s c) (sees_told s c) (checks s c side.New) c.role stored.id stored.row) rows
+    all_told (λ stored. machine_decisions_on (checks s c side.New) (sees s c) c.role stored.id stored.row) (λ stored. map (decision_for s c side.New stored.id stored.row) (kinds_of c)) s (row_told s c side.New) rows
 
 assigned_told : (s : State) (sees : Shows) (shown : Shown) → Alike s sees shown → (assignments : List (ℕ × Term)) (env : Environment)
     → ((values_on (map (λ assignment. assignment.1) assignments) sees env).in_state s).gives ≡ Ok (map (λ assignment. value assignment.1 shown env) assignments)

@@ -1,20 +1,34 @@
 -- What the expansion of a command's policies comes to, in the words of a state (PostgreSQL manual, 5.8, and CREATE POLICY,
 -- "Policies Applied by Command Type").
-use Rattle.std.specs.Prelude.{◌≡◌, ℕ, List, [], Bool, Some, None, Result, Ok, Err, if◌then◌else◌}
-use Rattle.rls_value.specs.declared.refusal.Refusal.{Refusal}
+use Rattle.std.specs.Option.{option_map}
+use Rattle.std.specs.Prelude.{◌≡◌, ℕ, List, [], ◌∷◌, Bool, Option, Some, None, Result, Ok, Err, if◌then◌else◌}
+use Rattle.rls_value.specs.{declared.refusal.Refusal.Refusal, declared.verb.Kind.Kind}
+use Rattle.rls_value.specs.declared.verb.Kind.TheVariants as k
 use Rattle.rls_value.specs.declared.refusal.Refusal.TheVariants.{Recursion}
 use Rattle.rls_expr.specs.Terms.{Term}
-use Rattle.rls_catalog.specs.{declared.verdict.Side.Side, Membership.Within, State.State}
+use Rattle.rls_catalog.specs.{declared.verdict.Side.Side, Membership.Within, State.State, State.table_of}
 use Rattle.rls_catalog.specs.declared.verdict.Side.TheVariants as side
-use Rattle.rls_evaluation.specs.{Environments.Environment, Eval.Shows, Eval.value_of, Showing.shows}
+use Rattle.rls_evaluation.specs.{declared.relation.SecurityQuals.SecurityQuals, Environments.Environment, Eval.Shows, Eval.value_of, Showing.shows}
 use Rattle.rls_guard.specs.{declared.quals.RowCheck.RowCheck, RolePrivileges.role_privileges_in}
 use Rattle.rls_expansion.specs.{declared.expansion.PolicyExpansion.PolicyExpansion, Expanding.judges_new, Expanding.judges_old, Expanding.expansion_of, Used.tables_of}
-use Rattle.rls_depth.specs.Deep.{JudgeAlike, shows_deep}
-use Rattle.rls_meaning.specs.{Commands.Command, Commands.closing_in, Commands.depth_of, Commands.needed_in, Rows.checks, Showing.select_quals}
+use Rattle.rls_depth.specs.Deep.{JudgeAlike, ruled, shows_deep}
+use Rattle.rls_meaning.specs.{Commands.Command, Commands.closing_in, Commands.depth_of, Commands.needed_in}
 
 -- the command's policy expansion
 abbrev pub expansion_in : State → Command → Result PolicyExpansion Refusal
 expansion_in s c = ((expansion_of (role_privileges_in s c.role) c.name c.table c.kind c.reads c.queries).in_state s).gives
+
+-- the security quals of each table that subqueries look at
+abbrev pub select_quals : State → List ℕ → List ℕ → Option SecurityQuals
+select_quals s role name = option_map (λ table. ruled s role k.Select side.Old (name, table)) (table_of s name)
+
+-- one check of a row: by the policies that apply to the role for that type of command
+abbrev pub check : State → Command → Side → Kind → RowCheck
+check s c which kind = record { kind = kind; side = which; quals = ruled s c.role kind which (c.name, c.table) }
+
+-- what a row is checked for: the command and, where it reads the table, SELECT
+abbrev pub checks : State → Command → Side → List RowCheck
+checks s c which = check s c which c.kind ∷ (if c.reads then check s c which k.Select ∷ [] else [])
 
 -- what tables show to the role, in its subqueries and in those of policies, as a question of the state
 abbrev pub sees : State → Command → Shows

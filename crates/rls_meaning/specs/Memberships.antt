@@ -1,9 +1,10 @@
 -- GRANT and REVOKE of roles (PostgreSQL manual, GRANT and REVOKE): the roles, then the members have to be there; then each role
 -- has to be one that the current role may grant; then one membership after another changes.
 use Rattle.std.specs.Prelude.{ℕ, List, [], ◌∷◌, not, Result, Ok, map}
+use Rattle.std.specs.BTreeMap.{insert_entry}
 use Rattle.rls_value.specs.{declared.refusal.GrantFault.TheVariants.Cycle, declared.refusal.Refusal.Refusal, declared.refusal.Refusal.TheVariants.Denied, declared.refusal.Refusal.TheVariants.GrantOp, Giving.and_then}
 use Rattle.rls_value.specs.declared.refusal.Why.TheVariants as why
-use Rattle.rls_catalog.specs.{declared.change.Change.Change, Changed.changed, Membership.fresh, Paths.closes_circle, Paths.may_grant, State.State, State.members_of}
+use Rattle.rls_catalog.specs.{declared.change.Change.Change, Membership.fresh, Paths.closes_circle, Paths.may_grant, State.State, State.members_of, State.name_order}
 use Rattle.rls_catalog.specs.declared.change.Change.TheVariants as change
 use Rattle.rls_source.specs.Sequences.{each_or_refused}
 use Rattle.rls_statement.specs.{declared.statement.GrantRoles.GrantRoles, declared.statement.MembershipOptions.MembershipOptions, declared.statement.RevokeRoles.RevokeRoles}
@@ -23,7 +24,7 @@ in_turn step (x ∷ xs) s = and_then (step x s) (λ after. in_turn step xs after
 abbrev pub joined_in : MembershipOptions → List ℕ → List ℕ → State → Result State Refusal
 joined_in written role member s =
     and_then (provided (not (closes_circle s role member)) (GrantOp (Cycle role member))) (λ _.
-    Ok (changed s (change.Members member (granted_to written role (members_of s member)))))
+    Ok (record s { members = insert_entry name_order s.members member (granted_to written role (members_of s member)) }))
 
 -- GRANT: each role to each member; what changes is the memberships of each member, named once
 abbrev pub grant_roles_in : State → List ℕ → GrantRoles → Result (List Change) Refusal
