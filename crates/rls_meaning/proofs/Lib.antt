@@ -4,7 +4,7 @@ pub mod States
 pub mod Dependencies
 pub mod Expanding
 pub mod Evaluating
-pub mod Asking
+pub mod Questions
 pub mod Showing
 pub mod Replying
 pub mod Qualifying

@@ -17,7 +17,7 @@ use Rattle.rls_judging.specs.{ScannedRows.scanned_rows, ScannedRows.scanned_rows
 use Rattle.rls_dml.specs.Writing.{privileges_or_denied, readable_or_denied}
 use Rattle.rls_meaning.specs.{Chains.subquery_tables_in, Commands.Command, Commands.depth_of, Commands.needed_in, Commands.own_of, Commands.permitted, Commands.permitted_in, Commands.privilege_of, Commands.required, Commands.unless_closed, Naming.provided, Needing.needs}
 use Rattle.rls_meaning.specs.{Expanding.IsExpanded, Expanding.IsExpansionIn, Expanding.Made, Expanding.Refused, Expanding.checks_if, Expanding.expansion_in, Expanding.sees, Expanding.checks, Showing.rows_at_key}
-use Rattle.rls_meaning.proofs.Asking.{decisions_in, qualifying_rows_in}
+use Rattle.rls_meaning.proofs.Questions.{decisions_in, qualifying_rows_in}
 
 -- ---- privileges
 

@@ -17,7 +17,7 @@ use Rattle.rls_depth.specs.Deep.{ruled, shown_by, shows_deep}
 use Rattle.rls_judging.specs.{Judging.are_allowed, Judging.decision_by, Judging.decisions_on as machine_decisions_on, Judging.judged_old, Judging.qualifies_if, Judging.row_if_qualifying, Judging.with_judged, Valuing.values_on}
 use Rattle.rls_meaning.specs.{Commands.Command, Commands.depth_of, Evaluating.Shown, Evaluating.is_met, Evaluating.value, Expanding.check, Expanding.checks, Expanding.sees, Expanding.select_quals}
 use Rattle.rls_meaning.specs.{Rows.decisions, Rows.kinds_of, Rows.qualifying, Rows.scanned, Rows.shown_to, Rows.verdict, Showing.allowed_rows, Showing.rows_at_key, Showing.shows, Showing.verdict_in}
-use Rattle.rls_meaning.proofs.Asking.{decisions_in, put_values, qualifying_rows_in, row_values, set_values, tuple_values}
+use Rattle.rls_meaning.proofs.Questions.{decisions_in, put_values, qualifying_rows_in, row_values, set_values, tuple_values}
 use Rattle.rls_meaning.proofs.Evaluating.{Alike, gathered_told, meets_told, put_all, value_told}
 
 -- ---- lists

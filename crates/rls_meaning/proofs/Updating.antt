@@ -16,7 +16,7 @@ use Rattle.rls_judging.specs.{ScannedRows.scanned_rows_with, ScannedRows.pinned_
 use Rattle.rls_dml.specs.{declared.analysed_update.AnalysedUpdate.AnalysedUpdate, Updating.places_set, Updating.analysed_update_for, Updating.analysed_update_in, Updating.analysed_update_names, Updating.analysed_update_reads, Updating.analysed_update_tables, Updating.update_as, Updating.update_with_quals, Updating.update_qualifying_rows, Updating.update_in as update_of, Updating.update_judged, Updating.update_made, Updating.update_rows as update_new, Updating.update_values, Updating.changed_row, Updating.changed_rows, Updating.updated as machine_updated, Updating.updated_row, Updating.updated_rows, Writing.order_of}
 use Rattle.rls_access.specs.Statements.{mode_or_refused}
 use Rattle.rls_meaning.specs.{Commands.Command, Constraints.allowed_in, Expanding.IsExpanded, Expanding.IsExpansionIn, Expanding.sees, Replies.done_or_refused, Replies.reply_of, Rows.decisions, Rows.qualifying, Rows.scanned, Rows.shown_to, Evaluating.value, Commands.permitted_in, Updating.UpdateMeans, Updating.new_version, Updating.update_parts, Updating.update_rows, Updating.updated}
-use Rattle.rls_meaning.proofs.{Asking.decisions_in, Asking.new_values, Asking.qualifying_rows_in, Asking.row_values, Asking.set_values, Replying.mapped_length, Replying.reply_told, Replying.taking_its_own, Showing.decisions_told as plain_decisions, Showing.qualifying_told, Showing.set_values_told, Constraining.allowed_told, Qualifying.behind_privileges, Qualifying.decisions_told, Qualifying.gathered_same, Qualifying.looked_told, Qualifying.privileges_told, Qualifying.queries_checked, Qualifying.then_then, Qualifying.under_told, Inserting.values_same, Naming.named_told, Naming.table_told}
+use Rattle.rls_meaning.proofs.{Questions.decisions_in, Questions.new_values, Questions.qualifying_rows_in, Questions.row_values, Questions.set_values, Replying.mapped_length, Replying.reply_told, Replying.taking_its_own, Showing.decisions_told as plain_decisions, Showing.qualifying_told, Showing.set_values_told, Constraining.allowed_told, Qualifying.behind_privileges, Qualifying.decisions_told, Qualifying.gathered_same, Qualifying.looked_told, Qualifying.privileges_told, Qualifying.queries_checked, Qualifying.then_then, Qualifying.under_told, Inserting.values_same, Naming.named_told, Naming.table_told}
 
 parts_told : (s : State) (asked : Update) (table : TableDef) → ((analysed_update_for asked table).in_state s).gives ≡ update_parts s asked table
 parts_told s asked table = ap (λ given. and_then given (analysed_update_in asked (asked.table, table))) (named_told s (analysed_update_names asked) ((asked.table, table) ∷ []) [])
