@@ -1,5 +1,6 @@
 pub mod Typing
 pub mod Naming
+pub mod Parts
 pub mod Listing
 pub mod States
 pub mod Dependencies

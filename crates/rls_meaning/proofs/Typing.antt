@@ -1,6 +1,6 @@
 -- What an expression fits is what its type goes into.
 use Rattle.std.specs.Prelude.{◌≡◌, refl, Bool, true, false, ◌&&◌, ◌||◌}
-use Rattle.std.proofs.Common.{ap, sym, ◌∙◌}
+use Rattle.std.proofs.Common.{ap, ◌∙◌}
 use Rattle.rls_value.specs.declared.value.Value.TheVariants as v
 use Rattle.rls_value.specs.declared.value.ColType.{ColType}
 use Rattle.rls_expr.specs.declared.expr.Category.{Category}

@@ -1,5 +1,6 @@
 pub mod Typing
 pub mod Naming
+pub mod Parts
 pub mod Needing
 pub mod Chains
 pub mod Commands
