@@ -9,6 +9,7 @@ use Rattle.rls_expr.specs.declared.expr.Selects.TheVariants as s
 use Rattle.rls_expr.specs.Naming.{Step, Look, Enter, Leave, names_of, query_names, names_all}
 use Rattle.rls_expr.specs.Parts as machine
 use Rattle.rls_expr.specs.Terms.{Term, Terms, Query, Literal, Column, Var, CurrentUser, Compare, And, Or, Not, IsNull, IsNotNull, InList, NotInList, Exists, InSubquery, NotInSubquery, Scalar, Sum, End, More, Select}
+use Rattle.rls_guard.specs.Checks as checks
 use Rattle.rls_guard.specs.Support as support
 use Rattle.rls_guard.specs.Support.{is_pinned}
 use Rattle.rls_expansion.specs.Used.{entered, with_entered}
@@ -101,3 +102,126 @@ mutual
 
 pub unsupported_told : (sums : Bool) (t : Term) → support.is_unsupported sums t ≡ is_unsupported sums t
 unsupported_told sums t = unsupported_in sums [] t
+
+-- in the one, since it is in both or in neither
+swapped : (a b c d : Bool) → ((a || b) || (c || d)) ≡ ((a || c) || (b || d))
+swapped true b c d = refl
+swapped false true c d = or_true c
+swapped false false c d = refl
+
+mutual
+  item_in : (around : List FromItem) (t : Term) → (machine.has_sum t || machine.has_query t) ≡ list_any no_part_of_item (parts around t)
+  item_in around (Literal v) = refl
+  item_in around (Column name) = refl
+  item_in around (Var at) = refl
+  item_in around CurrentUser = refl
+  item_in around (Compare how a b) =
+      swapped (machine.has_sum a) (machine.has_sum b) (machine.has_query a) (machine.has_query b) ∙ joined no_part_of_item (parts around a) (parts around b) (item_in around a) (item_in around b)
+  item_in around (And ts) = items_in around ts
+  item_in around (Or ts) = items_in around ts
+  item_in around (Not t) = item_in around t
+  item_in around (IsNull t) = item_in around t
+  item_in around (IsNotNull t) = item_in around t
+  item_in around (InList t ts) =
+      swapped (machine.has_sum t) (machine.have_sum ts) (machine.has_query t) (machine.have_query ts) ∙ joined no_part_of_item (parts around t) (parts_all around ts) (item_in around t) (items_in around ts)
+  item_in around (NotInList t ts) =
+      swapped (machine.has_sum t) (machine.have_sum ts) (machine.has_query t) (machine.have_query ts) ∙ joined no_part_of_item (parts around t) (parts_all around ts) (item_in around t) (items_in around ts)
+  item_in around (Exists q) = query_in around q
+  item_in around (InSubquery t q) = sym (or_true (machine.has_sum t)) ∙ or_true (machine.has_sum t || machine.has_query t) ∙ joined no_part_of_item (parts around t) (query_parts around q) (item_in around t) (query_in around q)
+  item_in around (NotInSubquery t q) = sym (or_true (machine.has_sum t)) ∙ or_true (machine.has_sum t || machine.has_query t) ∙ joined no_part_of_item (parts around t) (query_parts around q) (item_in around t) (query_in around q)
+  item_in around (Scalar q) = query_in around q
+  item_in around (Sum signs ts) = refl
+
+  query_in : (around : List FromItem) (q : Query) → true ≡ list_any no_part_of_item (query_parts around q)
+  query_in around (Select from key selects items condition) = refl
+
+  items_in : (around : List FromItem) (ts : Terms) → (machine.have_sum ts || machine.have_query ts) ≡ list_any no_part_of_item (parts_all around ts)
+  items_in around End = refl
+  items_in around (More t ts) =
+      swapped (machine.has_sum t) (machine.have_sum ts) (machine.has_query t) (machine.have_query ts) ∙ joined no_part_of_item (parts around t) (parts_all around ts) (item_in around t) (items_in around ts)
+
+pub item_told : (t : Term) → checks.is_unsupported_item t ≡ is_unsupported_item t
+item_told t = item_in [] t
+
+-- ---- tables
+
+entered-append : (steps others : List Step) → entered (steps ++ others) ≡ entered steps ++ entered others
+entered-append [] others = refl
+entered-append (Look name ∷ steps) others = entered-append steps others
+entered-append (Enter from ∷ steps) others = ap (λ tables. from.table ∷ tables) (entered-append steps others)
+entered-append (Leave ∷ steps) others = entered-append steps others
+
+-- the tables of the one, then those of the other
+after : (steps others : List Step) (xs ys : List Part) → entered steps ≡ flat_map table_of_part xs → entered others ≡ flat_map table_of_part ys → entered (steps ++ others) ≡ flat_map table_of_part (xs ++ ys)
+after steps others xs ys first second = entered-append steps others ∙ (λ i. first i ++ second i) ∙ sym (flat_map-append table_of_part xs ys)
+
+mutual
+  tables_in : (around : List FromItem) (t : Term) → entered (names_of t) ≡ flat_map table_of_part (parts around t)
+  tables_in around (Literal v) = refl
+  tables_in around (Column name) = refl
+  tables_in around (Var at) = refl
+  tables_in around CurrentUser = refl
+  tables_in around (Compare how a b) = after (names_of a) (names_of b) (parts around a) (parts around b) (tables_in around a) (tables_in around b)
+  tables_in around (And ts) = all_tables_in around ts
+  tables_in around (Or ts) = all_tables_in around ts
+  tables_in around (Not t) = tables_in around t
+  tables_in around (IsNull t) = tables_in around t
+  tables_in around (IsNotNull t) = tables_in around t
+  tables_in around (InList t ts) = after (names_of t) (names_all ts) (parts around t) (parts_all around ts) (tables_in around t) (all_tables_in around ts)
+  tables_in around (NotInList t ts) = after (names_of t) (names_all ts) (parts around t) (parts_all around ts) (tables_in around t) (all_tables_in around ts)
+  tables_in around (Exists q) = query_tables_in around q
+  tables_in around (InSubquery t q) = after (names_of t) (query_names q) (parts around t) (query_parts around q) (tables_in around t) (query_tables_in around q)
+  tables_in around (NotInSubquery t q) = after (names_of t) (query_names q) (parts around t) (query_parts around q) (tables_in around t) (query_tables_in around q)
+  tables_in around (Scalar q) = query_tables_in around q
+  tables_in around (Sum signs ts) = all_tables_in around ts
+
+  query_tables_in : (around : List FromItem) (q : Query) → entered (query_names q) ≡ flat_map table_of_part (query_parts around q)
+  query_tables_in around (Select from key selects items condition) =
+      ap (λ tables. from.table ∷ tables) (after (names_all items) (names_all condition ++ Leave ∷ []) (parts_all (from ∷ around) items) (parts_all (from ∷ around) condition)
+      (all_tables_in (from ∷ around) items) (entered-append (names_all condition) (Leave ∷ []) ∙ append-nil (entered (names_all condition)) ∙ all_tables_in (from ∷ around) condition))
+
+  all_tables_in : (around : List FromItem) (ts : Terms) → entered (names_all ts) ≡ flat_map table_of_part (parts_all around ts)
+  all_tables_in around End = refl
+  all_tables_in around (More t ts) = after (names_of t) (names_all ts) (parts around t) (parts_all around ts) (tables_in around t) (all_tables_in around ts)
+
+pub tables_told : (t : Term) → used.tables_of t ≡ tables_of t
+tables_told t = tables_in [] t
+
+-- ---- subqueries
+
+-- a table is among those of the parts
+abbrev has_table : List Part → Bool
+has_table xs = list_any (λ _. true) (flat_map table_of_part xs)
+
+either : {b c : Bool} (xs ys : List Part) → b ≡ has_table xs → c ≡ has_table ys → (b || c) ≡ has_table (xs ++ ys)
+either xs ys first second = (λ i. first i || second i) ∙ sym (list_any-append (λ _. true) (flat_map table_of_part xs) (flat_map table_of_part ys)) ∙ sym (ap (list_any (λ _. true)) (flat_map-append table_of_part xs ys))
+
+mutual
+  has_in : (around : List FromItem) (t : Term) → machine.has_query t ≡ has_table (parts around t)
+  has_in around (Literal v) = refl
+  has_in around (Column name) = refl
+  has_in around (Var at) = refl
+  has_in around CurrentUser = refl
+  has_in around (Compare how a b) = either (parts around a) (parts around b) (has_in around a) (has_in around b)
+  has_in around (And ts) = have_in around ts
+  has_in around (Or ts) = have_in around ts
+  has_in around (Not t) = has_in around t
+  has_in around (IsNull t) = has_in around t
+  has_in around (IsNotNull t) = has_in around t
+  has_in around (InList t ts) = either (parts around t) (parts_all around ts) (has_in around t) (have_in around ts)
+  has_in around (NotInList t ts) = either (parts around t) (parts_all around ts) (has_in around t) (have_in around ts)
+  has_in around (Exists q) = query_has around q
+  has_in around (InSubquery t q) = or_true (machine.has_query t) ∙ either (parts around t) (query_parts around q) (has_in around t) (query_has around q)
+  has_in around (NotInSubquery t q) = or_true (machine.has_query t) ∙ either (parts around t) (query_parts around q) (has_in around t) (query_has around q)
+  has_in around (Scalar q) = query_has around q
+  has_in around (Sum signs ts) = have_in around ts
+
+  query_has : (around : List FromItem) (q : Query) → true ≡ has_table (query_parts around q)
+  query_has around (Select from key selects items condition) = refl
+
+  have_in : (around : List FromItem) (ts : Terms) → machine.have_query ts ≡ has_table (parts_all around ts)
+  have_in around End = refl
+  have_in around (More t ts) = either (parts around t) (parts_all around ts) (has_in around t) (have_in around ts)
+
+pub has_query_told : (t : Term) → machine.has_query t ≡ has_query t
+has_query_told t = has_in [] t
