@@ -1,6 +1,7 @@
 pub mod Typing
 pub mod Naming
 pub mod Parts
+pub mod NamedParts
 pub mod Listing
 pub mod States
 pub mod Dependencies
