@@ -1,7 +1,7 @@
 -- The names in expressions are looked for as their parts say.
 use Rattle.std.specs.Prelude.{◌≡◌, refl, ℕ, List, [], ◌∷◌, ◌++◌, Option, Some, None, Result, Ok, Err}
 use Rattle.std.specs.List.{cons_option, filter_map, flat_map}
-use Rattle.std.specs.Option.{option_map}
+use Rattle.std.specs.Option.{option_map, option_to_list}
 use Rattle.std.proofs.Common.{ap, append-nil, append_assoc, sym, ◌∙◌}
 use Rattle.std.proofs.lemmas.List.Concat.{flat_map-append}
 use Rattle.std.proofs.lemmas.List.Elements.{filter_map-append}
@@ -11,7 +11,9 @@ use Rattle.rls_expr.specs.{declared.column_name.ColumnName.ColumnName, declared.
 use Rattle.rls_expr.specs.Terms.{Term, Terms, Query, Literal, Column, Var, CurrentUser, Compare, And, Or, Not, IsNull, IsNotNull, InList, NotInList, Exists, InSubquery, NotInSubquery, Scalar, Sum, End, More, Select, qualifier_of, terms_of}
 use Rattle.rls_catalog.specs.State.{State, table_of}
 use Rattle.rls_source.specs.{Named.found_or, Sequences.each_or_refused}
+use Rattle.rls_statement.specs.declared.changing.Assignment.{Assignment}
 use Rattle.rls_guard.specs.Naming.{there_or_undefined}
+use Rattle.rls_dml.specs.{Checking.where_names, Inserting.tuples_names, Updating.assignments_names}
 use Rattle.rls_meaning.specs.Naming.{named_in}
 use Rattle.rls_meaning.specs.Parts.{Part, Expression, Subquery, around_in, found_in, is_there, names_in, parts, parts_all, query_parts, table_of_part, tables_of}
 
@@ -145,3 +147,25 @@ names_told s tables terms rest found =
 pub all_names_told : (s : State) (tables : List InScope) (terms : List Term) (found : List InScope)
     → named_in s (names_all (terms_of terms)) tables found ≡ and_then (names_in s tables terms) (λ _. Ok (found ++ found_in s terms))
 all_names_told s tables terms found = ap (λ steps. named_in s steps tables found) (sym (append-nil (names_all (terms_of terms)))) ∙ names_told s tables terms [] found
+
+-- ---- the names of a statement
+
+pub names-append : (terms others : List Term) → names_all (terms_of (terms ++ others)) ≡ names_all (terms_of terms) ++ names_all (terms_of others)
+names-append [] others = refl
+names-append (t ∷ terms) others = ap (λ more. names_of t ++ more) (names-append terms others) ∙ sym (append_assoc (names_of t) (names_all (terms_of terms)) (names_all (terms_of others)))
+
+pub where_names_told : (condition : Option Term) → where_names condition ≡ names_all (terms_of (option_to_list condition))
+where_names_told None = refl
+where_names_told (Some t) = refl
+
+pub tuples_names_told : (tuples : List (List Term)) → tuples_names tuples ≡ names_all (terms_of (flat_map (λ tuple. tuple) tuples))
+tuples_names_told [] = refl
+tuples_names_told (tuple ∷ tuples) = ap (λ more. names_all (terms_of tuple) ++ more) (tuples_names_told tuples) ∙ sym (names-append tuple (flat_map (λ more. more) tuples))
+
+-- a column of SET, which has no qualifier, and what it is set to
+abbrev pub assigned_terms : Assignment → List Term
+assigned_terms assignment = Column (record { qualifier = None; name = assignment.column }) ∷ assignment.value ∷ []
+
+pub assignments_names_told : (assignments : List Assignment) → assignments_names assignments ≡ names_all (terms_of (flat_map assigned_terms assignments))
+assignments_names_told [] = refl
+assignments_names_told (assignment ∷ assignments) = ap (λ more. Look (record { qualifier = None; name = assignment.column }) ∷ (names_of assignment.value ++ more)) (assignments_names_told assignments)

@@ -1,7 +1,8 @@
 -- What stands in an expression, by its parts.
-use Rattle.std.specs.Prelude.{◌≡◌, refl, ℕ, zero, suc, ◌+◌, List, [], ◌∷◌, ◌++◌, Bool, true, false, not, ◌||◌, nat_eq, length}
+use Rattle.std.specs.Prelude.{◌≡◌, refl, ℕ, suc, ◌+◌, List, [], ◌∷◌, ◌++◌, Option, Some, None, Bool, true, false, not, ◌||◌, nat_eq, length}
 use Rattle.std.specs.List.{flat_map, list_any}
-use Rattle.std.proofs.Common.{add-suc, add-zero, ap, append-nil, append_assoc, sym, ◌∙◌}
+use Rattle.std.specs.Option.{option_to_list}
+use Rattle.std.proofs.Common.{add-suc, add-zero, ap, append-nil, sym, ◌∙◌}
 use Rattle.std.proofs.lemmas.List.Folds.{list_any-append}
 use Rattle.std.proofs.lemmas.List.Concat.{flat_map-append}
 use Rattle.rls_expr.specs.{declared.expr.FromItem.FromItem, declared.expr.Selects.Selects}
@@ -12,9 +13,10 @@ use Rattle.rls_expr.specs.Terms.{Term, Terms, Query, Literal, Column, Var, Curre
 use Rattle.rls_guard.specs.Checks as checks
 use Rattle.rls_guard.specs.Support as support
 use Rattle.rls_guard.specs.Support.{is_pinned}
-use Rattle.rls_expansion.specs.Used.{entered, with_entered}
+use Rattle.rls_expansion.specs.Used.{entered}
 use Rattle.rls_expansion.specs.Used as used
-use Rattle.rls_meaning.specs.Parts.{Part, Expression, Subquery, has_query, is_column_of, is_unsupported, is_unsupported_item, mentions, no_part, no_part_of_item, parts, parts_all, query_parts, table_of_part, tables_of}
+use Rattle.rls_dml.specs.Inserting.{tuples_tables}
+use Rattle.rls_meaning.specs.Parts.{Part, Expression, Subquery, has_query, is_column_of, is_unsupported, is_unsupported_item, mentions, lacks_support, is_unlisted, parts, parts_all, query_parts, table_of_part, tables_of}
 
 or_false : (b : Bool) → b ≡ b || false
 or_false true = refl
@@ -67,38 +69,38 @@ mentions_told table t = (λ i. machine.mentions (sym (add-zero table) i) t) ∙ 
 
 -- ---- what isn't supported
 
-counted : (sums : Bool) (around : List FromItem) (from : FromItem) (selects : Selects) → support.is_count selects ≡ no_part sums (Subquery around from selects)
+counted : (sums : Bool) (around : List FromItem) (from : FromItem) (selects : Selects) → support.is_count selects ≡ lacks_support sums (Subquery around from selects)
 counted sums around from s.All = refl
 counted sums around from s.Count = refl
 counted sums around from s.Items = refl
 
 mutual
-  unsupported_in : (sums : Bool) (around : List FromItem) (t : Term) → support.is_unsupported sums t ≡ list_any (no_part sums) (parts around t)
+  unsupported_in : (sums : Bool) (around : List FromItem) (t : Term) → support.is_unsupported sums t ≡ list_any (lacks_support sums) (parts around t)
   unsupported_in sums around (Literal v) = refl
   unsupported_in sums around (Column name) = refl
   unsupported_in sums around (Var at) = refl
   unsupported_in sums around CurrentUser = refl
-  unsupported_in sums around (Compare how a b) = joined (no_part sums) (parts around a) (parts around b) (unsupported_in sums around a) (unsupported_in sums around b)
+  unsupported_in sums around (Compare how a b) = joined (lacks_support sums) (parts around a) (parts around b) (unsupported_in sums around a) (unsupported_in sums around b)
   unsupported_in sums around (And ts) = all_unsupported sums around ts
   unsupported_in sums around (Or ts) = all_unsupported sums around ts
   unsupported_in sums around (Not t) = unsupported_in sums around t
   unsupported_in sums around (IsNull t) = unsupported_in sums around t
   unsupported_in sums around (IsNotNull t) = unsupported_in sums around t
-  unsupported_in sums around (InList t ts) = joined (no_part sums) (parts around t) (parts_all around ts) (unsupported_in sums around t) (all_unsupported sums around ts)
-  unsupported_in sums around (NotInList t ts) = joined (no_part sums) (parts around t) (parts_all around ts) (unsupported_in sums around t) (all_unsupported sums around ts)
+  unsupported_in sums around (InList t ts) = joined (lacks_support sums) (parts around t) (parts_all around ts) (unsupported_in sums around t) (all_unsupported sums around ts)
+  unsupported_in sums around (NotInList t ts) = joined (lacks_support sums) (parts around t) (parts_all around ts) (unsupported_in sums around t) (all_unsupported sums around ts)
   unsupported_in sums around (Exists q) = query_unsupported sums around q
-  unsupported_in sums around (InSubquery t q) = joined (no_part sums) (parts around t) (query_parts around q) (unsupported_in sums around t) (query_unsupported sums around q)
-  unsupported_in sums around (NotInSubquery t q) = joined (no_part sums) (parts around t) (query_parts around q) (unsupported_in sums around t) (query_unsupported sums around q)
+  unsupported_in sums around (InSubquery t q) = joined (lacks_support sums) (parts around t) (query_parts around q) (unsupported_in sums around t) (query_unsupported sums around q)
+  unsupported_in sums around (NotInSubquery t q) = joined (lacks_support sums) (parts around t) (query_parts around q) (unsupported_in sums around t) (query_unsupported sums around q)
   unsupported_in sums around (Scalar q) = λ i. not (is_pinned q) || query_unsupported sums around q i
   unsupported_in sums around (Sum signs ts) = λ i. not sums || all_unsupported sums around ts i
 
-  query_unsupported : (sums : Bool) (around : List FromItem) (q : Query) → support.query_unsupported sums q ≡ list_any (no_part sums) (query_parts around q)
+  query_unsupported : (sums : Bool) (around : List FromItem) (q : Query) → support.query_unsupported sums q ≡ list_any (lacks_support sums) (query_parts around q)
   query_unsupported sums around (Select from key selects items condition) =
-      λ i. counted sums around from selects i || joined (no_part sums) (parts_all (from ∷ around) items) (parts_all (from ∷ around) condition) (all_unsupported sums (from ∷ around) items) (all_unsupported sums (from ∷ around) condition) i
+      λ i. counted sums around from selects i || joined (lacks_support sums) (parts_all (from ∷ around) items) (parts_all (from ∷ around) condition) (all_unsupported sums (from ∷ around) items) (all_unsupported sums (from ∷ around) condition) i
 
-  all_unsupported : (sums : Bool) (around : List FromItem) (ts : Terms) → support.are_unsupported sums ts ≡ list_any (no_part sums) (parts_all around ts)
+  all_unsupported : (sums : Bool) (around : List FromItem) (ts : Terms) → support.are_unsupported sums ts ≡ list_any (lacks_support sums) (parts_all around ts)
   all_unsupported sums around End = refl
-  all_unsupported sums around (More t ts) = joined (no_part sums) (parts around t) (parts_all around ts) (unsupported_in sums around t) (all_unsupported sums around ts)
+  all_unsupported sums around (More t ts) = joined (lacks_support sums) (parts around t) (parts_all around ts) (unsupported_in sums around t) (all_unsupported sums around ts)
 
 pub unsupported_told : (sums : Bool) (t : Term) → support.is_unsupported sums t ≡ is_unsupported sums t
 unsupported_told sums t = unsupported_in sums [] t
@@ -110,35 +112,35 @@ swapped false true c d = or_true c
 swapped false false c d = refl
 
 mutual
-  item_in : (around : List FromItem) (t : Term) → (machine.has_sum t || machine.has_query t) ≡ list_any no_part_of_item (parts around t)
+  item_in : (around : List FromItem) (t : Term) → (machine.has_sum t || machine.has_query t) ≡ list_any is_unlisted (parts around t)
   item_in around (Literal v) = refl
   item_in around (Column name) = refl
   item_in around (Var at) = refl
   item_in around CurrentUser = refl
   item_in around (Compare how a b) =
-      swapped (machine.has_sum a) (machine.has_sum b) (machine.has_query a) (machine.has_query b) ∙ joined no_part_of_item (parts around a) (parts around b) (item_in around a) (item_in around b)
+      swapped (machine.has_sum a) (machine.has_sum b) (machine.has_query a) (machine.has_query b) ∙ joined is_unlisted (parts around a) (parts around b) (item_in around a) (item_in around b)
   item_in around (And ts) = items_in around ts
   item_in around (Or ts) = items_in around ts
   item_in around (Not t) = item_in around t
   item_in around (IsNull t) = item_in around t
   item_in around (IsNotNull t) = item_in around t
   item_in around (InList t ts) =
-      swapped (machine.has_sum t) (machine.have_sum ts) (machine.has_query t) (machine.have_query ts) ∙ joined no_part_of_item (parts around t) (parts_all around ts) (item_in around t) (items_in around ts)
+      swapped (machine.has_sum t) (machine.have_sum ts) (machine.has_query t) (machine.have_query ts) ∙ joined is_unlisted (parts around t) (parts_all around ts) (item_in around t) (items_in around ts)
   item_in around (NotInList t ts) =
-      swapped (machine.has_sum t) (machine.have_sum ts) (machine.has_query t) (machine.have_query ts) ∙ joined no_part_of_item (parts around t) (parts_all around ts) (item_in around t) (items_in around ts)
+      swapped (machine.has_sum t) (machine.have_sum ts) (machine.has_query t) (machine.have_query ts) ∙ joined is_unlisted (parts around t) (parts_all around ts) (item_in around t) (items_in around ts)
   item_in around (Exists q) = query_in around q
-  item_in around (InSubquery t q) = sym (or_true (machine.has_sum t)) ∙ or_true (machine.has_sum t || machine.has_query t) ∙ joined no_part_of_item (parts around t) (query_parts around q) (item_in around t) (query_in around q)
-  item_in around (NotInSubquery t q) = sym (or_true (machine.has_sum t)) ∙ or_true (machine.has_sum t || machine.has_query t) ∙ joined no_part_of_item (parts around t) (query_parts around q) (item_in around t) (query_in around q)
+  item_in around (InSubquery t q) = sym (or_true (machine.has_sum t)) ∙ or_true (machine.has_sum t || machine.has_query t) ∙ joined is_unlisted (parts around t) (query_parts around q) (item_in around t) (query_in around q)
+  item_in around (NotInSubquery t q) = sym (or_true (machine.has_sum t)) ∙ or_true (machine.has_sum t || machine.has_query t) ∙ joined is_unlisted (parts around t) (query_parts around q) (item_in around t) (query_in around q)
   item_in around (Scalar q) = query_in around q
   item_in around (Sum signs ts) = refl
 
-  query_in : (around : List FromItem) (q : Query) → true ≡ list_any no_part_of_item (query_parts around q)
+  query_in : (around : List FromItem) (q : Query) → true ≡ list_any is_unlisted (query_parts around q)
   query_in around (Select from key selects items condition) = refl
 
-  items_in : (around : List FromItem) (ts : Terms) → (machine.have_sum ts || machine.have_query ts) ≡ list_any no_part_of_item (parts_all around ts)
+  items_in : (around : List FromItem) (ts : Terms) → (machine.have_sum ts || machine.have_query ts) ≡ list_any is_unlisted (parts_all around ts)
   items_in around End = refl
   items_in around (More t ts) =
-      swapped (machine.has_sum t) (machine.have_sum ts) (machine.has_query t) (machine.have_query ts) ∙ joined no_part_of_item (parts around t) (parts_all around ts) (item_in around t) (items_in around ts)
+      swapped (machine.has_sum t) (machine.have_sum ts) (machine.has_query t) (machine.have_query ts) ∙ joined is_unlisted (parts around t) (parts_all around ts) (item_in around t) (items_in around ts)
 
 pub item_told : (t : Term) → checks.is_unsupported_item t ≡ is_unsupported_item t
 item_told t = item_in [] t
@@ -187,6 +189,18 @@ mutual
 pub tables_told : (t : Term) → used.tables_of t ≡ tables_of t
 tables_told t = tables_in [] t
 
+pub all_tables_told : (terms : List Term) → used.all_tables terms ≡ flat_map tables_of terms
+all_tables_told [] = refl
+all_tables_told (t ∷ terms) = λ i. tables_told t i ++ all_tables_told terms i
+
+pub tables_if_told : (term : Option Term) → used.tables_if term ≡ flat_map tables_of (option_to_list term)
+tables_if_told None = refl
+tables_if_told (Some t) = sym (append-nil (used.tables_of t)) ∙ (λ i. tables_told t i ++ [])
+
+pub tuples_tables_told : (tuples : List (List Term)) → tuples_tables tuples ≡ flat_map tables_of (flat_map (λ tuple. tuple) tuples)
+tuples_tables_told [] = refl
+tuples_tables_told (tuple ∷ tuples) = (λ i. all_tables_told tuple i ++ tuples_tables_told tuples i) ∙ sym (flat_map-append tables_of tuple (flat_map (λ more. more) tuples))
+
 -- ---- subqueries
 
 -- a table is among those of the parts
@@ -225,3 +239,7 @@ mutual
 
 pub has_query_told : (t : Term) → machine.has_query t ≡ has_query t
 has_query_told t = has_in [] t
+
+pub has_query_if_told : (term : Option Term) → used.has_query_if term ≡ list_any has_query (option_to_list term)
+has_query_if_told None = refl
+has_query_if_told (Some t) = has_query_told t ∙ or_false (has_query t)

@@ -72,34 +72,34 @@ mentions table t = list_any (is_column_of table) (parts [] t)
 
 -- ---- what isn't supported
 
--- a sum where none may stand, a scalar subquery that may give more than one row, and `count(*)` in a subquery
-abbrev pub no_part : Bool → Part → Bool
-no_part sums (Expression around (Sum signs ts)) = not sums
-no_part sums (Expression around (Scalar q)) = not (is_pinned q)
-no_part sums (Subquery around from s.Count) = true
-no_part sums _ = false
+-- such is a sum where none may stand, a scalar subquery that may give more than one row, and `count(*)` in a subquery
+abbrev pub lacks_support : Bool → Part → Bool
+lacks_support sums (Expression around (Sum signs ts)) = not sums
+lacks_support sums (Expression around (Scalar q)) = not (is_pinned q)
+lacks_support sums (Subquery around from s.Count) = true
+lacks_support sums _ = false
 
--- what isn't supported stands in it; `sums` says whether sums may
+-- such a part stands in it; `sums` says whether sums may
 abbrev pub is_unsupported : Bool → Term → Bool
-is_unsupported sums t = list_any (no_part sums) (parts [] t)
+is_unsupported sums t = list_any (lacks_support sums) (parts [] t)
 
--- a sum or a subquery
-abbrev pub no_part_of_item : Part → Bool
-no_part_of_item (Expression around (Sum signs ts)) = true
-no_part_of_item (Subquery around from selects) = true
-no_part_of_item _ = false
+-- a sum or a subquery, which an item that is listed may not have
+abbrev pub is_unlisted : Part → Bool
+is_unlisted (Expression around (Sum signs ts)) = true
+is_unlisted (Subquery around from selects) = true
+is_unlisted _ = false
 
--- neither may stand in an item that is listed
+-- such a part stands in it
 abbrev pub is_unsupported_item : Term → Bool
-is_unsupported_item t = list_any no_part_of_item (parts [] t)
+is_unsupported_item t = list_any is_unlisted (parts [] t)
 
 -- ---- names
 
--- those of the tables that are there, by what qualifies their columns
+-- those that are there, each by what qualifies its columns
 abbrev pub around_in : State → List FromItem → List InScope
 around_in s around = filter_map (λ from. option_map (λ table. (qualifier_of from, table)) (table_of s from.table)) around
 
--- a column has to be one of a table around it or, further out, of these; a subquery's table has to be there
+-- a column has to be there, in a table around it or, further out, in one of these; so has a subquery's table
 abbrev pub is_there : State → List InScope → Part → Result (Unit {0}) Refusal
 is_there s tables (Expression around (Column name)) = there_or_undefined (var_in (around_in s around ++ tables) name)
 is_there s tables (Subquery around from selects) = and_then (table_in s from.table) (λ _. Ok tt)
