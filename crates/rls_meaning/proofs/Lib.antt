@@ -2,6 +2,7 @@ pub mod Typing
 pub mod Naming
 pub mod Parts
 pub mod NamedParts
+pub mod Resolving
 pub mod Listing
 pub mod States
 pub mod Dependencies

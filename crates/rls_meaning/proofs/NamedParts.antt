@@ -169,3 +169,18 @@ assigned_terms assignment = Column (record { qualifier = None; name = assignment
 pub assignments_names_told : (assignments : List Assignment) → assignments_names assignments ≡ names_all (terms_of (flat_map assigned_terms assignments))
 assignments_names_told [] = refl
 assignments_names_told (assignment ∷ assignments) = ap (λ more. Look (record { qualifier = None; name = assignment.column }) ∷ (names_of assignment.value ++ more)) (assignments_names_told assignments)
+
+pub found_in-append : (s : State) (terms others : List Term) → found_in s (terms ++ others) ≡ found_in s terms ++ found_in s others
+found_in-append s terms others = ap (filter_map (λ name. known_as s name name)) (flat_map-append tables_of terms others) ∙ filter_map-append (λ name. known_as s name name) (flat_map tables_of terms) (flat_map tables_of others)
+
+both_then : (first second rest : Result (Unit {0}) Refusal) → and_then (and_then first (λ _. second)) (λ _. rest) ≡ and_then first (λ _. and_then second (λ _. rest))
+both_then (Ok done) second rest = refl
+both_then (Err refusal) second rest = refl
+
+each-both : (test : Part → Result (Unit {0}) Refusal) (xs ys : List Part) → each_or_refused test (xs ++ ys) ≡ and_then (each_or_refused test xs) (λ _. each_or_refused test ys)
+each-both test [] ys = refl
+each-both test (x ∷ xs) ys = (λ i. and_then (test x) (λ _. each-both test xs ys i)) ∙ sym (both_then (test x) (each_or_refused test xs) (each_or_refused test ys))
+
+pub names_in-append : (s : State) (tables : List InScope) (terms others : List Term) → names_in s tables (terms ++ others) ≡ and_then (names_in s tables terms) (λ _. names_in s tables others)
+names_in-append s tables terms others =
+    ap (each_or_refused (is_there s tables)) (flat_map-append (parts []) terms others) ∙ each-both (is_there s tables) (flat_map (parts []) terms) (flat_map (parts []) others)
