@@ -1,4 +1,4 @@
--- What stands in an expression: its columns, its sums and its subqueries, in the order of the text; and what is asked of them.
+-- What stands in an expression: its columns, sums and subqueries, in the order of the text; and what is asked of them.
 use Rattle.std.specs.Prelude.{ℕ, ◌+◌, List, [], ◌∷◌, ◌++◌, Bool, true, false, not, nat_eq, length, Result, Ok}
 use Rattle.std.specs.List.{filter_map, flat_map, list_any}
 use Rattle.std.specs.Option.{option_map}
@@ -72,7 +72,7 @@ mentions table t = list_any (is_column_of table) (parts [] t)
 
 -- ---- what isn't supported
 
--- such is a sum where none may stand, a scalar subquery that may give more than one row, and `count(*)` in a subquery
+-- a sum where none may stand, a scalar subquery that may give more than one row, and `count(*)` in a subquery
 abbrev pub lacks_support : Bool → Part → Bool
 lacks_support sums (Expression around (Sum signs ts)) = not sums
 lacks_support sums (Expression around (Scalar q)) = not (is_pinned q)

@@ -34,7 +34,8 @@ abbrev mutual
   -- a subquery has one table more further in, and that table's key; without the table it stays as it is
   pub query_resolved : State → List InScope → Query → Query
   query_resolved s tables (Select from key selects items condition) =
-      unwrap_or (option_map (λ table. let inside : List InScope = (qualifier_of from, table) ∷ tables in Select from table.key selects (items_of selects table (resolved_all s inside items)) (resolved_all s inside condition))
+      unwrap_or (option_map (λ table. let inside : List InScope = (qualifier_of from, table) ∷ tables in
+      Select from table.key selects (items_of selects table (resolved_all s inside items)) (resolved_all s inside condition))
       (table_of s from.table)) (Select from key selects items condition)
 
   -- each of them
