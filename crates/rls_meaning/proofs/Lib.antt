@@ -1,4 +1,8 @@
+pub mod Typing
 pub mod Naming
+pub mod Parts
+pub mod NamedParts
+pub mod Resolving
 pub mod Listing
 pub mod States
 pub mod Dependencies

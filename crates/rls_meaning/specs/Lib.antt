@@ -1,4 +1,7 @@
+pub mod Typing
 pub mod Naming
+pub mod Parts
+pub mod Resolving
 pub mod Needing
 pub mod Chains
 pub mod Commands
