@@ -1,5 +1,5 @@
 -- The dependencies of a statement are always read, and are few; and chains of dependencies are those of the state.
-use Rattle.std.specs.Prelude.{◌≡◌, refl, ℕ, zero, suc, ◌≤◌, ◌<◌, List, [], ◌∷◌, ◌++◌, Bool, true, false, Option, Some, None, Result, Ok, length, slice_get, if◌then◌else◌}
+use Rattle.std.specs.Prelude.{◌≡◌, refl, ℕ, zero, suc, ◌+◌, ◌≤◌, ◌<◌, List, [], ◌∷◌, ◌++◌, Bool, true, false, Option, Some, None, Result, Ok, length, slice_get, if◌then◌else◌}
 use Rattle.std.specs.List.{flat_map}
 use Rattle.std.proofs.Common.{arith, ap, sym, ◌∙◌, subst}
 use Rattle.std.proofs.lemmas.{Bool.true≢false}
@@ -11,10 +11,14 @@ use Rattle.rls_recursion.specs.{declared.dependency.PolicyDependency.PolicyDepen
 use Rattle.rls_recursion.proofs.Closing.{one_first, one_further, not_true}
 use Rattle.rls_expansion.specs.{Enough.collect, Enough.collect_end, Enough.collect_step, Enough.visits, Leading.named, Dependencies.dependency_of, Dependencies.dependencies_of}
 use Rattle.rls_depth.proofs.{Walking.AreRead, Walking.subquery_tables_within, Walking.dependency_at, Walking.dependency_found, Walking.dependency_told}
-use Rattle.rls_meaning.specs.{Chains.closes, Chains.depth, Chains.first_closing, Chains.has_subquery_in, Chains.subquery_tables_in, Needing.leads_of, Needing.needed_by, Needing.needs}
+use Rattle.rls_meaning.specs.{Chains.closes, Chains.first_closing, Chains.has_subquery_in, Chains.subquery_tables_in, Needing.leads_of, Needing.needed_by, Needing.needs}
 use Rattle.rls_meaning.proofs.{Listing.last_cases, States.has_subquery_same, States.subquery_tables_same, States.leaf_leads}
 
 -- ---- they are read
+
+-- more than there are tables that policies, or these, lead to
+abbrev pub depth : State → List (List ℕ) → ℕ
+depth s tables = suc (length tables + length (named s))
 
 pub record Dependencies (s : State) (role_privileges : RolePrivileges) (tables : List (List ℕ)) : Type 0 where
   pub dependencies : List PolicyDependency

@@ -1,5 +1,6 @@
 pub mod Naming
 pub mod Listing
+pub mod Asking
 pub mod States
 pub mod Dependencies
 pub mod Expanding

@@ -12,7 +12,8 @@ use Rattle.rls_recursion.proofs.Closing.{one_first}
 use Rattle.rls_expansion.specs.{Expanding.asks_of, Expanding.own_tables, Dependencies.reading, Dependencies.dependency_by, Used.Ask, Used.holds_subquery, Used.tables_asked, Used.tables_if, Used.tables_used, Used.tables_where}
 use Rattle.rls_depth.specs.{Deep.policies_in, Leading.using_tables}
 use Rattle.rls_depth.proofs.{DependencyLaws.by_leads, Walking.dependency_at, Walking.dependency_for}
-use Rattle.rls_meaning.specs.Chains.{has_subquery_in, subquery_tables_in, own_in}
+use Rattle.rls_meaning.specs.{Chains.has_subquery_in, Chains.subquery_tables_in, Commands.Command}
+use Rattle.rls_meaning.proofs.Asking.{asked_in}
 
 -- ---- the tables that policies use
 
@@ -55,9 +56,9 @@ own_if true role_privileges kind reads policies = refl
 own_if false role_privileges kind reads policies = used_by role_privileges.effective_roles.superuser role_privileges.effective_roles.names (asks_of kind reads) policies
 
 -- the tables that the policies of the statement's table lead to
-pub own_told : (s : State) (role name : List ℕ) (table : TableDef) (kind : Kind) (reads : Bool) → own_tables (role_privileges_in s role) kind reads (policies_in s (role_privileges_in s role) name table) ≡ own_in s role name table kind reads
+pub own_told : (s : State) (c : Command) → own_tables (role_privileges_in s c.role) c.kind c.reads (policies_in s (role_privileges_in s c.role) c.name c.table) ≡ asked_in s c
 unfolding role_privileges_in
-own_told s role name table kind reads = own_if (exempts (role_privileges_in s role).attributes table (has_owner (role_privileges_in s role) table)) (role_privileges_in s role) kind reads (policies_of s name)
+own_told s c = own_if (exempts (role_privileges_in s c.role).attributes c.table (has_owner (role_privileges_in s c.role) c.table)) (role_privileges_in s c.role) c.kind c.reads (policies_of s c.name)
 
 -- ---- a dependency
 

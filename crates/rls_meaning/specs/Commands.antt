@@ -1,12 +1,15 @@
 -- A command on the rows of a table, and what it is refused for before a row is looked at (PostgreSQL manual, 5.7,
 -- "Privileges", and 5.8, "Row Security Policies"): chains of policies that close, then privileges.
-use Rattle.std.specs.Prelude.{ℕ, List, [], ◌∷◌, ◌++◌, Bool, Option, Some, None, Result, Ok, Err, map, if◌then◌else◌}
+use Rattle.std.specs.Prelude.{ℕ, suc, ◌+◌, List, [], ◌∷◌, ◌++◌, Bool, Option, Some, None, Result, Ok, Err, filter, length, map, if◌then◌else◌}
+use Rattle.std.specs.List.{flat_map}
 use Rattle.rls_value.specs.{declared.refusal.Refusal.Refusal, declared.refusal.Refusal.TheVariants.Denied, declared.refusal.Refusal.TheVariants.Recursion, declared.verb.Kind.Kind, declared.verb.Privilege.Privilege, Giving.and_then}
 use Rattle.rls_value.specs.declared.refusal.Why.TheVariants as why
 use Rattle.rls_value.specs.declared.verb.Kind.TheVariants as k
-use Rattle.rls_expr.specs.declared.table.TableDef.{TableDef}
-use Rattle.rls_catalog.specs.{Membership.fresh, Privileges.holds, State.State}
-use Rattle.rls_meaning.specs.{Chains.depth, Chains.first_closing, Chains.subquery_tables_in, Chains.own_in, Naming.provided, Needing.needs}
+use Rattle.rls_expr.specs.{declared.policy.Policy.Policy, declared.table.TableDef.TableDef}
+use Rattle.rls_catalog.specs.{Membership.fresh, Privileges.holds, State.State, State.policies_of, Verdict.expression_of, Verdict.is_exempt, Verdict.is_for_kind, Verdict.is_to}
+use Rattle.rls_catalog.specs.declared.verdict.Side.TheVariants as side
+use Rattle.rls_expansion.specs.Used.{tables_if}
+use Rattle.rls_meaning.specs.{Chains.first_closing, Chains.subquery_tables_in, Naming.provided, Needing.needs}
 
 -- who asks, the table with its name, and the type of the command; whether it reads the table; the tables of its own subqueries
 pub record Command : Type 0 where
@@ -19,13 +22,17 @@ pub record Command : Type 0 where
 
 -- ---- chains of policies
 
--- the tables that the policies lead to by which it judges rows
-abbrev pub own_of : State → Command → List (List ℕ)
-own_of s c = own_in s c.role c.name c.table c.kind c.reads
+-- the tables in what a policy says by a type of command: of rows as they stand, then of new ones
+abbrev pub tables_for : Kind → Policy → List (List ℕ)
+tables_for kind policy = if is_for_kind policy.kind kind then tables_if (expression_of policy kind side.Old) ++ tables_if (expression_of policy kind side.New) else []
 
--- so many policies deep its chains go at most
+-- the tables that its policies lead to: by SELECT where it reads the table, and by its own type
+abbrev pub own_of : State → Command → List (List ℕ)
+own_of s c = if is_exempt s c.role c.table then [] else flat_map (λ policy. (if c.reads then tables_for k.Select policy else []) ++ tables_for c.kind policy) (filter (is_to s c.role) (policies_of s c.name))
+
+-- so many policies deep its chains go at most: more than there are tables that policies, or its subqueries, lead to
 abbrev pub depth_of : State → Command → ℕ
-depth_of s c = depth s (own_of s c ++ c.queries)
+depth_of s c = suc (length (own_of s c ++ c.queries) + length (flat_map (λ entry. flat_map (λ policy. tables_if policy.using ++ tables_if policy.check) entry.1) s.policies))
 
 -- the table that its chains close on first
 abbrev pub closing_in : State → Command → Option (List ℕ)
