@@ -1,6 +1,6 @@
 -- INSERT comes to what it means.
 use Rattle.std.specs.Prelude.{◌≡◌, refl, ℕ, List, [], ◌∷◌, Result, Ok}
-use Rattle.std.proofs.Common.{ap}
+use Rattle.std.proofs.Common.{ap, ◌∙◌}
 use Rattle.rls_value.specs.{declared.refusal.Refusal.Refusal, declared.verb.Privilege.Privilege, declared.tag.Tag.Tag, Giving.and_then}
 use Rattle.rls_value.specs.declared.verb.Kind.TheVariants as k
 use Rattle.rls_expr.specs.{declared.table.TableDef.TableDef, Terms.Term}
@@ -15,7 +15,7 @@ use Rattle.rls_judging.specs.Valuing.{values_on, values_put, with_values}
 use Rattle.rls_dml.specs.{declared.analysed_insert.AnalysedInsert.AnalysedInsert, Checking.returning_names, Checking.returning_reads, Inserting.analysed_insert_for, Inserting.analysed_insert_in, Inserting.insert_as, Inserting.insert_with_quals, Inserting.insert_into, Inserting.insert_judged, Inserting.insert_made, Inserting.insert_rows as insert_new, Inserting.insert_values, Inserting.inserted, Inserting.new_rows, Inserting.places_of, Inserting.tuples_names, Inserting.tuples_tables, Writing.order_of}
 use Rattle.rls_access.specs.Statements.{mode_or_refused}
 use Rattle.rls_meaning.specs.{Commands.Command, Constraints.allowed_in, Inserting.InsertMeans, Inserting.insert_parts, Inserting.insert_rows, Inserting.tuple_values, Expanding.IsExpanded, Expanding.IsExpansionIn, Rows.decisions_in, Rows.sees}
-use Rattle.rls_meaning.proofs.{Constraining.allowed_told, Qualifying.decisions_told, Qualifying.privileges_told, Qualifying.queries_checked, Qualifying.under_told, Naming.named_told, Naming.table_told}
+use Rattle.rls_meaning.proofs.{Analysing.insert_analysed, Analysing.insert_reads, Analysing.insert_tables, Constraining.allowed_told, Qualifying.decisions_told, Qualifying.privileges_told, Qualifying.queries_checked, Qualifying.under_told, Naming.named_told, Naming.table_told}
 
 -- ---- values
 
@@ -46,6 +46,7 @@ parts_told : (s : State) (ctx : Ctx) (asked : Insert) (table : TableDef) → ((a
 parts_told s ctx asked table =
     ap (λ named. and_then (places_of table.columns asked.columns) (λ places. and_then named (λ found. analysed_insert_in ctx.next asked (asked.table, table) places found)))
     (λ i. and_then (named_told s (tuples_names asked.tuples) [] [] i) (λ found. named_told s (returning_names asked.returning) ((asked.table, table) ∷ []) found i))
+    ∙ insert_analysed s ctx asked table
 
 -- what comes behind the privileges
 abbrev rest_in : State → Ctx → AnalysedInsert → Command → Result Effect Refusal
@@ -74,4 +75,5 @@ insert_told expanded s ctx asked =
     ap (λ rest. shown (and_then (mode_or_refused ctx.mode Tag.Insert) (λ _. rest)))
     (λ i. and_then (table_told s asked.table i) (λ table.
     and_then (parts_told s ctx asked table i) (λ parts.
-    from_told expanded s ctx asked.table table parts i)))
+    (from_told expanded s ctx asked.table table parts
+    ∙ (λ i. insert_rows s ctx parts (record { role = ctx.role; name = asked.table; table = table; kind = k.Insert; reads = insert_reads parts i; queries = insert_tables parts.tuples i }))) i)))

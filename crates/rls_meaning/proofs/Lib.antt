@@ -6,6 +6,7 @@ pub mod Dependencies
 pub mod Expanding
 pub mod Qualifying
 pub mod Constraining
+pub mod Analysing
 pub mod Selecting
 pub mod Inserting
 pub mod Updating

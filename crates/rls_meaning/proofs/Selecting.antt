@@ -1,6 +1,6 @@
 -- SELECT comes to what it means.
 use Rattle.std.specs.Prelude.{◌≡◌, refl, ℕ, List, [], ◌∷◌, false}
-use Rattle.std.proofs.Common.{ap}
+use Rattle.std.proofs.Common.{ap, ◌∙◌}
 use Rattle.rls_value.specs.{declared.tag.Tag.Tag, Giving.and_then}
 use Rattle.rls_value.specs.declared.verb.Kind.TheVariants as k
 use Rattle.rls_expr.specs.declared.table.TableDef.{TableDef}
@@ -11,10 +11,11 @@ use Rattle.rls_expansion.specs.Used.{tables_if}
 use Rattle.rls_dml.specs.{declared.selecting.AnalysedSelect.AnalysedSelect, Selecting.listed_by, Selecting.listed_for, Selecting.listed_from, Selecting.qualifier_of, Selecting.analysed_select_for, Selecting.analysed_select_in, Selecting.analysed_select_names, Selecting.select_as, Selecting.select_from}
 use Rattle.rls_access.specs.Statements.{mode_or_refused}
 use Rattle.rls_meaning.specs.{Commands.Command, Expanding.IsExpanded, Selecting.SelectMeans, Selecting.select_parts, Selecting.select_rows}
-use Rattle.rls_meaning.proofs.{Qualifying.done_told, Naming.named_told, Naming.table_told}
+use Rattle.rls_meaning.proofs.{Analysing.select_analysed, Qualifying.done_told, Naming.named_told, Naming.table_told}
 
 parts_told : (s : State) (asked : Select) (table : TableDef) → ((analysed_select_for asked (qualifier_of asked, table)).in_state s).gives ≡ select_parts s asked table
-parts_told s asked table = ap (λ given. and_then given (analysed_select_in asked (qualifier_of asked, table))) (named_told s (analysed_select_names asked) ((qualifier_of asked, table) ∷ []) [])
+parts_told s asked table =
+    ap (λ given. and_then given (analysed_select_in asked (qualifier_of asked, table))) (named_told s (analysed_select_names asked) ((qualifier_of asked, table) ∷ []) []) ∙ select_analysed s asked table
 
 from_told : ((s : State) (c : Command) → IsExpanded s c) → (s : State) (role name : List ℕ) (table : TableDef) (parts : AnalysedSelect)
     → ((select_from role name table parts).in_state s).gives ≡ select_rows s parts (record { role = role; name = name; table = table; kind = k.Select; reads = false; queries = tables_if parts.condition })

@@ -14,10 +14,10 @@ use Rattle.rls_judging.specs.{ScannedRows.scanned_rows_with, ScannedRows.pinned_
 use Rattle.rls_dml.specs.{declared.analysed_update.AnalysedUpdate.AnalysedUpdate, Updating.places_set, Updating.analysed_update_for, Updating.analysed_update_in, Updating.analysed_update_names, Updating.analysed_update_reads, Updating.analysed_update_tables, Updating.update_as, Updating.update_with_quals, Updating.update_qualifying_rows, Updating.update_in as update_of, Updating.update_judged, Updating.update_made, Updating.update_rows as update_new, Updating.update_values, Updating.updated, Updating.updated_rows, Writing.order_of}
 use Rattle.rls_access.specs.Statements.{mode_or_refused}
 use Rattle.rls_meaning.specs.{Commands.Command, Constraints.allowed_in, Expanding.IsExpanded, Expanding.IsExpansionIn, Rows.decisions_in, Rows.qualifying_rows_in, Rows.sees, Updating.UpdateMeans, Updating.row_values, Updating.update_parts, Updating.update_rows}
-use Rattle.rls_meaning.proofs.{Constraining.allowed_told, Qualifying.behind_privileges, Qualifying.decisions_told, Qualifying.gathered_same, Qualifying.looked_told, Qualifying.privileges_told, Qualifying.queries_checked, Qualifying.then_then, Qualifying.under_told, Inserting.values_same, Naming.named_told, Naming.table_told}
+use Rattle.rls_meaning.proofs.{Analysing.update_analysed, Analysing.update_reads, Analysing.update_tables, Constraining.allowed_told, Qualifying.behind_privileges, Qualifying.decisions_told, Qualifying.gathered_same, Qualifying.looked_told, Qualifying.privileges_told, Qualifying.queries_checked, Qualifying.then_then, Qualifying.under_told, Inserting.values_same, Naming.named_told, Naming.table_told}
 
 parts_told : (s : State) (asked : Update) (table : TableDef) → ((analysed_update_for asked table).in_state s).gives ≡ update_parts s asked table
-parts_told s asked table = ap (λ given. and_then given (analysed_update_in asked (asked.table, table))) (named_told s (analysed_update_names asked) ((asked.table, table) ∷ []) [])
+parts_told s asked table = ap (λ given. and_then given (analysed_update_in asked (asked.table, table))) (named_told s (analysed_update_names asked) ((asked.table, table) ∷ []) []) ∙ update_analysed s asked table
 
 values_told : (s : State) (c : Command) (p : PolicyExpansion) (assignments : List (ℕ × Term)) → Within (all_tables (map (λ assignment. assignment.1) assignments)) c.queries → IsExpansionIn s c p → (rows : List Stored)
     → ((values_set p.relations c.role assignments rows).in_state s).gives ≡ row_values s c assignments rows
@@ -58,4 +58,5 @@ update_told expanded s ctx asked =
     ap (λ rest. shown (and_then (mode_or_refused ctx.mode Tag.Update) (λ _. rest)))
     (λ i. and_then (table_told s asked.table i) (λ table.
     and_then (parts_told s asked table i) (λ parts.
-    from_told expanded s ctx.role asked.table table parts i)))
+    (from_told expanded s ctx.role asked.table table parts
+    ∙ (λ i. update_rows s parts (record { role = ctx.role; name = asked.table; table = table; kind = k.Update; reads = update_reads parts i; queries = update_tables parts i }))) i)))

@@ -4,6 +4,7 @@ pub mod Chains
 pub mod Commands
 pub mod Rows
 pub mod Constraints
+pub mod Analysing
 pub mod Selecting
 pub mod Inserting
 pub mod Updating
