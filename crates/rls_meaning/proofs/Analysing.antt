@@ -27,7 +27,7 @@ all_names : (terms : List Term) → names_all (terms_of terms) ≡ flat_map name
 all_names [] = refl
 all_names (term ∷ terms) = ap (λ rest. names_of term ++ rest) (all_names terms)
 
-where_named : (condition : Option Term) → where_names condition ≡ flat_map names_of (option_to_list condition)
+pub where_named : (condition : Option Term) → where_names condition ≡ flat_map names_of (option_to_list condition)
 where_named None = refl
 where_named (Some term) = refl
 

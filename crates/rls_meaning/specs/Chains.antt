@@ -1,22 +1,23 @@
 -- Chains of policies over a state (PostgreSQL: SQLSTATE 42P17). A policy that holds a subquery brings in the policies of the
 -- subquery's table, these those of the tables of their subqueries, and so on.
-use Rattle.std.specs.Prelude.{ℕ, zero, suc, List, [], ◌∷◌, Bool, Option, Some, None, if◌then◌else◌}
+use Rattle.std.specs.Prelude.{ℕ, zero, suc, List, [], ◌∷◌, ◌++◌, Bool, Option, Some, None, if◌then◌else◌}
 use Rattle.std.specs.List.{list_any, flat_map}
+use Rattle.std.specs.Option.{option_to_list}
 use Rattle.rls_value.specs.Names.{one_of}
 use Rattle.rls_value.specs.declared.verb.Kind.TheVariants as k
-use Rattle.rls_expr.specs.declared.policy.Policy.{Policy}
+use Rattle.rls_expr.specs.{declared.policy.Policy.Policy, Parts.has_query}
 use Rattle.rls_catalog.specs.{Applying.applying_to, State.State}
 use Rattle.rls_catalog.specs.declared.verdict.Side.TheVariants as side
 use Rattle.rls_recursion.specs.Searching.{or_next, first_closed}
-use Rattle.rls_expansion.specs.Used.{holds_subquery, tables_if}
+use Rattle.rls_expansion.specs.Used.{tables_if}
 
 -- the policies for SELECT of the table that apply to the role: none where it is exempt, or no table is there
 abbrev pub select_policies : State → List ℕ → List ℕ → List Policy
 select_policies s role name = applying_to s role name k.Select side.Old
 
--- one of them holds a subquery
+-- one of them holds a subquery, in USING or WITH CHECK
 abbrev pub has_subquery_in : State → List ℕ → List ℕ → Bool
-has_subquery_in s role name = list_any holds_subquery (select_policies s role name)
+has_subquery_in s role name = list_any (λ policy. list_any has_query (option_to_list policy.using ++ option_to_list policy.check)) (select_policies s role name)
 
 -- the tables that they lead to: those of the subqueries in their USING
 abbrev pub subquery_tables_in : State → List ℕ → List ℕ → List (List ℕ)

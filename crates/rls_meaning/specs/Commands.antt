@@ -1,7 +1,8 @@
 -- A command on the rows of a table, and what it is refused for before a row is looked at (PostgreSQL manual, 5.7,
 -- "Privileges", and 5.8, "Row Security Policies"): chains of policies that close, then privileges.
-use Rattle.std.specs.Prelude.{ℕ, suc, ◌+◌, List, [], ◌∷◌, ◌++◌, Bool, Option, Some, None, Result, Ok, Err, filter, length, map, if◌then◌else◌}
+use Rattle.std.specs.Prelude.{ℕ, suc, ◌+◌, List, [], ◌∷◌, ◌++◌, Bool, Option, Result, Ok, Err, filter, length, map, if◌then◌else◌}
 use Rattle.std.specs.List.{flat_map}
+use Rattle.std.specs.Option.{option_map_or}
 use Rattle.rls_value.specs.{declared.refusal.Refusal.Refusal, declared.refusal.Refusal.TheVariants.Denied, declared.refusal.Refusal.TheVariants.Recursion, declared.verb.Kind.Kind, declared.verb.Privilege.Privilege, Giving.and_then}
 use Rattle.rls_value.specs.declared.refusal.Why.TheVariants as why
 use Rattle.rls_value.specs.declared.verb.Kind.TheVariants as k
@@ -38,11 +39,6 @@ depth_of s c = suc (length (own_of s c ++ c.queries) + length (flat_map (λ entr
 abbrev pub closing_in : State → Command → Option (List ℕ)
 closing_in s c = first_closing (depth_of s c) s c.role c.name (own_of s c) c.queries
 
--- a chain that closes is refused
-abbrev pub unless_closed : Option (List ℕ) → Result (Unit {0}) Refusal
-unless_closed None = Ok tt
-unless_closed (Some table) = Err (Recursion table)
-
 -- ---- privileges
 
 -- the tables that its subqueries look at: its own, then those of policies, each once
@@ -67,8 +63,8 @@ permitted s role (p ∷ ps) = and_then (provided (holds s role p.0 p.1) (Denied 
 
 -- ---- both
 
--- chains that close come first
+-- a chain that closes is refused first, for that table
 abbrev pub permitted_in : State → Command → Result (Unit {0}) Refusal
 permitted_in s c =
-    and_then (unless_closed (closing_in s c)) (λ _.
-    permitted s c.role (required (privilege_of c.kind) c.reads c.name (needed_in s c)))
+    option_map_or (λ table. Err (Recursion table)) (closing_in s c)
+    (permitted s c.role (required (privilege_of c.kind) c.reads c.name (needed_in s c)))

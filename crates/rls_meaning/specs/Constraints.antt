@@ -7,7 +7,7 @@ use Rattle.rls_expr.specs.declared.table.Column.{Column}
 use Rattle.rls_catalog.specs.{declared.stored.Stored.Stored, State.State, State.rows_with_key}
 use Rattle.rls_source.specs.Sequences.{each_or_refused}
 use Rattle.rls_guard.specs.declared.reply.Decision.{Decision}
-use Rattle.rls_dml.specs.Writing.{first_denial, has_doubles, has_values, keys_of, stays_any, unless_denied}
+use Rattle.rls_dml.specs.Writing.{has_doubles, has_values, keys_of, stays_any, verdict_or_denied}
 use Rattle.rls_meaning.specs.Naming.{provided}
 
 -- a row of the table that stays has one of the keys; hidden rows count
@@ -18,9 +18,10 @@ taken_in s name replaced keys = list_any (λ key. stays_any replaced (rows_with_
 abbrev pub unique_in : State → List ℕ → List Stored → List (List Value) → Result (Unit {0}) Refusal
 unique_in s name replaced keys = provided (not (taken_in s name replaced keys || has_doubles keys)) (Unique name)
 
--- the new rows may stand in the table, in place of those that are replaced
+-- the new rows may stand in the table, in place of those that are replaced: each decision allows its row, none has a null where
+-- none may be, and no key is taken
 abbrev pub allowed_in : State → List ℕ → List Column → List ℕ → List Decision → List Stored → List Stored → Result (Unit {0}) Refusal
 allowed_in s name columns order decided replaced rows =
-    and_then (unless_denied name (first_denial decided)) (λ _.
+    and_then (each_or_refused (λ decision. verdict_or_denied name decision.kind decision.verdict) decided) (λ _.
     and_then (each_or_refused (has_values columns order) rows) (λ _.
     unique_in s name replaced (keys_of rows)))

@@ -1,18 +1,19 @@
 -- GRANT and REVOKE of privileges (PostgreSQL manual, GRANT and REVOKE): the table and the grantees have to be there; then each
 -- privilege has to have a grantor.
 use Rattle.std.specs.Prelude.{ℕ, List, Result, Ok, filter}
-use Rattle.rls_value.specs.{declared.refusal.Refusal.Refusal, declared.verb.Privilege.Privilege, Giving.and_then}
+use Rattle.rls_value.specs.{declared.refusal.Refusal.Refusal, declared.refusal.Refusal.TheVariants.Denied, declared.refusal.Why.TheVariants.GrantOption, declared.verb.Privilege.Privilege, Giving.and_then}
 use Rattle.rls_expr.specs.declared.table.TableDef.{TableDef}
 use Rattle.rls_catalog.specs.{declared.change.Change.Change, GrantOptions.grantor_of, State.State, State.grants_of}
-use Rattle.rls_source.specs.Sequences.{each_of}
+use Rattle.rls_source.specs.{Named.found_or, Sequences.each_of}
 use Rattle.rls_statement.specs.{declared.statement.GrantPrivileges.GrantPrivileges, declared.statement.Privileges.Privileges, declared.statement.RevokePrivileges.RevokePrivileges}
-use Rattle.rls_grant.specs.{declared.grantors.Grantor.Grantor, Granting.grants_with, Granting.grants_written, Granting.options_or_refused, Grantors.all_privileges, Grantors.grantor_or_denied, Grantors.is_named, Holders.holders_of, Revoking.left_after, Revoking.without_taken}
+use Rattle.rls_grant.specs.{declared.grantors.Grantor.Grantor, Granting.grants_with, Granting.grants_written, Granting.options_or_refused, Grantors.all_privileges, Grantors.is_named, Holders.holders_of, Revoking.left_after, Revoking.without_taken}
 use Rattle.rls_meaning.specs.Naming.{grantees_in, table_in}
 
 -- who grants a privilege: the owner, where the role has its privileges; else the role itself, where it holds the grant
 -- option; else the byte-least role whose privileges it has and that holds it
 abbrev pub grantor_in : State → List ℕ → List ℕ → TableDef → Privilege → Result Grantor Refusal
-grantor_in s role name table privilege = grantor_or_denied name privilege (grantor_of s role table.owner (holders_of table.owner (grants_of s name) privilege))
+grantor_in s role name table privilege =
+    and_then (found_or (Denied (GrantOption privilege name)) (grantor_of s role table.owner (holders_of table.owner (grants_of s name) privilege))) (λ by. Ok (record { privilege = privilege; name = by }))
 
 -- who grants each of the privileges that are named; the first without a grantor is denied
 abbrev pub grantors_in : State → List ℕ → List ℕ → TableDef → Privileges → Result (List Grantor) Refusal

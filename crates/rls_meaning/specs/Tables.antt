@@ -1,21 +1,22 @@
 -- CREATE TABLE and ALTER TABLE .. ROW LEVEL SECURITY (PostgreSQL manual, CREATE TABLE, ALTER TABLE, and 5.7 for who owns).
-use Rattle.std.specs.Prelude.{ℕ, List, [], ◌∷◌, not, Result, Ok, is_some}
+use Rattle.std.specs.Prelude.{ℕ, List, [], ◌∷◌, not, Result, Ok, is_some, map}
 use Rattle.rls_value.specs.{declared.refusal.Refusal.Refusal, declared.refusal.Refusal.TheVariants.Denied, declared.refusal.Refusal.TheVariants.Duplicate, Giving.and_then}
 use Rattle.rls_value.specs.declared.refusal.DefinedKind.TheVariants as kind
 use Rattle.rls_value.specs.declared.refusal.Why.TheVariants as why
 use Rattle.rls_expr.specs.declared.table.TableDef.{TableDef}
 use Rattle.rls_catalog.specs.{State.State, State.grants_of, State.table_of, Membership.has_privileges_of}
 use Rattle.rls_catalog.specs.declared.change.Change.TheVariants as change
+use Rattle.rls_source.specs.Sequences.{each_of}
 use Rattle.rls_statement.specs.{declared.statement.AlterTable.AlterTable, declared.statement.CreateTable.CreateTable}
 use Rattle.rls_guard.specs.{declared.effect.Effect.Effect, Effects.writes}
 use Rattle.rls_grant.specs.Granting.{own_grants, with_grants}
-use Rattle.rls_ddl.specs.{AlteringTables.altered, CreatingTables.key_or_undefined, CreatingTables.table_with}
-use Rattle.rls_meaning.specs.Naming.{provided, table_in}
+use Rattle.rls_ddl.specs.{AlteringTables.altered, CreatingTables.key_names, CreatingTables.table_with}
+use Rattle.rls_meaning.specs.{Analysing.place_in, Naming.provided, Naming.table_in}
 
 -- CREATE TABLE: the columns of the key have to be defined, and the name be free; any role makes a table, and owns it
 abbrev pub create_table_in : State → List ℕ → CreateTable → Result Effect Refusal
 create_table_in s role asked =
-    and_then (key_or_undefined asked) (λ key.
+    and_then (each_of (place_in (map (λ marked. marked.column) asked.columns)) (key_names asked)) (λ key.
     and_then (provided (not (is_some (table_of s asked.name))) (Duplicate kind.Relation asked.name)) (λ _.
     Ok (writes (change.Table asked.name (table_with role asked key) ∷ change.Grants asked.name (with_grants (grants_of s asked.name) (own_grants role)) ∷ []))))
 
