@@ -1,5 +1,5 @@
 -- The parts of statements are those of their plain analysis.
-use Rattle.std.specs.Prelude.{◌≡◌, refl, ℕ, zero, suc, ◌+◌, List, [], ◌∷◌, ◌++◌, Bool, true, false, not, ◌&&◌, ◌||◌, Option, Some, None, Result, Ok, Err, length, map, nat_le, slice_get}
+use Rattle.std.specs.Prelude.{◌≡◌, refl, ℕ, suc, ◌+◌, List, [], ◌∷◌, ◌++◌, Bool, true, false, not, ◌&&◌, ◌||◌, Option, Some, None, Result, Ok, Err, length, map, nat_le, slice_get}
 use Rattle.std.specs.List.{flat_map, list_all, list_any, range_with_len}
 use Rattle.std.specs.Option.{option_map, option_map_or, option_to_list}
 use Rattle.std.proofs.Common.{arith, ap, sym, ◌∙◌, append-nil}
@@ -7,7 +7,7 @@ use Rattle.std.proofs.lemmas.List.Folds.{list_all-append, list_any-append, list_
 use Rattle.rls_value.specs.{declared.refusal.Refusal.Refusal, declared.refusal.Refusal.TheVariants.Limit, declared.refusal.Refusal.TheVariants.Undefined, declared.refusal.Refusal.TheVariants.Unsupported, Giving.and_then}
 use Rattle.rls_value.specs.declared.refusal.Limit.TheVariants as limit
 use Rattle.rls_value.specs.declared.refusal.NameKind.TheVariants as kind
-use Rattle.rls_expr.specs.{declared.table.Column.Column, declared.table.TableDef.TableDef, declared.typing.Typing.Typing, Naming.Look, Naming.Step, Naming.names_all, Naming.names_of, Parts.mentions, Resolving.Names, Resolving.resolved, Scopes.InScope, Tables.column_named, Terms.Term, Terms.terms_of, Typing.goes_into, Typing.type_of}
+use Rattle.rls_expr.specs.{declared.table.Column.Column, declared.table.TableDef.TableDef, declared.typing.Typing.Typing, Naming.Look, Naming.names_all, Naming.names_of, Parts.mentions, Resolving.Names, Resolving.resolved, Scopes.InScope, Tables.column_named, Terms.Term, Terms.terms_of, Typing.goes_into, Typing.type_of}
 use Rattle.rls_catalog.specs.State.{State}
 use Rattle.rls_source.specs.{Named.found_or, Sequences.each_of}
 use Rattle.rls_statement.specs.{declared.changing.Assignment.Assignment, declared.changing.Delete.Delete, declared.changing.Update.Update, declared.statement.Insert.Insert, declared.statement.Select.Select, declared.statement.Selected.Selected}
@@ -15,10 +15,10 @@ use Rattle.rls_statement.specs.declared.statement.Selected.TheVariants as select
 use Rattle.rls_guard.specs.{declared.context.Ctx.Ctx, Naming.names_over, Support.is_unsupported}
 use Rattle.rls_expansion.specs.Used.{all_tables, tables_if, tables_of}
 use Rattle.rls_dml.specs.{declared.analysed_insert.AnalysedInsert.AnalysedInsert, declared.analysed_update.AnalysedUpdate.AnalysedUpdate, declared.deleting.AnalysedDelete.AnalysedDelete, declared.selecting.AnalysedSelect.AnalysedSelect}
-use Rattle.rls_dml.specs.{Checking.fitting_or_fault, Checking.found_or_undefined, Checking.goes_into_column, Checking.place_or_undefined, Checking.resolved_in, Checking.returning_fits, Checking.returning_names, Checking.returning_reads, Checking.returning_resolved, Checking.returning_unsupported, Checking.selection_fits, Checking.selection_names, Checking.selection_resolved, Checking.selection_unsupported, Checking.supported_or_refused, Checking.where_fits, Checking.where_names, Checking.where_reads, Checking.where_resolved, Checking.where_unsupported}
+use Rattle.rls_dml.specs.{Checking.fitting_or_fault, Checking.found_or_undefined, Checking.goes_into_column, Checking.returning_fits, Checking.returning_names, Checking.returning_reads, Checking.returning_resolved, Checking.returning_unsupported, Checking.selection_fits, Checking.selection_names, Checking.selection_resolved, Checking.selection_unsupported, Checking.supported_or_refused, Checking.where_fits, Checking.where_names, Checking.where_reads, Checking.where_resolved, Checking.where_unsupported}
 use Rattle.rls_dml.specs.{Deleting.analysed_delete_checked, Deleting.analysed_delete_in, Deleting.analysed_delete_names, Deleting.analysed_delete_reads, Selecting.analysed_select_in, Selecting.analysed_select_names, Selecting.analysed_select_or_refused, Selecting.qualifier_of}
 use Rattle.rls_dml.specs.{Inserting.analysed_insert_in, Inserting.analysed_insert_or_refused, Inserting.places_from, Inserting.places_of, Inserting.room_or_limit, Inserting.tuple_fits, Inserting.tuples_names, Inserting.tuples_tables, Updating.analysed_update_in, Updating.analysed_update_names, Updating.analysed_update_or_refused, Updating.analysed_update_reads, Updating.analysed_update_tables, Updating.assignment_resolved, Updating.assignments_fit, Updating.assignments_names, Updating.assignments_unsupported}
-use Rattle.rls_meaning.specs.{Analysing.checked, Analysing.is_all, Analysing.items_of, Analysing.items_resolved, Analysing.of_both, Analysing.of_condition, Analysing.of_item, Analysing.of_value, Analysing.place_in, Analysing.reads_in, Deleting.delete_parts, Inserting.insert_parts, Inserting.of_tuple, Inserting.places_in, Naming.named_in, Naming.provided, Selecting.select_parts, Updating.set_and_where, Updating.update_parts}
+use Rattle.rls_meaning.specs.{Analysing.checked, Analysing.items_of, Analysing.items_resolved, Analysing.of_both, Analysing.of_condition, Analysing.of_item, Analysing.of_value, Analysing.place_in, Analysing.reads_in, Deleting.delete_parts, Inserting.insert_parts, Inserting.of_tuple, Inserting.places_in, Naming.named_in, Naming.provided, Selecting.select_parts, Updating.set_and_where, Updating.update_parts}
 use Rattle.rls_meaning.proofs.Listing.{flat_append}
 
 -- ---- names

@@ -17,7 +17,7 @@ use Rattle.rls_statement.specs.{declared.statement.AlterPolicy.AlterPolicy, decl
 use Rattle.rls_statement.specs.declared.statement.SetRole.TheVariants as set
 use Rattle.rls_guard.specs.{declared.context.Ctx.Ctx, declared.effect.Effect.Effect, Checks.superuser_or_denied, Effects.writes, Naming.named, Naming.names_over, RolePrivileges.ownership, RolePrivileges.role_privileges_in}
 use Rattle.rls_ddl.specs.{AlteringPolicies.alter_policy, AlteringPolicies.alteration_made, AlteringPolicies.alteration_of, AlteringPolicies.alteration_on, AlteringPolicies.alteration_over, AlteringPolicies.conditions_or_refused, AlteringPolicies.has_no_place_for, AlteringPolicies.resolved_or_unsupported, AlteringPolicies.roles_or_undefined, AlteringPolicies.with_altered, AlteringRoles.alter_role, AlteringRoles.role_altered, AlteringRoles.role_changed, AlteringTables.alter_table, AlteringTables.altered, Conditions.both_conditions, Conditions.condition_fits, Conditions.condition_names, Conditions.is_supported}
-use Rattle.rls_ddl.specs.{CreatingPolicies.create_policy, CreatingPolicies.new_or_duplicate, CreatingPolicies.room_for_policy, CreatingPolicies.policy_added, CreatingPolicies.policy_made, CreatingPolicies.policy_on, CreatingPolicies.policy_or_refused, CreatingRoles.create_role, CreatingRoles.role_made, CreatingTables.create_table, CreatingTables.key_names, CreatingTables.key_or_undefined, CreatingTables.place_of, CreatingTables.table_made, CreatingTables.table_unless_taken, DroppingPolicies.drop_on, DroppingPolicies.drop_policy, DroppingPolicies.policy_dropped, NamedPolicies.policy_or_undefined, SettingRoles.may_set, SettingRoles.role_set, SettingRoles.set_or_denied, SettingRoles.set_role, SettingRoles.sets}
+use Rattle.rls_ddl.specs.{CreatingPolicies.create_policy, CreatingPolicies.new_or_duplicate, CreatingPolicies.room_for_policy, CreatingPolicies.policy_added, CreatingPolicies.policy_made, CreatingPolicies.policy_on, CreatingPolicies.policy_or_refused, CreatingRoles.create_role, CreatingRoles.role_made, CreatingTables.column_in, CreatingTables.create_table, CreatingTables.key_names, CreatingTables.key_or_undefined, CreatingTables.place_of, CreatingTables.table_made, CreatingTables.table_unless_taken, DroppingPolicies.drop_on, DroppingPolicies.drop_policy, DroppingPolicies.policy_dropped, NamedPolicies.policy_or_undefined, SettingRoles.may_set, SettingRoles.role_set, SettingRoles.set_or_denied, SettingRoles.set_role, SettingRoles.sets}
 use Rattle.rls_meaning.specs.{Analysing.of_condition, Analysing.place_in, Naming.grantees_in, Naming.named_in, Naming.provided, Policies.alter_policy_in, Policies.conditions, Policies.conditions_in, Policies.create_policy_in, Policies.drop_policy_in, Roles.alter_role_in, Roles.create_role_in, Roles.set_role_in, Roles.superuser_in, Tables.alter_table_in, Tables.create_table_in, Tables.owner_in}
 use Rattle.rls_meaning.proofs.{Analysing.where_named, Listing.flat_append, Naming.grantees_told, Naming.named_told, Naming.role_told, Naming.table_told}
 
@@ -70,13 +70,13 @@ passed_map p f [] = refl
 passed_map p f (x ∷ xs) = ap (λ n. cond (not (p (f x))) (1 + n) 0) (passed_map p f xs)
 
 -- the place of a column is the same behind its marks
-place_told : (columns : List MarkedColumn) (name : List ℕ) → place_of columns name ≡ column_named (map (λ marked. marked.column) columns) name
-place_told columns name =
+place_told : (key : List (List ℕ)) (columns : List MarkedColumn) (name : List ℕ) → place_of columns name ≡ column_named (map (column_in key) columns) name
+place_told key columns name =
     let named : Column → Bool = λ column. bytes_eq column.name name in
-    λ i. cond (nat_lt (sym (passed_map named (λ marked. marked.column) columns) i) (sym (length_map (λ marked. marked.column) columns) i)) (Some (sym (passed_map named (λ marked. marked.column) columns) i)) None
+    λ i. cond (nat_lt (sym (passed_map named (column_in key) columns) i) (sym (length_map (column_in key) columns) i)) (Some (sym (passed_map named (column_in key) columns) i)) None
 
-key_told : (asked : CreateTable) → key_or_undefined asked ≡ each_of (place_in (map (λ marked. marked.column) asked.columns)) (key_names asked)
-key_told asked = λ i. each_of (λ name. found_or (Undefined name_kind.Column name) (place_told asked.columns name i)) (key_names asked)
+key_told : (asked : CreateTable) → key_or_undefined asked ≡ each_of (place_in (map (column_in (key_names asked)) asked.columns)) (key_names asked)
+key_told asked = λ i. each_of (λ name. found_or (Undefined name_kind.Column name) (place_told (key_names asked) asked.columns name i)) (key_names asked)
 
 pub create_table_told : (s : State) (ctx : Ctx) (asked : CreateTable) → ((create_table ctx asked).in_state s).gives ≡ create_table_in s ctx.role asked
 unfolding table_unless_taken table_made table_at grants_at

@@ -15,7 +15,7 @@ use Rattle.rls_depth.specs.Deep.{JudgeAlike, policies_in, ruled, shows_deep, sta
 use Rattle.rls_evaluation.specs.{Environments.Environment, Eval.Shows, Eval.value_of, Showing.shows}
 use Rattle.rls_depth.proofs.{Deepening.relations_few, ExpansionLaws.policies_told, Stating.reached_read, Tables.within_first, Tables.within_last, Walking.AreRead, Walking.are_read}
 use Rattle.rls_meaning.specs.{Chains.closes, Chains.subquery_tables_in, Commands.Command, Commands.closing_in, Commands.depth_of, Commands.needed_in, Commands.own_of, Needing.needed_by, Expanding.IsExpanded, Expanding.IsExpansionIn, Expanding.Made, Expanding.Refused, Expanding.expansion_in, Rows.check, Rows.select_quals, Rows.sees}
-use Rattle.rls_meaning.proofs.{Asking.Alike, Asking.alike_append, Asking.asked_in, Asking.first_alike, Asking.needs_alike, Asking.own_alike, Listing.checks_in_order, Listing.search_told, Dependencies.Dependencies, Dependencies.dependencies_read, Dependencies.Same, Dependencies.same_dependencies, Dependencies.closing_same, Dependencies.needs_same, Dependencies.in_order_few, Dependencies.tables_few, States.own_told}
+use Rattle.rls_meaning.proofs.{Asking.Alike, Asking.alike_append, Asking.asked_in, Asking.first_alike, Asking.needs_alike, Asking.own_alike, Listing.checks_in_order, Listing.search_told, Dependencies.Dependencies, Dependencies.dependencies_read, Dependencies.same_dependencies, Dependencies.both_told, Dependencies.closing_same, Dependencies.needs_same, Dependencies.in_order_few, Dependencies.tables_few, States.own_told}
 
 -- what the laws of the search say
 pub record Searches : Type 0 where
@@ -81,7 +81,8 @@ with_queries one other queries alike = alike_append one other queries queries al
 -- the state's chains close where those of the dependencies do
 closing_told : (s : State) (c : Command) (dependencies : List PolicyDependency) → AreRead s (role_privileges_in s c.role) (asked_in s c ++ c.queries) dependencies → closing_in s c ≡ dependency_closing (depth_of s c) dependencies c.name (asked_in s c) c.queries
 closing_told s c dependencies read =
-    ap (λ closed. or_next closed (first_closed (closes (depth_of s c) s c.role []) c.queries)) (first_alike (closes (depth_of s c) s c.role (c.name ∷ [])) (own_of s c) (asked_in s c) (own_alike s c))
+    sym (both_told (closes (depth_of s c) s c.role (c.name ∷ [])) (closes (depth_of s c) s c.role []) (own_of s c) c.queries)
+    ∙ ap (λ closed. or_next closed (first_closed (closes (depth_of s c) s c.role []) c.queries)) (first_alike (closes (depth_of s c) s c.role (c.name ∷ [])) (own_of s c) (asked_in s c) (own_alike s c))
     ∙ sym (closing_same (depth_of s c) s c.role dependencies (tables_in dependencies) c.name (asked_in s c) c.queries (same_dependencies s c.role (asked_in s c ++ c.queries) dependencies read)
     (within_first (asked_in s c) c.queries (tables_in dependencies) read.asked) (within_last (asked_in s c) c.queries (tables_in dependencies) read.asked))
 

@@ -1,6 +1,6 @@
 -- The qualifying rows of a command are those of its meaning.
 use Rattle.std.specs.Prelude.{◌≡◌, refl, ℕ, List, [], ◌∷◌, ◌++◌, Bool, true, false, ◌||◌, Option, Some, None, Result, Ok, Err, map, if◌then◌else◌}
-use Rattle.std.specs.List.{list_any}
+use Rattle.std.specs.List.{flat_map, list_any}
 use Rattle.std.specs.Option.{option_map_or}
 use Rattle.std.proofs.Common.{ap, sym, ◌∙◌, subst}
 use Rattle.rls_value.specs.{declared.refusal.Refusal.Refusal, declared.refusal.Refusal.TheVariants.Denied, declared.refusal.Refusal.TheVariants.Recursion, declared.row.RowId.RowId, declared.value.Value.Value, declared.verb.Privilege.Privilege, Giving.and_then, Truths.is_true, Values.is_null, Values.truth_in, Names.one_of}
@@ -16,7 +16,7 @@ use Rattle.rls_expansion.specs.{declared.expansion.PolicyExpansion.PolicyExpansi
 use Rattle.rls_depth.specs.Deep.{JudgeAlike}
 use Rattle.rls_judging.specs.{ScannedRows.scanned_rows, ScannedRows.scanned_rows_with, ScannedRows.pinned_key, Judging.are_allowed, Judging.decisions_on, Judging.qualifying_rows_of, Judging.judged_all, Judging.judged_new, Judging.judged_old, Judging.with_decision, Judging.with_decisions, Judging.with_judged}
 use Rattle.rls_dml.specs.Writing.{privileges_or_denied, readable_or_denied}
-use Rattle.rls_meaning.specs.{Chains.subquery_tables_in, Commands.Command, Commands.depth_of, Commands.needed_in, Commands.own_of, Commands.permitted, Commands.permitted_in, Commands.privilege_of, Commands.required, Naming.provided, Needing.needs}
+use Rattle.rls_meaning.specs.{Chains.subquery_tables_in, Commands.Command, Commands.depth_of, Commands.needed_in, Commands.own_of, Commands.permitted, Commands.permitted_in, Commands.privilege_of, Commands.required, Naming.provided, Needing.needed_by}
 use Rattle.rls_meaning.specs.{Expanding.IsExpanded, Expanding.IsExpansionIn, Expanding.Made, Expanding.Refused, Expanding.checks_if, Expanding.expansion_in, Rows.checks, Rows.decisions_in, Rows.qualifying_rows_in, Rows.rows_at_key, Rows.sees}
 
 -- ---- privileges
@@ -105,7 +105,7 @@ judged_same row_checks condition one other user s alike meet stored =
 
 -- the tables of the command's own subqueries are asked for
 pub queries_checked : (s : State) (c : Command) (p : PolicyExpansion) → IsExpansionIn s c p → Within c.queries p.permission_checks
-queries_checked s c p protects = subst (Within c.queries) (sym protects.permission_checks) (among_first c.queries (fresh [] (needs (depth_of s c) (subquery_tables_in s c.role) (own_of s c ++ c.queries))))
+queries_checked s c p protects = subst (Within c.queries) (sym protects.permission_checks) (among_first c.queries (fresh [] (flat_map (needed_by (depth_of s c) (subquery_tables_in s c.role)) (own_of s c ++ c.queries))))
 
 -- the qualifying rows, by checks and what is shown
 abbrev qualifying_rows_by : List RowCheck → Shows → List ℕ → Option Term → List Stored → Asking (List Decision × List Stored)

@@ -1,7 +1,7 @@
 -- The parts of a statement on rows, checked (PostgreSQL manual, 4.1 and 4.2): first the names of all parts, in text order,
 -- then the types of all, then that nothing stands in them that isn't supported.
-use Rattle.std.specs.Prelude.{ℕ, List, [], ◌∷◌, ◌++◌, Bool, true, false, not, ◌||◌, Option, Some, None, Result, Ok, map, slice_get}
-use Rattle.std.specs.List.{list_all, list_any, range_with_len}
+use Rattle.std.specs.Prelude.{ℕ, List, [], ◌++◌, Bool, true, false, not, ◌||◌, Option, Some, Result, map}
+use Rattle.std.specs.List.{list_all, list_any}
 use Rattle.std.specs.Option.{option_map_or, option_to_list}
 use Rattle.rls_value.specs.{declared.refusal.Refusal.Refusal, declared.refusal.Refusal.TheVariants.TypeFault, declared.refusal.Refusal.TheVariants.Undefined, declared.refusal.Refusal.TheVariants.Unsupported, Giving.and_then}
 use Rattle.rls_value.specs.declared.refusal.NameKind.TheVariants as kind

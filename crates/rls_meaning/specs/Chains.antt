@@ -1,6 +1,6 @@
 -- Chains of policies over a state (PostgreSQL: SQLSTATE 42P17). A policy that holds a subquery brings in the policies of the
 -- subquery's table, these those of the tables of their subqueries, and so on.
-use Rattle.std.specs.Prelude.{ℕ, zero, suc, List, [], ◌∷◌, ◌++◌, Bool, Option, Some, None, if◌then◌else◌}
+use Rattle.std.specs.Prelude.{ℕ, zero, suc, List, ◌∷◌, ◌++◌, Bool, Option, Some, None, filter_map, slice_get, if◌then◌else◌}
 use Rattle.std.specs.List.{list_any, flat_map}
 use Rattle.std.specs.Option.{option_to_list}
 use Rattle.rls_value.specs.Names.{one_of}
@@ -8,7 +8,6 @@ use Rattle.rls_value.specs.declared.verb.Kind.TheVariants as k
 use Rattle.rls_expr.specs.{declared.policy.Policy.Policy, Parts.has_query}
 use Rattle.rls_catalog.specs.{Applying.applying_to, State.State}
 use Rattle.rls_catalog.specs.declared.verdict.Side.TheVariants as side
-use Rattle.rls_recursion.specs.Searching.{or_next, first_closed}
 use Rattle.rls_expansion.specs.Used.{tables_if}
 
 -- the policies for SELECT of the table that apply to the role: none where it is exempt, or no table is there
@@ -26,8 +25,4 @@ subquery_tables_in s role name = flat_map (λ policy. tables_if policy.using) (s
 -- the table that a chain on from this one closes on first: one that the chain meets again and whose policies hold a subquery
 abbrev pub closes : ℕ → State → List ℕ → List (List ℕ) → List ℕ → Option (List ℕ)
 closes zero s role chain t = None
-closes (suc n) s role chain t = if has_subquery_in s role t then (if one_of chain t then Some t else first_closed (closes n s role (t ∷ chain)) (subquery_tables_in s role t)) else None
-
--- the table that a statement's chains close on first: those from its target, then those from the tables of its subqueries
-abbrev pub first_closing : ℕ → State → List ℕ → List ℕ → List (List ℕ) → List (List ℕ) → Option (List ℕ)
-first_closing n s role target own queries = or_next (first_closed (closes n s role (target ∷ [])) own) (first_closed (closes n s role []) queries)
+closes (suc n) s role chain t = if has_subquery_in s role t then (if one_of chain t then Some t else slice_get (filter_map (closes n s role (t ∷ chain)) (subquery_tables_in s role t)) 0) else None

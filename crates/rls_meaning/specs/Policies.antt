@@ -1,17 +1,17 @@
 -- CREATE POLICY, ALTER POLICY and DROP POLICY (PostgreSQL manual, CREATE POLICY, ALTER POLICY, DROP POLICY): names, then what
 -- is wrong with the policy, and then that the role has the privileges of the table's owner.
-use Rattle.std.specs.Prelude.{ℕ, List, [], ◌∷◌, ◌++◌, not, Option, Result, Ok, length, map, nat_lt}
+use Rattle.std.specs.Prelude.{ℕ, List, [], ◌∷◌, ◌++◌, not, Option, Result, Ok, length, map, nat_lt, if◌then◌else◌}
 use Rattle.std.specs.List.{flat_map}
 use Rattle.std.specs.Option.{option_map_or, option_to_list}
 use Rattle.rls_value.specs.{declared.refusal.Refusal.Refusal, declared.refusal.Refusal.TheVariants.Duplicate, declared.refusal.Refusal.TheVariants.Limit, declared.refusal.Refusal.TheVariants.Unsupported, Giving.and_then}
 use Rattle.rls_value.specs.declared.refusal.DefinedKind.TheVariants as defined
 use Rattle.rls_value.specs.declared.refusal.Limit.TheVariants as limit
 use Rattle.rls_expr.specs.{Naming.names_of, Resolving.Names, Resolving.resolved, Terms.Term}
-use Rattle.rls_catalog.specs.{State.State, State.policies_of, PolicyLists.has_policy, PolicyLists.with_policy, PolicyLists.without_policy}
+use Rattle.rls_catalog.specs.{State.State, State.policies_of, PolicyLists.has_policy, PolicyLists.is_named, PolicyLists.with_policy, PolicyLists.without_policy}
 use Rattle.rls_catalog.specs.declared.change.Change.TheVariants as change
 use Rattle.rls_statement.specs.{declared.statement.AlterPolicy.AlterPolicy, declared.statement.CreatePolicy.CreatePolicy, declared.statement.DropPolicy.DropPolicy}
 use Rattle.rls_guard.specs.{declared.effect.Effect.Effect, Effects.writes, Naming.names_over}
-use Rattle.rls_ddl.specs.{AlteringPolicies.has_no_place_for, AlteringPolicies.with_altered, NamedPolicies.policy_or_undefined}
+use Rattle.rls_ddl.specs.{AlteringPolicies.has_no_place_for, AlteringPolicies.altered, NamedPolicies.policy_or_undefined}
 use Rattle.rls_meaning.specs.{Analysing.checked, Analysing.of_condition, Naming.grantees_in, Naming.named_in, Naming.provided, Naming.table_in, Tables.owner_in}
 
 -- USING and WITH CHECK, those that are written
@@ -46,7 +46,7 @@ alter_policy_in s role asked =
     and_then (conditions_in (names_over (asked.table, table) found) (conditions asked.using asked.check)) (λ _.
     and_then (provided (not (has_no_place_for policy.kind asked)) Unsupported) (λ _.
     and_then (owner_in s role asked.table table) (λ _.
-    Ok (writes (change.Policies asked.table (with_altered asked (policies_of s asked.table)) ∷ [])))))))))
+    Ok (writes (change.Policies asked.table (map (λ policy. if is_named asked.name policy then altered asked policy else policy) (policies_of s asked.table)) ∷ [])))))))))
 
 -- DROP POLICY: the policy has to be there
 abbrev pub drop_policy_in : State → List ℕ → DropPolicy → Result Effect Refusal

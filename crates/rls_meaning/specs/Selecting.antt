@@ -4,7 +4,7 @@ use Rattle.std.specs.List.{flat_map}
 use Rattle.std.specs.Option.{option_map, option_to_list}
 use Rattle.rls_value.specs.{declared.refusal.Refusal.Refusal, declared.tag.Tag.Tag, Giving.and_then}
 use Rattle.rls_value.specs.declared.verb.Kind.TheVariants as k
-use Rattle.rls_expr.specs.{declared.table.TableDef.TableDef, Naming.names_of, Resolving.Names, Resolving.resolved, Scopes.InScope}
+use Rattle.rls_expr.specs.{declared.table.TableDef.TableDef, Naming.names_of, Resolving.resolved, Scopes.InScope}
 use Rattle.rls_catalog.specs.State.{State}
 use Rattle.rls_statement.specs.declared.statement.Select.{Select}
 use Rattle.rls_statement.specs.declared.statement.Statement.TheVariants as statement
