@@ -10,16 +10,17 @@ use Rattle.rls_value.specs.declared.refusal.Limit.TheVariants as limit
 use Rattle.rls_value.specs.declared.refusal.NameKind.TheVariants as name_kind
 use Rattle.rls_value.specs.declared.refusal.Why.TheVariants as why
 use Rattle.rls_expr.specs.{declared.policy.Grantee.Grantee, declared.policy.Policy.Policy, declared.table.Column.Column, declared.table.TableDef.TableDef, Naming.names_of, Resolving.Names, Resolving.resolved, Scopes.InScope, Tables.column_named, Terms.Term}
-use Rattle.rls_catalog.specs.{State.State, State.policies_of, State.role_of, State.table_of, Paths.can_set, PolicyLists.has_policy, PolicyLists.with_policy, PolicyLists.without_policy}
+use Rattle.rls_catalog.specs.{State.State, State.grants_of, State.policies_of, State.role_of, State.table_of, Paths.can_set, PolicyLists.has_policy, PolicyLists.with_policy, PolicyLists.without_policy}
 use Rattle.rls_catalog.specs.declared.change.Change.TheVariants as change
 use Rattle.rls_source.specs.{Asked.grants_at, Asked.policies_at, Asked.role_at, Asked.table_at, Askings.Asking, Askings.asked_if, Askings.known, Named.found_or, Sequences.each_of}
 use Rattle.rls_statement.specs.{declared.statement.AlterPolicy.AlterPolicy, declared.statement.AlterRole.AlterRole, declared.statement.AlterTable.AlterTable, declared.statement.CreatePolicy.CreatePolicy, declared.statement.CreateRole.CreateRole, declared.statement.CreateTable.CreateTable, declared.statement.DropPolicy.DropPolicy, declared.statement.MarkedColumn.MarkedColumn, declared.statement.SetRole.SetRole}
 use Rattle.rls_statement.specs.declared.statement.SetRole.TheVariants as set
 use Rattle.rls_guard.specs.{declared.context.Ctx.Ctx, declared.effect.Effect.Effect, Checks.superuser_or_denied, Effects.writes, Naming.named, Naming.names_over, RolePrivileges.ownership, RolePrivileges.role_privileges_in}
+use Rattle.rls_grant.specs.Granting.{own_grants}
 use Rattle.rls_ddl.specs.{AlteringPolicies.alter_policy, AlteringPolicies.alteration_made, AlteringPolicies.alteration_of, AlteringPolicies.alteration_on, AlteringPolicies.alteration_over, AlteringPolicies.conditions_or_refused, AlteringPolicies.has_no_place_for, AlteringPolicies.resolved_or_unsupported, AlteringPolicies.roles_or_undefined, AlteringPolicies.with_altered, AlteringRoles.alter_role, AlteringRoles.role_altered, AlteringRoles.role_changed, AlteringTables.alter_table, AlteringTables.altered, Conditions.both_conditions, Conditions.condition_fits, Conditions.condition_names, Conditions.is_supported}
-use Rattle.rls_ddl.specs.{CreatingPolicies.create_policy, CreatingPolicies.new_or_duplicate, CreatingPolicies.room_for_policy, CreatingPolicies.policy_added, CreatingPolicies.policy_made, CreatingPolicies.policy_on, CreatingPolicies.policy_or_refused, CreatingRoles.create_role, CreatingRoles.role_made, CreatingTables.column_in, CreatingTables.create_table, CreatingTables.key_names, CreatingTables.key_or_undefined, CreatingTables.place_of, CreatingTables.table_made, CreatingTables.table_unless_taken, DroppingPolicies.drop_on, DroppingPolicies.drop_policy, DroppingPolicies.policy_dropped, NamedPolicies.policy_or_undefined, SettingRoles.may_set, SettingRoles.role_set, SettingRoles.set_or_denied, SettingRoles.set_role, SettingRoles.sets}
+use Rattle.rls_ddl.specs.{CreatingPolicies.create_policy, CreatingPolicies.new_or_duplicate, CreatingPolicies.room_for_policy, CreatingPolicies.policy_added, CreatingPolicies.policy_made, CreatingPolicies.policy_on, CreatingPolicies.policy_or_refused, CreatingRoles.create_role, CreatingRoles.role_made, CreatingTables.column_in, CreatingTables.create_table, CreatingTables.key_names, CreatingTables.key_or_undefined, CreatingTables.place_of, CreatingTables.table_made, CreatingTables.table_unless_taken, CreatingTables.table_with, DroppingPolicies.drop_on, DroppingPolicies.drop_policy, DroppingPolicies.policy_dropped, NamedPolicies.policy_or_undefined, SettingRoles.may_set, SettingRoles.role_set, SettingRoles.set_or_denied, SettingRoles.set_role, SettingRoles.sets}
 use Rattle.rls_meaning.specs.{Analysing.of_condition, Analysing.place_in, Naming.grantees_in, Naming.named_in, Naming.provided, Policies.alter_policy_in, Policies.conditions, Policies.conditions_in, Policies.create_policy_in, Policies.drop_policy_in, Roles.alter_role_in, Roles.create_role_in, Roles.set_role_in, Roles.superuser_in, Tables.alter_table_in, Tables.create_table_in, Tables.owner_in}
-use Rattle.rls_meaning.proofs.{Analysing.where_named, Listing.flat_append, Naming.grantees_told, Naming.named_told, Naming.role_told, Naming.table_told}
+use Rattle.rls_meaning.proofs.{Analysing.where_named, Granting.put_told, Listing.flat_append, Naming.grantees_told, Naming.named_told, Naming.role_told, Naming.table_told}
 
 -- ---- what may be refused on the way
 
@@ -81,7 +82,10 @@ key_told asked = λ i. each_of (λ name. found_or (Undefined name_kind.Column na
 pub create_table_told : (s : State) (ctx : Ctx) (asked : CreateTable) → ((create_table ctx asked).in_state s).gives ≡ create_table_in s ctx.role asked
 unfolding table_unless_taken table_made table_at grants_at
 create_table_told s ctx asked =
-    λ i. and_then (key_told asked i) (λ key. absent_told (is_some (table_of s asked.name)) (Duplicate kind.Relation asked.name) (table_made ctx asked key) s i)
+    λ i. and_then (key_told asked i) (λ key.
+    (absent_told (is_some (table_of s asked.name)) (Duplicate kind.Relation asked.name) (table_made ctx asked key) s
+    ∙ (λ j. and_then (provided (not (is_some (table_of s asked.name))) (Duplicate kind.Relation asked.name)) (λ _.
+    Ok (writes (change.Table asked.name (table_with ctx.role asked key) ∷ change.Grants asked.name (put_told (grants_of s asked.name) (own_grants ctx.role) j) ∷ []))))) i)
 
 pub alter_table_told : (s : State) (ctx : Ctx) (asked : AlterTable) → ((alter_table ctx asked).in_state s).gives ≡ alter_table_in s ctx.role asked
 alter_table_told s ctx asked =

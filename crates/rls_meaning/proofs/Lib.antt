@@ -11,8 +11,8 @@ pub mod Selecting
 pub mod Inserting
 pub mod Updating
 pub mod Deleting
-pub mod Defining
 pub mod Granting
+pub mod Defining
 pub mod Joining
 pub mod Meaning
 pub mod Relations

@@ -10,6 +10,7 @@ pub mod Inserting
 pub mod Updating
 pub mod Deleting
 pub mod Roles
+pub mod Grants
 pub mod Tables
 pub mod Policies
 pub mod Privileges
