@@ -1,6 +1,6 @@
 -- The dependencies of a statement are always read, and are few; and chains of dependencies are those of the state.
-use Rattle.std.specs.Prelude.{◌≡◌, refl, ℕ, zero, suc, ◌≤◌, ◌<◌, List, [], ◌∷◌, ◌++◌, Bool, true, false, Option, Some, None, Result, Ok, length, slice_get, if◌then◌else◌}
-use Rattle.std.specs.List.{flat_map}
+use Rattle.std.specs.Prelude.{◌≡◌, refl, ℕ, zero, suc, ◌+◌, ◌≤◌, ◌<◌, List, [], ◌∷◌, ◌++◌, Bool, true, false, Option, Some, None, Result, Ok, filter_map, length, slice_get, if◌then◌else◌}
+use Rattle.std.specs.List.{cons_option, flat_map}
 use Rattle.std.proofs.Common.{arith, ap, sym, ◌∙◌, subst}
 use Rattle.std.proofs.lemmas.{Bool.true≢false}
 use Rattle.rls_value.specs.{declared.refusal.Refusal.Refusal, Giving.and_then, Names.one_of}
@@ -11,10 +11,14 @@ use Rattle.rls_recursion.specs.{declared.dependency.PolicyDependency.PolicyDepen
 use Rattle.rls_recursion.proofs.Closing.{one_first, one_further, not_true}
 use Rattle.rls_expansion.specs.{Enough.collect, Enough.collect_end, Enough.collect_step, Enough.visits, Leading.named, Dependencies.dependency_of, Dependencies.dependencies_of}
 use Rattle.rls_depth.proofs.{Walking.AreRead, Walking.subquery_tables_within, Walking.dependency_at, Walking.dependency_found, Walking.dependency_told}
-use Rattle.rls_meaning.specs.{Chains.closes, Chains.depth, Chains.first_closing, Chains.has_subquery_in, Chains.subquery_tables_in, Needing.leads_of, Needing.needed_by, Needing.needs}
+use Rattle.rls_meaning.specs.{Chains.closes, Chains.has_subquery_in, Chains.subquery_tables_in, Needing.leads_of, Needing.needed_by, Needing.needs}
 use Rattle.rls_meaning.proofs.{Listing.last_cases, States.has_subquery_same, States.subquery_tables_same, States.leaf_leads}
 
 -- ---- they are read
+
+-- more than there are tables that policies, or these, lead to
+abbrev pub depth : State → List (List ℕ) → ℕ
+depth s tables = suc (length tables + length (named s))
 
 pub record Dependencies (s : State) (role_privileges : RolePrivileges) (tables : List (List ℕ)) : Type 0 where
   pub dependencies : List PolicyDependency
@@ -73,6 +77,23 @@ same_dependencies s role tables dependencies read = record {
   stays = λ t. subquery_tables_within dependencies (tables_in dependencies) t read.next;
 }
 
+-- the first that one is found for
+first_if : (one rest : Option (List ℕ)) (further : List (List ℕ)) → rest ≡ slice_get further 0 → or_next one rest ≡ slice_get (cons_option one further) 0
+first_if (Some t) rest further same = refl
+first_if None rest further same = same
+
+first_told : (find : List ℕ → Option (List ℕ)) (ts : List (List ℕ)) → first_closed find ts ≡ slice_get (filter_map find ts) 0
+first_told find [] = refl
+first_told find (t ∷ ts) = first_if (find t) (first_closed find ts) (filter_map find ts) (first_told find ts)
+
+both_if : (one : Option (List ℕ)) (rest next : Option (List ℕ)) (further last : List (List ℕ)) → or_next rest next ≡ slice_get (further ++ last) 0 → or_next (or_next one rest) next ≡ slice_get (cons_option one further ++ last) 0
+both_if (Some t) rest next further last same = refl
+both_if None rest next further last same = same
+
+pub both_told : (find other : List ℕ → Option (List ℕ)) (ts us : List (List ℕ)) → or_next (first_closed find ts) (first_closed other us) ≡ slice_get (filter_map find ts ++ filter_map other us) 0
+both_told find other [] us = first_told other us
+both_told find other (t ∷ ts) us = both_if (find t) (first_closed find ts) (first_closed other us) (filter_map find ts) (filter_map other us) (both_told find other ts us)
+
 closed_same : (one other : List ℕ → Option (List ℕ)) (all ts : List (List ℕ)) → Within ts all → ((t : List ℕ) → one_of all t ≡ true → one t ≡ other t) → first_closed one ts ≡ first_closed other ts
 closed_same one other all [] within same = refl
 closed_same one other all (t ∷ ts) within same =
@@ -81,13 +102,14 @@ closed_same one other all (t ∷ ts) within same =
 closes_same : (n : ℕ) (s : State) (role : List ℕ) (dependencies : List PolicyDependency) (all chain : List (List ℕ)) → Same s role dependencies all → (t : List ℕ) → one_of all t ≡ true → dependency_closes n dependencies chain t ≡ closes n s role chain t
 closes_same zero s role dependencies all chain same t is = refl
 closes_same (suc n) s role dependencies all chain same t is =
-    let below : first_closed (dependency_closes n dependencies (t ∷ chain)) (subquery_tables_of dependencies t) ≡ first_closed (closes n s role (t ∷ chain)) (subquery_tables_in s role t) =
+    let below : first_closed (dependency_closes n dependencies (t ∷ chain)) (subquery_tables_of dependencies t) ≡ slice_get (filter_map (closes n s role (t ∷ chain)) (subquery_tables_in s role t)) 0 =
     closed_same (dependency_closes n dependencies (t ∷ chain)) (closes n s role (t ∷ chain)) all (subquery_tables_of dependencies t) (same.stays t) (λ u among. closes_same n s role dependencies all (t ∷ chain) same u among)
-    ∙ ap (first_closed (closes n s role (t ∷ chain))) (same.next t is) in
+    ∙ ap (first_closed (closes n s role (t ∷ chain))) (same.next t is)
+    ∙ first_told (closes n s role (t ∷ chain)) (subquery_tables_in s role t) in
     λ i. if same.inner t is i then (if one_of chain t then Some t else below i) else None
 
 pub closing_same : (n : ℕ) (s : State) (role : List ℕ) (dependencies : List PolicyDependency) (all : List (List ℕ)) (target : List ℕ) (own queries : List (List ℕ)) → Same s role dependencies all → Within own all → Within queries all
-    → dependency_closing n dependencies target own queries ≡ first_closing n s role target own queries
+    → dependency_closing n dependencies target own queries ≡ or_next (first_closed (closes n s role (target ∷ [])) own) (first_closed (closes n s role []) queries)
 closing_same n s role dependencies all target own queries same first second =
     λ i. or_next (closed_same (dependency_closes n dependencies (target ∷ [])) (closes n s role (target ∷ [])) all own first (closes_same n s role dependencies all (target ∷ []) same) i)
     (closed_same (dependency_closes n dependencies []) (closes n s role []) all queries second (closes_same n s role dependencies all [] same) i)

@@ -8,14 +8,14 @@ use Rattle.rls_expr.specs.{declared.table.TableDef.TableDef, Scopes.InScope, Ter
 use Rattle.rls_catalog.specs.{declared.verdict.Side.Side, State.State, Membership.fresh, Membership.Within}
 use Rattle.rls_catalog.specs.declared.verdict.Side.TheVariants as side
 use Rattle.rls_guard.specs.{declared.quals.RowCheck.RowCheck, declared.role_privileges.RolePrivileges.RolePrivileges, SecurityQuals.quals_from, RolePrivileges.role_privileges_in}
-use Rattle.rls_recursion.specs.{declared.dependency.PolicyDependency.PolicyDependency, declared.searching.Reached.Reached, Searching.InOrder, Searching.Found, Searching.Fits, Searching.Loops, Searching.Deep, Searching.first_closing as dependency_closing, Searching.ordered_by, Searching.searched, Searching.tables_in, Searching.told_by}
-use Rattle.rls_recursion.proofs.Ending.{IsTold}
-use Rattle.rls_expansion.specs.{declared.expansion.PolicyExpansion.PolicyExpansion, Relations.known_in, Expanding.judges_new, Expanding.judges_old, Expanding.own_tables, Expanding.past_policies, Expanding.expanded_from, Expanding.expansion_by, Expanding.expansion_of, Expanding.row_checks_if, Dependencies.dependencies_of, Used.tables_of}
-use Rattle.rls_depth.specs.Deep.{JudgeAlike, policies_in, ruled, shows_deep, state_quals}
+use Rattle.rls_recursion.specs.{declared.dependency.PolicyDependency.PolicyDependency, declared.searching.Reached.Reached, Searching.InOrder, Searching.Found, Searching.Fits, Searching.Loops, Searching.Deep, Searching.first_closed, Searching.first_closing as dependency_closing, Searching.or_next, Searching.ordered_by, Searching.searched, Searching.tables_in, Searching.told_by}
+use Rattle.rls_recursion.proofs.{Ending.IsTold}
+use Rattle.rls_expansion.specs.{declared.expansion.PolicyExpansion.PolicyExpansion, Relations.known_in, Expanding.judges_new, Expanding.judges_old, Expanding.own_tables, Expanding.past_policies, Expanding.expanded_from, Expanding.expansion_by, Expanding.expansion_of, Expanding.row_checks_if, Dependencies.dependencies_lead, Dependencies.dependencies_of, Dependencies.dependency_of, Enough.asked_all, Leading.named, Used.tables_of}
+use Rattle.rls_depth.specs.{Deep.JudgeAlike, Deep.policies_in, Deep.ruled, Deep.shows_deep, Deep.state_quals}
 use Rattle.rls_evaluation.specs.{Environments.Environment, Eval.Shows, Eval.value_of, Showing.shows}
 use Rattle.rls_depth.proofs.{Deepening.relations_few, ExpansionLaws.policies_told, Stating.reached_read, Tables.within_first, Tables.within_last, Walking.AreRead, Walking.are_read}
-use Rattle.rls_meaning.specs.{Chains.depth, Chains.first_closing, Chains.subquery_tables_in, Commands.Command, Commands.closing_in, Commands.depth_of, Commands.needed_in, Commands.own_of, Needing.needs, Expanding.IsExpanded, Expanding.IsExpansionIn, Expanding.Made, Expanding.Refused, Expanding.expansion_in, Expanding.sees, Expanding.check, Expanding.select_quals}
-use Rattle.rls_meaning.proofs.{Listing.checks_in_order, Listing.search_told, Dependencies.Dependencies, Dependencies.dependencies_read, Dependencies.Same, Dependencies.same_dependencies, Dependencies.closing_same, Dependencies.needs_same, Dependencies.in_order_few, Dependencies.tables_few, States.own_told}
+use Rattle.rls_meaning.specs.{Chains.subquery_tables_in, Commands.Command, Commands.closing_in, Commands.depth_of, Commands.needed_in, Commands.own_of, Expanding.IsExpanded, Expanding.IsExpansionIn, Expanding.Made, Expanding.Refused, Expanding.expansion_in, Expanding.sees, Expanding.check, Expanding.select_quals, Chains.closes, Needing.needed_by}
+use Rattle.rls_meaning.proofs.{Listing.checks_in_order, Listing.search_told, Dependencies.Dependencies, Dependencies.dependencies_read, Dependencies.same_dependencies, Dependencies.closing_same, Dependencies.needs_same, Dependencies.in_order_few, Dependencies.tables_few, States.own_told, Asking.Alike, Asking.alike_append, Asking.asked_in, Asking.first_alike, Asking.needs_alike, Asking.own_alike, Dependencies.both_told}
 
 -- what the laws of the search say
 pub record Searches : Type 0 where
@@ -69,43 +69,53 @@ is_refused (Ok reached) = false
 abbrev made_in : State → Command → List PolicyDependency → Reached → PolicyExpansion
 made_in s c dependencies reached = expanded_from (role_privileges_in s c.role) c.kind c.reads (c.name, c.table) (policies_in s (role_privileges_in s c.role) c.name c.table) dependencies reached
 
-expands_by : (s : State) (c : Command) (own : List (List ℕ)) (dependencies : List PolicyDependency) → Searches → own_of s c ≡ own
-    → ((dependencies_of (role_privileges_in s c.role) (own ++ c.queries)).in_state s).gives ≡ Ok dependencies → length dependencies < depth s (own ++ c.queries)
-    → expansion_in s c ≡ and_then (ordered_by dependencies c.name own c.queries) (λ reached. Ok (made_in s c dependencies reached))
-    → Ends dependencies c.name own c.queries → Expands s c
-expands_by s c own dependencies laws same given few gives (Reaches reached is) =
-    let read : AreRead s (role_privileges_in s c.role) (own ++ c.queries) dependencies = are_read (role_privileges_in s c.role) s (own ++ c.queries) dependencies given in
-    let dependencies_same : Same s c.role dependencies (tables_in dependencies) = same_dependencies s c.role (own ++ c.queries) dependencies read in
-    let n : ℕ = depth s (own ++ c.queries) in
-    let closed : dependency_closing n dependencies c.name own c.queries ≡ first_closing n s c.role c.name own c.queries = closing_same n s c.role dependencies (tables_in dependencies) c.name own c.queries dependencies_same
-    (within_first own c.queries (tables_in dependencies) read.asked) (within_last own c.queries (tables_in dependencies) read.asked) in
-    let there : Within reached.secured (tables_in dependencies) = reached_read s (role_privileges_in s c.role) (own ++ c.queries) dependencies c.name own c.queries reached read (λ t among. among) is in
+-- tables that are named alike lead to the same dependencies
+same_given : (s : State) (role_privileges : RolePrivileges) (one other : List (List ℕ)) → Alike one other → ((dependencies_of role_privileges one).in_state s).gives ≡ ((dependencies_of role_privileges other).in_state s).gives
+unfolding dependencies_of
+same_given s role_privileges one other alike =
+    λ i. ((asked_all (dependency_of role_privileges) (λ dependency. dependency.subquery_tables) named (dependencies_lead role_privileges) (alike [] i)).in_state s).gives
+
+with_queries : (one other queries : List (List ℕ)) → Alike one other → Alike (one ++ queries) (other ++ queries)
+with_queries one other queries alike = alike_append one other queries queries alike (λ seen. refl)
+
+-- the state's chains close where those of the dependencies do
+closing_told : (s : State) (c : Command) (dependencies : List PolicyDependency) → AreRead s (role_privileges_in s c.role) (asked_in s c ++ c.queries) dependencies → closing_in s c ≡ dependency_closing (depth_of s c) dependencies c.name (asked_in s c) c.queries
+closing_told s c dependencies read =
+    sym (both_told (closes (depth_of s c) s c.role (c.name ∷ [])) (closes (depth_of s c) s c.role []) (own_of s c) c.queries)
+    ∙ ap (λ closed. or_next closed (first_closed (closes (depth_of s c) s c.role []) c.queries)) (first_alike (closes (depth_of s c) s c.role (c.name ∷ [])) (own_of s c) (asked_in s c) (own_alike s c))
+    ∙ sym (closing_same (depth_of s c) s c.role dependencies (tables_in dependencies) c.name (asked_in s c) c.queries (same_dependencies s c.role (asked_in s c ++ c.queries) dependencies read)
+    (within_first (asked_in s c) c.queries (tables_in dependencies) read.asked) (within_last (asked_in s c) c.queries (tables_in dependencies) read.asked))
+
+expands_by : (s : State) (c : Command) (dependencies : List PolicyDependency) → Searches → AreRead s (role_privileges_in s c.role) (asked_in s c ++ c.queries) dependencies → length dependencies < depth_of s c
+    → expansion_in s c ≡ and_then (ordered_by dependencies c.name (asked_in s c) c.queries) (λ reached. Ok (made_in s c dependencies reached))
+    → Ends dependencies c.name (asked_in s c) c.queries → Expands s c
+expands_by s c dependencies laws read few gives (Reaches reached is) =
+    let n : ℕ = depth_of s c in
+    let there : Within reached.secured (tables_in dependencies) = reached_read s (role_privileges_in s c.role) (asked_in s c ++ c.queries) dependencies c.name (asked_in s c) c.queries reached read (λ t among. among) is in
     Makes (made_in s c dependencies reached)
     (gives ∙ ap (λ found. and_then found (λ reached. Ok (made_in s c dependencies reached))) is)
     (record {
-      never = ap (λ own. first_closing (depth s (own ++ c.queries)) s c.role c.name own c.queries) same ∙ sym closed
-          ∙ none_if (dependency_closing n dependencies c.name own c.queries) (λ t closes. true≢false (sym (ap is_refused (sym is ∙ (laws.recursion dependencies c.name own c.queries t n few).1 closes))));
-      permission_checks = checks_in_order dependencies c.name own c.queries reached n few is
-          ∙ ap (λ all. c.queries ++ fresh [] all) (needs_same n s c.role dependencies (tables_in dependencies) (own ++ c.queries) dependencies_same read.asked)
-          ∙ ap (λ own. c.queries ++ fresh [] (needs (depth s (own ++ c.queries)) (subquery_tables_in s c.role) (own ++ c.queries))) (sym same);
-      few = omega (arith, ap (λ own. depth s (own ++ c.queries)) same, few, relations_few (known_in dependencies) dependencies reached.secured, in_order_few dependencies reached.secured (tables_in dependencies) (laws.ordered dependencies c.name own c.queries reached is) there, tables_few dependencies);
+      never = closing_told s c dependencies read
+          ∙ none_if (dependency_closing n dependencies c.name (asked_in s c) c.queries) (λ t closes. true≢false (sym (ap is_refused (sym is ∙ (laws.recursion dependencies c.name (asked_in s c) c.queries t n few).1 closes))));
+      permission_checks = checks_in_order dependencies c.name (asked_in s c) c.queries reached n few is
+          ∙ ap (λ all. c.queries ++ fresh [] all) (needs_same n s c.role dependencies (tables_in dependencies) (asked_in s c ++ c.queries) (same_dependencies s c.role (asked_in s c ++ c.queries) dependencies read) read.asked)
+          ∙ ap (λ all. c.queries ++ all) (sym (needs_alike (needed_by n (subquery_tables_in s c.role)) (own_of s c ++ c.queries) (asked_in s c ++ c.queries) (with_queries (own_of s c) (asked_in s c) c.queries (own_alike s c))));
+      few = omega (arith, few, relations_few (known_in dependencies) dependencies reached.secured, in_order_few dependencies reached.secured (tables_in dependencies) (laws.ordered dependencies c.name (asked_in s c) c.queries reached is) there, tables_few dependencies);
     })
-expands_by s c own dependencies laws same given few gives (Closes t is) =
-    let read : AreRead s (role_privileges_in s c.role) (own ++ c.queries) dependencies = are_read (role_privileges_in s c.role) s (own ++ c.queries) dependencies given in
-    let dependencies_same : Same s c.role dependencies (tables_in dependencies) = same_dependencies s c.role (own ++ c.queries) dependencies read in
-    let n : ℕ = depth s (own ++ c.queries) in
-    let closed : dependency_closing n dependencies c.name own c.queries ≡ first_closing n s c.role c.name own c.queries = closing_same n s c.role dependencies (tables_in dependencies) c.name own c.queries dependencies_same
-    (within_first own c.queries (tables_in dependencies) read.asked) (within_last own c.queries (tables_in dependencies) read.asked) in
+expands_by s c dependencies laws read few gives (Closes t is) =
     Refuses t
     (gives ∙ ap (λ found. and_then found (λ reached. Ok (made_in s c dependencies reached))) is)
-    (ap (λ own. first_closing (depth s (own ++ c.queries)) s c.role c.name own c.queries) same ∙ sym closed ∙ (laws.recursion dependencies c.name own c.queries t n few).0 is)
+    (closing_told s c dependencies read ∙ (laws.recursion dependencies c.name (asked_in s c) c.queries t (depth_of s c) few).0 is)
 
 expands : Searches → (s : State) (c : Command) → Expands s c
 expands laws s c =
-    let read : Dependencies s (role_privileges_in s c.role) (own_of s c ++ c.queries) = dependencies_read s (role_privileges_in s c.role) (own_of s c ++ c.queries) in
-    expands_by s c (own_of s c) read.dependencies laws refl read.given read.few
-    (given_by s (role_privileges_in s c.role) c.name c.table c.kind c.reads c.queries (own_of s c) read.dependencies (own_told s c.role c.name c.table c.kind c.reads) read.given)
-    (search_ends read.dependencies c.name (own_of s c) c.queries)
+    let role_privileges : RolePrivileges = role_privileges_in s c.role in
+    let read : Dependencies s role_privileges (own_of s c ++ c.queries) = dependencies_read s role_privileges (own_of s c ++ c.queries) in
+    let given : ((dependencies_of role_privileges (asked_in s c ++ c.queries)).in_state s).gives ≡ Ok read.dependencies =
+    sym (same_given s role_privileges (own_of s c ++ c.queries) (asked_in s c ++ c.queries) (with_queries (own_of s c) (asked_in s c) c.queries (own_alike s c))) ∙ read.given in
+    expands_by s c read.dependencies laws (are_read role_privileges s (asked_in s c ++ c.queries) read.dependencies given) read.few
+    (given_by s role_privileges c.name c.table c.kind c.reads c.queries (asked_in s c) read.dependencies (own_told s c) given)
+    (search_ends read.dependencies c.name (asked_in s c) c.queries)
 
 -- ---- what it says
 

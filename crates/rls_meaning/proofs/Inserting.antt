@@ -7,16 +7,16 @@ use Rattle.rls_expr.specs.{declared.table.TableDef.TableDef, Terms.Term}
 use Rattle.rls_catalog.specs.{declared.stored.Stored.Stored, Membership.Within, State.State}
 use Rattle.rls_catalog.specs.declared.verdict.Side.TheVariants as side
 use Rattle.rls_source.specs.{Readings.read_then, Readings.unread, Sequences.each_of}
-use Rattle.rls_statement.specs.declared.statement.Insert.{Insert}
+use Rattle.rls_statement.specs.{declared.statement.Insert.Insert}
 use Rattle.rls_evaluation.specs.{Environments.Environment, Environments.alone, Eval.Shows, Eval.value_of, Gathering.gathered, Showing.shows}
-use Rattle.rls_guard.specs.{declared.context.Ctx.Ctx, declared.effect.Effect.Effect, declared.reply.Decision.Decision, declared.reply.Reply.Reply, Effects.shown, RolePrivileges.role_privileges_in}
+use Rattle.rls_guard.specs.{declared.context.Ctx.Ctx, declared.effect.Effect.Effect, declared.reply.Decision.Decision, Effects.shown, RolePrivileges.role_privileges_in}
 use Rattle.rls_expansion.specs.{declared.expansion.PolicyExpansion.PolicyExpansion, Used.all_tables, Used.tables_of}
-use Rattle.rls_depth.proofs.Tables.{within_first, within_last}
-use Rattle.rls_judging.specs.Valuing.{values_on, values_put, with_values}
+use Rattle.rls_depth.proofs.{Tables.within_first, Tables.within_last}
+use Rattle.rls_judging.specs.{Valuing.values_on, Valuing.values_put, Valuing.with_values}
 use Rattle.rls_dml.specs.{declared.analysed_insert.AnalysedInsert.AnalysedInsert, Checking.returning_names, Checking.returning_reads, Inserting.analysed_insert_for, Inserting.analysed_insert_in, Inserting.insert_as, Inserting.insert_with_quals, Inserting.insert_into, Inserting.insert_judged, Inserting.insert_made, Inserting.insert_rows as insert_new, Inserting.insert_values, Inserting.inserted as machine_inserted, Inserting.new_rows, Inserting.numbered, Inserting.places_of, Inserting.row_of_tuple as machine_row, Inserting.tuples_names, Inserting.tuples_tables, Writing.each_with, Writing.order_of}
-use Rattle.rls_access.specs.Statements.{mode_or_refused}
+use Rattle.rls_access.specs.{Statements.mode_or_refused}
 use Rattle.rls_meaning.specs.{Commands.Command, Commands.permitted_in, Constraints.allowed_in, Inserting.InsertMeans, Inserting.insert_parts, Inserting.insert_rows, Inserting.inserted, Inserting.row_of_tuple, Expanding.IsExpanded, Expanding.IsExpansionIn, Expanding.sees, Replies.done_or_refused, Replies.reply_of, Rows.decisions}
-use Rattle.rls_meaning.proofs.{Questions.decisions_in, Questions.put_value, Questions.put_values, Questions.tuple_values, Replying.made_then, Replying.reply_told, Replying.with_its_own, Showing.decisions_told as plain_decisions, Showing.put_values_told, Constraining.allowed_told, Qualifying.decisions_told, Qualifying.privileges_told, Qualifying.queries_checked, Qualifying.under_told, Naming.named_told, Naming.table_told}
+use Rattle.rls_meaning.proofs.{Questions.decisions_in, Questions.put_value, Questions.put_values, Questions.tuple_values, Replying.made_then, Replying.reply_told, Replying.with_its_own, Showing.decisions_told as plain_decisions, Showing.put_values_told, Constraining.allowed_told, Qualifying.decisions_told, Qualifying.privileges_told, Qualifying.queries_checked, Qualifying.under_told, Naming.named_told, Naming.table_told, Analysing.insert_analysed, Analysing.insert_reads, Analysing.insert_tables}
 
 -- ---- values
 
@@ -47,6 +47,7 @@ parts_told : (s : State) (ctx : Ctx) (asked : Insert) (table : TableDef) → ((a
 parts_told s ctx asked table =
     ap (λ named. and_then (places_of table.columns asked.columns) (λ places. and_then named (λ found. analysed_insert_in ctx.next asked (asked.table, table) places found)))
     (λ i. and_then (named_told s (tuples_names asked.tuples) [] [] i) (λ found. named_told s (returning_names asked.returning) ((asked.table, table) ∷ []) found i))
+    ∙ insert_analysed s ctx asked table
 
 -- what comes behind the privileges
 abbrev rest_in : State → Ctx → AnalysedInsert → Command → Result Effect Refusal
@@ -103,4 +104,5 @@ insert_told expanded s ctx asked =
     ap (λ rest. shown (and_then (mode_or_refused ctx.mode Tag.Insert) (λ _. rest)))
     (λ i. and_then (table_told s asked.table i) (λ table.
     and_then (parts_told s ctx asked table i) (λ parts.
-    from_told expanded s ctx asked.table table parts i)))
+    (from_told expanded s ctx asked.table table parts
+    ∙ (λ i. insert_rows s ctx parts (record { role = ctx.role; name = asked.table; table = table; kind = k.Insert; reads = insert_reads parts i; queries = insert_tables parts.tuples i }))) i)))

@@ -1,6 +1,6 @@
 -- GRANT and REVOKE of roles come to what they mean: the lists of memberships that the statement works on are those of the
 -- states that one membership after another leaves.
-use Rattle.std.specs.Prelude.{◌≡◌, refl, ◌↔◌, ℕ, List, [], ◌∷◌, Bool, true, false, ◌||◌, Some, not, cond, Result, Ok, Err, if◌then◌else◌, map}
+use Rattle.std.specs.Prelude.{◌≡◌, refl, ◌↔◌, ℕ, List, [], ◌∷◌, Bool, true, false, ◌||◌, Option, Some, None, not, cond, Result, Ok, Err, if◌then◌else◌, map}
 use Rattle.std.specs.Str.{bytes_eq}
 use Rattle.std.proofs.Common.{ap, sym, ◌∙◌, subst}
 use Rattle.std.proofs.lemmas.Bool.{true≢false}
@@ -12,10 +12,10 @@ use Rattle.rls_catalog.specs.declared.change.Change.TheVariants as change
 use Rattle.rls_catalog.proofs.{ContentsLaws.members_of_changed, Inheriting.fresh_all, PathFrames.path_frame, Walks.bytes_own, Walks.bytes_same}
 use Rattle.rls_recursion.proofs.Closing.{not_true, one_first, one_further}
 use Rattle.rls_source.specs.Sequences.{each_or_refused}
-use Rattle.rls_statement.specs.{declared.statement.GrantRoles.GrantRoles, declared.statement.MembershipOptions.MembershipOptions, declared.statement.RevokeRoles.RevokeRoles}
+use Rattle.rls_statement.specs.{declared.statement.GrantRoles.GrantRoles, declared.statement.MembershipOption.MembershipOption, declared.statement.MembershipOptions.MembershipOptions, declared.statement.RevokeRoles.RevokeRoles}
 use Rattle.rls_role.specs.{declared.holding.HeldMembership.HeldMembership, Granting.each_granted, Granting.grant_member, Granting.granted_to, Granting.held_at, Granting.held_in, Granting.held_one, Granting.joined, Granting.joined_in as joined_held, Granting.managed_in as managed_at, Granting.managed_or_refused, Granting.each_managed, Granting.members_written, Granting.memberships_granted, Granting.pair_granted, Granting.pair_or_refused, Granting.path_in, Granting.role_granted, Granting.roles_granted}
 use Rattle.rls_role.specs.{Holdings.held_as, Holdings.listed, Holdings.managed_by, Holdings.members_held, Holdings.with_held, Reaching.effective_roles_in, Revoking.memberships_revoked, Revoking.revoke_member, Revoking.roles_revoked, Revoking.taken_from, Revoking.taken_in}
-use Rattle.rls_meaning.specs.{Memberships.grant_roles_in, Memberships.in_turn, Memberships.joined_in, Memberships.managed_in, Memberships.revoke_roles_in, Naming.provided}
+use Rattle.rls_meaning.specs.{Memberships.grant_roles_in, Memberships.in_turn, Memberships.joined_in, Memberships.managed_in, Memberships.memberships_left, Memberships.revoke_roles_in, Naming.provided}
 use Rattle.rls_meaning.proofs.Naming.{roles_told}
 
 -- who may grant, and what closes a circle, told by lists of memberships, is what the rules over a state say
@@ -168,10 +168,14 @@ taken_same : (s : State) (asked : RevokeRoles) (members : List (List ℕ)) → m
 taken_same s asked [] = refl
 taken_same s asked (m ∷ members) = ap (λ rest. change.Members m (taken_from asked.option asked.roles (members_of s m)) ∷ rest) (taken_same s asked members)
 
+left_told : (option : Option MembershipOption) (roles : List (List ℕ)) (memberships : List Membership) → taken_from option roles memberships ≡ memberships_left option roles memberships
+left_told (Some option) roles memberships = refl
+left_told None roles memberships = refl
+
 pub revoke_roles_told : MembershipsMean → (s : State) (role : List ℕ) (asked : RevokeRoles) → ((revoke_member role asked).in_state s).gives ≡ revoke_roles_in s role asked
 unfolding roles_revoked memberships_revoked held_at
 revoke_roles_told mean s role asked =
     λ i. and_then (roles_told s asked.roles i) (λ _.
     and_then (roles_told s asked.from i) (λ _.
     and_then (managed_told mean s role asked.roles i) (λ _.
-    Ok (taken_same s asked (fresh [] asked.from) i))))
+    Ok ((taken_same s asked (fresh [] asked.from) ∙ (λ i. map (λ member. change.Members member (left_told asked.option asked.roles (members_of s member) i)) (fresh [] asked.from))) i))))

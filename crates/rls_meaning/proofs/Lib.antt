@@ -4,6 +4,7 @@ pub mod Parts
 pub mod NamedParts
 pub mod Resolving
 pub mod Listing
+pub mod Asking
 pub mod States
 pub mod Dependencies
 pub mod Expanding
@@ -13,12 +14,13 @@ pub mod Showing
 pub mod Replying
 pub mod Qualifying
 pub mod Constraining
+pub mod Analysing
 pub mod Selecting
 pub mod Inserting
 pub mod Updating
 pub mod Deleting
-pub mod Defining
 pub mod Granting
+pub mod Defining
 pub mod Joining
 pub mod Meaning
 pub mod Relations

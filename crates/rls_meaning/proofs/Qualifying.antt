@@ -1,23 +1,23 @@
 -- The qualifying rows of a command are those of its meaning.
 use Rattle.std.specs.Prelude.{◌≡◌, refl, ℕ, List, [], ◌∷◌, ◌++◌, Bool, true, false, ◌||◌, Option, Some, None, Result, Ok, Err, map, if◌then◌else◌}
-use Rattle.std.specs.List.{list_any}
+use Rattle.std.specs.List.{flat_map, list_any}
+use Rattle.std.specs.Option.{option_map_or}
 use Rattle.std.proofs.Common.{ap, sym, ◌∙◌, subst}
-use Rattle.rls_value.specs.{declared.refusal.Refusal.Refusal, declared.refusal.Refusal.TheVariants.Denied, declared.row.RowId.RowId, declared.value.Value.Value, declared.verb.Privilege.Privilege, Giving.and_then, Truths.is_true, Values.is_null, Values.truth_in, Names.one_of}
+use Rattle.rls_value.specs.{declared.refusal.Refusal.Refusal, declared.refusal.Refusal.TheVariants.Denied, declared.refusal.Refusal.TheVariants.Recursion, declared.row.RowId.RowId, declared.value.Value.Value, declared.verb.Privilege.Privilege, Giving.and_then, Truths.is_true, Values.is_null, Values.truth_in, Names.one_of}
 use Rattle.rls_value.specs.declared.refusal.Why.TheVariants as why
 use Rattle.rls_expr.specs.{declared.table.TableDef.TableDef, Terms.Term, Terms.maybe_term}
 use Rattle.rls_catalog.specs.{declared.stored.Stored.Stored, Membership.Within, Membership.attributes_of, Membership.fresh, Privileges.holds, State.State, State.grants_of}
 use Rattle.rls_catalog.specs.declared.verdict.Side.TheVariants as side
-use Rattle.rls_catalog.proofs.Walks.{among_first}
+use Rattle.rls_catalog.proofs.{Walks.among_first}
 use Rattle.rls_source.specs.{Asked.asked_grants, Asked.asked_key, Asked.grants_at, Asked.keyed_at, Asked.rows_at, Askings.Asking, Askings.asked_if, Askings.followed_by, Askings.known, Readings.read_then, Readings.unread}
 use Rattle.rls_evaluation.specs.{Environments.Environment, Environments.over, Eval.Shows, Eval.meets, Eval.value_of, Gathering.gathered, Showing.shows}
 use Rattle.rls_guard.specs.{declared.effect.Effect.Effect, declared.quals.RowCheck.RowCheck, declared.reply.Decision.Decision, declared.role_privileges.RolePrivileges.RolePrivileges, RolePrivileges.is_granted, RolePrivileges.privilege_or_denied, RolePrivileges.role_privileges_in}
 use Rattle.rls_expansion.specs.{declared.expansion.PolicyExpansion.PolicyExpansion, Expanding.judges_new, Expanding.judges_old, Used.tables_if}
-use Rattle.rls_depth.specs.Deep.{JudgeAlike}
+use Rattle.rls_depth.specs.{Deep.JudgeAlike}
 use Rattle.rls_judging.specs.{ScannedRows.scanned_rows, ScannedRows.scanned_rows_with, ScannedRows.pinned_key, Judging.are_allowed, Judging.decisions_on, Judging.qualifying_rows_of, Judging.judged_all, Judging.judged_new, Judging.judged_old, Judging.with_decision, Judging.with_decisions, Judging.with_judged}
-use Rattle.rls_dml.specs.Writing.{privileges_or_denied, readable_or_denied}
-use Rattle.rls_meaning.specs.{Chains.subquery_tables_in, Commands.Command, Commands.depth_of, Commands.needed_in, Commands.own_of, Commands.permitted, Commands.permitted_in, Commands.privilege_of, Commands.required, Commands.unless_closed, Naming.provided, Needing.needs}
-use Rattle.rls_meaning.specs.{Expanding.IsExpanded, Expanding.IsExpansionIn, Expanding.Made, Expanding.Refused, Expanding.checks_if, Expanding.expansion_in, Expanding.sees, Expanding.checks, Showing.rows_at_key}
-use Rattle.rls_meaning.proofs.Questions.{decisions_in, qualifying_rows_in}
+use Rattle.rls_dml.specs.{Writing.privileges_or_denied, Writing.readable_or_denied}
+use Rattle.rls_meaning.specs.{Chains.subquery_tables_in, Commands.Command, Commands.depth_of, Commands.needed_in, Commands.own_of, Commands.permitted, Commands.permitted_in, Commands.privilege_of, Commands.required, Naming.provided, Expanding.IsExpanded, Expanding.IsExpansionIn, Expanding.Made, Expanding.Refused, Expanding.checks_if, Expanding.expansion_in, Expanding.sees, Expanding.checks, Showing.rows_at_key, Needing.needed_by}
+use Rattle.rls_meaning.proofs.{Questions.decisions_in, Questions.qualifying_rows_in}
 
 -- ---- privileges
 
@@ -105,7 +105,7 @@ judged_same row_checks condition one other user s alike meet stored =
 
 -- the tables of the command's own subqueries are asked for
 pub queries_checked : (s : State) (c : Command) (p : PolicyExpansion) → IsExpansionIn s c p → Within c.queries p.permission_checks
-queries_checked s c p protects = subst (Within c.queries) (sym protects.permission_checks) (among_first c.queries (fresh [] (needs (depth_of s c) (subquery_tables_in s c.role) (own_of s c ++ c.queries))))
+queries_checked s c p protects = subst (Within c.queries) (sym protects.permission_checks) (among_first c.queries (fresh [] (flat_map (needed_by (depth_of s c) (subquery_tables_in s c.role)) (own_of s c ++ c.queries))))
 
 -- the qualifying rows, by checks and what is shown
 abbrev qualifying_rows_by : List RowCheck → Shows → List ℕ → Option Term → List Stored → Asking (List Decision × List Stored)
@@ -147,12 +147,12 @@ pub under_told : (s : State) (c : Command) (next : PolicyExpansion → Result Ef
     → IsExpanded s c → and_then (expansion_in s c) next ≡ and_then (permitted_in s c) (λ _. rest)
 under_told s c next rest told (Refused t gives closed) =
     ap (λ found. and_then found next) gives
-    ∙ sym (ap (λ found. and_then (and_then (unless_closed found) (λ _. permitted s c.role (required (privilege_of c.kind) c.reads c.name (needed_in s c)))) (λ _. rest)) closed)
+    ∙ sym (ap (λ found. and_then (option_map_or (λ table. Err (Recursion table)) found (permitted s c.role (required (privilege_of c.kind) c.reads c.name (needed_in s c)))) (λ _. rest)) closed)
 under_told s c next rest told (Made p gives never protects) =
     ap (λ found. and_then found next) gives
     ∙ told p protects
     ∙ ap (λ others. behind_privileges s c others rest) protects.permission_checks
-    ∙ sym (ap (λ found. and_then (and_then (unless_closed found) (λ _. permitted s c.role (required (privilege_of c.kind) c.reads c.name (needed_in s c)))) (λ _. rest)) never)
+    ∙ sym (ap (λ found. and_then (option_map_or (λ table. Err (Recursion table)) found (permitted s c.role (required (privilege_of c.kind) c.reads c.name (needed_in s c)))) (λ _. rest)) never)
 
 -- the machine's way over a policy expansion
 abbrev pub under : RolePrivileges → List ℕ → List ℕ → TableDef → Privilege → Bool → Option Term → (List Decision × List Stored → Effect) → PolicyExpansion → Asking Effect

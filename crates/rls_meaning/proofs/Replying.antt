@@ -1,5 +1,5 @@
 -- What the machine replies is what the meaning replies; and each row is given its own values.
-use Rattle.std.specs.Prelude.{◌≡◌, refl, ℕ, zero, suc, pos, List, [], ◌∷◌, ◌++◌, Option, Some, None, Result, Ok, Err, length, map, take, drop}
+use Rattle.std.specs.Prelude.{◌≡◌, refl, ℕ, suc, pos, List, [], ◌∷◌, ◌++◌, Option, Some, None, Result, Ok, Err, length, map, take, drop}
 use Rattle.std.specs.List.{flat_map}
 use Rattle.std.proofs.Common.{ap, ◌∙◌, sym}
 use Rattle.rls_value.specs.{declared.refusal.Refusal.Refusal, declared.value.Value.Value, declared.value.Value.TheVariants.Int, Giving.and_then}
@@ -10,7 +10,7 @@ use Rattle.rls_statement.specs.declared.statement.Selected.{Selected}
 use Rattle.rls_statement.specs.declared.statement.Selected.TheVariants.{All, Items, Count}
 use Rattle.rls_evaluation.specs.Environments.{over}
 use Rattle.rls_guard.specs.declared.reply.Reply.TheVariants as reply
-use Rattle.rls_dml.specs.{Listings.listing, Listings.values_of, Writing.behind_first, Writing.each_taking, Writing.each_with, Writing.first_of}
+use Rattle.rls_dml.specs.{Listings.listing, Listings.values_of, Writing.each_taking, Writing.each_with}
 use Rattle.rls_dml.specs.Listings.{answered as machine_answered, reply_of as machine_reply_of}
 use Rattle.rls_meaning.specs.{Evaluating.no_rows, Evaluating.value, Replies.answered, Replies.reply_of}
 use Rattle.rls_meaning.proofs.Evaluating.{listed_told}

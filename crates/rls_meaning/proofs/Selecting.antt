@@ -3,21 +3,22 @@ use Rattle.std.specs.Prelude.{◌≡◌, refl, ℕ, List, [], ◌∷◌, false, 
 use Rattle.std.proofs.Common.{ap, ◌∙◌}
 use Rattle.rls_value.specs.{declared.tag.Tag.Tag, Giving.and_then}
 use Rattle.rls_value.specs.declared.verb.Kind.TheVariants as k
-use Rattle.rls_expr.specs.declared.table.TableDef.{TableDef}
-use Rattle.rls_catalog.specs.State.{State}
+use Rattle.rls_expr.specs.{declared.table.TableDef.TableDef}
+use Rattle.rls_catalog.specs.{State.State}
 use Rattle.rls_catalog.specs.declared.verdict.Side.TheVariants as side
-use Rattle.rls_statement.specs.declared.statement.Select.{Select}
+use Rattle.rls_statement.specs.{declared.statement.Select.Select}
 use Rattle.rls_guard.specs.{Effects.shown}
 use Rattle.rls_guard.specs.declared.effect.Effect.TheVariants as effect
 use Rattle.rls_guard.specs.declared.reply.Reply.TheVariants as reply
-use Rattle.rls_expansion.specs.Used.{tables_if}
+use Rattle.rls_expansion.specs.{Used.tables_if}
 use Rattle.rls_dml.specs.{declared.selecting.AnalysedSelect.AnalysedSelect, Selecting.listed_by, Selecting.listed_for, Selecting.listed_from, Selecting.qualifier_of, Selecting.analysed_select_for, Selecting.analysed_select_in, Selecting.analysed_select_names, Selecting.select_as, Selecting.select_from}
-use Rattle.rls_access.specs.Statements.{mode_or_refused}
+use Rattle.rls_access.specs.{Statements.mode_or_refused}
 use Rattle.rls_meaning.specs.{Commands.Command, Commands.permitted_in, Expanding.IsExpanded, Rows.decisions, Rows.qualifying, Rows.scanned, Selecting.SelectMeans, Selecting.select_parts, Selecting.select_rows}
-use Rattle.rls_meaning.proofs.{Qualifying.done_told, Naming.named_told, Naming.table_told, Replying.answered_told, Showing.qualifying_told}
+use Rattle.rls_meaning.proofs.{Qualifying.done_told, Naming.named_told, Naming.table_told, Replying.answered_told, Showing.qualifying_told, Analysing.select_analysed}
 
 parts_told : (s : State) (asked : Select) (table : TableDef) → ((analysed_select_for asked (qualifier_of asked, table)).in_state s).gives ≡ select_parts s asked table
-parts_told s asked table = ap (λ given. and_then given (analysed_select_in asked (qualifier_of asked, table))) (named_told s (analysed_select_names asked) ((qualifier_of asked, table) ∷ []) [])
+parts_told s asked table =
+    ap (λ given. and_then given (analysed_select_in asked (qualifier_of asked, table))) (named_told s (analysed_select_names asked) ((qualifier_of asked, table) ∷ []) []) ∙ select_analysed s asked table
 
 from_told : ((s : State) (c : Command) → IsExpanded s c) → (s : State) (role name : List ℕ) (table : TableDef) (parts : AnalysedSelect)
     → ((select_from role name table parts).in_state s).gives ≡ select_rows s parts (record { role = role; name = name; table = table; kind = k.Select; reads = false; queries = tables_if parts.condition })

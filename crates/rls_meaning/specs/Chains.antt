@@ -1,40 +1,28 @@
 -- Chains of policies over a state (PostgreSQL: SQLSTATE 42P17). A policy that holds a subquery brings in the policies of the
 -- subquery's table, these those of the tables of their subqueries, and so on.
-use Rattle.std.specs.Prelude.{ℕ, zero, suc, ◌+◌, List, [], ◌∷◌, Bool, Option, Some, None, filter, length, if◌then◌else◌}
+use Rattle.std.specs.Prelude.{ℕ, zero, suc, List, ◌∷◌, ◌++◌, Bool, Option, Some, None, filter_map, slice_get, if◌then◌else◌}
 use Rattle.std.specs.List.{list_any, flat_map}
-use Rattle.rls_value.specs.{Names.one_of, declared.verb.Kind.Kind}
+use Rattle.std.specs.Option.{option_to_list}
+use Rattle.rls_value.specs.Names.{one_of}
 use Rattle.rls_value.specs.declared.verb.Kind.TheVariants as k
-use Rattle.rls_expr.specs.{declared.policy.Policy.Policy, declared.table.TableDef.TableDef}
-use Rattle.rls_catalog.specs.{Applying.applying_to, State.State, State.policies_of, Verdict.is_exempt, Verdict.is_to}
+use Rattle.rls_expr.specs.{declared.policy.Policy.Policy, Parts.has_query}
+use Rattle.rls_catalog.specs.{Applying.applying_to, State.State}
 use Rattle.rls_catalog.specs.declared.verdict.Side.TheVariants as side
-use Rattle.rls_recursion.specs.Searching.{or_next, first_closed}
-use Rattle.rls_expansion.specs.{Leading.named, Expanding.asks_of, Used.holds_subquery, Used.tables_asked, Used.tables_if}
+use Rattle.rls_expansion.specs.Used.{tables_if}
 
 -- the policies for SELECT of the table that apply to the role: none where it is exempt, or no table is there
 abbrev pub select_policies : State → List ℕ → List ℕ → List Policy
 select_policies s role name = applying_to s role name k.Select side.Old
 
--- one of them holds a subquery
+-- one of them holds a subquery, in USING or WITH CHECK
 abbrev pub has_subquery_in : State → List ℕ → List ℕ → Bool
-has_subquery_in s role name = list_any holds_subquery (select_policies s role name)
+has_subquery_in s role name = list_any (λ policy. list_any has_query (option_to_list policy.using ++ option_to_list policy.check)) (select_policies s role name)
 
 -- the tables that they lead to: those of the subqueries in their USING
 abbrev pub subquery_tables_in : State → List ℕ → List ℕ → List (List ℕ)
 subquery_tables_in s role name = flat_map (λ policy. tables_if policy.using) (select_policies s role name)
 
--- the tables that the policies lead to by which a command on the table judges rows
-abbrev pub own_in : State → List ℕ → List ℕ → TableDef → Kind → Bool → List (List ℕ)
-own_in s role name table kind reads = if is_exempt s role table then [] else flat_map (tables_asked (asks_of kind reads)) (filter (is_to s role) (policies_of s name))
-
--- more than there are tables that policies, or these, lead to
-abbrev pub depth : State → List (List ℕ) → ℕ
-depth s tables = suc (length tables + length (named s))
-
 -- the table that a chain on from this one closes on first: one that the chain meets again and whose policies hold a subquery
 abbrev pub closes : ℕ → State → List ℕ → List (List ℕ) → List ℕ → Option (List ℕ)
 closes zero s role chain t = None
-closes (suc n) s role chain t = if has_subquery_in s role t then (if one_of chain t then Some t else first_closed (closes n s role (t ∷ chain)) (subquery_tables_in s role t)) else None
-
--- the table that a statement's chains close on first: those from its target, then those from the tables of its subqueries
-abbrev pub first_closing : ℕ → State → List ℕ → List ℕ → List (List ℕ) → List (List ℕ) → Option (List ℕ)
-first_closing n s role target own queries = or_next (first_closed (closes n s role (target ∷ [])) own) (first_closed (closes n s role []) queries)
+closes (suc n) s role chain t = if has_subquery_in s role t then (if one_of chain t then Some t else slice_get (filter_map (closes n s role (t ∷ chain)) (subquery_tables_in s role t)) 0) else None

@@ -1,12 +1,17 @@
 -- A command on the rows of a table, and what it is refused for before a row is looked at (PostgreSQL manual, 5.7,
 -- "Privileges", and 5.8, "Row Security Policies"): chains of policies that close, then privileges.
-use Rattle.std.specs.Prelude.{ℕ, List, [], ◌∷◌, ◌++◌, Bool, Option, Some, None, Result, Ok, Err, map, if◌then◌else◌}
-use Rattle.rls_value.specs.{declared.refusal.Refusal.Refusal, declared.refusal.Refusal.TheVariants.Denied, declared.refusal.Refusal.TheVariants.Recursion, declared.verb.Kind.Kind, declared.verb.Privilege.Privilege, Giving.and_then}
+use Rattle.std.specs.Prelude.{ℕ, suc, ◌+◌, List, [], ◌∷◌, ◌++◌, Bool, Option, Result, Err, filter, filter_map, length, map, slice_get, if◌then◌else◌}
+use Rattle.std.specs.List.{flat_map}
+use Rattle.std.specs.Option.{option_map_or}
+use Rattle.rls_value.specs.{declared.refusal.Refusal.Refusal, declared.refusal.Refusal.TheVariants.Denied, declared.refusal.Refusal.TheVariants.Recursion, declared.verb.Kind.Kind, declared.verb.Privilege.Privilege}
 use Rattle.rls_value.specs.declared.refusal.Why.TheVariants as why
 use Rattle.rls_value.specs.declared.verb.Kind.TheVariants as k
-use Rattle.rls_expr.specs.declared.table.TableDef.{TableDef}
-use Rattle.rls_catalog.specs.{Membership.fresh, Privileges.holds, State.State}
-use Rattle.rls_meaning.specs.{Chains.depth, Chains.first_closing, Chains.subquery_tables_in, Chains.own_in, Naming.provided, Needing.needs}
+use Rattle.rls_expr.specs.{declared.policy.Policy.Policy, declared.table.TableDef.TableDef}
+use Rattle.rls_catalog.specs.{Membership.fresh, Privileges.holds, State.State, State.policies_of, Verdict.expression_of, Verdict.is_exempt, Verdict.is_for_kind, Verdict.is_to}
+use Rattle.rls_catalog.specs.declared.verdict.Side.TheVariants as side
+use Rattle.rls_source.specs.Sequences.{each_or_refused}
+use Rattle.rls_expansion.specs.Used.{tables_if}
+use Rattle.rls_meaning.specs.{Chains.closes, Chains.subquery_tables_in, Naming.provided, Needing.needed_by}
 
 -- who asks, the table with its name, and the type of the command; whether it reads the table; the tables of its own subqueries
 pub record Command : Type 0 where
@@ -19,28 +24,27 @@ pub record Command : Type 0 where
 
 -- ---- chains of policies
 
--- the tables that the policies lead to by which it judges rows
+-- the tables in what a policy says by a type of command: of rows as they stand, then of new ones
+abbrev pub tables_for : Kind → Policy → List (List ℕ)
+tables_for kind policy = if is_for_kind policy.kind kind then tables_if (expression_of policy kind side.Old) ++ tables_if (expression_of policy kind side.New) else []
+
+-- the tables that its policies lead to: by SELECT where it reads the table, and by its own type
 abbrev pub own_of : State → Command → List (List ℕ)
-own_of s c = own_in s c.role c.name c.table c.kind c.reads
+own_of s c = if is_exempt s c.role c.table then [] else flat_map (λ policy. (if c.reads then tables_for k.Select policy else []) ++ tables_for c.kind policy) (filter (is_to s c.role) (policies_of s c.name))
 
--- so many policies deep its chains go at most
+-- so many policies deep its chains go at most: more than there are tables that policies, or its subqueries, lead to
 abbrev pub depth_of : State → Command → ℕ
-depth_of s c = depth s (own_of s c ++ c.queries)
+depth_of s c = suc (length (own_of s c ++ c.queries) + length (flat_map (λ entry. flat_map (λ policy. tables_if policy.using ++ tables_if policy.check) entry.1) s.policies))
 
--- the table that its chains close on first
+-- the table that its chains close on first: those from its own table, then those from the tables of its subqueries
 abbrev pub closing_in : State → Command → Option (List ℕ)
-closing_in s c = first_closing (depth_of s c) s c.role c.name (own_of s c) c.queries
-
--- a chain that closes is refused
-abbrev pub unless_closed : Option (List ℕ) → Result (Unit {0}) Refusal
-unless_closed None = Ok tt
-unless_closed (Some table) = Err (Recursion table)
+closing_in s c = slice_get (filter_map (closes (depth_of s c) s c.role (c.name ∷ [])) (own_of s c) ++ filter_map (closes (depth_of s c) s c.role []) c.queries) 0
 
 -- ---- privileges
 
 -- the tables that its subqueries look at: its own, then those of policies, each once
 abbrev pub needed_in : State → Command → List (List ℕ)
-needed_in s c = c.queries ++ fresh [] (needs (depth_of s c) (subquery_tables_in s c.role) (own_of s c ++ c.queries))
+needed_in s c = c.queries ++ fresh [] (flat_map (needed_by (depth_of s c) (subquery_tables_in s c.role)) (own_of s c ++ c.queries))
 
 -- the privilege that a command of that type needs on its table
 abbrev pub privilege_of : Kind → Privilege
@@ -55,13 +59,12 @@ required privilege reads name others = (privilege, name) ∷ (if reads then (Pri
 
 -- the first that the role doesn't hold is refused
 abbrev pub permitted : State → List ℕ → List (Privilege × List ℕ) → Result (Unit {0}) Refusal
-permitted s role [] = Ok tt
-permitted s role (p ∷ ps) = and_then (provided (holds s role p.0 p.1) (Denied (why.Privilege p.0 p.1))) (λ _. permitted s role ps)
+permitted s role needed = each_or_refused (λ p. provided (holds s role p.0 p.1) (Denied (why.Privilege p.0 p.1))) needed
 
 -- ---- both
 
--- chains that close come first
+-- a chain that closes is refused first, for that table
 abbrev pub permitted_in : State → Command → Result (Unit {0}) Refusal
 permitted_in s c =
-    and_then (unless_closed (closing_in s c)) (λ _.
-    permitted s c.role (required (privilege_of c.kind) c.reads c.name (needed_in s c)))
+    option_map_or (λ table. Err (Recursion table)) (closing_in s c)
+    (permitted s c.role (required (privilege_of c.kind) c.reads c.name (needed_in s c)))

@@ -1,26 +1,45 @@
 -- INSERT (PostgreSQL manual, INSERT): names, then types, then support, then how many rows; then what it may not do; then the
 -- values and their ranges; then the new rows are judged: row security, NOT NULL, the primary key.
-use Rattle.std.specs.Prelude.{◌≡◌, ℕ, List, [], ◌∷◌, Some, None, Result, Ok, map}
-use Rattle.rls_value.specs.{declared.refusal.Refusal.Refusal, declared.value.Value.Value, declared.tag.Tag.Tag, Giving.and_then}
+use Rattle.std.specs.Prelude.{◌≡◌, ℕ, List, [], ◌∷◌, Some, None, Result, Ok, map, ◌+◌, ◌++◌, Bool, false, Option, length, nat_le, slice_get}
+use Rattle.std.specs.List.{flat_map, range_with_len}
+use Rattle.std.specs.Option.{option_map}
+use Rattle.rls_value.specs.{declared.refusal.Refusal.Refusal, declared.value.Value.Value, declared.tag.Tag.Tag, Giving.and_then, declared.refusal.Refusal.TheVariants.Limit}
 use Rattle.rls_value.specs.declared.verb.Kind.TheVariants as k
-use Rattle.rls_expr.specs.{declared.table.TableDef.TableDef, Terms.Term}
+use Rattle.rls_expr.specs.{declared.table.TableDef.TableDef, Terms.Term, declared.table.Column.Column, Naming.names_of, Resolving.resolved}
 use Rattle.rls_catalog.specs.{declared.change.Change.Change, declared.stored.Stored.Stored, State.State}
 use Rattle.rls_catalog.specs.declared.verdict.Side.TheVariants as side
-use Rattle.rls_source.specs.Sequences.{each_of}
-use Rattle.rls_statement.specs.declared.statement.Insert.{Insert}
+use Rattle.rls_source.specs.{Sequences.each_of}
+use Rattle.rls_statement.specs.{declared.statement.Insert.Insert, declared.statement.Selected.Selected}
 use Rattle.rls_statement.specs.declared.statement.Statement.TheVariants as statement
-use Rattle.rls_evaluation.specs.Environments.{alone}
-use Rattle.rls_guard.specs.{declared.context.Ctx.Ctx, declared.effect.Effect.Effect, declared.reply.Decision.Decision, Effects.shown}
-use Rattle.rls_dml.specs.{declared.analysed_insert.AnalysedInsert.AnalysedInsert, Checking.returning_names, Checking.returning_reads, Inserting.analysed_insert_in, Inserting.nulls, Inserting.numbered, Inserting.places_of, Inserting.tuples_names, Inserting.tuples_tables, Writing.assigned, Writing.order_of}
-use Rattle.rls_access.specs.Statements.{effect_in, mode_or_refused}
-use Rattle.rls_meaning.specs.{Commands.Command, Commands.permitted_in, Constraints.allowed_in, Evaluating.value, Naming.named_in, Naming.table_in, Replies.done_or_refused, Replies.kept, Replies.reply_of, Replies.row_change, Rows.decisions, Rows.shown_to}
+use Rattle.rls_evaluation.specs.{Environments.alone}
+use Rattle.rls_guard.specs.{declared.context.Ctx.Ctx, declared.effect.Effect.Effect, declared.reply.Decision.Decision, Effects.shown, Naming.names_over}
+use Rattle.rls_dml.specs.{declared.analysed_insert.AnalysedInsert.AnalysedInsert, Inserting.nulls, Inserting.numbered, Writing.assigned, Writing.order_of}
+use Rattle.rls_access.specs.{Statements.effect_in, Statements.mode_or_refused}
+use Rattle.rls_meaning.specs.{Commands.Command, Commands.permitted_in, Constraints.allowed_in, Evaluating.value, Naming.named_in, Naming.table_in, Replies.done_or_refused, Replies.kept, Replies.reply_of, Replies.row_change, Rows.decisions, Rows.shown_to, Analysing.checked, Analysing.items_of, Analysing.items_resolved, Analysing.of_both, Analysing.of_value, Analysing.place_in, Analysing.reads_in, Naming.provided}
+use Rattle.rls_value.specs.declared.refusal.Limit.TheVariants as limit
+use Rattle.rls_expansion.specs.{Used.tables_of}
 
--- the parts of the statement: names, then types, then support, then how many rows
+-- the places that are written: those of the columns in the list or, without one, all
+abbrev pub places_in : List Column → Option (List (List ℕ)) → Result (List ℕ) Refusal
+places_in columns None = Ok (range_with_len 0 (length columns))
+places_in columns (Some names) = each_of (place_in columns) names
+
+-- each value of a tuple goes into the column at its place; there is none for more values than places
+abbrev pub of_tuple : List Column → List ℕ → List Term → List (Bool × Bool)
+of_tuple columns places [] = []
+of_tuple columns [] (term ∷ terms) = of_value false None term ∷ of_tuple columns [] terms
+of_tuple columns (place ∷ places) (term ∷ terms) = of_value false (slice_get columns place) term ∷ of_tuple columns places terms
+
+-- the parts of the statement: names, then types, then support, then how many rows: a transaction inserts at most 4294967295
 abbrev pub insert_parts : State → Ctx → Insert → TableDef → Result AnalysedInsert Refusal
 insert_parts s ctx asked table =
-    and_then (places_of table.columns asked.columns) (λ places.
-    and_then (and_then (named_in s (tuples_names asked.tuples) [] []) (named_in s (returning_names asked.returning) ((asked.table, table) ∷ []))) (λ found.
-    analysed_insert_in ctx.next asked (asked.table, table) places found))
+    and_then (places_in table.columns asked.columns) (λ places.
+    and_then (and_then (named_in s (flat_map (flat_map names_of) asked.tuples) [] []) (named_in s (flat_map names_of (items_of asked.returning)) ((asked.table, table) ∷ []))) (λ found.
+    let tuples : List (List Term) = map (map (λ term. resolved term (record { tables = []; known = found }))) asked.tuples in
+    let returning : Option Selected = option_map (items_resolved (names_over (asked.table, table) found)) asked.returning in
+    and_then (checked (flat_map (of_tuple table.columns places) tuples ++ of_both None returning)) (λ _.
+    and_then (provided (nat_le (ctx.next + length tuples) 4294967295) (Limit limit.Inserts)) (λ _.
+    Ok (record { places = places; tuples = tuples; returning = returning })))))
 
 -- the row of a tuple: its values, over no row, at their places, null at the others
 abbrev pub row_of_tuple : State → Command → List ℕ → List Term → Result (List Value) Refusal
@@ -44,7 +63,7 @@ abbrev pub insert_in : State → Ctx → Insert → Result Effect Refusal
 insert_in s ctx asked =
     and_then (table_in s asked.table) (λ table.
     and_then (insert_parts s ctx asked table) (λ parts.
-    insert_rows s ctx parts (record { role = ctx.role; name = asked.table; table = table; kind = k.Insert; reads = returning_reads parts.returning; queries = tuples_tables parts.tuples })))
+    insert_rows s ctx parts (record { role = ctx.role; name = asked.table; table = table; kind = k.Insert; reads = reads_in [] parts.returning; queries = flat_map (flat_map tables_of) parts.tuples })))
 
 -- what INSERT means, once its transaction may run it
 abbrev pub effect_of_insert : State → Ctx → Insert → Effect

@@ -10,11 +10,13 @@ pub mod Showing
 pub mod Rows
 pub mod Replies
 pub mod Constraints
+pub mod Analysing
 pub mod Selecting
 pub mod Inserting
 pub mod Updating
 pub mod Deleting
 pub mod Roles
+pub mod Grants
 pub mod Tables
 pub mod Policies
 pub mod Privileges

@@ -1,6 +1,6 @@
 -- The rows that a command scans, those that qualify, and the decisions on them and on new ones (PostgreSQL manual, 5.8, "Row Security Policies", and CREATE POLICY,
 -- "Policies Applied by Command Type").
-use Rattle.std.specs.Prelude.{ℕ, List, [], ◌∷◌, ◌&&◌, Option, map, filter, if◌then◌else◌}
+use Rattle.std.specs.Prelude.{List, [], ◌∷◌, ◌&&◌, Option, map, filter, if◌then◌else◌}
 use Rattle.std.specs.List.{flat_map, list_all}
 use Rattle.rls_value.specs.{declared.value.Value.Value, declared.verb.Kind.Kind}
 use Rattle.rls_value.specs.declared.verb.Kind.TheVariants as k

@@ -1,23 +1,29 @@
 -- SELECT (PostgreSQL manual, SELECT): names, then types, then support; then the qualifying rows, which are answered.
-use Rattle.std.specs.Prelude.{◌≡◌, [], ◌∷◌, false, None, Result, Ok}
+use Rattle.std.specs.Prelude.{◌≡◌, [], ◌∷◌, false, None, Result, Ok, ◌++◌, Some, unwrap_or}
+use Rattle.std.specs.List.{flat_map}
+use Rattle.std.specs.Option.{option_map, option_to_list}
 use Rattle.rls_value.specs.{declared.refusal.Refusal.Refusal, declared.tag.Tag.Tag, Giving.and_then}
 use Rattle.rls_value.specs.declared.verb.Kind.TheVariants as k
-use Rattle.rls_expr.specs.declared.table.TableDef.{TableDef}
-use Rattle.rls_catalog.specs.State.{State}
+use Rattle.rls_expr.specs.{declared.table.TableDef.TableDef, Naming.names_of, Resolving.resolved, Scopes.InScope}
+use Rattle.rls_catalog.specs.{State.State}
 use Rattle.rls_catalog.specs.declared.verdict.Side.TheVariants as side
-use Rattle.rls_statement.specs.declared.statement.Select.{Select}
+use Rattle.rls_statement.specs.{declared.statement.Select.Select}
 use Rattle.rls_statement.specs.declared.statement.Statement.TheVariants as statement
-use Rattle.rls_guard.specs.{declared.context.Ctx.Ctx, declared.effect.Effect.Effect, Effects.shown}
+use Rattle.rls_guard.specs.{declared.context.Ctx.Ctx, declared.effect.Effect.Effect, Effects.shown, Naming.names_over}
 use Rattle.rls_guard.specs.declared.effect.Effect.TheVariants as effect
 use Rattle.rls_guard.specs.declared.reply.Reply.TheVariants as reply
-use Rattle.rls_expansion.specs.Used.{tables_if}
-use Rattle.rls_dml.specs.{declared.selecting.AnalysedSelect.AnalysedSelect, Selecting.qualifier_of, Selecting.analysed_select_in, Selecting.analysed_select_names}
-use Rattle.rls_access.specs.Statements.{effect_in, mode_or_refused}
-use Rattle.rls_meaning.specs.{Commands.Command, Commands.permitted_in, Naming.named_in, Naming.table_in, Replies.answered, Rows.decisions, Rows.qualifying, Rows.scanned}
+use Rattle.rls_expansion.specs.{Used.tables_if}
+use Rattle.rls_dml.specs.{declared.selecting.AnalysedSelect.AnalysedSelect}
+use Rattle.rls_access.specs.{Statements.effect_in, Statements.mode_or_refused}
+use Rattle.rls_meaning.specs.{Commands.Command, Commands.permitted_in, Naming.named_in, Naming.table_in, Replies.answered, Rows.decisions, Rows.qualifying, Rows.scanned, Analysing.checked, Analysing.items_of, Analysing.items_resolved, Analysing.of_both}
 
--- the parts of the statement: names, then types, then support
+-- the parts of the statement: names, then types, then support; the alias or, without one, the table's name qualifies its columns
 abbrev pub select_parts : State → Select → TableDef → Result AnalysedSelect Refusal
-select_parts s asked table = and_then (named_in s (analysed_select_names asked) ((qualifier_of asked, table) ∷ []) []) (analysed_select_in asked (qualifier_of asked, table))
+select_parts s asked table =
+    let from : InScope = (unwrap_or asked.alias asked.table, table) in
+    and_then (named_in s (flat_map names_of (items_of (Some asked.items) ++ option_to_list asked.condition)) (from ∷ []) []) (λ found.
+    let parts : AnalysedSelect = record { items = items_resolved (names_over from found) asked.items; condition = option_map (λ term. resolved term (names_over from found)) asked.condition } in
+    and_then (checked (of_both parts.condition (Some parts.items))) (λ _. Ok parts))
 
 -- the qualifying rows are answered
 abbrev pub select_rows : State → AnalysedSelect → Command → Result Effect Refusal

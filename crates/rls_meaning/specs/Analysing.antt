@@ -1,0 +1,62 @@
+-- The parts of a statement on rows, checked (PostgreSQL manual, 4.1 and 4.2): first the names of all parts, in text order,
+-- then the types of all, then that nothing stands in them that isn't supported.
+use Rattle.std.specs.Prelude.{ℕ, List, [], ◌++◌, Bool, true, false, not, ◌||◌, Option, Some, Result, map}
+use Rattle.std.specs.List.{list_all, list_any}
+use Rattle.std.specs.Option.{option_map_or, option_to_list}
+use Rattle.rls_value.specs.{declared.refusal.Refusal.Refusal, declared.refusal.Refusal.TheVariants.TypeFault, declared.refusal.Refusal.TheVariants.Undefined, declared.refusal.Refusal.TheVariants.Unsupported, Giving.and_then}
+use Rattle.rls_value.specs.declared.refusal.NameKind.TheVariants as kind
+use Rattle.rls_expr.specs.{declared.table.Column.Column, Parts.has_query, Parts.has_sum, Parts.mentions, Resolving.Names, Resolving.resolved, Tables.column_named, Terms.Term, Typing.goes_into, Typing.is_typed, Typing.takes_boolean, Typing.type_of}
+use Rattle.rls_source.specs.Named.{found_or}
+use Rattle.rls_statement.specs.declared.statement.Selected.{Selected}
+use Rattle.rls_statement.specs.declared.statement.Selected.TheVariants as selected
+use Rattle.rls_guard.specs.Support.{is_unsupported}
+use Rattle.rls_meaning.specs.Naming.{provided}
+
+-- ---- what is selected or returned
+
+-- the items, if they are written: `*` and `count(*)` have none
+abbrev pub items_of : Option Selected → List Term
+items_of (Some (selected.Items items)) = items
+items_of _ = []
+
+-- all columns: `*`
+abbrev pub is_all : Option Selected → Bool
+is_all (Some selected.All) = true
+is_all _ = false
+
+-- with resolved columns
+abbrev pub items_resolved : Names → Selected → Selected
+items_resolved names (selected.Items items) = selected.Items (map (λ item. resolved item names) items)
+items_resolved names other = other
+
+-- the table is read: `*` is returned, or one of these expressions or an item mentions a column
+abbrev pub reads_in : List Term → Option Selected → Bool
+reads_in terms returning = is_all returning || list_any (mentions 0) (terms ++ items_of returning)
+
+-- ---- columns that are written
+
+-- the place of the column of that name, which has to be there
+abbrev pub place_in : List Column → List ℕ → Result ℕ Refusal
+place_in columns name = found_or (Undefined kind.Column name) (column_named columns name)
+
+-- ---- types and support, of resolved expressions: whether the type fits, and whether something in it isn't supported
+
+-- a condition is a boolean, without sums
+abbrev pub of_condition : Term → Bool × Bool
+of_condition term = (takes_boolean (type_of term), is_unsupported false term)
+
+-- an item is of any type, without sums and subqueries
+abbrev pub of_item : Term → Bool × Bool
+of_item term = (is_typed (type_of term), has_sum term || has_query term)
+
+-- a value goes into its column, which has to be there; with sums or without
+abbrev pub of_value : Bool → Option Column → Term → Bool × Bool
+of_value sums column term = (option_map_or (λ column. goes_into (type_of term) column.kind) column false, is_unsupported sums term)
+
+-- WHERE, and what is selected or returned
+abbrev pub of_both : Option Term → Option Selected → List (Bool × Bool)
+of_both condition items = map of_condition (option_to_list condition) ++ map of_item (items_of items)
+
+-- all types fit, and then all is supported
+abbrev pub checked : List (Bool × Bool) → Result (Unit {0}) Refusal
+checked parts = and_then (provided (list_all (λ part. part.0) parts) TypeFault) (λ _. provided (not (list_any (λ part. part.1) parts)) Unsupported)
