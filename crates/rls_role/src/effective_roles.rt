@@ -6,12 +6,12 @@ ghost use Rattle.rls_catalog.specs.{Membership.attributes_of, Membership.walked_
 ghost use Rattle.rls_catalog.specs.Paths as paths;
 ghost use Rattle.rls_role.specs.Steps.{takes, walked_where, walked_reads};
 
-use crate::name_set::NameSet;
+use crate::names::is_among;
 use crate::walking::{Step, reached};
 use rls_catalog::RoleDef;
 use rls_expr::Grantee;
 use rls_source::RowSource;
-use rls_value::Name;
+use rls_value::{Items, Name};
 use std::alloc::{AllocError, Global};
 
 /// Whose privileges a role has, so that one walk over memberships serves many questions.
@@ -20,7 +20,7 @@ pub struct EffectiveRoles {
     /// It has those of every role.
     pub superuser: bool,
     /// The role and those whose privileges it inherits; none for a superuser.
-    pub names: NameSet,
+    pub names: Items<Name>,
 }
 
 impl EffectiveRoles {
@@ -28,7 +28,7 @@ impl EffectiveRoles {
     pub fn has(&self, of: &Name) -> bool
         ensures { result ≡ (self.now.superuser || one_of self.now.names of.now) }
     {
-        self.superuser || self.names.has(of)
+        self.superuser || is_among(self.names.as_slice(), of)
     }
 
     /// Whether what is for the grantee is for the role: the grantee is PUBLIC, or one whose privileges the role has.
@@ -82,13 +82,13 @@ fn walked<'c, S: RowSource<'c>>(
     role: &Name,
     superuser: bool,
     step: Step,
-) -> Result<NameSet, AllocError>
+) -> Result<Items<Name>, AllocError>
     ensures names { IfOk result (λ names. names ≡ (if superuser then [] else reached_where (takes step) (S.state source.old) role.now)) }
     ensures read { OnOk result (source.new ≡ S.after source.old (walk_reads (if superuser then [] else reached_where (takes step) (S.state source.old) role.now))) }
     ensures state { S.state source.new ≡ S.state source.old }
 {
     if superuser {
-        return Ok(NameSet::new(alloc));
+        return Ok(Items::new(alloc));
     }
     let names = reached(alloc, source, &[], role, step)?;
     Ok(names)

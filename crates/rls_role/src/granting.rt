@@ -11,7 +11,7 @@ ghost use Rattle.rls_role.specs.Granting.{asked_path, each_granted, memberships_
 use crate::held_memberships::{held_of, write_held};
 use crate::holding::HeldMembership;
 use crate::managing::require_managed;
-use crate::name_set::NameSet;
+use crate::names::is_among;
 use crate::noting::note_walk;
 use crate::walking::{Step, reached};
 use rls_catalog::{Delta, Membership};
@@ -118,7 +118,7 @@ fn grant_pair<'c, S: RowSource<'c>>(
     ensures { Answers S.state S.after (pair_granted written role.now member.now held) source.old source.new read_set.old read_set.new result }
 {
     let path = noted_path(alloc, source, read_set, held.as_slice(), role)?;
-    let closes = path.has(member);
+    let closes = is_among(path.as_slice(), member);
     drop(path);
     join(alloc, written, role, member, held, closes)
 }
@@ -131,7 +131,7 @@ fn noted_path<'c, S: RowSource<'c>>(
     read_set: &mut Reads,
     held: &[HeldMembership],
     role: &Name,
-) -> Result<NameSet, AllocError>
+) -> Result<Items<Name>, AllocError>
     ensures { Tells S.state S.after (asked_path held.now role.now) source.old source.new read_set.old read_set.new result }
 {
     let path = reached(alloc, source, held, role, Step::Any)?;

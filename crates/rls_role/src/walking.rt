@@ -10,7 +10,7 @@ use crate::holding::HeldMembership;
 use crate::name_set::NameSet;
 use rls_catalog::Membership;
 use rls_source::RowSource;
-use rls_value::Name;
+use rls_value::{Items, Name};
 use std::alloc::{AllocError, Global};
 
 /// Which memberships a walk takes.
@@ -44,7 +44,7 @@ pub fn reached<'c, S: RowSource<'c>>(
     held: &[HeldMembership],
     role: &Name,
     step: Step,
-) -> Result<NameSet, AllocError>
+) -> Result<Items<Name>, AllocError>
     ensures names { IfOk result (λ names. names ≡ reached_where (takes step) (with_held held.now (S.state source.old)) role.now) }
     ensures read { OnOk result (source.new ≡ S.after source.old (walk_reads (reached_where (takes step) (with_held held.now (S.state source.old)) role.now))) }
     ensures state { S.state source.new ≡ S.state source.old }
@@ -57,7 +57,8 @@ pub fn reached<'c, S: RowSource<'c>>(
         visit(alloc, source, held, &mut names, &name, step)?;
         next += 1;
     }
-    Ok(names)
+    let items = names.into_items(alloc)?;
+    Ok(items)
 }
 
 fn name_at(names: &[Name], index: usize) -> Option<&Name>

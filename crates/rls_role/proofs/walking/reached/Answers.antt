@@ -22,7 +22,7 @@ loop-name-preserved g c =
 pub returns-clause-names : goal.returns-clause-names
 returns-clause-names g c =
     let past : slice_get c.loop-name.names c.loop-name.next ≡ None = search rules in
-    reached_is (inheriting (takes c.args.step) (with_held c.args.held.now (g.S.RowSource.state c.args.source.now))) c.args.role.now c.loop-name.names c.loop-name.next c.loop-name.invariant.leads past
+    c.in_ok-items.ensures ∙ reached_is (inheriting (takes c.args.step) (with_held c.args.held.now (g.S.RowSource.state c.args.source.now))) c.args.role.now c.loop-name.names c.loop-name.next c.loop-name.invariant.leads past
 
 pub returns-clause-read : goal.returns-clause-read
 returns-clause-read g c =
