@@ -30,7 +30,9 @@ tables_for kind policy = if is_for_kind policy.kind kind then tables_if (express
 
 -- the tables that its policies lead to: by SELECT where it reads the table, and by its own type
 abbrev pub own_of : State → Command → List (List ℕ)
-own_of s c = if is_exempt s c.role c.table then [] else flat_map (λ policy. (if c.reads then tables_for k.Select policy else []) ++ tables_for c.kind policy) (filter (is_to s c.role) (policies_of s c.name))
+own_of s c =
+    if is_exempt s c.role c.table then []
+    else flat_map (λ policy. (if c.reads then tables_for k.Select policy else []) ++ tables_for c.kind policy) (filter (is_to s c.role) (policies_of s c.name))
 
 -- so many policies deep its chains go at most: more than there are tables that policies, or its subqueries, lead to
 abbrev pub depth_of : State → Command → ℕ

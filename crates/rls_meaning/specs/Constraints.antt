@@ -25,7 +25,8 @@ unique_in s name replaced keys = provided (not (taken_in s name replaced keys ||
 
 -- no null stands in a row where none may, in this order of places
 abbrev pub filled_in : List Column → List ℕ → Stored → Result (Unit {0}) Refusal
-filled_in columns order stored = each_or_refused (λ place. option_map_or (λ column. provided (not (column.not_null && is_null (value_at stored.row place))) (NotNull column.name)) (slice_get columns place) (Ok tt)) order
+filled_in columns order stored =
+    each_or_refused (λ place. option_map_or (λ column. provided (not (column.not_null && is_null (value_at stored.row place))) (NotNull column.name)) (slice_get columns place) (Ok tt)) order
 
 -- the new rows may stand in the table, in place of those that are replaced: each decision allows its row, none has a null where
 -- none may be, and no key is taken

@@ -15,7 +15,8 @@ use Rattle.rls_meaning.specs.{Grants.is_taken, Grants.left_in, Grants.option_in,
 -- option; else the byte-least role whose privileges it has and that holds it
 abbrev pub grantor_in : State → List ℕ → List ℕ → TableDef → Privilege → Result Grantor Refusal
 grantor_in s role name table privilege =
-    and_then (found_or (Denied (GrantOption privilege name)) (grantor_of s role table.owner (holders_of table.owner (grants_of s name) privilege))) (λ by. Ok (record { privilege = privilege; name = by }))
+    and_then (found_or (Denied (GrantOption privilege name)) (grantor_of s role table.owner (holders_of table.owner (grants_of s name) privilege))) (λ by.
+    Ok (record { privilege = privilege; name = by }))
 
 -- who grants each of the privileges that are named; the first without a grantor is denied
 abbrev pub grantors_in : State → List ℕ → List ℕ → TableDef → Privileges → Result (List Grantor) Refusal
@@ -38,6 +39,7 @@ revoke_in s role asked =
     and_then (grantees_in s asked.from) (λ _.
     and_then (grantors_in s role asked.table table asked.privileges) (λ by.
     let there : List Grant = grants_of s asked.table in
-    let rest : List Grant = if asked.option_only then map (λ grant. if is_taken by asked.from grant then not_grantable grant else grant) there else filter (λ grant. not (is_taken by asked.from grant)) there in
+    let rest : List Grant = if asked.option_only then map (λ grant. if is_taken by asked.from grant then not_grantable grant else grant) there
+    else filter (λ grant. not (is_taken by asked.from grant)) there in
     and_then (left_in asked.cascade asked.table table.owner by rest) (λ left.
     Ok (change.Grants asked.table left ∷ [])))))

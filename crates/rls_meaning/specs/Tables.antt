@@ -23,7 +23,8 @@ create_table_in s role asked =
     and_then (each_of (place_in columns) names) (λ key.
     and_then (provided (not (is_some (table_of s asked.name))) (Duplicate kind.Relation asked.name)) (λ _.
     let own : List Grant = map (λ privilege. record { privilege = privilege; grantee = Role role; grantor = role; option = false }) all_privileges in
-    Ok (writes (change.Table asked.name (record { owner = role; enabled = false; forced = false; columns = columns; key = key }) ∷ change.Grants asked.name (fold put_grant (grants_of s asked.name) own) ∷ []))))
+    Ok (writes (change.Table asked.name (record { owner = role; enabled = false; forced = false; columns = columns; key = key })
+    ∷ change.Grants asked.name (fold put_grant (grants_of s asked.name) own) ∷ []))))
 
 -- to change a table's definition the role has to have its owner's privileges
 abbrev pub owner_in : State → List ℕ → List ℕ → TableDef → Result (Unit {0}) Refusal
