@@ -5,12 +5,13 @@ use Rattle.std.specs.List.{list_all, list_any}
 use Rattle.std.specs.Option.{option_map_or, option_to_list}
 use Rattle.rls_value.specs.{declared.refusal.Refusal.Refusal, declared.refusal.Refusal.TheVariants.TypeFault, declared.refusal.Refusal.TheVariants.Undefined, declared.refusal.Refusal.TheVariants.Unsupported, Giving.and_then}
 use Rattle.rls_value.specs.declared.refusal.NameKind.TheVariants as kind
-use Rattle.rls_expr.specs.{declared.table.Column.Column, Parts.has_query, Parts.has_sum, Parts.mentions, Resolving.Names, Resolving.resolved, Tables.column_named, Terms.Term, Typing.goes_into, Typing.is_typed, Typing.takes_boolean, Typing.type_of}
+use Rattle.rls_expr.specs.{declared.table.Column.Column, Scopes.InScope, Tables.category_of, Tables.column_named, Terms.Term}
+use Rattle.rls_expr.specs.declared.expr.Category.TheVariants as t
+use Rattle.rls_catalog.specs.State.{State}
 use Rattle.rls_source.specs.Named.{found_or}
 use Rattle.rls_statement.specs.declared.statement.Selected.{Selected}
 use Rattle.rls_statement.specs.declared.statement.Selected.TheVariants as selected
-use Rattle.rls_guard.specs.Support.{is_unsupported}
-use Rattle.rls_meaning.specs.Naming.{provided}
+use Rattle.rls_meaning.specs.{Naming.provided, Parts.is_unsupported, Parts.is_unsupported_item, Parts.mentions, Resolving.resolved, Typing.fits, Typing.some_type}
 
 -- ---- what is selected or returned
 
@@ -25,9 +26,9 @@ is_all (Some selected.All) = true
 is_all _ = false
 
 -- with resolved columns
-abbrev pub items_resolved : Names → Selected → Selected
-items_resolved names (selected.Items items) = selected.Items (map (λ item. resolved item names) items)
-items_resolved names other = other
+abbrev pub items_resolved : State → List InScope → Selected → Selected
+items_resolved s tables (selected.Items items) = selected.Items (map (resolved s tables) items)
+items_resolved s tables other = other
 
 -- the table is read: `*` is returned, or one of these expressions or an item mentions a column
 abbrev pub reads_in : List Term → Option Selected → Bool
@@ -43,15 +44,15 @@ place_in columns name = found_or (Undefined kind.Column name) (column_named colu
 
 -- a condition is a boolean, without sums
 abbrev pub of_condition : Term → Bool × Bool
-of_condition term = (takes_boolean (type_of term), is_unsupported false term)
+of_condition term = (fits term t.Boolean, is_unsupported false term)
 
 -- an item is of any type, without sums and subqueries
 abbrev pub of_item : Term → Bool × Bool
-of_item term = (is_typed (type_of term), has_sum term || has_query term)
+of_item term = (some_type (fits term), is_unsupported_item term)
 
 -- a value goes into its column, which has to be there; with sums or without
 abbrev pub of_value : Bool → Option Column → Term → Bool × Bool
-of_value sums column term = (option_map_or (λ column. goes_into (type_of term) column.kind) column false, is_unsupported sums term)
+of_value sums column term = (option_map_or (λ column. fits term (category_of column.kind)) column false, is_unsupported sums term)
 
 -- WHERE, and what is selected or returned
 abbrev pub of_both : Option Term → Option Selected → List (Bool × Bool)

@@ -5,10 +5,10 @@ use Rattle.std.specs.List.{list_any, flat_map}
 use Rattle.std.specs.Option.{option_to_list}
 use Rattle.rls_value.specs.Names.{one_of}
 use Rattle.rls_value.specs.declared.verb.Kind.TheVariants as k
-use Rattle.rls_expr.specs.{declared.policy.Policy.Policy, Parts.has_query}
+use Rattle.rls_expr.specs.{declared.policy.Policy.Policy}
 use Rattle.rls_catalog.specs.{Applying.applying_to, State.State}
 use Rattle.rls_catalog.specs.declared.verdict.Side.TheVariants as side
-use Rattle.rls_expansion.specs.Used.{tables_if}
+use Rattle.rls_meaning.specs.{Parts.tables_of, Parts.has_query}
 
 -- the policies for SELECT of the table that apply to the role: none where it is exempt, or no table is there
 abbrev pub select_policies : State → List ℕ → List ℕ → List Policy
@@ -20,7 +20,7 @@ has_subquery_in s role name = list_any (λ policy. list_any has_query (option_to
 
 -- the tables that they lead to: those of the subqueries in their USING
 abbrev pub subquery_tables_in : State → List ℕ → List ℕ → List (List ℕ)
-subquery_tables_in s role name = flat_map (λ policy. tables_if policy.using) (select_policies s role name)
+subquery_tables_in s role name = flat_map (λ policy. flat_map tables_of (option_to_list policy.using)) (select_policies s role name)
 
 -- the table that a chain on from this one closes on first: one that the chain meets again and whose policies hold a subquery
 abbrev pub closes : ℕ → State → List ℕ → List (List ℕ) → List ℕ → Option (List ℕ)

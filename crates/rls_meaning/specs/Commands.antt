@@ -2,7 +2,7 @@
 -- "Privileges", and 5.8, "Row Security Policies"): chains of policies that close, then privileges.
 use Rattle.std.specs.Prelude.{ℕ, suc, ◌+◌, List, [], ◌∷◌, ◌++◌, Bool, Option, Result, Err, filter, filter_map, length, map, slice_get, if◌then◌else◌}
 use Rattle.std.specs.List.{flat_map}
-use Rattle.std.specs.Option.{option_map_or}
+use Rattle.std.specs.Option.{option_map_or, option_to_list}
 use Rattle.rls_value.specs.{declared.refusal.Refusal.Refusal, declared.refusal.Refusal.TheVariants.Denied, declared.refusal.Refusal.TheVariants.Recursion, declared.verb.Kind.Kind, declared.verb.Privilege.Privilege}
 use Rattle.rls_value.specs.declared.refusal.Why.TheVariants as why
 use Rattle.rls_value.specs.declared.verb.Kind.TheVariants as k
@@ -10,8 +10,7 @@ use Rattle.rls_expr.specs.{declared.policy.Policy.Policy, declared.table.TableDe
 use Rattle.rls_catalog.specs.{Membership.fresh, Privileges.holds, State.State, State.policies_of, Verdict.expression_of, Verdict.is_exempt, Verdict.is_for_kind, Verdict.is_to}
 use Rattle.rls_catalog.specs.declared.verdict.Side.TheVariants as side
 use Rattle.rls_source.specs.Sequences.{each_or_refused}
-use Rattle.rls_expansion.specs.Used.{tables_if}
-use Rattle.rls_meaning.specs.{Chains.closes, Chains.subquery_tables_in, Naming.provided, Needing.needed_by}
+use Rattle.rls_meaning.specs.{Chains.closes, Chains.subquery_tables_in, Naming.provided, Needing.needed_by, Parts.tables_of}
 
 -- who asks, the table with its name, and the type of the command; whether it reads the table; the tables of its own subqueries
 pub record Command : Type 0 where
@@ -26,7 +25,7 @@ pub record Command : Type 0 where
 
 -- the tables in what a policy says by a type of command: of rows as they stand, then of new ones
 abbrev pub tables_for : Kind → Policy → List (List ℕ)
-tables_for kind policy = if is_for_kind policy.kind kind then tables_if (expression_of policy kind side.Old) ++ tables_if (expression_of policy kind side.New) else []
+tables_for kind policy = if is_for_kind policy.kind kind then flat_map tables_of (option_to_list (expression_of policy kind side.Old) ++ option_to_list (expression_of policy kind side.New)) else []
 
 -- the tables that its policies lead to: by SELECT where it reads the table, and by its own type
 abbrev pub own_of : State → Command → List (List ℕ)
@@ -36,7 +35,7 @@ own_of s c =
 
 -- so many policies deep its chains go at most: more than there are tables that policies, or its subqueries, lead to
 abbrev pub depth_of : State → Command → ℕ
-depth_of s c = suc (length (own_of s c ++ c.queries) + length (flat_map (λ entry. flat_map (λ policy. tables_if policy.using ++ tables_if policy.check) entry.1) s.policies))
+depth_of s c = suc (length (own_of s c ++ c.queries) + length (flat_map (λ entry. flat_map (λ policy. flat_map tables_of (option_to_list policy.using ++ option_to_list policy.check)) entry.1) s.policies))
 
 -- the table that its chains close on first: those from its own table, then those from the tables of its subqueries
 abbrev pub closing_in : State → Command → Option (List ℕ)

@@ -5,19 +5,18 @@ use Rattle.std.specs.List.{flat_map, range_with_len}
 use Rattle.std.specs.Option.{option_map}
 use Rattle.rls_value.specs.{declared.refusal.Refusal.Refusal, declared.value.Value.Value, declared.tag.Tag.Tag, Giving.and_then, declared.refusal.Refusal.TheVariants.Limit}
 use Rattle.rls_value.specs.declared.verb.Kind.TheVariants as k
-use Rattle.rls_expr.specs.{declared.table.TableDef.TableDef, Terms.Term, declared.table.Column.Column, Naming.names_of, Resolving.resolved}
+use Rattle.rls_expr.specs.{declared.table.TableDef.TableDef, Terms.Term, declared.table.Column.Column}
 use Rattle.rls_catalog.specs.{declared.change.Change.Change, declared.stored.Stored.Stored, State.State}
 use Rattle.rls_catalog.specs.declared.verdict.Side.TheVariants as side
 use Rattle.rls_source.specs.{Sequences.each_of}
 use Rattle.rls_statement.specs.{declared.statement.Insert.Insert, declared.statement.Selected.Selected}
 use Rattle.rls_statement.specs.declared.statement.Statement.TheVariants as statement
 use Rattle.rls_evaluation.specs.{Environments.alone}
-use Rattle.rls_guard.specs.{declared.context.Ctx.Ctx, declared.effect.Effect.Effect, declared.reply.Decision.Decision, Effects.shown, Naming.names_over}
+use Rattle.rls_guard.specs.{declared.context.Ctx.Ctx, declared.effect.Effect.Effect, declared.reply.Decision.Decision, Effects.shown}
 use Rattle.rls_dml.specs.{declared.analysed_insert.AnalysedInsert.AnalysedInsert, Inserting.nulls, Inserting.numbered, Writing.assigned, Writing.order_of}
 use Rattle.rls_access.specs.{Statements.effect_in, Statements.mode_or_refused}
-use Rattle.rls_meaning.specs.{Commands.Command, Commands.permitted_in, Constraints.allowed_in, Evaluating.value, Naming.named_in, Naming.table_in, Replies.done_or_refused, Replies.kept, Replies.reply_of, Replies.row_change, Rows.decisions, Rows.shown_to, Analysing.checked, Analysing.items_of, Analysing.items_resolved, Analysing.of_both, Analysing.of_value, Analysing.place_in, Analysing.reads_in, Naming.provided}
+use Rattle.rls_meaning.specs.{Commands.Command, Commands.permitted_in, Constraints.allowed_in, Evaluating.value, Naming.table_in, Replies.done_or_refused, Replies.kept, Replies.reply_of, Replies.row_change, Rows.decisions, Rows.shown_to, Analysing.checked, Analysing.items_of, Analysing.items_resolved, Analysing.of_both, Analysing.of_value, Analysing.place_in, Analysing.reads_in, Naming.provided, Resolving.resolved, Parts.names_in, Parts.tables_of}
 use Rattle.rls_value.specs.declared.refusal.Limit.TheVariants as limit
-use Rattle.rls_expansion.specs.{Used.tables_of}
 
 -- the places that are written: those of the columns in the list or, without one, all
 abbrev pub places_in : List Column → Option (List (List ℕ)) → Result (List ℕ) Refusal
@@ -34,12 +33,13 @@ of_tuple columns (place ∷ places) (term ∷ terms) = of_value false (slice_get
 abbrev pub insert_parts : State → Ctx → Insert → TableDef → Result AnalysedInsert Refusal
 insert_parts s ctx asked table =
     and_then (places_in table.columns asked.columns) (λ places.
-    and_then (and_then (named_in s (flat_map (flat_map names_of) asked.tuples) [] []) (named_in s (flat_map names_of (items_of asked.returning)) ((asked.table, table) ∷ []))) (λ found.
-    let tuples : List (List Term) = map (map (λ term. resolved term (record { tables = []; known = found }))) asked.tuples in
-    let returning : Option Selected = option_map (items_resolved (names_over (asked.table, table) found)) asked.returning in
+    and_then (names_in s [] (flat_map (λ tuple. tuple) asked.tuples)) (λ _.
+    and_then (names_in s ((asked.table, table) ∷ []) (items_of asked.returning)) (λ _.
+    let tuples : List (List Term) = map (map (resolved s [])) asked.tuples in
+    let returning : Option Selected = option_map (items_resolved s ((asked.table, table) ∷ [])) asked.returning in
     and_then (checked (flat_map (of_tuple table.columns places) tuples ++ of_both None returning)) (λ _.
     and_then (provided (nat_le (ctx.next + length tuples) 4294967295) (Limit limit.Inserts)) (λ _.
-    Ok (record { places = places; tuples = tuples; returning = returning })))))
+    Ok (record { places = places; tuples = tuples; returning = returning }))))))
 
 -- the row of a tuple: its values, over no row, at their places, null at the others
 abbrev pub row_of_tuple : State → Command → List ℕ → List Term → Result (List Value) Refusal

@@ -1,26 +1,25 @@
 -- CREATE POLICY, ALTER POLICY and DROP POLICY (PostgreSQL manual, CREATE POLICY, ALTER POLICY, DROP POLICY): names, then what
 -- is wrong with the policy, and then that the role has the privileges of the table's owner.
 use Rattle.std.specs.Prelude.{ℕ, List, [], ◌∷◌, ◌++◌, not, Option, Result, Ok, length, map, nat_lt, if◌then◌else◌}
-use Rattle.std.specs.List.{flat_map}
 use Rattle.std.specs.Option.{option_map_or, option_to_list}
 use Rattle.rls_value.specs.{declared.refusal.Refusal.Refusal, declared.refusal.Refusal.TheVariants.Duplicate, declared.refusal.Refusal.TheVariants.Limit, declared.refusal.Refusal.TheVariants.Unsupported, Giving.and_then}
 use Rattle.rls_value.specs.declared.refusal.DefinedKind.TheVariants as defined
 use Rattle.rls_value.specs.declared.refusal.Limit.TheVariants as limit
-use Rattle.rls_expr.specs.{Naming.names_of, Resolving.Names, Resolving.resolved, Terms.Term}
+use Rattle.rls_expr.specs.{Terms.Term, Scopes.InScope}
 use Rattle.rls_catalog.specs.{State.State, State.policies_of, PolicyLists.has_policy, PolicyLists.is_named, PolicyLists.with_policy, PolicyLists.without_policy}
 use Rattle.rls_catalog.specs.declared.change.Change.TheVariants as change
 use Rattle.rls_statement.specs.{declared.statement.AlterPolicy.AlterPolicy, declared.statement.CreatePolicy.CreatePolicy, declared.statement.DropPolicy.DropPolicy}
-use Rattle.rls_guard.specs.{declared.effect.Effect.Effect, Effects.writes, Naming.names_over}
+use Rattle.rls_guard.specs.{declared.effect.Effect.Effect, Effects.writes}
 use Rattle.rls_ddl.specs.{AlteringPolicies.has_no_place_for, AlteringPolicies.altered, NamedPolicies.policy_or_undefined}
-use Rattle.rls_meaning.specs.{Analysing.checked, Analysing.of_condition, Naming.grantees_in, Naming.named_in, Naming.provided, Naming.table_in, Tables.owner_in}
+use Rattle.rls_meaning.specs.{Analysing.checked, Analysing.of_condition, Naming.grantees_in, Naming.provided, Naming.table_in, Tables.owner_in, Resolving.resolved, Parts.names_in}
 
 -- USING and WITH CHECK, those that are written
 abbrev pub conditions : Option Term → Option Term → List Term
 conditions using check = option_to_list using ++ option_to_list check
 
 -- they are booleans over the table, and then without what isn't supported
-abbrev pub conditions_in : Names → List Term → Result (Unit {0}) Refusal
-conditions_in names terms = checked (map (λ term. of_condition (resolved term names)) terms)
+abbrev pub conditions_in : State → List InScope → List Term → Result (Unit {0}) Refusal
+conditions_in s tables terms = checked (map (λ term. of_condition (resolved s tables term)) terms)
 
 -- CREATE POLICY: the table, the roles and the names in it have to be there; then its name has to be new, and it to be right; a
 -- table has 64 policies at most
@@ -28,9 +27,9 @@ abbrev pub create_policy_in : State → List ℕ → CreatePolicy → Result Eff
 create_policy_in s role asked =
     and_then (table_in s asked.table) (λ table.
     and_then (grantees_in s asked.policy.to) (λ _.
-    and_then (named_in s (flat_map names_of (conditions asked.policy.using asked.policy.check)) ((asked.table, table) ∷ []) []) (λ found.
+    and_then (names_in s ((asked.table, table) ∷ []) (conditions asked.policy.using asked.policy.check)) (λ _.
     and_then (provided (not (has_policy (policies_of s asked.table) asked.policy.name)) (Duplicate defined.Policy asked.policy.name)) (λ _.
-    and_then (conditions_in (names_over (asked.table, table) found) (conditions asked.policy.using asked.policy.check)) (λ _.
+    and_then (conditions_in s ((asked.table, table) ∷ []) (conditions asked.policy.using asked.policy.check)) (λ _.
     and_then (provided (nat_lt (length (policies_of s asked.table)) 64) (Limit limit.Policies)) (λ _.
     and_then (owner_in s role asked.table table) (λ _.
     Ok (writes (change.Policies asked.table (with_policy (policies_of s asked.table) asked.policy) ∷ [])))))))))
@@ -42,8 +41,8 @@ alter_policy_in s role asked =
     and_then (table_in s asked.table) (λ table.
     and_then (policy_or_undefined (policies_of s asked.table) asked.name) (λ policy.
     and_then (option_map_or (grantees_in s) asked.to (Ok tt)) (λ _.
-    and_then (named_in s (flat_map names_of (conditions asked.using asked.check)) ((asked.table, table) ∷ []) []) (λ found.
-    and_then (conditions_in (names_over (asked.table, table) found) (conditions asked.using asked.check)) (λ _.
+    and_then (names_in s ((asked.table, table) ∷ []) (conditions asked.using asked.check)) (λ _.
+    and_then (conditions_in s ((asked.table, table) ∷ []) (conditions asked.using asked.check)) (λ _.
     and_then (provided (not (has_no_place_for policy.kind asked)) Unsupported) (λ _.
     and_then (owner_in s role asked.table table) (λ _.
     Ok (writes (change.Policies asked.table (map (λ policy. if is_named asked.name policy then altered asked policy else policy) (policies_of s asked.table)) ∷ [])))))))))

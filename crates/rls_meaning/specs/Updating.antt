@@ -5,27 +5,26 @@ use Rattle.std.specs.List.{flat_map}
 use Rattle.std.specs.Option.{option_map, option_to_list}
 use Rattle.rls_value.specs.{declared.refusal.Refusal.Refusal, declared.tag.Tag.Tag, Giving.and_then}
 use Rattle.rls_value.specs.declared.verb.Kind.TheVariants as k
-use Rattle.rls_expr.specs.{declared.table.TableDef.TableDef, Terms.Term, Naming.Look, Naming.Step, Naming.names_of, Resolving.Names, Resolving.resolved}
+use Rattle.rls_expr.specs.{declared.table.TableDef.TableDef, Terms.Column, Terms.Term, Scopes.InScope}
 use Rattle.rls_catalog.specs.{declared.change.Change.Change, declared.stored.Stored.Stored, State.State}
 use Rattle.rls_catalog.specs.declared.verdict.Side.TheVariants as side
 use Rattle.rls_source.specs.{Sequences.each_of}
 use Rattle.rls_statement.specs.{declared.changing.Update.Update}
 use Rattle.rls_statement.specs.declared.statement.Statement.TheVariants as statement
 use Rattle.rls_evaluation.specs.{Environments.over}
-use Rattle.rls_guard.specs.{declared.context.Ctx.Ctx, declared.effect.Effect.Effect, declared.reply.Decision.Decision, Effects.shown, Naming.names_over}
+use Rattle.rls_guard.specs.{declared.context.Ctx.Ctx, declared.effect.Effect.Effect, declared.reply.Decision.Decision, Effects.shown}
 use Rattle.rls_dml.specs.{declared.analysed_update.AnalysedUpdate.AnalysedUpdate, Updating.places_set, Writing.assigned, Writing.key_at, Writing.order_of}
 use Rattle.rls_access.specs.{Statements.effect_in, Statements.mode_or_refused}
-use Rattle.rls_meaning.specs.{Commands.Command, Commands.permitted_in, Constraints.allowed_in, Evaluating.value, Naming.named_in, Naming.table_in, Replies.done_or_refused, Replies.kept, Replies.reply_of, Replies.row_change, Rows.decisions, Rows.qualifying, Rows.scanned, Rows.shown_to, Analysing.checked, Analysing.items_of, Analysing.items_resolved, Analysing.of_both, Analysing.of_value, Analysing.place_in, Analysing.reads_in}
-use Rattle.rls_expansion.specs.{Used.tables_of}
+use Rattle.rls_meaning.specs.{Commands.Command, Commands.permitted_in, Constraints.allowed_in, Evaluating.value, Naming.table_in, Replies.done_or_refused, Replies.kept, Replies.reply_of, Replies.row_change, Rows.decisions, Rows.qualifying, Rows.scanned, Rows.shown_to, Analysing.checked, Analysing.items_of, Analysing.items_resolved, Analysing.of_both, Analysing.of_value, Analysing.place_in, Analysing.reads_in, Resolving.resolved, Parts.names_in, Parts.tables_of}
 
 -- the parts of the statement: names, then types, then support
 abbrev pub update_parts : State → Update → TableDef → Result AnalysedUpdate Refusal
 update_parts s asked table =
-    let set : List Step = flat_map (λ assignment. Look (record { qualifier = None; name = assignment.column }) ∷ names_of assignment.value) asked.assignments in
-    and_then (named_in s (set ++ flat_map names_of (option_to_list asked.condition ++ items_of asked.returning)) ((asked.table, table) ∷ []) []) (λ found.
-    let names : Names = names_over (asked.table, table) found in
-    and_then (each_of (λ assignment. and_then (place_in table.columns assignment.column) (λ place. Ok (place, resolved assignment.value names))) asked.assignments) (λ assignments.
-    let parts : AnalysedUpdate = record { assignments = assignments; condition = option_map (λ term. resolved term names) asked.condition; returning = option_map (items_resolved names) asked.returning } in
+    let from : List InScope = (asked.table, table) ∷ [] in
+    let set : List Term = flat_map (λ assignment. Column (record { qualifier = None; name = assignment.column }) ∷ assignment.value ∷ []) asked.assignments in
+    and_then (names_in s from (set ++ (option_to_list asked.condition ++ items_of asked.returning))) (λ _.
+    and_then (each_of (λ assignment. and_then (place_in table.columns assignment.column) (λ place. Ok (place, resolved s from assignment.value))) asked.assignments) (λ assignments.
+    let parts : AnalysedUpdate = record { assignments = assignments; condition = option_map (resolved s from) asked.condition; returning = option_map (items_resolved s from) asked.returning } in
     and_then (checked (map (λ assignment. of_value true (slice_get table.columns assignment.0) assignment.1) assignments ++ of_both parts.condition parts.returning)) (λ _. Ok parts)))
 
 -- what columns are set to, and WHERE
