@@ -1,5 +1,5 @@
 -- SELECT (PostgreSQL manual, SELECT): names, then types, then support; then the qualifying rows, which are answered.
-use Rattle.std.specs.Prelude.{◌≡◌, [], ◌∷◌, false, None, Result, Ok, ◌++◌, Some, unwrap_or}
+use Rattle.std.specs.Prelude.{◌≡◌, List, [], ◌∷◌, false, None, Result, Ok, ◌++◌, Some, unwrap_or}
 use Rattle.std.specs.List.{flat_map}
 use Rattle.std.specs.Option.{option_map, option_to_list}
 use Rattle.rls_value.specs.{declared.refusal.Refusal.Refusal, declared.tag.Tag.Tag, Giving.and_then}
