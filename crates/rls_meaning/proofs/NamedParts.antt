@@ -76,7 +76,7 @@ entered_told : (s : State) (tables : List InScope) (from : FromItem) (scope : Li
     → ((table : TableDef) → o ≡ Some table → Told s tables ((qualifier_of from, table) ∷ scope) (items ++ condition) xs) → (rest : List Step) (found : List InScope)
     → and_then (found_or (Undefined kind.Relation from.table) o) (λ table. named_in s (inner_of items condition ++ rest) ((qualifier_of from, table) ∷ scope) (found ++ (from.table, table) ∷ []))
     ≡ and_then (and_then (and_then {B = Unit {0}} (found_or (Undefined kind.Relation from.table) o) (λ _. Ok tt)) (λ _. each_or_refused (is_there s tables) xs))
-        (λ _. named_in s rest scope (found ++ cons_option (option_map (λ table. (from.table, table)) o) (found_by s xs)))
+    (λ _. named_in s rest scope (found ++ cons_option (option_map (λ table. (from.table, table)) o) (found_by s xs)))
 entered_told s tables from scope items condition xs None inner rest found = refl
 entered_told s tables from scope items condition xs (Some table) inner rest found =
     ap (λ steps. named_in s steps ((qualifier_of from, table) ∷ scope) (found ++ (from.table, table) ∷ [])) (inner-rest items condition rest)

@@ -1,23 +1,24 @@
 -- What the machine says of rows, and what its tables show, are what the meaning says; and so are the rows of a command.
 use Rattle.std.specs.Prelude.{◌≡◌, refl, ℕ, zero, suc, List, [], ◌∷◌, ◌++◌, Bool, true, false, ◌&&◌, cond, Option, Some, None, Ok, map, filter, if◌then◌else◌}
 use Rattle.std.specs.List.{flat_map, list_all, list_any}
-use Rattle.std.specs.Option.{option_map}
+use Rattle.std.specs.Option.{option_map, option_to_list}
 use Rattle.std.proofs.Common.{ap, ◌∙◌}
-use Rattle.rls_value.specs.{declared.row.RowId.RowId, declared.value.Value.Value, declared.verb.Kind.Kind, Giving.and_then, Values.is_null, Values.truth_in}
+use Rattle.rls_value.specs.{declared.row.RowId.RowId, declared.truth.Truth.Truth, declared.value.Value.Value, declared.verb.Kind.Kind, Giving.and_then, Values.is_null, Values.truth_in}
 use Rattle.rls_value.specs.declared.verb.Kind.TheVariants as k
 use Rattle.rls_expr.specs.{declared.policy.Policy.Policy, declared.table.TableDef.TableDef, Scopes.InScope, Terms.Term, Terms.Terms, Terms.maybe_term}
-use Rattle.rls_catalog.specs.{declared.stored.Stored.Stored, declared.verdict.Side.Side, declared.verdict.Verdict.Verdict, State.State, State.table_of, Verdict.applying_of, Verdict.is_exempt, Verdict.verdict_of}
+use Rattle.rls_catalog.specs.{declared.stored.Stored.Stored, declared.verdict.Side.Side, declared.verdict.Verdict.Verdict, State.State, State.table_of, Verdict.applying_of, Verdict.expression_of, Verdict.is_exempt, Verdict.verdict_of}
 use Rattle.rls_catalog.specs.declared.verdict.Side.TheVariants as side
 use Rattle.rls_catalog.specs.declared.verdict.Verdict.TheVariants as v
 use Rattle.rls_source.specs.{Asked.asked_key, Asked.keyed_at, Asked.rows_at, Askings.Asking, Askings.asked_if, Askings.followed_by, Askings.known}
 use Rattle.rls_evaluation.specs.{declared.relation.SecurityQuals.SecurityQuals, declared.relation.SecurityQuals.TheVariants.Exempt, declared.relation.SecurityQuals.TheVariants.Policies, Environments.Environment, Environments.alone, Environments.over, Eval.Shows, Eval.value_of, Gathering.gathered, Gathering.kept, Gathering.with_row}
 use Rattle.rls_evaluation.specs.Showing.{allows, asked_for, is_allowed, judgements_on, values_of, verdict_on as machine_verdict_on}
-use Rattle.rls_guard.specs.{declared.quals.RowCheck.RowCheck, declared.reply.Decision.Decision, SecurityQuals.conditions_of}
+use Rattle.rls_guard.specs.{declared.quals.RowCheck.RowCheck, declared.reply.Decision.Decision, SecurityQuals.conditions_of, SecurityQuals.with_condition}
 use Rattle.rls_depth.specs.Deep.{ruled, shown_by, shows_deep}
 use Rattle.rls_judging.specs.{Judging.are_allowed, Judging.decision_by, Judging.decisions_on as machine_decisions_on, Judging.judged_old, Judging.qualifies_if, Judging.row_if_qualifying, Judging.with_judged, Valuing.values_on}
-use Rattle.rls_meaning.specs.{Commands.Command, Commands.depth_of, Evaluating.Shown, Evaluating.is_met, Evaluating.value, Expanding.check, Expanding.checks, Expanding.sees, Expanding.select_quals}
+use Rattle.rls_meaning.specs.{Commands.Command, Commands.depth_of, Evaluating.Shown, Evaluating.is_met, Evaluating.value, Expanding.check, Expanding.checks, Expanding.sees, Expanding.select_quals, Resolving.resolved}
 use Rattle.rls_meaning.specs.{Rows.decisions, Rows.kinds_of, Rows.qualifying, Rows.scanned, Rows.shown_to, Rows.verdict, Showing.allowed_rows, Showing.rows_at_key, Showing.shows, Showing.verdict_in}
 use Rattle.rls_meaning.proofs.Questions.{decisions_in, put_values, qualifying_rows_in, row_values, set_values, tuple_values}
+use Rattle.rls_meaning.proofs.Resolving.{state_resolved_told}
 use Rattle.rls_meaning.proofs.Evaluating.{Alike, gathered_told, meets_told, put_all, value_told}
 
 -- ---- lists
@@ -72,14 +73,37 @@ verdict_told : (s : State) (sees : Shows) (shown : Shown) → Alike s sees shown
 verdict_told s sees shown alike Exempt role row = refl
 verdict_told s sees shown alike (Policies conditions) role row = λ i. and_then (judgements_told s sees shown alike conditions role row i) (λ judgements. Ok (verdict_of judgements))
 
-ruled_if : (b : Bool) (conditions : List (Policy × Term)) (shown : Shown) (role : List ℕ) (row : List Value)
-    → verdict_by (if b then Exempt else Policies conditions) shown role row ≡ (if b then v.Exempt else verdict_of (map (λ condition. (condition.0, truth_in (value condition.1 shown (over role row)))) conditions))
-ruled_if true conditions shown role row = refl
-ruled_if false conditions shown role row = refl
+-- what a policy comes to, by its condition
+abbrev judged_by : Shown → List ℕ → List Value → Policy × Term → Policy × Truth
+judged_by shown role row condition = (condition.0, truth_in (value condition.1 shown (over role row)))
+
+-- the same over the tables of the state
+abbrev judged_for : State → Shown → List ℕ → InScope → List Value → Policy → Term → Policy × Truth
+judged_for s shown role from row policy term = (policy, truth_in (value (resolved s (from ∷ []) term) shown (over role row)))
+
+condition_told : (s : State) (shown : Shown) (role : List ℕ) (from : InScope) (row : List Value) (policy : Policy) (found : Option Term) (rest : List (Policy × Term))
+    → map (judged_by shown role row) (with_condition from s.tables policy found rest) ≡ map (judged_for s shown role from row policy) (option_to_list found) ++ map (judged_by shown role row) rest
+condition_told s shown role from row policy None rest = refl
+condition_told s shown role from row policy (Some term) rest = λ i. (policy, truth_in (value (state_resolved_told s (from ∷ []) term i) shown (over role row))) ∷ map (judged_by shown role row) rest
+
+conditions_told : (s : State) (shown : Shown) (role : List ℕ) (from : InScope) (kind : Kind) (which : Side) (row : List Value) (policies : List Policy)
+    → map (judged_by shown role row) (conditions_of kind which from s.tables policies) ≡ flat_map (λ policy. map (judged_for s shown role from row policy) (option_to_list (expression_of policy kind which))) policies
+conditions_told s shown role from kind which row [] = refl
+conditions_told s shown role from kind which row (policy ∷ policies) =
+    condition_told s shown role from row policy (expression_of policy kind which) (conditions_of kind which from s.tables policies)
+    ∙ ap (λ rest. map (judged_for s shown role from row policy) (option_to_list (expression_of policy kind which)) ++ rest) (conditions_told s shown role from kind which row policies)
+
+ruled_if : (b : Bool) (conditions : List (Policy × Term)) (judgements : List (Policy × Truth)) (shown : Shown) (role : List ℕ) (row : List Value) → map (judged_by shown role row) conditions ≡ judgements
+    → verdict_by (if b then Exempt else Policies conditions) shown role row ≡ (if b then v.Exempt else verdict_of judgements)
+ruled_if true conditions judgements shown role row same = refl
+ruled_if false conditions judgements shown role row same = ap verdict_of same
 
 -- by the quals of the state it is that of the meaning
 verdict_ruled : (s : State) (shown : Shown) (role : List ℕ) (from : InScope) (kind : Kind) (which : Side) (row : List Value) → verdict_by (ruled s role kind which from) shown role row ≡ verdict_in s shown role from kind which row
-verdict_ruled s shown role from kind which row = ruled_if (is_exempt s role from.1) (conditions_of kind which from s.tables (applying_of s role from.0 kind which)) shown role row
+verdict_ruled s shown role from kind which row =
+    ruled_if (is_exempt s role from.1) (conditions_of kind which from s.tables (applying_of s role from.0 kind which))
+    (flat_map (λ policy. map (judged_for s shown role from row policy) (option_to_list (expression_of policy kind which))) (applying_of s role from.0 kind which)) shown role row
+    (conditions_told s shown role from kind which row (applying_of s role from.0 kind which))
 
 -- the decisions on a row
 decisions_on_told : (s : State) (sees : Shows) (shown : Shown) → Alike s sees shown → (row_checks : List RowCheck) (role : List ℕ) (id : RowId) (row : List Value)

@@ -1,23 +1,23 @@
 -- What row security says of a row, and what tables show by it (PostgreSQL manual, 5.8, "Row Security Policies", and CREATE POLICY): a policy's condition has the row
 -- alone in scope, and its subqueries see what their tables show, and so on, so many policies deep.
-use Rattle.std.specs.Prelude.{ℕ, zero, suc, List, [], Option, Some, None, map, filter, if◌then◌else◌}
-use Rattle.std.specs.List.{list_any}
+use Rattle.std.specs.Prelude.{ℕ, zero, suc, List, [], ◌∷◌, Option, Some, None, map, filter, if◌then◌else◌}
+use Rattle.std.specs.List.{flat_map, list_any}
+use Rattle.std.specs.Option.{option_to_list}
 use Rattle.rls_value.specs.{declared.value.Value.Value, declared.verb.Kind.Kind, Values.is_null, Values.truth_in}
 use Rattle.rls_value.specs.declared.verb.Kind.TheVariants as k
 use Rattle.rls_expr.specs.{declared.table.TableDef.TableDef, Scopes.InScope}
-use Rattle.rls_catalog.specs.{declared.stored.Stored.Stored, declared.verdict.Side.Side, declared.verdict.Verdict.Verdict, State.State, State.rows_of, State.rows_with_key, State.table_of, Verdict.applying_of, Verdict.is_exempt, Verdict.verdict_of}
+use Rattle.rls_catalog.specs.{declared.stored.Stored.Stored, declared.verdict.Side.Side, declared.verdict.Verdict.Verdict, State.State, State.rows_of, State.rows_with_key, State.table_of, Verdict.applying_of, Verdict.expression_of, Verdict.is_exempt, Verdict.verdict_of}
 use Rattle.rls_catalog.specs.declared.verdict.Side.TheVariants as side
 use Rattle.rls_catalog.specs.declared.verdict.Verdict.TheVariants as v
 use Rattle.rls_evaluation.specs.{Environments.over, Showing.allows}
-use Rattle.rls_guard.specs.SecurityQuals.{conditions_of}
-use Rattle.rls_meaning.specs.Evaluating.{Shown, value}
+use Rattle.rls_meaning.specs.{Evaluating.Shown, Evaluating.value, Resolving.resolved}
 
 -- what the policies say of a row of the table that apply to the role for that type of command, of old rows or of new ones; of
 -- nobody exempt do they say anything
 abbrev pub verdict_in : State → Shown → List ℕ → InScope → Kind → Side → List Value → Verdict
 verdict_in s shown role from kind which row =
     if is_exempt s role from.1 then v.Exempt
-    else verdict_of (map (λ condition. (condition.0, truth_in (value condition.1 shown (over role row)))) (conditions_of kind which from s.tables (applying_of s role from.0 kind which)))
+    else verdict_of (flat_map (λ policy. map (λ term. (policy, truth_in (value (resolved s (from ∷ []) term) shown (over role row)))) (option_to_list (expression_of policy kind which))) (applying_of s role from.0 kind which))
 
 -- the rows of the table or, with a key, those that have it; a key with a null is nobody's
 abbrev pub rows_at_key : State → List ℕ → Option (List Value) → List Stored
