@@ -2,19 +2,22 @@
 -- expression.
 use Rattle.std.specs.Prelude.{◌≡◌, refl, ℕ, List, [], ◌∷◌, ◌++◌, Bool, true, false, ◌&&◌, ◌||◌, Option, Some, None, filter, is_some, if◌then◌else◌}
 use Rattle.std.specs.List.{list_any, flat_map}
+use Rattle.std.specs.Option.{option_to_list}
 use Rattle.std.proofs.Common.{ap, sym, ◌∙◌, subst, append-nil}
 use Rattle.std.proofs.lemmas.Bool.{true≢false}
+use Rattle.std.proofs.lemmas.List.Concat.{flat_map-append}
 use Rattle.rls_value.specs.{declared.verb.Kind.Kind, declared.verb.PolicyKind.PolicyKind, Names.one_of}
 use Rattle.rls_value.specs.declared.verb.Kind.TheVariants as k
 use Rattle.rls_value.specs.declared.verb.PolicyKind.TheVariants as pk
 use Rattle.rls_expr.specs.{declared.policy.Policy.Policy, Terms.Term}
-use Rattle.rls_catalog.specs.{Membership.fresh, Membership.Within, State.State, State.policies_of, Verdict.check_or_using, Verdict.is_exempt, Verdict.is_for_kind, Verdict.is_to}
+use Rattle.rls_catalog.specs.{Membership.fresh, Membership.Within, State.State, State.policies_of, Verdict.check_or_using, Verdict.expression_of, Verdict.is_exempt, Verdict.is_for_kind, Verdict.is_to}
+use Rattle.rls_catalog.specs.declared.verdict.Side.TheVariants as side
 use Rattle.rls_catalog.proofs.Walks.{among_first}
 use Rattle.rls_recursion.specs.Searching.{or_next, first_closed}
 use Rattle.rls_expansion.specs.{Expanding.asks_of, Used.is_for_check, Used.is_for_using, Used.tables_asked, Used.tables_if, Used.tables_where, Used.using_stands_in}
 use Rattle.rls_depth.proofs.Walking.{fresh_all}
-use Rattle.rls_meaning.specs.{Commands.Command, Commands.own_of, Commands.tables_for}
-use Rattle.rls_meaning.proofs.Listing.{fresh_append, fresh_none, last_cases}
+use Rattle.rls_meaning.specs.{Commands.Command, Commands.own_of, Commands.tables_for, Parts.tables_of}
+use Rattle.rls_meaning.proofs.{Listing.fresh_append, Listing.fresh_none, Listing.last_cases, Parts.tables_if_told}
 
 -- both name the same tables, in the order of their first places
 abbrev pub Alike : List (List ℕ) → List (List ℕ) → Type 0
@@ -44,6 +47,17 @@ twice_nil : (xs : List (List ℕ)) → Alike (xs ++ xs) (xs ++ [])
 twice_nil xs seen = twice_alone xs seen ∙ ap (fresh seen) (sym (append-nil xs))
 
 -- ---- what a policy is asked for
+
+-- the tables of the one expression, then those of the other
+both_tables : (one other : Option Term) → flat_map tables_of (option_to_list one ++ option_to_list other) ≡ tables_if one ++ tables_if other
+both_tables one other = flat_map-append tables_of (option_to_list one) (option_to_list other) ∙ (λ i. sym (tables_if_told one) i ++ sym (tables_if_told other) i)
+
+-- the tables in what a policy says by a type of command, as they are found
+abbrev used_for : Kind → Policy → List (List ℕ)
+used_for kind policy = if is_for_kind policy.kind kind then tables_if (expression_of policy kind side.Old) ++ tables_if (expression_of policy kind side.New) else []
+
+for_told : (kind : Kind) (policy : Policy) → tables_for kind policy ≡ used_for kind policy
+for_told kind policy = λ i. if is_for_kind policy.kind kind then both_tables (expression_of policy kind side.Old) (expression_of policy kind side.New) i else []
 
 -- the tables of USING, then those of WITH CHECK, each where it is asked for
 abbrev both : Bool → Bool → Option Term → Option Term → List (List ℕ)
@@ -89,7 +103,7 @@ for_update (pk.Only k.Update) using None = for_using true using None
 for_update (pk.Only k.Delete) using None = λ seen. refl
 
 -- what one is asked for where the command doesn't read
-for_command : (kind : Kind) (policy : Policy) → Alike (tables_for kind policy) (tables_asked (asks_of kind false) policy)
+for_command : (kind : Kind) (policy : Policy) → Alike (used_for kind policy) (tables_asked (asks_of kind false) policy)
 for_command k.Select policy = for_using (is_for_kind policy.kind k.Select) policy.using policy.check
 for_command k.Insert policy = for_insert policy.kind policy.using policy.check
 for_command k.Update policy = for_update policy.kind policy.using policy.check
@@ -139,13 +153,16 @@ asked_reading k.Delete policy =
     let b : Bool = is_for_kind policy.kind k.Delete in
     λ i. both (also_once a (b && true) i) (never_once a (b && false) i) policy.using policy.check
 
-for_policy : (reads : Bool) (kind : Kind) (policy : Policy) → Alike ((if reads then tables_for k.Select policy else []) ++ tables_for kind policy) (tables_asked (asks_of kind reads) policy)
-for_policy false kind policy seen = for_command kind policy seen
-for_policy true kind policy seen =
-    alike_append (tables_for k.Select policy) (tables_where (is_for_kind policy.kind k.Select) policy.using) (tables_for kind policy) (tables_asked (asks_of kind false) policy)
+used_policy : (reads : Bool) (kind : Kind) (policy : Policy) → Alike ((if reads then used_for k.Select policy else []) ++ used_for kind policy) (tables_asked (asks_of kind reads) policy)
+used_policy false kind policy seen = for_command kind policy seen
+used_policy true kind policy seen =
+    alike_append (used_for k.Select policy) (tables_where (is_for_kind policy.kind k.Select) policy.using) (used_for kind policy) (tables_asked (asks_of kind false) policy)
     (for_select (is_for_kind policy.kind k.Select) policy.using) (for_command kind policy) seen
     ∙ using_first (is_for_kind policy.kind k.Select) (list_any (is_for_using policy) (asks_of kind false)) (list_any (is_for_check policy) (asks_of kind false)) policy.using policy.check seen
     ∙ ap (fresh seen) (asked_reading kind policy)
+
+for_policy : (reads : Bool) (kind : Kind) (policy : Policy) → Alike ((if reads then tables_for k.Select policy else []) ++ tables_for kind policy) (tables_asked (asks_of kind reads) policy)
+for_policy reads kind policy seen = (λ i. fresh seen ((if reads then for_told k.Select policy i else []) ++ for_told kind policy i)) ∙ used_policy reads kind policy seen
 
 -- ---- all of them
 

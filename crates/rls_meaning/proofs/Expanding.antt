@@ -1,21 +1,24 @@
 -- The expansion of a statement's policies, by whether the state's chains close.
-use Rattle.std.specs.Prelude.{◌≡◌, ◌↔◌, refl, ℕ, suc, ◌≤◌, ◌<◌, List, [], ◌∷◌, ◌++◌, Bool, true, false, Option, Some, None, Result, Ok, Err, length, if◌then◌else◌}
+use Rattle.std.specs.Prelude.{◌≡◌, ◌↔◌, refl, ℕ, suc, ◌+◌, ◌≤◌, ◌<◌, List, [], ◌∷◌, ◌++◌, Bool, true, false, Option, Some, None, Result, Ok, Err, length, if◌then◌else◌}
+use Rattle.std.specs.List.{flat_map}
+use Rattle.std.specs.Option.{option_to_list}
 use Rattle.std.proofs.Common.{arith, ap, sym, ◌∙◌, subst}
 use Rattle.std.proofs.lemmas.Bool.{true≢false}
+use Rattle.std.proofs.lemmas.List.Concat.{flat_map-append}
 use Rattle.rls_value.specs.{declared.verb.Kind.Kind, declared.refusal.Refusal.Refusal, declared.refusal.Refusal.TheVariants.Recursion, Giving.and_then}
 use Rattle.rls_value.specs.declared.verb.Kind.TheVariants as k
-use Rattle.rls_expr.specs.{declared.table.TableDef.TableDef, Scopes.InScope, Terms.Term}
+use Rattle.rls_expr.specs.{declared.policy.Policy.Policy, declared.table.TableDef.TableDef, Scopes.InScope, Terms.Term}
 use Rattle.rls_catalog.specs.{declared.verdict.Side.Side, State.State, Membership.fresh, Membership.Within}
 use Rattle.rls_catalog.specs.declared.verdict.Side.TheVariants as side
 use Rattle.rls_guard.specs.{declared.quals.RowCheck.RowCheck, declared.role_privileges.RolePrivileges.RolePrivileges, SecurityQuals.quals_from, RolePrivileges.role_privileges_in}
 use Rattle.rls_recursion.specs.{declared.dependency.PolicyDependency.PolicyDependency, declared.searching.Reached.Reached, Searching.InOrder, Searching.Found, Searching.Fits, Searching.Loops, Searching.Deep, Searching.first_closed, Searching.first_closing as dependency_closing, Searching.or_next, Searching.ordered_by, Searching.searched, Searching.tables_in, Searching.told_by}
 use Rattle.rls_recursion.proofs.{Ending.IsTold}
-use Rattle.rls_expansion.specs.{declared.expansion.PolicyExpansion.PolicyExpansion, Relations.known_in, Expanding.judges_new, Expanding.judges_old, Expanding.own_tables, Expanding.past_policies, Expanding.expanded_from, Expanding.expansion_by, Expanding.expansion_of, Expanding.row_checks_if, Dependencies.dependencies_lead, Dependencies.dependencies_of, Dependencies.dependency_of, Enough.asked_all, Leading.named, Used.tables_of}
+use Rattle.rls_expansion.specs.{declared.expansion.PolicyExpansion.PolicyExpansion, Relations.known_in, Expanding.judges_new, Expanding.judges_old, Expanding.own_tables, Expanding.past_policies, Expanding.expanded_from, Expanding.expansion_by, Expanding.expansion_of, Expanding.row_checks_if, Dependencies.dependencies_lead, Dependencies.dependencies_of, Dependencies.dependency_of, Enough.asked_all, Leading.named, Leading.tables_in as tables_at, Used.tables_of}
 use Rattle.rls_depth.specs.{Deep.JudgeAlike, Deep.policies_in, Deep.ruled, Deep.shows_deep, Deep.state_quals}
 use Rattle.rls_evaluation.specs.{Environments.Environment, Eval.Shows, Eval.value_of, Showing.shows}
 use Rattle.rls_depth.proofs.{Deepening.relations_few, ExpansionLaws.policies_told, Stating.reached_read, Tables.within_first, Tables.within_last, Walking.AreRead, Walking.are_read}
-use Rattle.rls_meaning.specs.{Chains.subquery_tables_in, Commands.Command, Commands.closing_in, Commands.depth_of, Commands.needed_in, Commands.own_of, Expanding.IsExpanded, Expanding.IsExpansionIn, Expanding.Made, Expanding.Refused, Expanding.expansion_in, Expanding.sees, Expanding.check, Expanding.select_quals, Chains.closes, Needing.needed_by}
-use Rattle.rls_meaning.proofs.{Listing.checks_in_order, Listing.search_told, Dependencies.Dependencies, Dependencies.dependencies_read, Dependencies.same_dependencies, Dependencies.closing_same, Dependencies.needs_same, Dependencies.in_order_few, Dependencies.tables_few, States.own_told, Asking.Alike, Asking.alike_append, Asking.asked_in, Asking.first_alike, Asking.needs_alike, Asking.own_alike, Dependencies.both_told}
+use Rattle.rls_meaning.specs.{Chains.subquery_tables_in, Commands.Command, Commands.closing_in, Commands.depth_of, Commands.needed_in, Commands.own_of, Expanding.IsExpanded, Expanding.IsExpansionIn, Expanding.Made, Expanding.Refused, Expanding.expansion_in, Expanding.sees, Expanding.check, Expanding.select_quals, Chains.closes, Needing.needed_by, Parts.tables_of as tables_within}
+use Rattle.rls_meaning.proofs.{Listing.checks_in_order, Listing.search_told, Dependencies.Dependencies, Dependencies.dependencies_read, Dependencies.same_dependencies, Dependencies.closing_same, Dependencies.needs_same, Dependencies.in_order_few, Dependencies.tables_few, States.own_told, Asking.Alike, Asking.alike_append, Asking.asked_in, Asking.first_alike, Asking.needs_alike, Asking.own_alike, Dependencies.both_told, Dependencies.depth, Parts.tables_if_told}
 
 -- what the laws of the search say
 pub record Searches : Type 0 where
@@ -107,13 +110,21 @@ expands_by s c dependencies laws read few gives (Closes t is) =
     (gives ∙ ap (λ found. and_then found (λ reached. Ok (made_in s c dependencies reached))) is)
     (closing_told s c dependencies read ∙ (laws.recursion dependencies c.name (asked_in s c) c.queries t (depth_of s c) few).0 is)
 
+-- the tables that a policy names
+at_told : (policy : Policy) → tables_at policy ≡ flat_map tables_within (option_to_list policy.using ++ option_to_list policy.check)
+at_told policy = (λ i. tables_if_told policy.using i ++ tables_if_told policy.check i) ∙ sym (flat_map-append tables_within (option_to_list policy.using) (option_to_list policy.check))
+
+-- so deep the state's chains go
+depth_told : (s : State) (c : Command) → depth s (own_of s c ++ c.queries) ≡ depth_of s c
+depth_told s c = λ i. suc (length (own_of s c ++ c.queries) + length (flat_map (λ entry. flat_map (λ policy. at_told policy i) entry.1) s.policies))
+
 expands : Searches → (s : State) (c : Command) → Expands s c
 expands laws s c =
     let role_privileges : RolePrivileges = role_privileges_in s c.role in
     let read : Dependencies s role_privileges (own_of s c ++ c.queries) = dependencies_read s role_privileges (own_of s c ++ c.queries) in
     let given : ((dependencies_of role_privileges (asked_in s c ++ c.queries)).in_state s).gives ≡ Ok read.dependencies =
     sym (same_given s role_privileges (own_of s c ++ c.queries) (asked_in s c ++ c.queries) (with_queries (own_of s c) (asked_in s c) c.queries (own_alike s c))) ∙ read.given in
-    expands_by s c read.dependencies laws (are_read role_privileges s (asked_in s c ++ c.queries) read.dependencies given) read.few
+    expands_by s c read.dependencies laws (are_read role_privileges s (asked_in s c ++ c.queries) read.dependencies given) (subst (λ n. length read.dependencies < n) (depth_told s c) read.few)
     (given_by s role_privileges c.name c.table c.kind c.reads c.queries (asked_in s c) read.dependencies (own_told s c) given)
     (search_ends read.dependencies c.name (asked_in s c) c.queries)
 

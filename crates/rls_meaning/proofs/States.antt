@@ -4,8 +4,9 @@ use Rattle.std.specs.List.{list_any, flat_map}
 use Rattle.std.specs.Option.{option_to_list}
 use Rattle.std.proofs.Common.{ap, sym, ◌∙◌, subst, append-nil}
 use Rattle.std.proofs.lemmas.Bool.{true≢false}
+use Rattle.std.proofs.lemmas.List.Folds.{list_any-append}
 use Rattle.rls_value.specs.{declared.verb.Kind.Kind}
-use Rattle.rls_expr.specs.{declared.policy.Policy.Policy, declared.table.TableDef.TableDef, Parts.has_query, Terms.Term}
+use Rattle.rls_expr.specs.{declared.policy.Policy.Policy, declared.table.TableDef.TableDef, Terms.Term}
 use Rattle.rls_catalog.specs.{Applying.applying_on, declared.verdict.Side.Side, State.State, State.table_of, State.policies_of, Privileges.includes, Membership.Within, Verdict.chosen, Verdict.exempts, Verdict.is_asked, Verdict.is_for_kind}
 use Rattle.rls_guard.specs.{declared.role_privileges.RolePrivileges.RolePrivileges, RolePrivileges.role_privileges_in, RolePrivileges.has_owner}
 use Rattle.rls_recursion.specs.{declared.dependency.PolicyDependency.PolicyDependency, Searching.has_subquery_of, Searching.subquery_tables_of, Searching.subquery_tables_in as subquery_tables_at, Searching.has_subquery_in as has_subquery_at, Searching.dependency_in}
@@ -13,8 +14,8 @@ use Rattle.rls_recursion.proofs.Closing.{one_first}
 use Rattle.rls_expansion.specs.{Expanding.asks_of, Expanding.own_tables, Dependencies.reading, Dependencies.dependency_by, Used.Ask, Used.has_query_if, Used.holds_subquery, Used.tables_asked, Used.tables_if, Used.tables_used, Used.tables_where}
 use Rattle.rls_depth.specs.{Deep.policies_in, Leading.using_tables}
 use Rattle.rls_depth.proofs.{DependencyLaws.by_leads, Walking.dependency_at, Walking.dependency_for}
-use Rattle.rls_meaning.specs.{Chains.has_subquery_in, Chains.select_policies, Chains.subquery_tables_in, Commands.Command}
-use Rattle.rls_meaning.proofs.Asking.{asked_in}
+use Rattle.rls_meaning.specs.{Chains.has_subquery_in, Chains.select_policies, Chains.subquery_tables_in, Commands.Command, Parts.has_query, Parts.tables_of}
+use Rattle.rls_meaning.proofs.{Asking.asked_in, Parts.has_query_if_told, Parts.tables_if_told}
 
 -- ---- the tables that policies use
 
@@ -103,21 +104,18 @@ none_at s role name None is = refl
 none_at s role name (Some def) is = none_lead (exempts (role_privileges_in s role).attributes def (has_owner (role_privileges_in s role) def)) (role_privileges_in s role) name def (policies_of s name) is
 
 -- a subquery stands in a policy
-or_false : (b : Bool) → b ≡ (b || false)
-or_false true = refl
-or_false false = refl
-
 holds_told : (using check : Option Term) → (has_query_if using || has_query_if check) ≡ list_any has_query (option_to_list using ++ option_to_list check)
-holds_told None None = refl
-holds_told None (Some check) = or_false (has_query check)
-holds_told (Some using) None = refl
-holds_told (Some using) (Some check) = ap (λ b. has_query using || b) (or_false (has_query check))
+holds_told using check = (λ i. has_query_if_told using i || has_query_if_told check i) ∙ sym (list_any-append has_query (option_to_list using) (option_to_list check))
 
 policies_told : (policies : List Policy) → list_any holds_subquery policies ≡ list_any (λ policy. list_any has_query (option_to_list policy.using ++ option_to_list policy.check)) policies
 policies_told policies = λ i. list_any (λ policy. holds_told policy.using policy.check i) policies
 
+-- the tables that policies lead to
+lead_told : (policies : List Policy) → flat_map using_tables policies ≡ flat_map (λ policy. flat_map tables_of (option_to_list policy.using)) policies
+lead_told policies = λ i. flat_map (λ policy. tables_if_told policy.using i) policies
+
 pub leaf_leads : (s : State) (role name : List ℕ) → has_subquery_in s role name ≡ false → subquery_tables_in s role name ≡ []
-leaf_leads s role name is = none_at s role name (table_of s name) (policies_told (select_policies s role name) ∙ is)
+leaf_leads s role name is = sym (lead_told (select_policies s role name)) ∙ none_at s role name (table_of s name) (policies_told (select_policies s role name) ∙ is)
 
 -- ---- by names
 
@@ -125,4 +123,4 @@ pub has_subquery_same : (s : State) (role : List ℕ) (dependencies : List Polic
 has_subquery_same s role dependencies name found = ap has_subquery_at found ∙ has_subquery_told s role name (table_of s name) ∙ policies_told (select_policies s role name)
 
 pub subquery_tables_same : (s : State) (role : List ℕ) (dependencies : List PolicyDependency) (name : List ℕ) → dependency_in dependencies name ≡ Some (dependency_at s (role_privileges_in s role) name) → subquery_tables_of dependencies name ≡ subquery_tables_in s role name
-subquery_tables_same s role dependencies name found = ap subquery_tables_at found ∙ subquery_tables_told s role name (table_of s name)
+subquery_tables_same s role dependencies name found = ap subquery_tables_at found ∙ subquery_tables_told s role name (table_of s name) ∙ lead_told (select_policies s role name)
