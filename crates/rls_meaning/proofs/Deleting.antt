@@ -13,7 +13,7 @@ use Rattle.rls_expansion.specs.{Used.tables_if}
 use Rattle.rls_dml.specs.{declared.deleting.AnalysedDelete.AnalysedDelete, Deleting.delete_as, Deleting.delete_from, Deleting.delete_with_quals, Deleting.delete_qualifying_rows, Deleting.deleted as machine_deleted, Deleting.analysed_delete_for, Deleting.analysed_delete_in, Deleting.analysed_delete_names, Deleting.analysed_delete_reads}
 use Rattle.rls_access.specs.{Statements.mode_or_refused}
 use Rattle.rls_meaning.specs.{Commands.Command, Commands.permitted_in, Rows.decisions, Rows.qualifying, Rows.scanned, Deleting.deleted, Deleting.DeleteMeans, Deleting.delete_parts, Deleting.delete_rows, Expanding.IsExpanded}
-use Rattle.rls_meaning.proofs.{Qualifying.done_told, Naming.named_told, Naming.table_told, Replying.reply_told, Showing.qualifying_told, Analysing.delete_analysed, Analysing.delete_reads}
+use Rattle.rls_meaning.proofs.{Qualifying.done_told, Naming.named_told, Naming.table_told, Replying.reply_told, Showing.qualifying_told, Analysing.delete_analysed, Analysing.delete_reads, Parts.tables_if_told}
 
 parts_told : (s : State) (asked : Delete) (table : TableDef) → ((analysed_delete_for asked table).in_state s).gives ≡ delete_parts s asked table
 parts_told s asked table = ap (λ given. and_then given (analysed_delete_in asked (asked.table, table))) (named_told s (analysed_delete_names asked) ((asked.table, table) ∷ []) []) ∙ delete_analysed s asked table
@@ -33,4 +33,4 @@ delete_told expanded s ctx asked =
     (λ i. and_then (table_told s asked.table i) (λ table.
     and_then (parts_told s asked table i) (λ parts.
     (from_told expanded s ctx.role asked.table table parts
-    ∙ (λ i. delete_rows s parts (record { role = ctx.role; name = asked.table; table = table; kind = k.Delete; reads = delete_reads parts i; queries = tables_if parts.condition }))) i)))
+    ∙ (λ i. delete_rows s parts (record { role = ctx.role; name = asked.table; table = table; kind = k.Delete; reads = delete_reads parts i; queries = tables_if_told parts.condition i }))) i)))

@@ -14,7 +14,7 @@ use Rattle.rls_expansion.specs.{Used.tables_if}
 use Rattle.rls_dml.specs.{declared.selecting.AnalysedSelect.AnalysedSelect, Selecting.listed_by, Selecting.listed_for, Selecting.listed_from, Selecting.qualifier_of, Selecting.analysed_select_for, Selecting.analysed_select_in, Selecting.analysed_select_names, Selecting.select_as, Selecting.select_from}
 use Rattle.rls_access.specs.{Statements.mode_or_refused}
 use Rattle.rls_meaning.specs.{Commands.Command, Commands.permitted_in, Expanding.IsExpanded, Rows.decisions, Rows.qualifying, Rows.scanned, Selecting.SelectMeans, Selecting.select_parts, Selecting.select_rows}
-use Rattle.rls_meaning.proofs.{Qualifying.done_told, Naming.named_told, Naming.table_told, Replying.answered_told, Showing.qualifying_told, Analysing.select_analysed}
+use Rattle.rls_meaning.proofs.{Qualifying.done_told, Naming.named_told, Naming.table_told, Replying.answered_told, Showing.qualifying_told, Analysing.select_analysed, Parts.tables_if_told}
 
 parts_told : (s : State) (asked : Select) (table : TableDef) → ((analysed_select_for asked (qualifier_of asked, table)).in_state s).gives ≡ select_parts s asked table
 parts_told s asked table =
@@ -34,4 +34,5 @@ select_told expanded s ctx asked =
     ap (λ rest. shown (and_then (mode_or_refused ctx.mode Tag.Select) (λ _. rest)))
     (λ i. and_then (table_told s asked.table i) (λ table.
     and_then (parts_told s asked table i) (λ parts.
-    from_told expanded s ctx.role asked.table table parts i)))
+    (from_told expanded s ctx.role asked.table table parts
+    ∙ (λ i. select_rows s parts (record { role = ctx.role; name = asked.table; table = table; kind = k.Select; reads = false; queries = tables_if_told parts.condition i }))) i)))
