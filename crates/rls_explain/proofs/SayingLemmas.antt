@@ -1,6 +1,7 @@
 -- What the policies of an expansion say of a row is what the state's say that apply.
 use Rattle.std.specs.Prelude.{◌≡◌, refl, ℕ, suc, ◌+◌, List, [], ◌∷◌, ◌++◌, false, ◌&&◌, Option, Some, None, filter, map, is_some, length, if◌then◌else◌}
 use Rattle.std.specs.List.{flat_map, list_any}
+use Rattle.std.specs.Option.{option_to_list}
 use Rattle.std.proofs.{Common.ap, Common.sym, Common.◌∙◌, Common.subst, lemmas.Bool.or_right}
 use Rattle.rls_value.specs.{Names.one_of, declared.value.Value.Value, declared.verb.Kind.Kind}
 use Rattle.rls_value.specs.declared.verb.Kind.TheVariants as k
@@ -10,10 +11,10 @@ use Rattle.rls_catalog.specs.declared.verdict.Side.TheVariants as side
 use Rattle.rls_catalog.proofs.Inheriting.{fresh_all}
 use Rattle.rls_evaluation.specs.{declared.relation.SecurityQuals.SecurityQuals, declared.relation.SecurityQuals.TheVariants.Exempt, declared.relation.SecurityQuals.TheVariants.Policies, Environments.Environment, Environments.over, Eval.Shows, Eval.value_of, Showing.shows}
 use Rattle.rls_guard.specs.{declared.role_privileges.RolePrivileges.RolePrivileges, SecurityQuals.conditions_of, SecurityQuals.quals_from, SecurityQuals.with_condition, RolePrivileges.role_privileges_in}
-use Rattle.rls_expansion.specs.{declared.expansion.PolicyExpansion.PolicyExpansion, Leading.named, Used.tables_of, Expanding.asks_of, Expanding.own_tables}
+use Rattle.rls_expansion.specs.{declared.expansion.PolicyExpansion.PolicyExpansion, Used.tables_of, Expanding.asks_of, Expanding.own_tables}
 use Rattle.rls_depth.{specs.Deep.policies_in, specs.Deep.ruled, specs.Leading.condition_tables, specs.Leading.quals_tables, proofs.Deepening.conditions_tables, proofs.ExpansionLaws.Taken, proofs.Tables.within_append, proofs.Tables.within_first, proofs.Tables.within_last, proofs.Tables.within_nothing, proofs.Using.IsAsk, proofs.Using.chosen_used, proofs.Using.in_front, proofs.Using.own_ask}
-use Rattle.rls_meaning.specs.{Chains.own_in, Chains.subquery_tables_in, Commands.Command, Commands.closing_in, Needing.needed_by, Needing.needs, Expanding.IsExpanded, Expanding.IsExpansionIn, Expanding.Made, Expanding.Refused, Expanding.expansion_in, Expanding.sees}
-use Rattle.rls_meaning.proofs.States.{own_told}
+use Rattle.rls_meaning.specs.{Chains.subquery_tables_in, Commands.Command, Commands.closing_in, Commands.depth_of, Commands.own_of, Parts.tables_of as tables_in_part, Needing.needed_by, Needing.needs, Expanding.IsExpanded, Expanding.IsExpansionIn, Expanding.Made, Expanding.Refused, Expanding.expansion_in, Expanding.sees}
+use Rattle.rls_meaning.proofs.{Asking.alike_append, Asking.asked_in, Asking.needs_alike, Asking.own_alike, States.own_told}
 use Rattle.rls_explain.specs.Saying.{command_on, conditions_in, first_conditions, said_as, said_by, said_found, said_in, truth_told, unless_closing, unless_refused, row_checks_for}
 
 -- the quals of rows for a role are what the rules over a state say
@@ -85,10 +86,10 @@ quals_own kind which role_privileges from found (Some policies) taken ask =
     (conditions_tables kind which from found (chosen role_privileges.effective_roles.superuser role_privileges.effective_roles.names kind which policies) t is)
 
 ruled_own : Laws → (s : State) (role name : List ℕ) (table : TableDef) (kind : Kind) (which : Side) → IsAsk (kind, which) (asks_of kind false)
-    → Within (quals_tables (ruled s role kind which (name, table))) (own_in s role name table kind false)
+    → Within (quals_tables (ruled s role kind which (name, table))) (asked_in s (command_on role name table kind))
 ruled_own laws s role name table kind which ask =
-    subst (λ quals. Within (quals_tables quals) (own_in s role name table kind false)) (laws.row_check s role kind which (name, table))
-    (subst (Within (quals_tables (quals_from (role_privileges_in s role) kind which (name, table) s.tables (policies_in s (role_privileges_in s role) name table)))) (own_told s role name table kind false)
+    subst (λ quals. Within (quals_tables quals) (asked_in s (command_on role name table kind))) (laws.row_check s role kind which (name, table))
+    (subst (Within (quals_tables (quals_from (role_privileges_in s role) kind which (name, table) s.tables (policies_in s (role_privileges_in s role) name table)))) (own_told s (command_on role name table kind))
     (quals_own kind which (role_privileges_in s role) (name, table) s.tables (policies_in s (role_privileges_in s role) name table) laws.taken ask))
 
 names_needed : (n : ℕ) (next : List ℕ → List (List ℕ)) (names : List (List ℕ)) → Within names (needs (suc n) next names)
@@ -110,8 +111,11 @@ tables_in (Policies conditions) = refl
 conditions_asked : Laws → (s : State) (role name : List ℕ) (table : TableDef) (kind : Kind) (which : Side) (p : PolicyExpansion) → IsExpansionIn s (command_on role name table kind) p → IsAsk (kind, which) (asks_of kind false)
     → Within (flat_map condition_tables (conditions_in (ruled s role kind which (name, table)))) p.permission_checks
 conditions_asked laws s role name table kind which p protected ask t is =
+    let c : Command = command_on role name table kind in
     ap (λ names. one_of names t) protected.permission_checks
-    ∙ own_needed (length (own_in s role name table kind false ++ []) + length (named s)) (subquery_tables_in s role) (own_in s role name table kind false) t
+    ∙ ap (λ names. one_of names t)
+    (needs_alike (needed_by (depth_of s c) (subquery_tables_in s role)) (own_of s c ++ []) (asked_in s c ++ []) (alike_append (own_of s c) (asked_in s c) [] [] (own_alike s c) (λ seen. refl)))
+    ∙ own_needed (length (own_of s c ++ []) + length (flat_map (λ entry. flat_map (λ policy. flat_map tables_in_part (option_to_list policy.using ++ option_to_list policy.check)) entry.1) s.policies)) (subquery_tables_in s role) (asked_in s c) t
     (ruled_own laws s role name table kind which ask t (sym (ap (λ names. one_of names t) (tables_in (ruled s role kind which (name, table)))) ∙ is))
 
 -- ---- what they say
