@@ -1,6 +1,7 @@
 -- What the steps of a statement give, and that a refusal of one is a refusal that an audit has.
-use Rattle.std.specs.Prelude.{◌≡◌, refl, List, [], ◌∷◌, Bool, true, false, Option, Some, None, Result, Ok, Err, if◌then◌else◌}
-use Rattle.std.specs.List.{AllByRecursion}
+use Rattle.std.specs.Prelude.{◌≡◌, refl, List, [], ◌∷◌, Bool, true, false, not, Option, Some, None, Result, Ok, Err, if◌then◌else◌}
+use Rattle.std.specs.List.{All, AllByRecursion}
+use Rattle.std.proofs.lemmas.List.Elements.{All-cons, All-nil}
 use Rattle.rls_value.specs.{declared.refusal.Refusal.Refusal, Giving.and_then}
 use Rattle.rls_catalog.specs.declared.change.Change.{Change}
 use Rattle.rls_source.specs.{Named.found_or, Sequences.each_of, Sequences.each_or_refused}
@@ -54,6 +55,11 @@ refused_or P false a refusal is holds = record { is = holds }
 pub provided_gives : (b : Bool) (refusal : Refusal) → IsAudited refusal → Gives Any (provided b refusal)
 provided_gives b refusal is = tested b tt refusal is
 
+-- it may not hold
+pub excluded_gives : (b : Bool) (refusal : Refusal) → IsAudited refusal → Gives (λ _. b ≡ false) (provided (not b) refusal)
+excluded_gives true refusal is = record { is = is }
+excluded_gives false refusal is = record { is = refl }
+
 -- it has to be there
 pub found_gives : {A : Type 0} (refusal : Refusal) (found : Option A) → IsAudited refusal → Gives (λ a. found ≡ Some a) (found_or refusal found)
 found_gives refusal (Some a) is = record { is = refl }
@@ -64,6 +70,11 @@ found_gives refusal None is = record { is = is }
 pub each_gives : {A B : Type 0} (give : A → Result B Refusal) → ((x : A) → Gives Any (give x)) → (xs : List A) → Gives Any (each_of give xs)
 each_gives give all [] = record { is = tt }
 each_gives give all (x ∷ xs) = after (all x) (λ y _. after (each_gives give all xs) (λ ys _. gives Any (y ∷ ys) tt))
+
+-- what holds of each that is given holds of all
+pub each_gives_all : {A B : Type 0} (Holds : B → Type 0) (give : A → Result B Refusal) → ((x : A) → Gives Holds (give x)) → (xs : List A) → Gives (All Holds) (each_of give xs)
+each_gives_all Holds give all [] = gives (All Holds) [] (All-nil Holds)
+each_gives_all Holds give all (x ∷ xs) = after (all x) (λ y is. after (each_gives_all Holds give all xs) (λ ys are. gives (All Holds) (y ∷ ys) (All-cons Holds y ys is are)))
 
 pub each_passes : {A : Type 0} (test : A → Result (Unit {0}) Refusal) → ((x : A) → Gives Any (test x)) → (xs : List A) → Gives Any (each_or_refused test xs)
 each_passes test all [] = record { is = tt }
