@@ -41,16 +41,6 @@ pub tested : {A : Type 0} (b : Bool) (a : A) (refusal : Refusal) → IsAudited r
 tested true a refusal is = record { is = tt }
 tested false a refusal is = record { is = is }
 
--- the test may not pass
-pub untested : {A : Type 0} (b : Bool) (a : A) (refusal : Refusal) → IsAudited refusal → Gives Any (if b then Err refusal else Ok a)
-untested true a refusal is = record { is = is }
-untested false a refusal is = record { is = tt }
-
--- the same, where something is known of what is given
-pub refused_or : {A : Type 0} (P : A → Type 0) (b : Bool) (a : A) (refusal : Refusal) → IsAudited refusal → P a → Gives P (if b then Err refusal else Ok a)
-refused_or P true a refusal is holds = record { is = is }
-refused_or P false a refusal is holds = record { is = holds }
-
 -- it has to hold
 pub provided_gives : (b : Bool) (refusal : Refusal) → IsAudited refusal → Gives Any (provided b refusal)
 provided_gives b refusal is = tested b tt refusal is
@@ -93,11 +83,6 @@ shown_ends Is (Ok done) is = is.is
 shown_ends Is (Err refusal) is = is.is
 
 -- ---- what is known of what is given
-
--- it is what is given
-pub known_gives : {A : Type 0} (given : Result A Refusal) → Gives Any given → Gives (λ a. given ≡ Ok a) given
-known_gives (Ok a) is = record { is = refl }
-known_gives (Err refusal) is = record { is = is.is }
 
 -- what holds of it lets more hold of it
 pub weaker : {A : Type 0} {P Q : A → Type 0} {given : Result A Refusal} → ((a : A) → P a → Q a) → Gives P given → Gives Q given

@@ -44,12 +44,12 @@ delete_parts_give s asked table =
     after (names_give s from (option_to_list asked.condition ++ items_of asked.returning)) (λ _ _.
     after (checked_gives (of_both parts.condition parts.returning)) (λ _ _. gives Any parts tt))
 
-there_gives : (columns : List Column) (name : List ℕ) → Gives Any (place_in columns name)
-there_gives columns name = weaker (λ _ _. tt) (place_gives columns name)
+column_gives : (columns : List Column) (name : List ℕ) → Gives Any (place_in columns name)
+column_gives columns name = weaker (λ _ _. tt) (place_gives columns name)
 
 places_give : (columns : List Column) (names : Option (List (List ℕ))) → Gives Any (places_in columns names)
 places_give columns None = record { is = tt }
-places_give columns (Some names) = each_gives (place_in columns) (there_gives columns) names
+places_give columns (Some names) = each_gives (place_in columns) (column_gives columns) names
 
 insert_parts_give : (s : State) (ctx : Ctx) (asked : Insert) (table : TableDef) → Gives Any (insert_parts s ctx asked table)
 insert_parts_give s ctx asked table =
@@ -66,7 +66,7 @@ abbrev assignment_in : State → List InScope → List Column → Assignment →
 assignment_in s from columns assignment = and_then (place_in columns assignment.column) (λ place. Ok (place, resolved s from assignment.value))
 
 assignment_gives : (s : State) (from : List InScope) (columns : List Column) (assignment : Assignment) → Gives Any (assignment_in s from columns assignment)
-assignment_gives s from columns assignment = after (there_gives columns assignment.column) (λ place _. gives Any (place, resolved s from assignment.value) tt)
+assignment_gives s from columns assignment = after (column_gives columns assignment.column) (λ place _. gives Any (place, resolved s from assignment.value) tt)
 
 update_parts_give : (s : State) (asked : Update) (table : TableDef) → Gives Any (update_parts s asked table)
 update_parts_give s asked table =
