@@ -1,13 +1,13 @@
 -- What an order explains can be shown: run alone along it, each statement finds a state that stands as it is to.
-use Rattle.std.specs.Prelude.{◌≡◌, ℕ, ◌==◌, ◌<◌, Bool, true, false, List, [], ◌∷◌, length, map}
+use Rattle.std.specs.Prelude.{◌≡◌, ℕ, ◌==◌, ◌<◌, Bool, true, false, List, [], ◌∷◌}
 use Rattle.std.specs.List.{All, AllByRecursion}
-use Rattle.std.proofs.Common.{subst, sym, eqb-true, inl, inr, ◌⊎◌}
+use Rattle.std.proofs.Common.{subst, sym, eqb-true, inl, inr}
 use Rattle.std.proofs.lemmas.Bool.{or_cases, true≢false}
 use Rattle.std.proofs.lemmas.List.{length-map}
 use Rattle.std.proofs.lemmas.List.Elements.{All-from_get_or, All-from_recursion}
 use Rattle.rls_catalog.specs.{Changed.changed_all, Changed.opening, State.State}
 use Rattle.rls_statement.specs.declared.statement.Statement.{Statement}
-use Rattle.rls_guard.specs.{Effects.changes_of, declared.context.Ctx.Ctx, declared.effect.Effect.Effect}
+use Rattle.rls_guard.specs.{Effects.changes_of, declared.context.Ctx.Ctx}
 use Rattle.rls_access.specs.Transactions.{ctx_after, first_ctx}
 use Rattle.rls_meaning.specs.Meaning.{effect_of}
 use Rattle.rls_history.specs.Orders.{none_placed, placed_by, with_placed}

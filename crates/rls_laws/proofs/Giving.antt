@@ -1,6 +1,7 @@
 -- What the steps of a statement give, and that a refusal of one is a refusal that an audit has.
-use Rattle.std.specs.Prelude.{◌≡◌, refl, List, [], ◌∷◌, Bool, true, false, Option, Some, None, Result, Ok, Err, if◌then◌else◌}
-use Rattle.std.specs.List.{AllByRecursion}
+use Rattle.std.specs.Prelude.{◌≡◌, refl, List, [], ◌∷◌, Bool, true, false, not, Option, Some, None, Result, Ok, Err, if◌then◌else◌}
+use Rattle.std.specs.List.{All, AllByRecursion}
+use Rattle.std.proofs.lemmas.List.Elements.{All-cons, All-nil}
 use Rattle.rls_value.specs.{declared.refusal.Refusal.Refusal, Giving.and_then}
 use Rattle.rls_catalog.specs.declared.change.Change.{Change}
 use Rattle.rls_source.specs.{Named.found_or, Sequences.each_of, Sequences.each_or_refused}
@@ -40,19 +41,14 @@ pub tested : {A : Type 0} (b : Bool) (a : A) (refusal : Refusal) → IsAudited r
 tested true a refusal is = record { is = tt }
 tested false a refusal is = record { is = is }
 
--- the test may not pass
-pub untested : {A : Type 0} (b : Bool) (a : A) (refusal : Refusal) → IsAudited refusal → Gives Any (if b then Err refusal else Ok a)
-untested true a refusal is = record { is = is }
-untested false a refusal is = record { is = tt }
-
--- the same, where something is known of what is given
-pub refused_or : {A : Type 0} (P : A → Type 0) (b : Bool) (a : A) (refusal : Refusal) → IsAudited refusal → P a → Gives P (if b then Err refusal else Ok a)
-refused_or P true a refusal is holds = record { is = is }
-refused_or P false a refusal is holds = record { is = holds }
-
 -- it has to hold
 pub provided_gives : (b : Bool) (refusal : Refusal) → IsAudited refusal → Gives Any (provided b refusal)
 provided_gives b refusal is = tested b tt refusal is
+
+-- it may not hold
+pub excluded_gives : (b : Bool) (refusal : Refusal) → IsAudited refusal → Gives (λ _. b ≡ false) (provided (not b) refusal)
+excluded_gives true refusal is = record { is = is }
+excluded_gives false refusal is = record { is = refl }
 
 -- it has to be there
 pub found_gives : {A : Type 0} (refusal : Refusal) (found : Option A) → IsAudited refusal → Gives (λ a. found ≡ Some a) (found_or refusal found)
@@ -64,6 +60,11 @@ found_gives refusal None is = record { is = is }
 pub each_gives : {A B : Type 0} (give : A → Result B Refusal) → ((x : A) → Gives Any (give x)) → (xs : List A) → Gives Any (each_of give xs)
 each_gives give all [] = record { is = tt }
 each_gives give all (x ∷ xs) = after (all x) (λ y _. after (each_gives give all xs) (λ ys _. gives Any (y ∷ ys) tt))
+
+-- what holds of each that is given holds of all
+pub each_gives_all : {A B : Type 0} (Holds : B → Type 0) (give : A → Result B Refusal) → ((x : A) → Gives Holds (give x)) → (xs : List A) → Gives (All Holds) (each_of give xs)
+each_gives_all Holds give all [] = gives (All Holds) [] (All-nil Holds)
+each_gives_all Holds give all (x ∷ xs) = after (all x) (λ y is. after (each_gives_all Holds give all xs) (λ ys are. gives (All Holds) (y ∷ ys) (All-cons Holds y ys is are)))
 
 pub each_passes : {A : Type 0} (test : A → Result (Unit {0}) Refusal) → ((x : A) → Gives Any (test x)) → (xs : List A) → Gives Any (each_or_refused test xs)
 each_passes test all [] = record { is = tt }
@@ -82,11 +83,6 @@ shown_ends Is (Ok done) is = is.is
 shown_ends Is (Err refusal) is = is.is
 
 -- ---- what is known of what is given
-
--- it is what is given
-pub known_gives : {A : Type 0} (given : Result A Refusal) → Gives Any given → Gives (λ a. given ≡ Ok a) given
-known_gives (Ok a) is = record { is = refl }
-known_gives (Err refusal) is = record { is = is.is }
 
 -- what holds of it lets more hold of it
 pub weaker : {A : Type 0} {P Q : A → Type 0} {given : Result A Refusal} → ((a : A) → P a → Q a) → Gives P given → Gives Q given

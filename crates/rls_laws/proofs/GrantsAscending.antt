@@ -1,12 +1,13 @@
 -- The grants on a table ascend behind GRANT, REVOKE and CREATE TABLE.
-use Rattle.std.specs.Prelude.{◌≡◌, refl, List, [], ◌∷◌, Bool, true, false, not, ◌||◌, if◌then◌else◌, map}
-use Rattle.std.specs.{Cmp.IsTotalOrder, Ordering.is_eq, Ordering.is_lt, Ordering.ordering_reverse}
+use Rattle.std.specs.Prelude.{◌≡◌, refl, List, [], ◌∷◌, Bool, true, false, not, ◌||◌, filter, fold, if◌then◌else◌, map}
+use Rattle.std.specs.{Cmp.IsTotalOrder, List.list_any, Ordering.is_eq, Ordering.is_lt, Ordering.ordering_reverse}
 use Rattle.std.specs.declared.cmp.Ordering.TheVariants.{Less, Equal}
 use Rattle.std.proofs.lemmas.{Cmp.nat_cmp_total, Cmp.nat_list_cmp_total, Cmp.on_total, Cmp.then_total, List.Kept.IsStrictlySortedBy-filter}
 use Rattle.rls_expr.specs.declared.policy.Grantee.{Grantee}
-use Rattle.rls_catalog.specs.declared.grant.Grant.{Grant}
+use Rattle.rls_catalog.specs.{GrantOptions.not_grantable, declared.grant.Grant.Grant}
 use Rattle.rls_source.specs.Sequences.{put_before}
-use Rattle.rls_grant.specs.{declared.grantors.Grantor.Grantor, Granting.grant_order, Granting.grantee_order, Granting.is_there, Granting.place_of, Granting.with_grant, Granting.with_grants, Granting.with_grant_option, Revoking.is_taken, Revoking.without_grant_option, Revoking.without_taken}
+use Rattle.rls_grant.specs.{declared.grantors.Grantor.Grantor, Granting.grant_order, Granting.grantee_order, Granting.place_of}
+use Rattle.rls_meaning.specs.Grants.{is_taken, put_grant}
 use Rattle.rls_laws.specs.InOrder.{GrantsAscend}
 use Rattle.rls_laws.proofs.Ascending.{mapped_ascends, put_ascends}
 
@@ -50,18 +51,23 @@ marked_alike false false x y o p = refl
 
 -- ---- GRANT
 
-with_grant_if : (b : Bool) (grants : List Grant) (grant : Grant) → is_there grants grant ≡ b → GrantsAscend grants → GrantsAscend (if b then map (with_grant_option grant) grants else put_before (λ other. is_lt (grant_order grant other)) grant grants)
-with_grant_if true grants grant is up =
-    mapped_ascends grant_order (with_grant_option grant) (λ x y. marked_alike (is_eq (grant_order x grant)) (is_eq (grant_order y grant)) x y (x.option || grant.option) (y.option || grant.option)) grants up
-with_grant_if false grants grant is up = put_ascends grant_total grant grants is up
+put_grant_if : (b : Bool) (grants : List Grant) (grant : Grant) → list_any (λ other. is_eq (grant_order other grant)) grants ≡ b → GrantsAscend grants
+    → GrantsAscend (if b then map (λ other. if is_eq (grant_order other grant) then record other { option = other.option || grant.option } else other) grants else put_before (λ other. is_lt (grant_order grant other)) grant grants)
+put_grant_if true grants grant is up =
+    mapped_ascends grant_order (λ other. if is_eq (grant_order other grant) then record other { option = other.option || grant.option } else other)
+    (λ x y. marked_alike (is_eq (grant_order x grant)) (is_eq (grant_order y grant)) x y (x.option || grant.option) (y.option || grant.option)) grants up
+put_grant_if false grants grant is up = put_ascends grant_total grant grants is up
 
-pub with_grants_ascend : (grants more : List Grant) → GrantsAscend grants → GrantsAscend (with_grants grants more)
-with_grants_ascend grants [] up = up
-with_grants_ascend grants (grant ∷ more) up = with_grants_ascend (with_grant grants grant) more (with_grant_if (is_there grants grant) grants grant refl up)
+-- with grants put in, one after another
+pub put_grants_ascend : (grants more : List Grant) → GrantsAscend grants → GrantsAscend (fold put_grant grants more)
+put_grants_ascend grants [] up = up
+put_grants_ascend grants (grant ∷ more) up = put_grants_ascend (put_grant grants grant) more (put_grant_if (list_any (λ other. is_eq (grant_order other grant)) grants) grants grant refl up)
 
 -- ---- REVOKE
 
-pub without_taken_ascend : (option_only : Bool) (by : List Grantor) (grantees : List Grantee) (grants : List Grant) → GrantsAscend grants → GrantsAscend (without_taken option_only by grantees grants)
+-- without those that are taken, or without their grant options
+pub without_taken_ascend : (option_only : Bool) (by : List Grantor) (grantees : List Grantee) (grants : List Grant) → GrantsAscend grants
+    → GrantsAscend (if option_only then map (λ grant. if is_taken by grantees grant then not_grantable grant else grant) grants else filter (λ grant. not (is_taken by grantees grant)) grants)
 without_taken_ascend true by grantees grants up =
-    mapped_ascends grant_order (without_grant_option by grantees) (λ x y. marked_alike (is_taken by grantees x) (is_taken by grantees y) x y false false) grants up
+    mapped_ascends grant_order (λ grant. if is_taken by grantees grant then not_grantable grant else grant) (λ x y. marked_alike (is_taken by grantees x) (is_taken by grantees y) x y false false) grants up
 without_taken_ascend false by grantees grants up = IsStrictlySortedBy-filter grant_order (λ grant. not (is_taken by grantees grant)) grants up

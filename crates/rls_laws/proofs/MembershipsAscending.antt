@@ -9,7 +9,8 @@ use Rattle.rls_catalog.specs.{declared.role.Membership.Membership, State.name_or
 use Rattle.rls_source.specs.Sequences.{put_before}
 use Rattle.rls_statement.specs.{declared.statement.MembershipOption.MembershipOption, declared.statement.MembershipOptions.MembershipOptions}
 use Rattle.rls_statement.specs.declared.statement.MembershipOption.TheVariants as option
-use Rattle.rls_role.specs.{Granting.granted_to, Granting.has_role, Granting.membership_with, Granting.new_membership, Granting.with_options, Revoking.taken_from, Revoking.without, Revoking.without_option}
+use Rattle.rls_role.specs.{Granting.membership_with, Revoking.without}
+use Rattle.rls_meaning.specs.Memberships.{memberships_left, put_membership}
 use Rattle.rls_laws.specs.InOrder.{MembershipsAscend}
 use Rattle.rls_laws.proofs.Ascending.{mapped_ascends, put_ascends}
 
@@ -31,17 +32,21 @@ options_keep : (b : Bool) (written : MembershipOptions) (m : Membership) → (if
 options_keep true written m = refl
 options_keep false written m = refl
 
-none_same : (role : List ℕ) (memberships : List Membership) → list_any (λ m. is_eq (name_order m.role role)) memberships ≡ has_role memberships role
+none_same : (role : List ℕ) (memberships : List Membership) → list_any (λ m. is_eq (name_order m.role role)) memberships ≡ list_any (λ m. bytes_eq m.role role) memberships
 none_same role [] = refl
 none_same role (m ∷ memberships) = λ i. is_eq-slice_cmp m.role role i || none_same role memberships i
 
-granted_to_if : (b : Bool) (written : MembershipOptions) (role : List ℕ) (memberships : List Membership) → has_role memberships role ≡ b → MembershipsAscend memberships
-    → MembershipsAscend (if b then map (with_options written role) memberships else put_before (λ m. is_lt (name_order role m.role)) (membership_with written (new_membership role)) memberships)
-granted_to_if true written role memberships is up = kept_ascend (with_options written role) (λ m. options_keep (bytes_eq m.role role) written m) memberships up
-granted_to_if false written role memberships is up = put_ascends role_total (membership_with written (new_membership role)) memberships (none_same role memberships ∙ is) up
+-- a new one has INHERIT and SET
+abbrev new_membership : List ℕ → Membership
+new_membership role = record { role = role; admin = false; inherit = true; set = true }
 
-pub granted_to_ascend : (written : MembershipOptions) (role : List ℕ) (memberships : List Membership) → MembershipsAscend memberships → MembershipsAscend (granted_to written role memberships)
-granted_to_ascend written role memberships up = granted_to_if (has_role memberships role) written role memberships refl up
+put_membership_if : (b : Bool) (written : MembershipOptions) (role : List ℕ) (memberships : List Membership) → list_any (λ m. bytes_eq m.role role) memberships ≡ b → MembershipsAscend memberships
+    → MembershipsAscend (if b then map (λ m. if bytes_eq m.role role then membership_with written m else m) memberships else put_before (λ m. is_lt (name_order role m.role)) (membership_with written (new_membership role)) memberships)
+put_membership_if true written role memberships is up = kept_ascend (λ m. if bytes_eq m.role role then membership_with written m else m) (λ m. options_keep (bytes_eq m.role role) written m) memberships up
+put_membership_if false written role memberships is up = put_ascends role_total (membership_with written (new_membership role)) memberships (none_same role memberships ∙ is) up
+
+pub put_membership_ascends : (written : MembershipOptions) (role : List ℕ) (memberships : List Membership) → MembershipsAscend memberships → MembershipsAscend (put_membership written role memberships)
+put_membership_ascends written role memberships up = put_membership_if (list_any (λ m. bytes_eq m.role role) memberships) written role memberships refl up
 
 -- ---- REVOKE
 
@@ -54,6 +59,6 @@ option_keep : (b : Bool) (taken : MembershipOption) (m : Membership) → (if b t
 option_keep true taken m = without_keep taken m
 option_keep false taken m = refl
 
-pub taken_from_ascend : (taken : Option MembershipOption) (roles : List (List ℕ)) (memberships : List Membership) → MembershipsAscend memberships → MembershipsAscend (taken_from taken roles memberships)
-taken_from_ascend (Some taken) roles memberships up = kept_ascend (without_option taken roles) (λ m. option_keep (one_of roles m.role) taken m) memberships up
-taken_from_ascend None roles memberships up = IsStrictlySortedBy-filter role_order (λ m. not (one_of roles m.role)) memberships up
+pub memberships_left_ascend : (taken : Option MembershipOption) (roles : List (List ℕ)) (memberships : List Membership) → MembershipsAscend memberships → MembershipsAscend (memberships_left taken roles memberships)
+memberships_left_ascend (Some taken) roles memberships up = kept_ascend (λ m. if one_of roles m.role then without taken m else m) (λ m. option_keep (one_of roles m.role) taken m) memberships up
+memberships_left_ascend None roles memberships up = IsStrictlySortedBy-filter role_order (λ m. not (one_of roles m.role)) memberships up
