@@ -22,7 +22,8 @@ has_subquery_in s role name = list_any (λ policy. list_any has_query (option_to
 abbrev pub subquery_tables_in : State → List ℕ → List ℕ → List (List ℕ)
 subquery_tables_in s role name = flat_map (λ policy. flat_map tables_of (option_to_list policy.using)) (select_policies s role name)
 
--- the table that a chain on from this one closes on first: one that the chain meets again and whose policies hold a subquery
+-- the table that a chain on from this one closes on first: one that the chain meets again and whose policies for SELECT hold a
+-- subquery; a table without such ends its chain
 abbrev pub closes : ℕ → State → List ℕ → List (List ℕ) → List ℕ → Option (List ℕ)
 closes zero s role chain t = None
 closes (suc n) s role chain t = if has_subquery_in s role t then (if one_of chain t then Some t else slice_get (filter_map (closes n s role (t ∷ chain)) (subquery_tables_in s role t)) 0) else None

@@ -12,7 +12,8 @@ use Rattle.rls_catalog.specs.declared.verdict.Side.TheVariants as side
 use Rattle.rls_source.specs.Sequences.{each_or_refused}
 use Rattle.rls_meaning.specs.{Chains.closes, Chains.subquery_tables_in, Naming.provided, Needing.needed_by, Parts.tables_of}
 
--- who asks, the table with its name, and the type of the command; whether it reads the table; the tables of its own subqueries
+-- who asks, the table with its name, and the type of the command; whether, beside its own type, it reads the table (false of a
+-- SELECT); the tables of its own subqueries
 pub record Command : Type 0 where
   pub role : List ℕ
   pub name : List ℕ
@@ -23,11 +24,13 @@ pub record Command : Type 0 where
 
 -- ---- chains of policies
 
--- the tables in what a policy says by a type of command: of rows as they stand, then of new ones
+-- the tables of the subqueries in what a policy is taken by for a type of command: of rows as they stand, then of new ones; none
+-- where it isn't for that type
 abbrev pub tables_for : Kind → Policy → List (List ℕ)
 tables_for kind policy = if is_for_kind policy.kind kind then flat_map tables_of (option_to_list (expression_of policy kind side.Old) ++ option_to_list (expression_of policy kind side.New)) else []
 
--- the tables that its policies lead to: by SELECT where it reads the table, and by its own type
+-- the tables that its policies for the role lead to: for SELECT where it reads the table, and for its own type; none where the
+-- role is exempt
 abbrev pub own_of : State → Command → List (List ℕ)
 own_of s c =
     if is_exempt s c.role c.table then []
@@ -43,7 +46,8 @@ closing_in s c = slice_get (filter_map (closes (depth_of s c) s c.role (c.name �
 
 -- ---- privileges
 
--- the tables that its subqueries look at: its own, then those of policies, each once
+-- the tables that SELECT is asked of: those of its own subqueries as they are written, then all that these and its policies lead
+-- to, these each once
 abbrev pub needed_in : State → Command → List (List ℕ)
 needed_in s c = c.queries ++ fresh [] (flat_map (needed_by (depth_of s c) (subquery_tables_in s c.role)) (own_of s c ++ c.queries))
 

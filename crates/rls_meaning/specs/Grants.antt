@@ -17,12 +17,12 @@ put_grant grants grant =
     then map (λ other. if is_eq (grant_order other grant) then record other { option = other.option || grant.option } else other) grants
     else put_before (λ other. is_lt (grant_order grant other)) grant grants
 
--- the grant option goes not to PUBLIC, and not back to whom one of the grantors has it from
+-- the grant option goes not to PUBLIC, and not to whom one of the grantors has it from alone, by a grant of theirs or further back
 abbrev pub option_in : List ℕ → List Grant → List Grantor → Grantee → Result (Unit {0}) Refusal
 option_in owner grants by Public = Err (GrantOp PublicOption)
 option_in owner grants by (Role name) = each_or_refused (λ grantor. provided (not (goes_back owner grants grantor.privilege grantor.name name)) (GrantOp (Back name))) by
 
--- a grant by one of the grantors to one of the grantees
+-- a grant by one of the grantors, of the privilege that it is the grantor of, to one of the grantees
 abbrev pub is_taken : List Grantor → List Grantee → Grant → Bool
 is_taken by grantees grant = list_any (λ grantor. list_any (λ grantee. is_grant_of grantor.privilege grantee grantor.name grant) grantees) by
 

@@ -1,5 +1,5 @@
--- INSERT (PostgreSQL manual, INSERT): names, then types, then support, then how many rows; then what it may not do; then the
--- values and their ranges; then the new rows are judged: row security, NOT NULL, the primary key.
+-- INSERT (PostgreSQL manual, INSERT): names, then types, then support, then how many rows; then chains that close, and privileges; then
+-- the values and their ranges; then the new rows are judged: row security, NOT NULL, the primary key.
 use Rattle.std.specs.Prelude.{◌≡◌, ℕ, List, [], ◌∷◌, Some, None, Result, Ok, map, ◌+◌, ◌++◌, Bool, false, Option, length, nat_le, slice_get}
 use Rattle.std.specs.List.{flat_map, range_with_len}
 use Rattle.std.specs.Option.{option_map}
@@ -23,7 +23,8 @@ abbrev pub places_in : List Column → Option (List (List ℕ)) → Result (List
 places_in columns None = Ok (range_with_len 0 (length columns))
 places_in columns (Some names) = each_of (place_in columns) names
 
--- each value of a tuple goes into the column at its place; there is none for more values than places
+-- each value of a tuple goes into the column at its place; there is none for more values than places (the grammar has tuples of one
+-- length, that of the list)
 abbrev pub of_tuple : List Column → List ℕ → List Term → List (Bool × Bool)
 of_tuple columns places [] = []
 of_tuple columns [] (term ∷ terms) = of_value false None term ∷ of_tuple columns [] terms

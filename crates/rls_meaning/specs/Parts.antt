@@ -72,7 +72,7 @@ mentions table t = list_any (is_column_of table) (parts [] t)
 
 -- ---- what isn't supported
 
--- a sum where none may stand, a scalar subquery that may give more than one row, and `count(*)` in a subquery
+-- a sum where none may stand, a scalar subquery whose WHERE doesn't pin its table's whole primary key, and `count(*)` in a subquery
 abbrev pub lacks_support : Bool → Part → Bool
 lacks_support sums (Expression around (Sum signs ts)) = not sums
 lacks_support sums (Expression around (Scalar q)) = not (is_pinned q)
@@ -105,7 +105,7 @@ is_there s tables (Expression around (Column name)) = there_or_undefined (var_in
 is_there s tables (Subquery around from selects) = and_then (table_in s from.table) (λ _. Ok tt)
 is_there s tables _ = Ok tt
 
--- each name in the expressions has to be there, in the order of the text
+-- each name in the expressions has to be there, in the order of the text, a subquery's table before what it selects
 abbrev pub names_in : State → List InScope → List Term → Result (Unit {0}) Refusal
 names_in s tables terms = each_or_refused (is_there s tables) (flat_map (parts []) terms)
 

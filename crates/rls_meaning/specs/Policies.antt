@@ -22,7 +22,7 @@ abbrev pub conditions_in : State → List InScope → List Term → Result (Unit
 conditions_in s tables terms = checked (map (λ term. of_condition (resolved s tables term)) terms)
 
 -- CREATE POLICY: the table, the roles and the names in it have to be there; then its name has to be new, and it to be right; a
--- table has 64 policies at most
+-- table has 64 policies at most; then the role has to have the owner's privileges
 abbrev pub create_policy_in : State → List ℕ → CreatePolicy → Result Effect Refusal
 create_policy_in s role asked =
     and_then (table_in s asked.table) (λ table.
@@ -35,7 +35,7 @@ create_policy_in s role asked =
     Ok (writes (change.Policies asked.table (with_policy (policies_of s asked.table) asked.policy) ∷ [])))))))))
 
 -- ALTER POLICY: the policy has to be there, the roles and the names, where any are written; then what is written has to be right,
--- and a policy of its kind to have a place for it; the rest stays
+-- and a policy of its kind to have a place for it; then the role has to have the owner's privileges; the rest stays
 abbrev pub alter_policy_in : State → List ℕ → AlterPolicy → Result Effect Refusal
 alter_policy_in s role asked =
     and_then (table_in s asked.table) (λ table.
@@ -47,7 +47,7 @@ alter_policy_in s role asked =
     and_then (owner_in s role asked.table table) (λ _.
     Ok (writes (change.Policies asked.table (map (λ policy. if is_named asked.name policy then altered asked policy else policy) (policies_of s asked.table)) ∷ [])))))))))
 
--- DROP POLICY: the policy has to be there
+-- DROP POLICY: the table and the policy have to be there; then the role has to have the owner's privileges
 abbrev pub drop_policy_in : State → List ℕ → DropPolicy → Result Effect Refusal
 drop_policy_in s role asked =
     and_then (table_in s asked.table) (λ table.

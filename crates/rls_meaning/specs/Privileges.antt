@@ -32,7 +32,8 @@ grant_in s role asked =
     let new : List Grant = flat_map (λ grantor. map (λ grantee. record { privilege = grantor.privilege; grantee = grantee; grantor = grantor.name; option = asked.with_option }) asked.to) by in
     Ok (change.Grants asked.table (fold put_grant (grants_of s asked.table) new) ∷ [])))))
 
--- REVOKE: the grants of the grantors go, or their grant options; what then hangs on nobody goes with CASCADE, else it is refused
+-- REVOKE: the grants of these privileges by their grantors to these grantees go, or lose the option; a grant whose grantor then
+-- holds no option goes with CASCADE, and without it refuses the statement
 abbrev pub revoke_in : State → List ℕ → RevokePrivileges → Result (List Change) Refusal
 revoke_in s role asked =
     and_then (table_in s asked.table) (λ table.

@@ -14,7 +14,7 @@ use Rattle.rls_meaning.specs.Evaluating.{no_rows, value}
 
 -- ---- the reply
 
--- what is listed of the rows, in the order of listing; how many they are
+-- what is listed of the rows, in the order of listing; for `count(*)` one row with their number
 abbrev pub answered : Selected → List ℕ → List Stored → List (List Value)
 answered All role rows = listing (map (λ stored. stored.row) rows)
 answered (Items items) role rows = listing (map (λ stored. map (λ item. value item no_rows (over role stored.row)) items) rows)

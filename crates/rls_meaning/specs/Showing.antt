@@ -12,8 +12,8 @@ use Rattle.rls_catalog.specs.declared.verdict.Verdict.TheVariants as v
 use Rattle.rls_evaluation.specs.{Environments.over, Showing.allows}
 use Rattle.rls_meaning.specs.{Evaluating.Shown, Evaluating.value, Resolving.resolved}
 
--- what the policies say of a row of the table that apply to the role for that type of command, of old rows or of new ones; of
--- nobody exempt do they say anything
+-- what the policies that apply to the role say of a row of the table, for a type of command, as an old row or a new one; where the
+-- role is exempt none is asked
 abbrev pub verdict_in : State → Shown → List ℕ → InScope → Kind → Side → List Value → Verdict
 verdict_in s shown role from kind which row =
     if is_exempt s role from.1 then v.Exempt

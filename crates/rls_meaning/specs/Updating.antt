@@ -1,5 +1,5 @@
--- UPDATE (PostgreSQL manual, UPDATE): names, then types, then support; then what it may not do; then the qualifying rows,
--- their new values and ranges; then the new rows are judged: row security, NOT NULL, the primary key.
+-- UPDATE (PostgreSQL manual, UPDATE): names, then types, then support; then chains that close, and privileges; then the
+-- qualifying rows, their new values and ranges; then the new rows are judged: row security, NOT NULL, the primary key.
 use Rattle.std.specs.Prelude.{◌≡◌, ℕ, List, [], ◌∷◌, ◌++◌, Some, Result, Ok, map, true, None, slice_get}
 use Rattle.std.specs.List.{flat_map}
 use Rattle.std.specs.Option.{option_map, option_to_list}
