@@ -213,8 +213,9 @@ select_checked : (s : State) (asked : Select) (from : InScope) (parts : Analysed
 select_checked s asked from parts same =
     ap (λ parts. and_then (analysed_select_or_refused parts) (λ _. Ok parts))
     ((λ i. record {
-    items = items_told s (from ∷ []) (select_terms asked) asked.items (among_first (items_of (Some asked.items)) (option_to_list asked.condition)) i;
-    condition = resolved_if_told s (from ∷ []) (select_terms asked) asked.condition (among_last (items_of (Some asked.items)) (option_to_list asked.condition)) i })
+      items = items_told s (from ∷ []) (select_terms asked) asked.items (among_first (items_of (Some asked.items)) (option_to_list asked.condition)) i;
+      condition = resolved_if_told s (from ∷ []) (select_terms asked) asked.condition (among_last (items_of (Some asked.items)) (option_to_list asked.condition)) i;
+    })
     ∙ same)
     ∙ ap (λ given. and_then given (λ _. Ok parts)) (checked_told (of_both parts.condition (Some parts.items)) (selection_fits parts.items && where_fits parts.condition) (selection_unsupported parts.items || where_unsupported parts.condition) (select_fits parts) (select_lacks parts))
 
@@ -243,8 +244,9 @@ delete_checked : (s : State) (asked : Delete) (from : InScope) (parts : Analysed
 delete_checked s asked from parts same =
     ap analysed_delete_checked
     ((λ i. record {
-    condition = resolved_if_told s (from ∷ []) (delete_terms asked) asked.condition (among_first (option_to_list asked.condition) (items_of asked.returning)) i;
-    returning = returning_told s (from ∷ []) (delete_terms asked) asked.returning (among_last (option_to_list asked.condition) (items_of asked.returning)) i })
+      condition = resolved_if_told s (from ∷ []) (delete_terms asked) asked.condition (among_first (option_to_list asked.condition) (items_of asked.returning)) i;
+      returning = returning_told s (from ∷ []) (delete_terms asked) asked.returning (among_last (option_to_list asked.condition) (items_of asked.returning)) i;
+    })
     ∙ same)
     ∙ ap (λ given. and_then given (λ _. Ok parts)) (checked_told (of_both parts.condition parts.returning) (where_fits parts.condition && returning_fits parts.returning) (where_unsupported parts.condition || returning_unsupported parts.returning) (both_fit parts.condition parts.returning) (both_lack parts.condition parts.returning))
 
@@ -336,9 +338,10 @@ update_checked s asked from =
     (λ parts. and_then (analysed_update_or_refused from.1.columns parts) (λ _. ok_parts parts))
     ∙ (λ i. and_then (set_told s tables terms from.1.columns asked.assignments (among_first set rest) i) (λ assignments.
     (ap (λ parts. and_then (analysed_update_or_refused from.1.columns parts) (λ _. ok_parts parts)) (λ i. record {
-    assignments = assignments;
-    condition = resolved_if_told s tables terms asked.condition (λ name is. among_last set rest name (among_first (option_to_list asked.condition) (items_of asked.returning) name is)) i;
-    returning = returning_told s tables terms asked.returning (λ name is. among_last set rest name (among_last (option_to_list asked.condition) (items_of asked.returning) name is)) i })
+      assignments = assignments;
+      condition = resolved_if_told s tables terms asked.condition (λ name is. among_last set rest name (among_first (option_to_list asked.condition) (items_of asked.returning) name is)) i;
+      returning = returning_told s tables terms asked.returning (λ name is. among_last set rest name (among_last (option_to_list asked.condition) (items_of asked.returning) name is)) i;
+    })
     ∙ update_parts_checked from.1.columns (update_resolved s tables asked assignments)) i))
 
 pub update_analysed : (s : State) (asked : Update) (table : TableDef)
@@ -411,9 +414,10 @@ insert_checked : (s : State) (next : ℕ) (asked : Insert) (from : InScope) (pla
     and_then (provided (nat_le (next + length tuples) 4294967295) (Limit limit.Inserts)) (λ _. Ok (record { places = places; tuples = tuples; returning = returning })))
 insert_checked s next asked from places tuples returning one other =
     ap (λ parts. and_then (analysed_insert_or_refused next from.1.columns parts) (λ _. Ok parts)) (λ i. record {
-    places = places;
-    tuples = (tuples_told s [] (insert_terms asked) asked.tuples (among_first (flat_map (λ tuple. tuple) asked.tuples) (items_of asked.returning)) ∙ one) i;
-    returning = (returning_told s (from ∷ []) (insert_terms asked) asked.returning (among_last (flat_map (λ tuple. tuple) asked.tuples) (items_of asked.returning)) ∙ other) i })
+      places = places;
+      tuples = (tuples_told s [] (insert_terms asked) asked.tuples (among_first (flat_map (λ tuple. tuple) asked.tuples) (items_of asked.returning)) ∙ one) i;
+      returning = (returning_told s (from ∷ []) (insert_terms asked) asked.returning (among_last (flat_map (λ tuple. tuple) asked.tuples) (items_of asked.returning)) ∙ other) i;
+    })
     ∙ inserts_then (fitting_or_fault (list_all (tuple_fits from.1.columns places) tuples && returning_fits returning)) (supported_or_refused (list_any (list_any is_unsupported) tuples || returning_unsupported returning))
     (room_or_limit next (length tuples)) (Ok (record { places = places; tuples = tuples; returning = returning }))
     ∙ ap (λ given. and_then given (λ _. and_then (room_or_limit next (length tuples)) (λ _. Ok (record { places = places; tuples = tuples; returning = returning }))))
