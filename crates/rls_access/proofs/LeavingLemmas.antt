@@ -3,7 +3,7 @@ use Rattle.std.specs.Prelude.{refl, ℕ, List, [], ◌∷◌, Result, Ok, Err}
 use Rattle.std.specs.List.{AllByRecursion}
 use Rattle.std.proofs.Common.{arith}
 use Rattle.rls_value.specs.{declared.refusal.Refusal.Refusal, Giving.and_then}
-use Rattle.rls_catalog.specs.{declared.change.Change.Change, Bases.FitsAll, SoundRows.RowsAreSound, State.State, Changed.changed, Changed.changed_all}
+use Rattle.rls_guard.specs.rls_catalog.specs.{declared.change.Change.Change, Bases.FitsAll, SoundRows.RowsAreSound, State.State, Changed.changed, Changed.changed_all}
 use Rattle.rls_statement.specs.{declared.changing.Delete.Delete, declared.changing.Update.Update, declared.statement.AlterPolicy.AlterPolicy, declared.statement.AlterRole.AlterRole, declared.statement.AlterTable.AlterTable, declared.statement.CreatePolicy.CreatePolicy, declared.statement.CreateRole.CreateRole, declared.statement.CreateTable.CreateTable, declared.statement.DropPolicy.DropPolicy, declared.statement.GrantPrivileges.GrantPrivileges, declared.statement.GrantRoles.GrantRoles, declared.statement.Insert.Insert, declared.statement.RevokePrivileges.RevokePrivileges, declared.statement.RevokeRoles.RevokeRoles, declared.statement.Select.Select, declared.statement.SetRole.SetRole, declared.statement.Statement.Statement, Tags.tag_of}
 use Rattle.rls_statement.specs.declared.statement.Statement.TheVariants as statement
 use Rattle.rls_guard.specs.{declared.context.Ctx.Ctx, declared.effect.Effect.Effect, Effects.changes_of, Effects.shown, Keeping.IfDone, Keeping.IsNoRow, Keeping.KeepsRowsSound, Keeping.KeepsTables, Keeping.LeavesRows, Keeping.TablesStay}

@@ -3,10 +3,10 @@
 use Rattle.std.specs.Prelude.{◌≡◌, List}
 use Rattle.std.proofs.Common.{subst}
 use Rattle.rls_value.specs.declared.object.Object.{Object}
-use Rattle.rls_catalog.specs.State.{State, AgreesOn}
-use Rattle.rls_source.specs.Footprints.{footprint_of}
-use Rattle.rls_source.specs.Askings.{Asking}
-use Rattle.rls_source.specs.Once.{agrees_on_reads}
+use Rattle.rls_guard.specs.rls_catalog.specs.State.{State, AgreesOn}
+use Rattle.rls_guard.specs.rls_source.specs.Footprints.{footprint_of}
+use Rattle.rls_guard.specs.rls_source.specs.Askings.{Asking}
+use Rattle.rls_guard.specs.rls_source.specs.Once.{agrees_on_reads}
 
 -- the frame law of whatever is asked
 pub framed_by : {A : Type 0} (asking : Asking A) (s : State) (footprint : List Object) → footprint ≡ footprint_of (asking.in_state s).reads

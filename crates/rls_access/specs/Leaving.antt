@@ -1,8 +1,8 @@
 -- What the changes of a statement have to do with the state that it is run in, and with the numbers of its transaction.
 use Rattle.std.specs.Prelude.{List}
-use Rattle.rls_catalog.specs.declared.change.Change.{Change}
-use Rattle.rls_catalog.specs.Bases.{FitsAll}
-use Rattle.rls_catalog.specs.State.{State}
+use Rattle.rls_guard.specs.rls_catalog.specs.declared.change.Change.{Change}
+use Rattle.rls_guard.specs.rls_catalog.specs.Bases.{FitsAll}
+use Rattle.rls_guard.specs.rls_catalog.specs.State.{State}
 use Rattle.rls_guard.specs.declared.context.Ctx.{Ctx}
 use Rattle.rls_dml.specs.NextRows.{InRange, NumberOn}
 

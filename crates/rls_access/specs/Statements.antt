@@ -3,12 +3,12 @@
 use Rattle.std.specs.Prelude.{ℕ, List, Some, None, Result, Ok, Err}
 use Rattle.rls_value.specs.{declared.refusal.Refusal.Refusal, declared.refusal.Refusal.TheVariants.TxnState, declared.refusal.TxnState.TheVariants.ReadOnly, declared.tag.Tag.Tag}
 use Rattle.rls_value.specs.declared.tag.Tag.TheVariants as tag
-use Rattle.rls_catalog.specs.State.{State}
+use Rattle.rls_guard.specs.rls_catalog.specs.State.{State}
 use Rattle.rls_statement.specs.{declared.statement.Statement.Statement, Tags.tag_of}
 use Rattle.rls_statement.specs.declared.statement.Statement.TheVariants as statement
 use Rattle.rls_guard.specs.{declared.context.Ctx.Ctx, declared.context.Mode.Mode, declared.effect.Effect.Effect, Effects.shown, declared.context.Mode.TheVariants.Write, declared.context.Mode.TheVariants.Read}
 use Rattle.rls_guard.specs.declared.effect.Effect.TheVariants as effect
-use Rattle.rls_source.specs.Askings.{Asking, known, followed_by}
+use Rattle.rls_guard.specs.rls_source.specs.Askings.{Asking, known, followed_by}
 use Rattle.rls_ddl.specs.{CreatingRoles.create_role, AlteringRoles.alter_role, SettingRoles.set_role, CreatingTables.create_table, AlteringTables.alter_table, CreatingPolicies.create_policy, AlteringPolicies.alter_policy, DroppingPolicies.drop_policy}
 use Rattle.rls_ddl.specs.Granting.{grant, grant_roles, revoke, revoke_roles}
 use Rattle.rls_dml.specs.{Inserting.insert, Updating.update, Deleting.delete, Selecting.select}

@@ -1,6 +1,6 @@
 -- How a transaction begins, who may begin one, and what its statements are run in.
 use Rattle.std.specs.Prelude.{ℕ, List, Option, Some, None, Bool, false, ◌&&◌, is_some}
-use Rattle.rls_catalog.specs.{declared.role.RoleDef.RoleDef, State.State, State.role_of}
+use Rattle.rls_guard.specs.rls_catalog.specs.{declared.role.RoleDef.RoleDef, State.State, State.role_of}
 use Rattle.rls_guard.specs.{declared.context.Ctx.Ctx, declared.context.Mode.Mode, declared.effect.Effect.Effect, Effects.changes_of}
 use Rattle.rls_dml.specs.NextRows.{next_row}
 use Rattle.rls_access.specs.Statements.{role_after}

@@ -4,9 +4,9 @@ ghost use Rattle.std.specs.Prelude.{◌≡◌};
 ghost use Rattle.rls_guard.specs.Effects.{changes_of};
 ghost use Rattle.rls_dml.specs.NextRows.{is_new_row, new_rows};
 
-use rls_catalog::Change;
 use rls_guard::Effect;
-use rls_source::Footprint;
+use rls_guard::rls_catalog::Change;
+use rls_guard::rls_source::Footprint;
 use rls_value::Name;
 
 /// What a statement gives.

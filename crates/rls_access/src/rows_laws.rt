@@ -1,9 +1,9 @@
 //! What a statement leaves of the rows of a state, each law a clause of a function that does nothing.
 
 ghost use Rattle.std.specs.Prelude.{◌≡◌, ℕ};
-ghost use Rattle.rls_catalog.specs.Changed.{changed_all, opening};
-ghost use Rattle.rls_catalog.specs.SoundRows.{RowsAreSound};
-ghost use Rattle.rls_catalog.specs.State.{State};
+ghost use Rattle.rls_guard.specs.rls_catalog.specs.Changed.{changed_all, opening};
+ghost use Rattle.rls_guard.specs.rls_catalog.specs.SoundRows.{RowsAreSound};
+ghost use Rattle.rls_guard.specs.rls_catalog.specs.State.{State};
 ghost use Rattle.rls_statement.specs.declared.statement.Statement.{Statement};
 ghost use Rattle.rls_guard.specs.declared.context.Ctx.{Ctx};
 ghost use Rattle.rls_guard.specs.Effects.{changes_of};

@@ -2,8 +2,8 @@
 
 ghost use Rattle.std.specs.Prelude.{◌≡◌, ◌++◌, IfOk, OnOk, OnErr};
 ghost use Rattle.rls_value.specs.Giving.{Gives};
-ghost use Rattle.rls_catalog.specs.State.{State, AgreesOn};
-ghost use Rattle.rls_source.specs.{Footprints.footprint_of, Answering.Answers};
+ghost use Rattle.rls_guard.specs.rls_catalog.specs.State.{State, AgreesOn};
+ghost use Rattle.rls_guard.specs.rls_source.specs.{Footprints.footprint_of, Answering.Answers};
 ghost use Rattle.rls_access.specs.Statements as spec;
 ghost use Rattle.rls_access.specs.Statements.{effect_in, step, mode_or_refused};
 
@@ -14,8 +14,8 @@ use rls_ddl::{
     run_set_role,
 };
 use rls_dml::{run_delete, run_insert, run_select, run_update};
+use rls_guard::rls_source::{Footprint, Reads, RowSource, StatementSource};
 use rls_guard::{Ctx, Effect, Mode};
-use rls_source::{Footprint, Reads, RowSource, StatementSource};
 use rls_statement::Statement;
 use rls_value::{Name, Refusal, Tag, TxnState};
 use std::alloc::{AllocError, Global};

@@ -5,3 +5,4 @@ mod agreeing;
 mod objects;
 
 pub use agreeing::agrees_on;
+pub use rls_equality;

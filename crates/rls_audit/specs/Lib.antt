@@ -17,3 +17,9 @@ pub mod Audits
 pub mod Shows
 pub mod Showing
 pub mod ShownParts
+pub use Rattle.rls_core
+pub use Rattle.rls_core.specs.rls_access
+pub use Rattle.rls_core.specs.rls_conflict
+pub use Rattle.rls_core.specs.rls_ddl
+pub use Rattle.rls_core.specs.rls_dml
+pub use Rattle.rls_printing

@@ -24,4 +24,7 @@ pub use meaning::{audits_hold, empty_audit_holds};
 pub use ordering::{are_in_order, in_order};
 pub use reading::{read_line, write_line};
 pub use refusals::Audited;
+pub use rls_core;
+pub use rls_core::{rls_access, rls_rows};
+pub use rls_printing;
 pub use showing::{Unshown, line_of_record};

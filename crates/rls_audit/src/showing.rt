@@ -15,6 +15,7 @@ use crate::contents::TableShape;
 use crate::lines::{Answered, Line, Shown};
 use crate::ordering::{are_in_order, in_order};
 use crate::refusals::Audited;
+use rls_catalog::shared_map::Share;
 use rls_catalog::{Change, Grant, Keyed, Membership};
 use rls_core::{Posted, Record};
 use rls_expr::{Column, Policy, TableDef};
@@ -22,7 +23,6 @@ use rls_guard::{Effect, Reply};
 use rls_printing::{print, print_policy};
 use rls_statement::Statement;
 use rls_value::{Items, Name, Row, Text};
-use shared_map::Share;
 use std::alloc::{AllocError, AllocFailed, Global};
 
 /// Why there is no line.

@@ -1,7 +1,7 @@
 -- States that agree on what is read have the same policies apply.
 use Rattle.std.specs.Prelude.{◌≡◌, refl, ℕ, List, [], Option, Some, None, Bool, true, false, if◌then◌else◌}
 use Rattle.std.proofs.Common.{ap, sym, ◌∙◌}
-use Rattle.rls_value.specs.declared.verb.Kind.{Kind}
+use Rattle.rls_expr.specs.rls_value.specs.declared.verb.Kind.{Kind}
 use Rattle.rls_expr.specs.declared.table.TableDef.{TableDef}
 use Rattle.rls_catalog.specs.declared.verdict.Side.{Side}
 use Rattle.rls_catalog.specs.State.{State, table_of, AgreesOn}

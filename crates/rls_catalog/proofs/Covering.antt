@@ -5,8 +5,8 @@ use Rattle.std.proofs.Common.{ap, sym, ◌∙◌, subst}
 use Rattle.std.proofs.lemmas.Bool.{true≢false}
 use Rattle.std.proofs.lemmas.Cmp.{nat_eq_equiv}
 use Rattle.std.proofs.lemmas.Map.Text.{is_eq-slice_cmp}
-use Rattle.rls_value.specs.{declared.row.RowId.RowId, declared.value.Value.Value, declared.object.Object.Object}
-use Rattle.rls_value.specs.declared.object.Object.TheVariants as o
+use Rattle.rls_expr.specs.rls_value.specs.{declared.row.RowId.RowId, declared.value.Value.Value, declared.object.Object.Object}
+use Rattle.rls_expr.specs.rls_value.specs.declared.object.Object.TheVariants as o
 use Rattle.rls_expr.specs.{declared.table.TableDef.TableDef, declared.policy.Policy.Policy}
 use Rattle.rls_catalog.specs.{declared.role.RoleDef.RoleDef, declared.role.Membership.Membership, declared.grant.Grant.Grant, declared.stored.Keyed.Keyed, declared.change.Change.Change, declared.change.RowChange.RowChange, Changed.changed, Changed.changed_all, Changed.with_row, Bases.has_key, Bases.is_number, Bases.covers, Bases.Fits, Bases.FitsAll, Bases.covers_any, State.State, State.id_order, State.stored_of, State.role_of, State.members_of, State.table_of, State.grants_of, State.policies_of, State.rows_of, State.is_same_row, State.is_same_id, State.AgreesAt, State.entries_of}
 use Rattle.rls_catalog.specs.declared.change.Change.TheVariants as c

@@ -1,9 +1,9 @@
 -- Worked examples of coverage. Each is a theorem that computes.
 use Rattle.std.specs.Prelude.{◌≡◌, refl, ℕ, pos, List, [], ◌∷◌, Some, None, true, false, codes}
-use Rattle.rls_value.specs.declared.row.RowId.{RowId}
-use Rattle.rls_value.specs.declared.value.Value.{Value}
-use Rattle.rls_value.specs.declared.value.Value.TheVariants as v
-use Rattle.rls_value.specs.declared.object.Object.TheVariants as o
+use Rattle.rls_expr.specs.rls_value.specs.declared.row.RowId.{RowId}
+use Rattle.rls_expr.specs.rls_value.specs.declared.value.Value.{Value}
+use Rattle.rls_expr.specs.rls_value.specs.declared.value.Value.TheVariants as v
+use Rattle.rls_expr.specs.rls_value.specs.declared.object.Object.TheVariants as o
 use Rattle.rls_catalog.specs.declared.stored.Keyed.{Keyed}
 use Rattle.rls_catalog.specs.declared.change.Change.{Change}
 use Rattle.rls_catalog.specs.declared.change.Change.TheVariants as c

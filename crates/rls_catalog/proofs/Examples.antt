@@ -3,7 +3,7 @@ use Rattle.std.specs.Prelude.{◌≡◌, refl, ℕ, pos, negsuc, List, [], ◌�
 use Rattle.std.proofs.Common.{ap, sym, subst}
 use Rattle.std.proofs.lemmas.Bool.{true≢false, or_left}
 use Rattle.std.specs.declared.cmp.Ordering.TheVariants.{Less, Greater}
-use Rattle.rls_value.specs.{declared.verb.Privilege.Privilege, declared.truth.Truth.TheVariants.True, declared.truth.Truth.TheVariants.False, declared.truth.Truth.TheVariants.Unknown, declared.row.RowId.RowId, Names.one_of, Truths.conjunction_of, Truths.disjunction_of, Truths.negation_of, Values.equal_values, Values.less_values, Values.listed, Values.fits_type, declared.verb.Kind.Kind, declared.verb.PolicyKind.PolicyKind, declared.value.Value.Value, declared.value.ColType.ColType, declared.object.Object.Object}
+use Rattle.rls_expr.specs.rls_value.specs.{declared.verb.Privilege.Privilege, declared.truth.Truth.TheVariants.True, declared.truth.Truth.TheVariants.False, declared.truth.Truth.TheVariants.Unknown, declared.row.RowId.RowId, Names.one_of, Truths.conjunction_of, Truths.disjunction_of, Truths.negation_of, Values.equal_values, Values.less_values, Values.listed, Values.fits_type, declared.verb.Kind.Kind, declared.verb.PolicyKind.PolicyKind, declared.value.Value.Value, declared.value.ColType.ColType, declared.object.Object.Object}
 use Rattle.std.specs.Str.{bytes_eq}
 use Rattle.rls_expr.specs.{declared.table.TableDef.TableDef, declared.policy.Policy.Policy, Terms.Term, Terms.Literal, declared.policy.Grantee.Grantee}
 use Rattle.rls_catalog.specs.{declared.role.RoleDef.RoleDef, declared.role.Membership.Membership, declared.grant.Grant.Grant, declared.stored.Keyed.Keyed, declared.stored.Stored.Stored, declared.change.Change.Change, GrantOptions.LeftAfterRevoke, GrantOptions.HasDependents, GrantOptions.left_by, GrantOptions.without_grant, GrantOptions.without_option, GrantOptions.grantor_of, State.State, State.role_of, State.rows_of, State.AgreesAt, State.AgreesOn, Changed.opening, Changed.changed_all, Membership.reached_of, Membership.has_privileges_of, Paths.can_set, Paths.is_member, Paths.may_grant, Paths.closes_circle, Privileges.holds, Privileges.optioned_by, Privileges.Options, Privileges.Owner, Privileges.AreOptions, Verdict.is_exempt, Verdict.expression_of, Verdict.applying_of, Verdict.verdict_of}

@@ -4,8 +4,8 @@ use Rattle.std.specs.List.{list_any, list_all}
 use Rattle.std.specs.Str.{bytes_eq}
 use Rattle.std.proofs.Common.{arith, sym, ap, ◌∙◌, subst}
 use Rattle.std.proofs.lemmas.Bool.{true≢false}
-use Rattle.rls_value.specs.{Names.one_of, declared.verb.Privilege.Privilege, declared.verb.Kind.Kind}
-use Rattle.rls_value.specs.declared.object.Object.TheVariants as o
+use Rattle.rls_expr.specs.rls_value.specs.{Names.one_of, declared.verb.Privilege.Privilege, declared.verb.Kind.Kind}
+use Rattle.rls_expr.specs.rls_value.specs.declared.object.Object.TheVariants as o
 use Rattle.rls_expr.specs.{declared.table.TableDef.TableDef, declared.policy.Grantee.Grantee, declared.policy.Policy.Policy, declared.policy.Grantee.TheVariants.Public, declared.policy.Grantee.TheVariants.Role}
 use Rattle.rls_catalog.specs.{declared.verdict.Side.Side, State.State, State.role_of, State.grants_of, State.policies_of, State.AgreesOn, Privileges.includes, Privileges.concerns, Privileges.is_same_privilege, Privileges.holds, Privileges.holds_reads}
 use Rattle.rls_catalog.proofs.{StateLaws.agrees-append, Inheriting.or_either, Inheriting.among_got, Inheriting.walk_keeps, Walks.bytes_same, Walks.left_all, Walks.walk_step, Walks.walk_end, Walks.walk_finished}

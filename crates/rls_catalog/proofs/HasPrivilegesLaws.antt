@@ -2,7 +2,7 @@
 use Rattle.std.specs.Prelude.{◌≡◌, refl, ◌↔◌, ◌⊎◌, ℕ, List, [], Bool, true, false, ◌||◌, if◌then◌else◌}
 use Rattle.std.proofs.Common.{inl, inr, sym}
 use Rattle.std.proofs.lemmas.Bool.{true≢false}
-use Rattle.rls_value.specs.Names.{one_of}
+use Rattle.rls_expr.specs.rls_value.specs.Names.{one_of}
 use Rattle.rls_catalog.specs.State.{State}
 use Rattle.rls_catalog.specs.Membership.{attributes_of, reached_of, has_privileges_of, Inherits}
 use Rattle.rls_catalog.proofs.Inheriting.{reached_inherits}

@@ -2,7 +2,7 @@
 use Rattle.std.specs.Prelude.{◌≡◌, ℕ, List, [], Some, None}
 use Rattle.std.specs.List.Sorted.{IsStrictlySortedBy}
 use Rattle.std.proofs.Common.{subst, sym}
-use Rattle.rls_value.specs.declared.row.RowId.{RowId}
+use Rattle.rls_expr.specs.rls_value.specs.declared.row.RowId.{RowId}
 use Rattle.rls_catalog.specs.declared.stored.Keyed.{Keyed}
 use Rattle.rls_catalog.specs.State.{State, at, or_none}
 use Rattle.rls_catalog.specs.InOrder.{Ascend, RowsInOrder}

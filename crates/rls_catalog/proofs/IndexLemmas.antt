@@ -7,7 +7,7 @@ use Rattle.std.specs.Ordering.{is_eq, match_ordering, ordering_then}
 use Rattle.std.proofs.Common.{ap, sym, ◌∙◌}
 use Rattle.std.proofs.{lemmas.Bool.true≢false, lemmas.Map.lookup-remove_entry, lemmas.Map.Keys.IsDistinct-from_sorted}
 use Rattle.std.proofs.lemmas.Cmp.{eq_by_cmp_equiv, on_total, then_total}
-use Rattle.rls_value.specs.{declared.row.RowId.RowId, declared.value.Value.Value, Listing.rows_total}
+use Rattle.rls_expr.specs.rls_value.specs.{declared.row.RowId.RowId, declared.value.Value.Value, Listing.rows_total}
 use Rattle.rls_catalog.specs.{declared.index_key.IndexKey.IndexKey, declared.stored.Keyed.Keyed, Changed.with_row, InOrder.Ascend, State.id_order}
 use Rattle.rls_catalog.specs.KeyIndex.{InKeyOrder, Indexes, Reindexed, has_key, index_order, is_empty_key, is_indexed, key_order}
 use Rattle.rls_catalog.proofs.{Places.id_total, KeyIndexLemmas.key_turned, KeyIndexLemmas.same_key, KeyIndexLemmas.same_number}

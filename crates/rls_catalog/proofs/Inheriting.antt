@@ -5,7 +5,7 @@ use Rattle.std.proofs.Common.{arith, sym, ap, ◌∙◌, subst, append_assoc}
 use Rattle.std.proofs.lemmas.Bool.{true≢false, or_left, or_right}
 use Rattle.std.proofs.lemmas.List.{length-append}
 use Rattle.std.proofs.lemmas.Option.{slice_get_past, slice_get_within}
-use Rattle.rls_value.specs.Names.{one_of}
+use Rattle.rls_expr.specs.rls_value.specs.Names.{one_of}
 use Rattle.rls_catalog.specs.State.{State}
 use Rattle.rls_catalog.specs.Membership.{Inherits, Itself, Through, inherited_by, fresh, walk, granted_roles, reached_of, Within}
 use Rattle.rls_catalog.proofs.Walks.{one_of-append, among_first, bytes_same, bytes_own, one_of_last, left, left_all, fresh_few, granted_within, walk_step, walk_end, reads_all}

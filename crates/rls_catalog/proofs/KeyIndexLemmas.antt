@@ -6,8 +6,8 @@ use Rattle.std.specs.declared.cmp.Ordering.{Ordering}
 use Rattle.std.specs.declared.cmp.Ordering.TheVariants.{Less, Equal, Greater}
 use Rattle.std.proofs.Common.{ap, sym, ◌∙◌}
 use Rattle.std.proofs.{lemmas.Bool.true≢false, lemmas.Cmp.tied_itself}
-use Rattle.rls_value.specs.{declared.row.RowId.RowId, declared.value.Value.Value, Listing.rows_total}
-use Rattle.rls_value.proofs.ListingLaws.{rows_same}
+use Rattle.rls_expr.specs.rls_value.specs.{declared.row.RowId.RowId, declared.value.Value.Value, Listing.rows_total}
+use Rattle.rls_expr.specs.rls_value.proofs.ListingLaws.{rows_same}
 use Rattle.rls_catalog.specs.{State.id_order, KeyIndex.key_order}
 use Rattle.rls_catalog.proofs.Places.{id_total, same_id}
 

@@ -6,7 +6,7 @@ use Rattle.std.specs.declared.cmp.Ordering.TheVariants.{Less, Equal, Greater}
 use Rattle.std.proofs.{lemmas.Cmp.nat_list_cmp_total, lemmas.List.Folds.list_any-append}
 use Rattle.std.proofs.Common.{ap, sym, ◌∙◌, subst}
 use Rattle.std.proofs.lemmas.Bool.{true≢false, or_left, or_right}
-use Rattle.rls_value.specs.{Names.one_of, declared.truth.Truth.Truth, Truths.is_true, Values.same_flag}
+use Rattle.rls_expr.specs.rls_value.specs.{Names.one_of, declared.truth.Truth.Truth, Truths.is_true, Values.same_flag}
 use Rattle.rls_expr.specs.declared.policy.Policy.{Policy}
 use Rattle.rls_catalog.specs.{declared.verdict.Verdict.Verdict, State.State, State.name_order, Membership.Inherits, Membership.Itself, Membership.Through, Membership.attributes_of, Membership.inherited_by, Membership.reached_of, Membership.has_privileges_of, Verdict.is_such, Verdict.names_where, Verdict.lesser, Verdict.least, Verdict.verdict_by, Verdict.verdict_of}
 use Rattle.rls_catalog.proofs.{Walks.bytes_same, Walks.bytes_own, Inheriting.or_either, Inheriting.met_is_inherited, Inheriting.inherited_is_met}

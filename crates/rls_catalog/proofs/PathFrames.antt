@@ -2,7 +2,7 @@
 -- circle.
 use Rattle.std.specs.Prelude.{◌≡◌, refl, ℕ, List, [], ◌∷◌, Bool, true, false, ◌||◌, if◌then◌else◌, map}
 use Rattle.std.proofs.Common.{ap, sym, ◌∙◌}
-use Rattle.rls_value.specs.Names.{one_of}
+use Rattle.rls_expr.specs.rls_value.specs.Names.{one_of}
 use Rattle.rls_catalog.specs.declared.role.Membership.{Membership}
 use Rattle.rls_catalog.specs.State.{State, AgreesOn}
 use Rattle.rls_catalog.specs.Membership.{attributes_of, walk_reads}

@@ -7,7 +7,7 @@ use Rattle.std.proofs.Common.{ap, sym, ◌∙◌}
 use Rattle.std.proofs.{lemmas.Bool.true≢false, lemmas.Cmp.eq_by_cmp_equiv, lemmas.Map.lookup-none}
 use Rattle.std.proofs.lemmas.Map.Entries.{none_below_head, none_past_head}
 use Rattle.std.proofs.lemmas.Map.Keys.{sorted_tail, sorted_head, IsDistinct-from_sorted}
-use Rattle.rls_value.specs.{declared.row.RowId.RowId, declared.value.Value.Value}
+use Rattle.rls_expr.specs.rls_value.specs.{declared.row.RowId.RowId, declared.value.Value.Value}
 use Rattle.rls_catalog.specs.{declared.stored.Keyed.Keyed, declared.stored.Stored.Stored, State.id_order, State.is_same_row, State.stored_of, State.with_key, KeyIndex.is_among, KeyIndex.picked, KeyIndex.with_key_at}
 use Rattle.rls_catalog.proofs.{Places.id_total, Places.same_id, Places.below_all, KeyIndexLemmas.same_number, KeyIndexLemmas.own_number}
 

@@ -7,7 +7,7 @@ use Rattle.std.specs.Ordering.{is_eq, match_ordering, nat_cmp, ordering_then}
 use Rattle.std.specs.declared.cmp.Ordering.TheVariants.{Less, Equal, Greater}
 use Rattle.std.proofs.{Common.ap, Common.sym, Common.◌∙◌, lemmas.Bool.true≢false, lemmas.Map.lookup-none, lemmas.Map.Entries.none_below_head, lemmas.Map.Keys.sorted_tail}
 use Rattle.std.proofs.lemmas.Cmp.{on_total, then_total, nat_cmp_total}
-use Rattle.rls_value.specs.declared.row.RowId.{RowId}
+use Rattle.rls_expr.specs.rls_value.specs.declared.row.RowId.{RowId}
 use Rattle.rls_catalog.specs.State.{id_order}
 
 -- row numbers are totally ordered

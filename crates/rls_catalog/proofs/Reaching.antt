@@ -5,7 +5,7 @@ use Rattle.std.specs.BTreeMap.{is_at}
 use Rattle.std.specs.Str.{bytes_eq}
 use Rattle.std.proofs.Common.{ap, subst, sym, ◌∙◌, ◌⊎◌, inl, inr}
 use Rattle.std.proofs.lemmas.Bool.{true≢false, or_left, or_right}
-use Rattle.rls_value.specs.Names.{one_of}
+use Rattle.rls_expr.specs.rls_value.specs.Names.{one_of}
 use Rattle.rls_catalog.specs.{declared.role.RoleDef.RoleDef, declared.role.Membership.Membership, State.State, State.at, State.name_order, State.or_none, State.role_of, State.members_of, Membership.granted_inherited, Membership.inherited_if, Membership.inherited_by, Membership.attributes_of, Membership.Inherits, Membership.reached_of}
 use Rattle.rls_catalog.specs.Membership as inherits
 use Rattle.rls_catalog.proofs.{Walks.bytes_same, Walks.bytes_own, Inheriting.or_either, Inheriting.met_is_inherited, Inheriting.inherited_is_met}

@@ -6,7 +6,7 @@ use Rattle.std.specs.Str.{bytes_eq}
 use Rattle.std.proofs.Common.{ap, sym, ◌∙◌, subst, ◌⊎◌, inl, inr}
 use Rattle.std.proofs.lemmas.Bool.{true≢false, or_left, or_right}
 use Rattle.std.proofs.lemmas.List.Folds.{Any-from_list_any, list_any-from_Any}
-use Rattle.rls_value.specs.{Names.one_of, declared.verb.Privilege.Privilege}
+use Rattle.rls_expr.specs.rls_value.specs.{Names.one_of, declared.verb.Privilege.Privilege}
 use Rattle.rls_catalog.specs.declared.grant.Grant.{Grant}
 use Rattle.rls_catalog.specs.Privileges.{is_same_privilege, roles_in, is_option_by, optioned_by, Options, Owner, Granted, AreOptions}
 use Rattle.rls_catalog.proofs.Walks.{one_of-append, bytes_same}

@@ -8,7 +8,7 @@ use Rattle.std.specs.declared.cmp.Ordering.TheVariants.{Less, Equal, Greater}
 use Rattle.std.proofs.Common.{ap, sym, ◌∙◌, subst}
 use Rattle.std.proofs.{lemmas.Bool.true≢false, lemmas.Map.lookup-set_value}
 use Rattle.std.proofs.lemmas.Cmp.{eq_by_cmp_equiv, nat_list_cmp_total}
-use Rattle.rls_value.specs.declared.row.RowId.{RowId}
+use Rattle.rls_expr.specs.rls_value.specs.declared.row.RowId.{RowId}
 use Rattle.rls_catalog.specs.{declared.stored.Keyed.Keyed, declared.stored.Stored.Stored, declared.change.RowChange.RowChange, Bases.Fits, Changed.changed, Changed.with_row, Changed.with_row_in, State.State, State.id_order, State.name_order, State.at, State.or_none, State.stored_of, State.rows_of, State.entries_of, declared.change.Change.Change}
 use Rattle.rls_catalog.proofs.ContentsLaws.{is_name, same_name, at_put}
 

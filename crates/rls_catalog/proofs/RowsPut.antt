@@ -9,7 +9,7 @@ use Rattle.std.specs.declared.cmp.Ordering.TheVariants.{Less, Equal, Greater}
 use Rattle.std.proofs.Common.{ap, sym, ◌∙◌}
 use Rattle.std.proofs.lemmas.Cmp.{nat_list_cmp_total}
 use Rattle.std.specs.Prelude.{is_some}
-use Rattle.rls_value.specs.declared.row.RowId.{RowId}
+use Rattle.rls_expr.specs.rls_value.specs.declared.row.RowId.{RowId}
 use Rattle.rls_catalog.specs.{declared.stored.Keyed.Keyed, declared.change.Change.Change, declared.change.RowChange.RowChange, State.State, State.at, State.name_order, Changed.changed, Changed.with_row, Changed.with_row_in, Changed.with_rows}
 use Rattle.rls_catalog.proofs.{ContentsLaws.own_name, ContentsLaws.at_put, Places.exchanged_inserted}
 

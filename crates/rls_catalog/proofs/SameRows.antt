@@ -3,9 +3,9 @@ use Rattle.std.specs.Prelude.{◌≡◌, refl, List, [], ◌∷◌, Bool, true, 
 use Rattle.std.proofs.Common.{ap, sym, ◌∙◌}
 use Rattle.std.proofs.lemmas.Bool.{true≢false}
 use Rattle.std.proofs.lemmas.Bool.Decides.{Decides-int_eq}
-use Rattle.rls_value.specs.declared.value.Value.{Value}
-use Rattle.rls_value.specs.declared.value.Value.TheVariants as v
-use Rattle.rls_value.specs.Values.{same_flag}
+use Rattle.rls_expr.specs.rls_value.specs.declared.value.Value.{Value}
+use Rattle.rls_expr.specs.rls_value.specs.declared.value.Value.TheVariants as v
+use Rattle.rls_expr.specs.rls_value.specs.Values.{same_flag}
 use Rattle.rls_catalog.specs.State.{is_same_row, is_same_value}
 use Rattle.rls_catalog.proofs.Walks.{bytes_same, bytes_own}
 

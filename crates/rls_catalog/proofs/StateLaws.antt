@@ -1,6 +1,6 @@
 -- States that agree on two lists of objects agree on each.
 use Rattle.std.specs.Prelude.{List, [], ◌∷◌, ◌++◌}
-use Rattle.rls_value.specs.declared.object.Object.{Object}
+use Rattle.rls_expr.specs.rls_value.specs.declared.object.Object.{Object}
 use Rattle.rls_catalog.specs.State.{State, AgreesOn}
 
 -- agreement on two lists is agreement on each

@@ -7,7 +7,7 @@ use Rattle.std.specs.Ordering.{is_eq, is_le, nat_cmp, ordering_then}
 use Rattle.std.proofs.Common.{ap, sym, ◌∙◌, arith, append_assoc}
 use Rattle.std.proofs.lemmas.List.{append-nil}
 use Rattle.std.proofs.{lemmas.Bool.true≢false, lemmas.Map.lookup-none, lemmas.Map.Entries.none_below_head, lemmas.Map.Keys.sorted_tail, lemmas.Map.Keys.sorted_head}
-use Rattle.rls_value.specs.{declared.row.RowId.RowId, declared.value.Value.Value, Listing.rows_total}
+use Rattle.rls_expr.specs.rls_value.specs.{declared.row.RowId.RowId, declared.value.Value.Value, Listing.rows_total}
 use Rattle.shared_map.specs.Entries.{entries_from, is_reached}
 use Rattle.rls_catalog.specs.{declared.index_key.IndexKey.IndexKey, declared.stored.Keyed.Keyed, declared.stored.Stored.Stored, InOrder.Ascend, State.id_order, State.is_same_row, State.stored_of, State.with_key}
 use Rattle.rls_catalog.specs.KeyIndex.{Indexes, has_key, ids_under, index_order, is_among, is_empty_key, is_indexed, key_order, picked, with_key_at}

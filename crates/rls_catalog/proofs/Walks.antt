@@ -9,7 +9,7 @@ use Rattle.std.proofs.lemmas.Bool.{true≢false, or_left, or_right}
 use Rattle.std.proofs.lemmas.List.{length-append}
 use Rattle.std.proofs.lemmas.Option.{slice_get_past, slice_get_within}
 use Rattle.std.proofs.lemmas.Slice.Eq.{bytes_eq-Decides}
-use Rattle.rls_value.specs.{Names.one_of, declared.object.Object.Object}
+use Rattle.rls_expr.specs.rls_value.specs.{Names.one_of, declared.object.Object.Object}
 use Rattle.rls_catalog.specs.{declared.role.RoleDef.RoleDef, declared.role.Membership.Membership, State.State, State.at, State.name_order, State.or_none, State.role_of, State.members_of, Membership.granted_inherited, Membership.inherited_if, Membership.inherited_by, Membership.fresh, Membership.visited, Membership.walk, Membership.granted_roles, Membership.reached_of, Membership.visit_reads, Membership.walk_reads, Membership.Within}
 
 pub one_of-append : (xs ys : List (List ℕ)) (name : List ℕ) → one_of (xs ++ ys) name ≡ (one_of xs name || one_of ys name)

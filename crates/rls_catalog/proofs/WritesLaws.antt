@@ -6,8 +6,8 @@ use Rattle.std.specs.declared.cmp.Ordering.TheVariants.{Less, Equal, Greater}
 use Rattle.std.proofs.Common.{ap, sym, ◌∙◌, subst}
 use Rattle.std.proofs.{lemmas.Bool.true≢false, lemmas.Map.Text.is_eq-slice_cmp}
 use Rattle.std.proofs.lemmas.Cmp.{nat_cmp_total, nat_eq_equiv, tied_itself}
-use Rattle.rls_value.specs.{declared.row.RowId.RowId, declared.value.Value.Value, declared.object.Object.Object, Listing.rows_total, Objects.object_order, Values.listed}
-use Rattle.rls_value.proofs.ListingLaws.{rows_same}
+use Rattle.rls_expr.specs.rls_value.specs.{declared.row.RowId.RowId, declared.value.Value.Value, declared.object.Object.Object, Listing.rows_total, Objects.object_order, Values.listed}
+use Rattle.rls_expr.specs.rls_value.proofs.ListingLaws.{rows_same}
 use Rattle.rls_catalog.specs.{declared.stored.Keyed.Keyed, declared.change.Change.Change, State.is_same_row, Bases.covers, Bases.has_key, Bases.is_number, Writes.key_of_row, Writes.is_written, Writes.is_rows_of}
 use Rattle.rls_catalog.proofs.SameRows.{same_row, own_row}
 

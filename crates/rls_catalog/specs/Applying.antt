@@ -1,9 +1,9 @@
 -- Which policies apply to a role on a table, the whole rule (PostgreSQL manual, 5.8 and CREATE POLICY): none where row
 -- security doesn't apply to the role, else those for the type of command that are TO it, with the expression asked for.
 use Rattle.std.specs.Prelude.{ℕ, List, [], ◌∷◌, ◌++◌, Option, Some, None, if◌then◌else◌}
-use Rattle.rls_value.specs.declared.verb.Kind.{Kind}
-use Rattle.rls_value.specs.declared.object.Object.{Object}
-use Rattle.rls_value.specs.declared.object.Object.TheVariants as o
+use Rattle.rls_expr.specs.rls_value.specs.declared.verb.Kind.{Kind}
+use Rattle.rls_expr.specs.rls_value.specs.declared.object.Object.{Object}
+use Rattle.rls_expr.specs.rls_value.specs.declared.object.Object.TheVariants as o
 use Rattle.rls_expr.specs.declared.table.TableDef.{TableDef}
 use Rattle.rls_expr.specs.declared.policy.Policy.{Policy}
 use Rattle.rls_catalog.specs.declared.verdict.Side.{Side}

@@ -2,7 +2,7 @@
 use Rattle.std.specs.Prelude.{List, Option, Some, None, Bool, false, ◌&&◌}
 use Rattle.std.specs.BTreeMap.{is_at}
 use Rattle.std.specs.List.{list_any}
-use Rattle.rls_value.specs.declared.object.Object.{Object}
+use Rattle.rls_expr.specs.rls_value.specs.declared.object.Object.{Object}
 use Rattle.rls_expr.specs.{declared.table.TableDef.TableDef, declared.policy.Policy.Policy}
 use Rattle.rls_catalog.specs.{declared.role.RoleDef.RoleDef, declared.role.Membership.Membership, declared.grant.Grant.Grant, declared.stored.Keyed.Keyed, declared.change.Change.Change}
 use Rattle.rls_catalog.specs.declared.change.Change.TheVariants as c

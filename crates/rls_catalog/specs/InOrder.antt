@@ -2,7 +2,7 @@
 use Rattle.std.specs.Prelude.{ℕ, List}
 use Rattle.std.specs.List.Sorted.{IsStrictlySortedBy}
 use Rattle.std.specs.Map.{keys_of}
-use Rattle.rls_value.specs.declared.row.RowId.{RowId}
+use Rattle.rls_expr.specs.rls_value.specs.declared.row.RowId.{RowId}
 use Rattle.rls_catalog.specs.State.{State, id_order, at, or_none}
 
 -- the numbers ascend

@@ -15,7 +15,9 @@ pub mod Privileges
 pub mod Verdict
 pub mod GrantOptions
 pub mod Applying
-pub use Rattle.rls_value.specs.Names
-pub use Rattle.rls_value.specs.Values
+pub use Rattle.rls_expr.specs.rls_value.specs.Names
+pub use Rattle.rls_expr.specs.rls_value.specs.Values
 pub use Rattle.rls_expr.specs.Terms
 pub use Rattle.rls_expr.specs.Tables
+pub use Rattle.rls_expr
+pub use Rattle.rls_expr.specs.rls_value

@@ -3,9 +3,9 @@
 -- role. Neither SUPERUSER nor another attribute is inherited.
 use Rattle.std.specs.Prelude.{◌≡◌, ℕ, zero, suc, List, [], ◌∷◌, ◌++◌, Option, Some, None, Bool, true, false, ◌||◌, if◌then◌else◌, map, filter, length, slice_get}
 use Rattle.std.specs.List.{flat_map}
-use Rattle.rls_value.specs.Names.{one_of}
-use Rattle.rls_value.specs.declared.object.Object.{Object}
-use Rattle.rls_value.specs.declared.object.Object.TheVariants as o
+use Rattle.rls_expr.specs.rls_value.specs.Names.{one_of}
+use Rattle.rls_expr.specs.rls_value.specs.declared.object.Object.{Object}
+use Rattle.rls_expr.specs.rls_value.specs.declared.object.Object.TheVariants as o
 use Rattle.rls_catalog.specs.declared.role.RoleDef.{RoleDef}
 use Rattle.rls_catalog.specs.declared.role.Membership.{Membership}
 use Rattle.rls_catalog.specs.State.{State, role_of, members_of}

@@ -4,9 +4,9 @@ use Rattle.std.specs.Prelude.{◌≡◌, ℕ, List, [], ◌∷◌, Option, Some,
 use Rattle.std.specs.List.{list_any}
 use Rattle.std.specs.Str.{bytes_eq}
 use Rattle.std.proofs.Common.{◌⊎◌}
-use Rattle.rls_value.specs.Names.{one_of}
-use Rattle.rls_value.specs.declared.object.Object.{Object}
-use Rattle.rls_value.specs.declared.object.Object.TheVariants as o
+use Rattle.rls_expr.specs.rls_value.specs.Names.{one_of}
+use Rattle.rls_expr.specs.rls_value.specs.declared.object.Object.{Object}
+use Rattle.rls_expr.specs.rls_value.specs.declared.object.Object.TheVariants as o
 use Rattle.rls_catalog.specs.declared.role.RoleDef.{RoleDef}
 use Rattle.rls_catalog.specs.declared.role.Membership.{Membership}
 use Rattle.rls_catalog.specs.State.{State, role_of, members_of}

@@ -7,9 +7,9 @@ use Rattle.std.specs.Ordering.{nat_cmp, int_eq, ordering_then}
 use Rattle.std.specs.Cmp.Lexicographic.{slice_cmp}
 use Rattle.std.specs.declared.cmp.Ordering.{Ordering}
 use Rattle.std.specs.Str.{bytes_eq}
-use Rattle.rls_value.specs.{declared.row.RowId.RowId, declared.object.Object.Object, declared.value.Value.Value, Values.same_flag}
-use Rattle.rls_value.specs.declared.object.Object.TheVariants as o
-use Rattle.rls_value.specs.declared.value.Value.TheVariants as v
+use Rattle.rls_expr.specs.rls_value.specs.{declared.row.RowId.RowId, declared.object.Object.Object, declared.value.Value.Value, Values.same_flag}
+use Rattle.rls_expr.specs.rls_value.specs.declared.object.Object.TheVariants as o
+use Rattle.rls_expr.specs.rls_value.specs.declared.value.Value.TheVariants as v
 use Rattle.rls_expr.specs.{declared.table.TableDef.TableDef, declared.policy.Policy.Policy}
 use Rattle.rls_catalog.specs.{declared.role.RoleDef.RoleDef, declared.role.Membership.Membership, declared.grant.Grant.Grant, declared.stored.Keyed.Keyed, declared.stored.Stored.Stored}
 

@@ -1,8 +1,8 @@
 -- The code of states, by which proofs tell them apart.
 use Rattle.std.specs.Prelude.{ℕ, List, refl}
 use Rattle.std.specs.Coded.{Coded, code_by, coded×, coded_list, coded_ℕ}
-use Rattle.rls_value.specs.declared.row.RowId.{RowId}
-use Rattle.rls_value.specs.contracts.row.RowId as id
+use Rattle.rls_expr.specs.rls_value.specs.declared.row.RowId.{RowId}
+use Rattle.rls_expr.specs.rls_value.specs.contracts.row.RowId as id
 use Rattle.rls_expr.specs.{declared.table.TableDef.TableDef, declared.policy.Policy.Policy}
 use Rattle.rls_expr.specs.contracts.table.TableDef as table
 use Rattle.rls_catalog.specs.{declared.role.RoleDef.RoleDef, declared.role.Membership.Membership, declared.grant.Grant.Grant, declared.stored.Keyed.Keyed, State.State}

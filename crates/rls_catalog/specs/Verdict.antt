@@ -3,10 +3,10 @@
 use Rattle.std.specs.Prelude.{ℕ, List, [], ◌∷◌, Option, Some, None, Bool, true, false, ◌&&◌, ◌||◌, not, if◌then◌else◌, map, filter, is_some}
 use Rattle.std.specs.List.{list_any, list_all}
 use Rattle.std.specs.Ordering.{is_gt}
-use Rattle.rls_value.specs.{declared.verb.Kind.Kind, declared.verb.PolicyKind.PolicyKind, declared.truth.Truth.Truth, Truths.is_true, Values.same_flag, declared.object.Object.Object}
-use Rattle.rls_value.specs.declared.verb.Kind.TheVariants as k
-use Rattle.rls_value.specs.declared.verb.PolicyKind.TheVariants as pk
-use Rattle.rls_value.specs.declared.object.Object.TheVariants as o
+use Rattle.rls_expr.specs.rls_value.specs.{declared.verb.Kind.Kind, declared.verb.PolicyKind.PolicyKind, declared.truth.Truth.Truth, Truths.is_true, Values.same_flag, declared.object.Object.Object}
+use Rattle.rls_expr.specs.rls_value.specs.declared.verb.Kind.TheVariants as k
+use Rattle.rls_expr.specs.rls_value.specs.declared.verb.PolicyKind.TheVariants as pk
+use Rattle.rls_expr.specs.rls_value.specs.declared.object.Object.TheVariants as o
 use Rattle.rls_expr.specs.{declared.table.TableDef.TableDef, Terms.Term, declared.policy.Grantee.Grantee, declared.policy.Policy.Policy}
 use Rattle.rls_catalog.specs.{declared.role.RoleDef.RoleDef, declared.verdict.Side.Side, declared.verdict.Verdict.Verdict, State.State, State.policies_of, State.name_order, Membership.attributes_of, Membership.has_privileges_of, Membership.effective_roles_reads, Privileges.includes, Privileges.concerns}
 use Rattle.rls_expr.specs.declared.policy.Grantee.TheVariants as g

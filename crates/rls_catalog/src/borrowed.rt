@@ -4,7 +4,7 @@ ghost use Rattle.std.specs.Prelude.{◌≡◌};
 ghost use Rattle.rls_catalog.specs.State.{stored_of};
 
 use crate::stored::Keyed;
-use rls_value::{Row, RowId};
+use rls_expr::rls_value::{Row, RowId};
 use std::marker::Model;
 
 /// A row of a table that stands where it is kept, seen as a `Stored`.

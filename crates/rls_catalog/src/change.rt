@@ -7,7 +7,7 @@ use crate::policy_list::PolicyList;
 use crate::role::{Membership, RoleDef};
 use crate::stored::Keyed;
 use rls_expr::TableDef;
-use rls_value::{Items, Name, RowId};
+use rls_expr::rls_value::{Items, Name, RowId};
 use std::alloc::{AllocError, Global};
 use std::marker::Model;
 

@@ -3,7 +3,7 @@
 ghost use Rattle.std.specs.Prelude.{◌≡◌, IfOk};
 
 use rls_expr::Grantee;
-use rls_value::{Items, Name, Privilege};
+use rls_expr::rls_value::{Items, Name, Privilege};
 use std::alloc::{AllocError, Global};
 
 /// A grant on a table (PostgreSQL manual, GRANT).

@@ -2,7 +2,7 @@
 
 ghost use Rattle.std.specs.Prelude.{◌≡◌};
 
-use rls_value::{Row, RowId};
+use rls_expr::rls_value::{Row, RowId};
 use shared_map::Shared;
 use std::alloc::AllocError;
 

@@ -8,7 +8,7 @@ ghost use Rattle.rls_catalog.specs.PolicyLists.{InNameOrder, has_policy, with_po
 ghost use Rattle.rls_catalog.specs.State.{name_order};
 
 use rls_expr::Policy;
-use rls_value::Name;
+use rls_expr::rls_value::Name;
 use std::alloc::{AllocError, Global};
 use std::marker::Model;
 

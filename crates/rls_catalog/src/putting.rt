@@ -12,7 +12,7 @@ use crate::policy_list::PolicyList;
 use crate::role::{Membership, RoleDef};
 use crate::table_rows::Rows;
 use rls_expr::TableDef;
-use rls_value::{Items, Name};
+use rls_expr::rls_value::{Items, Name};
 use shared_map::{Share, Shared, SharedMap};
 use std::alloc::{AllocError, Global};
 

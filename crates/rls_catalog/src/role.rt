@@ -4,7 +4,7 @@ ghost use Rattle.std.specs.Prelude.{◌≡◌, IfOk};
 ghost use Rattle.std.specs.Option.{option_copied};
 ghost use Rattle.rls_catalog.specs.Membership.{attributes_in};
 
-use rls_value::{Items, Name};
+use rls_expr::rls_value::{Items, Name};
 use shared_map::Shared;
 use std::alloc::{AllocError, Global};
 

@@ -3,7 +3,7 @@
 ghost use Rattle.std.specs.Prelude.{◌≡◌};
 ghost use Rattle.rls_catalog.specs.State as spec;
 
-use rls_value::{Row, Value};
+use rls_expr::rls_value::{Row, Value};
 
 /// Whether the rows have the same values, null being equal to itself.
 pub fn is_same_row(left: &Row, right: &Row) -> bool

@@ -2,7 +2,7 @@
 
 ghost use Rattle.std.specs.Prelude.{◌≡◌, IfOk};
 
-use rls_value::{Items, Row, RowId};
+use rls_expr::rls_value::{Items, Row, RowId};
 use shared_map::Shared;
 use std::alloc::{AllocError, Global};
 

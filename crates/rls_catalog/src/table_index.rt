@@ -2,12 +2,12 @@
 
 ghost use Rattle.std.specs.Prelude.{◌≡◌, List, None, false, OnOk, IsTrue};
 ghost use Rattle.std.specs.Option.{option_copied};
-ghost use Rattle.rls_value.specs.declared.value.Value.{Value};
+ghost use Rattle.rls_expr.specs.rls_value.specs.declared.value.Value.{Value};
 ghost use Rattle.rls_catalog.specs.KeyIndex.{InKeyOrder, Reindexed, has_key, is_empty_key, is_indexed};
 
 use crate::index_key::IndexKey;
 use crate::stored::Keyed;
-use rls_value::{Row, RowId};
+use rls_expr::rls_value::{Row, RowId};
 use shared_map::SharedMap;
 use std::alloc::{AllocError, Global};
 

@@ -8,7 +8,7 @@ use crate::index_key::IndexKey;
 use crate::same::is_same_row;
 use crate::stored::Keyed;
 use crate::table_index::{Index, is_empty, reindex};
-use rls_value::{Items, Row, RowId};
+use rls_expr::rls_value::{Items, Row, RowId};
 use shared_map::{Iter, Shared, SharedMap};
 use std::alloc::{AllocError, Global};
 use std::cmp::min;
@@ -23,7 +23,7 @@ pub(crate) struct Rows {
 
 impl Model for Rows {
     ghost use Rattle.std.specs.Prelude.{List};
-    ghost use Rattle.rls_value.specs.declared.row.RowId.{RowId as Number};
+    ghost use Rattle.rls_expr.specs.rls_value.specs.declared.row.RowId.{RowId as Number};
     ghost use Rattle.rls_catalog.specs.declared.stored.Keyed.{Keyed as Content};
     ghost use Rattle.rls_catalog.specs.StateCode.{rows_code};
 

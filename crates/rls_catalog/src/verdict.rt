@@ -2,7 +2,7 @@
 
 ghost use Rattle.std.specs.Prelude.{◌≡◌, IfOk};
 
-use rls_value::Name;
+use rls_expr::rls_value::Name;
 use std::alloc::AllocError;
 
 /// Which row is judged: the one that was there, or the one that a command makes.

@@ -11,13 +11,13 @@ use Rattle.rls_catalog.specs.Changed.{opening, changed_all}
 use Rattle.rls_source.specs.Footprints.{footprint_of}
 use Rattle.rls_statement.specs.declared.statement.Statement.{Statement}
 use Rattle.rls_guard.specs.{declared.context.Ctx.Ctx, declared.effect.Effect.Effect, Effects.changes_of}
-use Rattle.rls_access.specs.Transactions.{first_ctx, ctx_after}
-use Rattle.rls_meaning.specs.Meaning.{effect_of}
+use Rattle.rls_audit.specs.rls_access.specs.Transactions.{first_ctx, ctx_after}
+use Rattle.rls_explain.specs.rls_meaning.specs.Meaning.{effect_of}
 use Rattle.rls_history.specs.History.{History, before, rw as edge, concurrent}
 use Rattle.rls_history.specs.Orders.{precedes, with_placed, none_placed, IsNext, StandInTurn, placed_by, IsOrder}
-use Rattle.rls_conflict.specs.Transactions as conflict
-use Rattle.rls_core.specs.Records.{Record, nobody, record_at, transaction_of, history_by, state_after}
-use Rattle.rls_core.specs.Alone.{effects_alone, state_alone, changes_made, Explains}
+use Rattle.rls_audit.specs.rls_conflict.specs.Transactions as conflict
+use Rattle.rls_audit.specs.rls_core.specs.Records.{Record, nobody, record_at, transaction_of, history_by, state_after}
+use Rattle.rls_audit.specs.rls_core.specs.Alone.{effects_alone, state_alone, changes_made, Explains}
 use Rattle.rls_audit.specs.Lines.{Line, Head, Txn, End, Shown, Answered, Written, written_by, reply_of, decisions_of, ordered_changes, answered, shown, lines_from, audit_of}
 use Rattle.rls_audit.specs.Audits.{AreRecords, ChangesAreMade, numbers_at, AuditHolds}
 use Rattle.rls_check.specs.declared.transaction.Answer.{Answer}

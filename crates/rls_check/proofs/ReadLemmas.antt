@@ -8,7 +8,7 @@ use Rattle.rls_catalog.specs.declared.change.Change.{Change}
 use Rattle.rls_catalog.specs.declared.change.Change.TheVariants as c
 use Rattle.rls_guard.specs.{declared.effect.Effect.Effect, Effects.changes_of}
 use Rattle.rls_guard.specs.declared.effect.Effect.TheVariants as effect
-use Rattle.rls_core.specs.Records.{Record}
+use Rattle.rls_audit.specs.rls_core.specs.Records.{Record}
 use Rattle.rls_audit.specs.declared.contents.TableShape.{TableShape}
 use Rattle.rls_audit.specs.declared.changes.Changed.{Changed}
 use Rattle.rls_audit.specs.declared.changes.Changed.TheVariants as changed

@@ -9,11 +9,11 @@ use Rattle.rls_catalog.specs.State.{State, AgreesOn}
 use Rattle.rls_catalog.specs.Changed.{opening, changed_all}
 use Rattle.rls_source.specs.Footprints.{footprint_of}
 use Rattle.rls_guard.specs.{declared.context.Ctx.Ctx, declared.effect.Effect.Effect, Effects.changes_of}
-use Rattle.rls_access.specs.Transactions.{first_ctx, ctx_after}
-use Rattle.rls_meaning.specs.Meaning.{effect_of}
+use Rattle.rls_audit.specs.rls_access.specs.Transactions.{first_ctx, ctx_after}
+use Rattle.rls_explain.specs.rls_meaning.specs.Meaning.{effect_of}
 use Rattle.rls_history.specs.History.{History}
 use Rattle.rls_history.specs.Orders.{IsOrder}
-use Rattle.rls_core.specs.Alone.{effects_alone, state_alone, changes_made}
+use Rattle.rls_audit.specs.rls_core.specs.Alone.{effects_alone, state_alone, changes_made}
 use Rattle.rls_audit.specs.Lines.{written_by, reply_of, decisions_of, ordered_changes}
 use Rattle.rls_check.specs.declared.transaction.Put.{Put}
 use Rattle.rls_check.specs.declared.transaction.Answer.{Answer}

@@ -6,8 +6,8 @@ ghost use Rattle.rls_source.specs.Footprints.{with_reads};
 ghost use Rattle.rls_check.specs.Checking.{wide_of};
 
 use rls_agreement::agrees_on;
+use rls_audit::rls_rows::State;
 use rls_catalog::Change;
-use rls_rows::State;
 use rls_source::Footprint;
 use rls_value::Object;
 use std::alloc::{AllocError, Global};

@@ -4,16 +4,16 @@ ghost use Rattle.std.specs.Prelude.{◌≡◌, ◌+◌, ◌++◌, [], IfOk, OnOk
 ghost use Rattle.rls_audit.specs.Lines.{in_object_order, ordered_changes};
 ghost use Rattle.rls_catalog.specs.Changed.{changed_all};
 ghost use Rattle.rls_guard.specs.Effects.{changes_of};
-ghost use Rattle.rls_access.specs.Statements.{role_after};
-ghost use Rattle.rls_access.specs.Transactions.{first_ctx, ctx_after};
-ghost use Rattle.rls_meaning.specs.Meaning.{effect_of};
+ghost use Rattle.rls_audit.specs.rls_access.specs.Statements.{role_after};
+ghost use Rattle.rls_audit.specs.rls_access.specs.Transactions.{first_ctx, ctx_after};
+ghost use Rattle.rls_explain.specs.rls_meaning.specs.Meaning.{effect_of};
 
-use rls_access::{Ctx, Effect, Outcome, run_statement};
+use rls_audit::rls_access::{Ctx, Effect, Outcome, run_statement};
+use rls_audit::rls_core::Begin;
+use rls_audit::rls_rows::State;
 use rls_audit::{are_in_order, in_order};
 use rls_catalog::{Change, Delta};
-use rls_core::Begin;
-use rls_meaning::statement_means;
-use rls_rows::State;
+use rls_explain::rls_meaning::statement_means;
 use rls_statement::Statement;
 use std::alloc::{AllocError, Global};
 

@@ -9,8 +9,8 @@ ghost use Rattle.rls_check.specs.Checking.{AgreeWhere, no_changes, state_by, wid
 ghost use Rattle.rls_check.specs.Committing.{IsCommitting, IsPutOn};
 
 use crate::agreeing::{agree_on, note_changed};
+use rls_audit::rls_rows::State;
 use rls_catalog::Delta;
-use rls_rows::State;
 use rls_source::Footprint;
 use std::alloc::{AllocError, Global};
 

@@ -10,8 +10,8 @@ ghost use Rattle.rls_check.specs.Keeping as spec;
 ghost use Rattle.rls_check.specs.Keeping.{IsMade, Keeps, KeepsAnswer, KeepsPut, table_of};
 
 use crate::transaction::{Answer, Put, Transaction};
+use rls_audit::rls_core::Begin;
 use rls_audit::{Answered, Changed, Shown, TableShape};
-use rls_core::Begin;
 use rls_expr::{Column, Policy, TableDef};
 use rls_statement::Statement;
 use rls_text::parse;

@@ -24,4 +24,6 @@ pub use converting::Converter;
 pub use explaining::Why;
 pub use finding::Finding;
 pub use laws::{conversions_are_same, lines_are_shown};
+pub use rls_audit;
+pub use rls_explain::rls_meaning;
 pub use transaction::{Answer, Put, Transaction};

@@ -7,9 +7,9 @@ ghost use Rattle.rls_check.specs.Audited.{written_of};
 ghost use Rattle.rls_check.specs.Checking.{ArePuts, IsAnswer};
 
 use crate::transaction::{Answer, Put};
-use rls_access::{Decision, Effect};
+use rls_agreement::rls_equality::{Same, are_same};
+use rls_audit::rls_access::{Decision, Effect};
 use rls_catalog::{Change, Keyed};
-use rls_equality::{Same, are_same};
 use rls_value::{Items, Row};
 
 /// Whether the effect is the reply or the refusal that is shown, with its decisions.

@@ -4,7 +4,7 @@ ghost use Rattle.std.specs.Prelude.{◌≡◌, ◌++◌, length, None, IfOk, OnO
 ghost use Rattle.std.specs.List.{flat_map};
 ghost use Rattle.rls_audit.specs.Lines.{ordered_changes};
 ghost use Rattle.rls_history.specs.Orders.{StandInTurn, none_placed};
-ghost use Rattle.rls_core.specs.Alone.{effects_alone, state_alone, changes_made};
+ghost use Rattle.rls_audit.specs.rls_core.specs.Alone.{effects_alone, state_alone, changes_made};
 ghost use Rattle.rls_check.specs.Audited.{asked_of};
 ghost use Rattle.rls_check.specs.Checking.{FirstOther, IsRunAlone, history_of, no_changes};
 ghost use Rattle.rls_check.specs.Committing.{HasRunAlong, IsCommitting};
@@ -16,8 +16,8 @@ use crate::matching::{are_puts, is_answer};
 use crate::ordering::transaction_at;
 use crate::stored::Stored;
 use crate::transaction::{Answer, Transaction};
+use rls_audit::rls_rows::State;
 use rls_catalog::Delta;
-use rls_rows::State;
 use std::alloc::{AllocError, Global};
 
 /// What a run of a transaction comes to: as it is shown, the state that it leaves and its changes; or what is found first.

@@ -1,9 +1,9 @@
 //! The lines of an explanation.
 
 use crate::explaining::Why;
-use rls_access::{Decision, Effect, Reply};
+use rls_audit::rls_access::{Decision, Effect, Reply};
+use rls_audit::rls_printing::print;
 use rls_explain::{DecisionText, Explained, Said};
-use rls_printing::print;
 use rls_value::{Refusal, Tag};
 use std::alloc::{AllocError, Global};
 

@@ -1,8 +1,8 @@
 //! A transaction as an audit shows it.
 
 use rls_audit::Audited;
+use rls_audit::rls_core::Begin;
 use rls_catalog::{Grant, Membership, RoleDef};
-use rls_core::Begin;
 use rls_expr::{Policy, TableDef};
 use rls_guard::{Decision, Reply};
 use rls_statement::Statement;

@@ -5,7 +5,7 @@ use Rattle.std.proofs.Common.{ap, sym, subst, ◌∙◌, inl, inr}
 use Rattle.std.proofs.lemmas.Option.{none-some}
 use Rattle.rls_value.specs.{declared.row.RowId.RowId, Values.value_at}
 use Rattle.rls_value.specs.declared.object.Object.TheVariants as o
-use Rattle.rls_expr.specs.declared.table.TableDef.{TableDef}
+use Rattle.rls_catalog.specs.rls_expr.specs.declared.table.TableDef.{TableDef}
 use Rattle.rls_catalog.specs.{declared.stored.Keyed.Keyed, declared.change.Change.Change}
 use Rattle.rls_catalog.specs.State.{State, table_of, entries_of}
 use Rattle.rls_catalog.specs.Bases.{Base, base_of, row_at}

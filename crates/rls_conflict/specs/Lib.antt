@@ -22,3 +22,4 @@ pub use Rattle.rls_siread.specs.Promotion
 pub use Rattle.rls_siread.specs.Covering
 pub use Rattle.rls_siread.specs.Locks
 pub use Rattle.rls_siread.specs.Index
+pub use Rattle.rls_siread

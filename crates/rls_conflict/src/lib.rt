@@ -27,6 +27,7 @@ pub use changes::{changes_are_put, sound_rows_join};
 pub use conflicts::Conflicts;
 pub use examples::examples_mean;
 pub use ready::Ready;
+pub use rls_siread;
 pub use structures::structures_are_found;
 pub use transaction::Transaction;
 pub use words::words_are_told;

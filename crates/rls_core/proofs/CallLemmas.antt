@@ -10,8 +10,8 @@ use Rattle.rls_value.specs.declared.refusal.Cause.{Cause}
 use Rattle.rls_catalog.specs.State.{State}
 use Rattle.rls_catalog.specs.Changed.{opening, changed_all}
 use Rattle.rls_catalog.specs.SoundRows.{RowsAreSound}
-use Rattle.rls_siread.specs.Covering.{covered_of}
-use Rattle.rls_access.specs.{Transactions.Begin, Transactions.may_begin}
+use Rattle.rls_conflict.specs.rls_siread.specs.Covering.{covered_of}
+use Rattle.rls_meaning.specs.rls_access.specs.{Transactions.Begin, Transactions.may_begin}
 use Rattle.rls_history.specs.History.{History}
 use Rattle.rls_history.specs.Structures.{is_dangerous, IsInStructure, NoStructureBelow}
 use Rattle.rls_history.specs.Orders.{IsHistory, IsNext, StandInTurn, IsOrder, with_placed, none_placed}

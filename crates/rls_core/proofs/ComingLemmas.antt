@@ -13,8 +13,8 @@ use Rattle.rls_catalog.specs.declared.change.Change.{Change}
 use Rattle.rls_source.specs.Footprints.{footprint_of}
 use Rattle.rls_statement.specs.declared.statement.Statement.{Statement}
 use Rattle.rls_guard.specs.{declared.context.Ctx.Ctx, declared.effect.Effect.Effect, Effects.changes_of}
-use Rattle.rls_dml.specs.NextRows.{AllFree, InRange}
-use Rattle.rls_access.specs.{Statements.step, Statements.effect_in, Statements.role_after, Leaving.GoOn}
+use Rattle.rls_meaning.specs.rls_dml.specs.NextRows.{AllFree, InRange}
+use Rattle.rls_meaning.specs.rls_access.specs.{Statements.step, Statements.effect_in, Statements.role_after, Leaving.GoOn}
 use Rattle.rls_conflict.specs.Begun.{at_number}
 use Rattle.rls_conflict.specs.Transactions.{Transaction, nobody}
 use Rattle.rls_conflict.specs.Known.{Known, running_of, running_at, is_running, posted, AreFound, Becomes}

@@ -8,7 +8,7 @@ use Rattle.rls_value.specs.declared.refusal.TxnState.TheVariants.{NoneInProgress
 use Rattle.rls_value.specs.declared.refusal.Cause.{Cause}
 use Rattle.rls_value.specs.declared.refusal.Cause.TheVariants as cause
 use Rattle.rls_statement.specs.declared.statement.Statement.{Statement}
-use Rattle.rls_access.specs.Transactions.{Begin}
+use Rattle.rls_meaning.specs.rls_access.specs.Transactions.{Begin}
 use Rattle.rls_core.specs.Events.{Event, Running, World}
 use Rattle.rls_core.specs.Seen.{Seen, runs_at, Happens}
 use Rattle.rls_core.specs.Calls.{NotBegun, NotWorked, NotPosted, NotReady, NotCommitted, IsStopped, stops, is_serial, MayCommit}

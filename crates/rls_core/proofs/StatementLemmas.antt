@@ -2,7 +2,7 @@
 use Rattle.std.specs.Prelude.{◌≡◌, refl, ℕ, List, [], ◌∷◌, Option, Some, None, ◌⊎◌}
 use Rattle.std.proofs.Common.{ap, sym, subst, ◌∙◌, inl, inr}
 use Rattle.rls_value.specs.{declared.row.RowId.RowId, declared.object.Object.Object}
-use Rattle.rls_expr.specs.declared.table.TableDef.{TableDef}
+use Rattle.rls_catalog.specs.rls_expr.specs.declared.table.TableDef.{TableDef}
 use Rattle.rls_catalog.specs.{declared.stored.Keyed.Keyed, declared.change.Change.Change, InOrder.Ascend}
 use Rattle.rls_catalog.specs.State.{State, table_of, entries_of, AgreesAt, AgreesOn}
 use Rattle.rls_catalog.specs.Changed.{changed, changed_all}
@@ -13,8 +13,8 @@ use Rattle.rls_catalog.proofs.InOrderLaws.{none_ascend}
 use Rattle.rls_source.specs.Footprints.{footprint_of}
 use Rattle.rls_statement.specs.declared.statement.Statement.{Statement}
 use Rattle.rls_guard.specs.{declared.context.Ctx.Ctx, Effects.changes_of, Effects.shown, Keeping.TablesStay}
-use Rattle.rls_dml.specs.NextRows.{AllFree, next_row}
-use Rattle.rls_access.specs.{Framing.framed_by, Leaving.GoOn, Statements.step, Statements.effect_in}
+use Rattle.rls_meaning.specs.rls_dml.specs.NextRows.{AllFree, next_row}
+use Rattle.rls_meaning.specs.rls_access.specs.{Framing.framed_by, Leaving.GoOn, Statements.step, Statements.effect_in}
 use Rattle.rls_meaning.specs.Meaning.{StatementMeans}
 use Rattle.rls_history.specs.States.{IsAmong, put_all, Fits, Agree}
 use Rattle.rls_history.specs.Lawful.{PutsAre, IsLawful}

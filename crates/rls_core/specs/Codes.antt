@@ -10,7 +10,7 @@ use Rattle.rls_statement.specs.contracts.statement.Statement as statement
 use Rattle.rls_guard.specs.{declared.context.Mode.Mode, declared.effect.Effect.Effect}
 use Rattle.rls_guard.specs.contracts.context.Mode as mode
 use Rattle.rls_guard.specs.contracts.effect.Effect as effect
-use Rattle.rls_access.specs.Transactions.{Begin}
+use Rattle.rls_meaning.specs.rls_access.specs.Transactions.{Begin}
 use Rattle.rls_core.specs.Records.{Record}
 
 -- the code of what a transaction begins as

@@ -6,8 +6,8 @@ use Rattle.rls_catalog.specs.Changed.{opening}
 use Rattle.rls_catalog.specs.Bases.{Base, shows}
 use Rattle.rls_catalog.specs.SoundRows.{RowsAreSound}
 use Rattle.rls_source.specs.Footprints.{is_among}
-use Rattle.rls_dml.specs.NextRows.{AllFree}
-use Rattle.rls_access.specs.Transactions.{may_begin}
+use Rattle.rls_meaning.specs.rls_dml.specs.NextRows.{AllFree}
+use Rattle.rls_meaning.specs.rls_access.specs.Transactions.{may_begin}
 use Rattle.rls_history.specs.History.{concurrent}
 use Rattle.rls_history.specs.Structures.{NoStructureBelow, Finds}
 use Rattle.rls_history.specs.Orders.{IsHistory, IsOrder}

@@ -18,3 +18,9 @@ pub use Rattle.rls_conflict.specs.Commits
 pub use Rattle.rls_conflict.specs.Causes
 pub use Rattle.rls_history.specs.Orders
 pub use Rattle.rls_history.specs.Structures
+pub use Rattle.rls_conflict
+pub use Rattle.rls_conflict.specs.rls_siread
+pub use Rattle.rls_meaning.specs.rls_access
+pub use Rattle.rls_meaning.specs.rls_ddl
+pub use Rattle.rls_meaning.specs.rls_dml
+pub use Rattle.rls_rows

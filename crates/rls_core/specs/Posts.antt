@@ -2,7 +2,7 @@
 use Rattle.std.specs.Prelude.{List, map}
 use Rattle.rls_statement.specs.declared.statement.Statement.{Statement}
 use Rattle.rls_guard.specs.declared.effect.Effect.{Effect}
-use Rattle.rls_access.specs.Transactions.{Begin}
+use Rattle.rls_meaning.specs.rls_access.specs.Transactions.{Begin}
 use Rattle.rls_conflict.specs.Transactions.{Transaction}
 use Rattle.rls_core.specs.Posted.{Posted}
 use Rattle.rls_core.specs.Records.{Record}

@@ -2,7 +2,7 @@
 use Rattle.std.specs.Prelude.{◌≡◌, ℕ, List, [], length, Option}
 use Rattle.rls_catalog.specs.State.{State}
 use Rattle.rls_history.specs.Structures.{is_dangerous}
-use Rattle.rls_siread.specs.Promotion.{noted_with}
+use Rattle.rls_conflict.specs.rls_siread.specs.Promotion.{noted_with}
 use Rattle.rls_conflict.specs.Begun.{at_number}
 use Rattle.rls_core.specs.Records.{Record, state_after}
 use Rattle.rls_core.specs.Events.{Event, Running, World, Rules, happens, after}

@@ -5,7 +5,7 @@ use Rattle.rls_catalog.specs.State.{State}
 use Rattle.rls_catalog.specs.StateCode.{state_code}
 use Rattle.rls_guard.specs.declared.context.Ctx.{Ctx}
 use Rattle.rls_guard.specs.contracts.context.Ctx as ctx
-use Rattle.rls_access.specs.Transactions.{Begin}
+use Rattle.rls_meaning.specs.rls_access.specs.Transactions.{Begin}
 use Rattle.rls_core.specs.Posted.{Posted, posted_code}
 use Rattle.rls_core.specs.Records.{Record}
 use Rattle.rls_core.specs.Events.{Running}

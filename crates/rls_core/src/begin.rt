@@ -16,7 +16,7 @@ pub struct Begin {
 }
 
 impl Model for Begin {
-    ghost use Rattle.rls_access.specs.Transactions.{Begin};
+    ghost use Rattle.rls_meaning.specs.rls_access.specs.Transactions.{Begin};
     ghost use Rattle.rls_core.specs.Codes.{begin_code};
 
     ghost Value = { Begin };

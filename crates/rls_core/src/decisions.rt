@@ -4,8 +4,8 @@ ghost use Rattle.std.specs.Prelude.{◌≡◌, ◌<◌, true, length, slice_get,
 ghost use Rattle.rls_core.specs.Decided.{said_by, said_at, decision_of, decisions_by, AreSaid, StandsAt, Extends};
 
 use rls_catalog::{Side, Verdict};
-use rls_equality::Same;
 use rls_guard::Decision;
+use rls_guard::rls_equality::Same;
 use rls_value::{Items, Kind, RowId};
 use std::alloc::{AllocError, Global};
 use std::marker::Model;

@@ -4,8 +4,8 @@ ghost use Rattle.rls_core.specs.Events.{plain_rules};
 ghost use Rattle.rls_core.specs.Headline.{AfterEvents, AreExplained, AreSafe, EachFindsSnapshots, HaveOrder};
 
 use crate::database::Rls;
-use rls_access::{changes_go_on, numbers_go_on, rows_stay_sound};
 use rls_conflict::{changes_are_put, sound_rows_join, words_are_told};
+use rls_meaning::rls_access::{changes_go_on, numbers_go_on, rows_stay_sound};
 use rls_meaning::statement_means;
 
 /// After every list of begins, posts, commits and rollbacks the committed transactions have an order that keeps `before` and

@@ -3,8 +3,8 @@
 ghost use Rattle.rls_core.specs.Headline.{AfterEvents, AreAdmitted, AreRecorded, CanBeOrdered, KeysStayUnique, NumbersDiffer, NumbersNeverMeet, OneMore, PostsAreTested, WriteApart};
 
 use crate::database::Rls;
-use rls_access::{changes_go_on, numbers_go_on, rows_stay_sound};
 use rls_conflict::{changes_are_put, sound_rows_join, words_are_told};
+use rls_meaning::rls_access::{changes_go_on, numbers_go_on, rows_stay_sound};
 use rls_meaning::statement_means;
 
 /// After every list of events no dangerous structure stands among the committed transactions, so an order can be made of them;

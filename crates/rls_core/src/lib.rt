@@ -26,5 +26,7 @@ pub use machine::Core;
 pub use posted::Posted;
 pub use ready::Ready;
 pub use record::Record;
+pub use rls_meaning::rls_access;
+pub use rls_rows;
 pub use rules::core_rules_are_safe;
 pub use work::Work;

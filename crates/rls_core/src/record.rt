@@ -6,10 +6,10 @@ ghost use Rattle.rls_core.specs.Posts.{record_of, statement_of, effect_of};
 use crate::begin::Begin;
 use crate::posted::Posted;
 use rls_catalog::Delta;
+use rls_catalog::shared_map::Share;
 use rls_conflict::Transaction;
 use rls_source::Footprint;
 use rls_value::Items;
-use shared_map::Share;
 use std::alloc::AllocError;
 use std::marker::Model;
 

@@ -7,6 +7,6 @@ ghost use Rattle.rls_core.specs.Seen.{core_rules};
 pub fn core_rules_are_safe()
     ensures { AreSafe core_rules }
 {
-    rls_siread::notes_only_widen();
+    rls_conflict::rls_siread::notes_only_widen();
     rls_history::structures_are_found();
 }

@@ -1,6 +1,6 @@
 //! A statement that was run, and isn't posted yet.
 
-use rls_access::Outcome;
+use rls_meaning::rls_access::Outcome;
 use rls_statement::Statement;
 
 /// A statement of a transaction, and what it comes to on the transaction's own view.

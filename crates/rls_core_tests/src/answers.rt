@@ -1,7 +1,7 @@
 //! What a core answered, as a text.
 
-use rls_access::{Effect, Reply};
-use rls_core::{Core, Posted};
+use rls_audit::rls_access::{Effect, Reply};
+use rls_audit::rls_core::{Core, Posted};
 use rls_value::{Refusal, Row, Tag, Value};
 use std::alloc::{AllocError, Global};
 

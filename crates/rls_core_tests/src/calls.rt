@@ -1,8 +1,8 @@
 //! Calls that histories don't make.
 
 use crate::opening::begin_as;
-use rls_access::Mode;
-use rls_core::{Core, Event, run};
+use rls_audit::rls_access::Mode;
+use rls_audit::rls_core::{Core, Event, run};
 use rls_text::parse;
 use rls_value::Refusal;
 use std::alloc::Global;
@@ -37,22 +37,19 @@ fn has_only(core: &Core, txn: u64) -> bool {
     }
 }
 
-fn begins(alloc: Global) -> Result<Event, Refusal> {
-    Ok(Event::Begins(begin_as(alloc, "postgres", Mode::Write)?))
-}
-
-fn posts(alloc: Global, txn: u64) -> Result<Event, Refusal> {
-    Ok(Event::Posts(txn, parse(alloc, "CREATE ROLE r")?))
-}
-
 /// One that commits, and one that begins behind it.
 fn two_transactions(alloc: Global) -> Result<[Event; 4], Refusal> {
-    Ok([
-        begins(alloc)?,
-        posts(alloc, 1)?,
-        Event::Commits(1),
-        begins(alloc)?,
-    ])
+    let one = begin_as(alloc, "postgres", Mode::Write)?;
+    let other = begin_as(alloc, "postgres", Mode::Write)?;
+    match parse(alloc, "CREATE ROLE r") {
+        Ok(statement) => Ok([
+            Event::Begins(one),
+            Event::Posts(1, statement),
+            Event::Commits(1),
+            Event::Begins(other),
+        ]),
+        Err(refusal) => Err(refusal),
+    }
 }
 
 /// One commits, one is rolled back, and one of no number is asked to commit.

@@ -2,7 +2,7 @@
 
 use crate::opening::{opened, with_a_batch, with_information, with_two_rows};
 use crate::playing::{has_order, play};
-use rls_core::Core;
+use rls_audit::rls_core::Core;
 use std::alloc::Global;
 use std::process::Abort;
 

@@ -2,8 +2,8 @@
 
 use crate::opening::{begin_as, opened, post};
 use crate::playing::play;
-use rls_access::Mode;
-use rls_core::Core;
+use rls_audit::rls_access::Mode;
+use rls_audit::rls_core::Core;
 use rls_value::Refusal;
 use std::alloc::Global;
 

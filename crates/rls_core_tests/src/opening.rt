@@ -1,7 +1,7 @@
 //! Cores that histories begin on.
 
-use rls_access::Mode;
-use rls_core::{Begin, Core};
+use rls_audit::rls_access::Mode;
+use rls_audit::rls_core::{Begin, Core};
 use rls_text::parse;
 use rls_value::{Name, Refusal};
 use std::alloc::Global;

@@ -2,8 +2,8 @@
 
 use crate::answers::{last_answer, refusal_text};
 use crate::opening::begin_as;
-use rls_access::Mode;
-use rls_core::Core;
+use rls_audit::rls_access::Mode;
+use rls_audit::rls_core::Core;
 use rls_statement::{AccessMode, Command, Statement};
 use rls_text::parse_command;
 use rls_value::Refusal;

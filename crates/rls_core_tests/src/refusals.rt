@@ -2,7 +2,7 @@
 
 use crate::opening::opened;
 use crate::playing::play;
-use rls_core::Core;
+use rls_audit::rls_core::Core;
 use rls_text::parse;
 use rls_value::{Refusal, TxnState};
 use std::alloc::Global;

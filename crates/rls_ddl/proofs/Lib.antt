@@ -2,3 +2,4 @@ pub mod PolicyOrderLaws
 pub mod PrimaryKeyLaws
 pub mod RowsLeftLemmas
 pub mod TablesLeftLemmas
+mod PassedOn

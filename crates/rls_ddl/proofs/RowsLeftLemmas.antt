@@ -4,9 +4,9 @@ use Rattle.rls_value.specs.{declared.refusal.Refusal.Refusal, declared.refusal.R
 use Rattle.rls_expr.specs.{declared.table.TableDef.TableDef, declared.policy.Policy.Policy, Scopes.InScope}
 use Rattle.rls_catalog.specs.{declared.change.Change.Change, declared.grant.Grant.Grant, declared.role.RoleDef.RoleDef, Membership.fresh, SoundRows.RowsAreSound, State.State, State.table_of, Changed.changed, Changed.changed_all, PolicyLists.with_policy, PolicyLists.without_policy}
 use Rattle.rls_source.specs.{Asked.asked_grants, Asked.asked_policies, Asked.asked_role, Askings.Asking, Askings.asked_if, Askings.followed_by, Askings.known, Named.grantees_or_undefined, Named.role_or_undefined, Named.roles_or_undefined, Named.table_or_undefined}
-use Rattle.rls_role.specs.{declared.holding.HeldMembership.HeldMembership, declared.effective_roles.EffectiveRoles.EffectiveRoles, Reaching.effective_roles_of}
-use Rattle.rls_role.specs as members
-use Rattle.rls_grant.specs as privileges
+use Rattle.rls_guard.specs.rls_role.specs.{declared.holding.HeldMembership.HeldMembership, declared.effective_roles.EffectiveRoles.EffectiveRoles, Reaching.effective_roles_of}
+use Rattle.rls_guard.specs.rls_role.specs as members
+use Rattle.rls_guard.specs.rls_grant.specs as privileges
 use Rattle.rls_guard.specs.{declared.context.Ctx.Ctx, declared.effect.Effect.Effect, Checks.superuser_or_denied, Effects.writes, RolePrivileges.ownership, Keeping.IfDone, Keeping.IsNoRow, Keeping.LeavesRows, Keeping.TablesStay, Naming.named, Naming.names_over}
 use Rattle.rls_statement.specs.{declared.statement.SetRole.SetRole, declared.statement.AlterPolicy.AlterPolicy, declared.statement.AlterRole.AlterRole, declared.statement.CreatePolicy.CreatePolicy, declared.statement.CreateRole.CreateRole, declared.statement.DropPolicy.DropPolicy, declared.statement.GrantPrivileges.GrantPrivileges, declared.statement.GrantRoles.GrantRoles, declared.statement.RevokePrivileges.RevokePrivileges, declared.statement.RevokeRoles.RevokeRoles}
 use Rattle.rls_ddl.specs.{AlteringPolicies.alter_policy, AlteringPolicies.alteration_made, AlteringPolicies.alteration_of, AlteringPolicies.alteration_over, AlteringPolicies.alteration_on, AlteringPolicies.conditions_or_refused, AlteringPolicies.with_altered, AlteringRoles.alter_role, AlteringRoles.role_altered, AlteringRoles.role_changed, Conditions.condition_names, NamedPolicies.policy_or_undefined, CreatingRoles.create_role, CreatingRoles.role_made, CreatingRoles.role_with, DroppingPolicies.drop_on, DroppingPolicies.drop_policy, DroppingPolicies.policy_dropped, CreatingPolicies.create_policy, CreatingPolicies.policy_added, CreatingPolicies.policy_made, CreatingPolicies.policy_on, CreatingPolicies.policy_or_refused, Granting.grant, Granting.grant_roles, Granting.revoke, Granting.revoke_roles, Granting.written, SettingRoles.asked_may_set, SettingRoles.role_set, SettingRoles.set_or_denied, SettingRoles.set_role, AlteringPolicies.roles_or_undefined as policy_roles_or_undefined}

@@ -11,7 +11,7 @@ use Rattle.rls_statement.specs.{declared.statement.CreateTable.CreateTable, decl
 use Rattle.rls_guard.specs.{declared.context.Ctx.Ctx, declared.effect.Effect.Effect, Effects.writes}
 use Rattle.rls_source.specs.Askings.{Asking, known, asked_if, followed_by}
 use Rattle.rls_source.specs.{Asked.asked_table, Asked.asked_grants, Named.found_or, Sequences.each_of}
-use Rattle.rls_grant.specs.Granting.{own_grants, with_grants}
+use Rattle.rls_guard.specs.rls_grant.specs.Granting.{own_grants, with_grants}
 
 -- ---- the primary key
 

@@ -4,10 +4,10 @@ use Rattle.std.specs.Prelude.{List, Ok}
 use Rattle.rls_catalog.specs.declared.change.Change.{Change}
 use Rattle.rls_statement.specs.{declared.statement.GrantPrivileges.GrantPrivileges, declared.statement.GrantRoles.GrantRoles, declared.statement.RevokePrivileges.RevokePrivileges, declared.statement.RevokeRoles.RevokeRoles}
 use Rattle.rls_source.specs.Askings.{Asking, known, followed_by}
-use Rattle.rls_role.specs.Granting as members
-use Rattle.rls_role.specs.Revoking as members_left
-use Rattle.rls_grant.specs.Granting as privileges
-use Rattle.rls_grant.specs.Revoking as privileges_left
+use Rattle.rls_guard.specs.rls_role.specs.Granting as members
+use Rattle.rls_guard.specs.rls_role.specs.Revoking as members_left
+use Rattle.rls_guard.specs.rls_grant.specs.Granting as privileges
+use Rattle.rls_guard.specs.rls_grant.specs.Revoking as privileges_left
 use Rattle.rls_guard.specs.{declared.context.Ctx.Ctx, declared.effect.Effect.Effect, Effects.writes}
 
 -- the changes are written

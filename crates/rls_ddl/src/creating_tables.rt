@@ -5,12 +5,12 @@ ghost use Rattle.rls_source.specs.Answering.{Answers};
 ghost use Rattle.rls_guard.specs.Effects.{writes};
 ghost use Rattle.rls_ddl.specs.CreatingTables as spec;
 ghost use Rattle.rls_ddl.specs.CreatingTables.{table_with};
-ghost use Rattle.rls_grant.specs.Granting.{own_grants, with_grants};
+ghost use Rattle.rls_guard.specs.rls_grant.specs.Granting.{own_grants, with_grants};
 
 use crate::primary_keys::{columns_of, key_places};
 use rls_catalog::{Change, Delta, Grant};
 use rls_expr::TableDef;
-use rls_grant::{own_grants, put_grants};
+use rls_guard::rls_grant::{own_grants, put_grants};
 use rls_guard::{Ctx, Effect};
 use rls_source::{Reads, RowSource, noted_grants, noted_table};
 use rls_statement::CreateTable;

@@ -3,9 +3,9 @@
 ghost use Rattle.rls_source.specs.Answering.{Answers};
 ghost use Rattle.rls_ddl.specs.Granting as spec;
 
-use rls_grant::{grant, revoke};
+use rls_guard::rls_grant::{grant, revoke};
+use rls_guard::rls_role::{grant_member, revoke_member};
 use rls_guard::{Ctx, Effect};
-use rls_role::{grant_member, revoke_member};
 use rls_source::{Reads, RowSource};
 use rls_statement::{GrantPrivileges, GrantRoles, RevokePrivileges, RevokeRoles};
 use rls_value::Refusal;

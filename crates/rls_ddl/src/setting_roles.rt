@@ -6,8 +6,8 @@ ghost use Rattle.rls_ddl.specs.SettingRoles as spec;
 ghost use Rattle.rls_ddl.specs.SettingRoles.{asked_may_set, role_set, sets};
 
 use rls_catalog::Delta;
+use rls_guard::rls_role::{Step, effective_roles_by, note_effective_roles};
 use rls_guard::{Ctx, Effect, Reply};
-use rls_role::{Step, effective_roles_by, note_effective_roles};
 use rls_source::{Reads, RowSource, role_named};
 use rls_statement::SetRole;
 use rls_value::{Items, Name, Refusal, Why};
@@ -51,7 +51,7 @@ fn set_role<'c, S: RowSource<'c>>(
 }
 
 /// Whether the login may set the role. It reads the login and, unless that is a superuser, each role that it reaches.
-#[tactic(auto, unfolding(crate::specs::SettingRoles::may_set, crate::specs::SettingRoles::may_set_reads), using(rls_role::proofs::StepLaws::can_set_walked, rls_role::proofs::StepLaws::can_set_reads_walked))]
+#[tactic(auto, unfolding(crate::specs::SettingRoles::may_set, crate::specs::SettingRoles::may_set_reads), using(crate::proofs::PassedOn::can_set_walked, crate::proofs::PassedOn::can_set_reads_walked))]
 fn may_set<'c, S: RowSource<'c>>(
     alloc: Global,
     source: &mut S,

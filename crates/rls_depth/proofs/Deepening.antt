@@ -5,8 +5,8 @@ use Rattle.std.proofs.{Common.arith, Common.ap, Common.sym, Common.◌∙◌, Co
 use Rattle.rls_value.specs.{declared.value.Value.Value, Names.one_of, declared.verb.Kind.Kind}
 use Rattle.rls_expr.specs.{declared.policy.Policy.Policy, declared.table.TableDef.TableDef, Resolving.resolved, Terms.Term, Scopes.InScope, Scopes.known_table}
 use Rattle.rls_catalog.{specs.State.State, specs.Membership.Within, specs.declared.verdict.Side.Side, specs.Verdict.expression_of, proofs.Walks.bytes_own}
-use Rattle.rls_source.specs.Readings.{unread}
-use Rattle.rls_evaluation.specs.{declared.relation.SecuredRelation.SecuredRelation, Eval.Shows, declared.relation.SecurityQuals.SecurityQuals, Showing.shown, Showing.shows}
+use Rattle.rls_guard.specs.rls_source.specs.Readings.{unread}
+use Rattle.rls_guard.specs.rls_evaluation.specs.{declared.relation.SecuredRelation.SecuredRelation, Eval.Shows, declared.relation.SecurityQuals.SecurityQuals, Showing.shown, Showing.shows}
 use Rattle.rls_guard.specs.{SecurityQuals.with_condition, SecurityQuals.conditions_of, Naming.names_over}
 use Rattle.rls_recursion.specs.{declared.dependency.PolicyDependency.PolicyDependency, Searching.InOrder, Searching.has_subquery_in, Searching.subquery_tables_in, Searching.dependency_in}
 use Rattle.rls_expansion.specs.{Relations.known_in, Relations.quals_of, Relations.relation_for, Relations.relations_of, Used.tables_of, Used.tables_if}

@@ -7,8 +7,8 @@ use Rattle.rls_expr.specs.{declared.expr.Category.Category, declared.expr.Compar
 use Rattle.rls_expr.specs.declared.policy.Grantee.TheVariants as g
 use Rattle.rls_catalog.specs.declared.verdict.Side.TheVariants as side
 use Rattle.rls_catalog.specs.{Membership.nobody, State.State}
-use Rattle.rls_source.specs.Asked.{policies_at, rows_at, table_at}
-use Rattle.rls_evaluation.specs.{declared.relation.SecurityQuals.SecurityQuals, Showing.shows, declared.relation.SecurityQuals.TheVariants.Exempt, declared.relation.SecurityQuals.TheVariants.Policies}
+use Rattle.rls_guard.specs.rls_source.specs.Asked.{policies_at, rows_at, table_at}
+use Rattle.rls_guard.specs.rls_evaluation.specs.{declared.relation.SecurityQuals.SecurityQuals, Showing.shows, declared.relation.SecurityQuals.TheVariants.Exempt, declared.relation.SecurityQuals.TheVariants.Policies}
 use Rattle.rls_guard.specs.declared.role_privileges.RolePrivileges.{RolePrivileges}
 use Rattle.rls_expansion.specs.{Policies.policies_for, Expanding.past_policies, Expanding.expansion_of, Dependencies.dependency_in as dependency_there, Dependencies.dependency_of, Dependencies.dependencies_of}
 use Rattle.rls_depth.specs.Deep.{shows_deep, state_quals}

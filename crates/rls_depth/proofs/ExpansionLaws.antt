@@ -5,8 +5,8 @@ use Rattle.std.proofs.{Common.ap, Common.sym, Common.◌∙◌, Common.subst, le
 use Rattle.rls_value.specs.{declared.value.Value.Value, declared.verb.Kind.Kind, Names.one_of}
 use Rattle.rls_expr.specs.{declared.policy.Policy.Policy, declared.table.TableDef.TableDef, Scopes.InScope}
 use Rattle.rls_catalog.specs.{declared.verdict.Side.Side, Membership.Within, State.State, State.policies_of, State.table_of, Verdict.chosen, Verdict.exempts, Verdict.expression_of}
-use Rattle.rls_source.specs.{Asked.asked_policies, Asked.policies_at, Askings.asked_if, Askings.followed_by, Askings.known}
-use Rattle.rls_evaluation.specs.{Eval.Shows, declared.relation.SecurityQuals.TheVariants.Policies, Showing.shown, Showing.shows, Showing.verdict_on}
+use Rattle.rls_guard.specs.rls_source.specs.{Asked.asked_policies, Asked.policies_at, Askings.asked_if, Askings.followed_by, Askings.known}
+use Rattle.rls_guard.specs.rls_evaluation.specs.{Eval.Shows, declared.relation.SecurityQuals.TheVariants.Policies, Showing.shown, Showing.shows, Showing.verdict_on}
 use Rattle.rls_guard.specs.{declared.role_privileges.RolePrivileges.RolePrivileges, SecurityQuals.quals_from, RolePrivileges.has_owner}
 use Rattle.rls_recursion.specs.{declared.dependency.PolicyDependency.PolicyDependency, declared.searching.Reached.Reached, Searching.ChecksEach, Searching.InOrder, Searching.ordered_by}
 use Rattle.rls_expansion.specs.{declared.expansion.PolicyExpansion.PolicyExpansion, Relations.known_in, Policies.policies_for, Dependencies.dependencies_of, Used.Ask, Used.expression_by, Used.takes_check, Used.takes_using, Expanding.asks_of, Expanding.asks_on, Expanding.judges_new, Expanding.judges_old, Expanding.own_tables, Expanding.past_policies, Expanding.expanded_from, Expanding.expansion_by, Expanding.expansion_of, Expanding.row_checks_if}

@@ -6,7 +6,7 @@ use Rattle.rls_value.specs.{declared.refusal.Refusal.Refusal, Giving.and_then, N
 use Rattle.rls_expr.specs.{declared.policy.Policy.Policy, declared.table.TableDef.TableDef, Scopes.InScope, Scopes.known_table}
 use Rattle.rls_catalog.specs.{Membership.fresh, Membership.Within, Verdict.exempts, State.State, State.table_of, State.policies_of}
 use Rattle.rls_catalog.proofs.Walks.{left, left_all, fresh_few, one_of_last, among_first, bytes_same, reads_all}
-use Rattle.rls_source.specs.{Asked.asked_policies, Asked.policies_at, Asked.table_at, Askings.asked_if, Askings.followed_by, Askings.known}
+use Rattle.rls_guard.specs.rls_source.specs.{Asked.asked_policies, Asked.policies_at, Asked.table_at, Askings.asked_if, Askings.followed_by, Askings.known}
 use Rattle.rls_guard.specs.{declared.role_privileges.RolePrivileges.RolePrivileges, RolePrivileges.has_owner}
 use Rattle.rls_recursion.specs.{declared.dependency.PolicyDependency.PolicyDependency, Searching.subquery_tables_in, Searching.subquery_tables_of, Searching.dependency_in, Searching.tables_in}
 use Rattle.rls_expansion.specs.{Enough.collect, Enough.collect_end, Enough.collect_step, Enough.visits, Relations.known_in, Relations.with_known, Leading.named, Policies.policies_for, Dependencies.absent, Dependencies.dependency_by, Dependencies.dependency_in as dependency_there, Dependencies.dependency_if, Dependencies.dependency_of, Dependencies.dependencies_lead, Dependencies.dependencies_of}

@@ -1,2 +1,3 @@
 pub mod Deep
 pub mod Leading
+pub use Rattle.rls_expansion

@@ -4,3 +4,4 @@
 mod laws;
 
 pub use laws::{dependencies_lead, policy_expansion_means, role_means, shows_means, state_means};
+pub use rls_expansion;

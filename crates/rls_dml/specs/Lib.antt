@@ -9,3 +9,4 @@ pub mod Deleting
 pub mod Selecting
 pub mod Fitting
 pub mod NextRows
+pub use Rattle.rls_judging

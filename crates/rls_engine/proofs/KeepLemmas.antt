@@ -6,7 +6,7 @@ use Rattle.rls_value.specs.declared.refusal.Refusal.TheVariants.{NoMemory, TxnSt
 use Rattle.rls_value.specs.declared.refusal.TxnState.TheVariants.{NoneInProgress}
 use Rattle.rls_value.specs.declared.refusal.Cause.TheVariants as cause
 use Rattle.rls_statement.specs.declared.statement.Statement.{Statement}
-use Rattle.rls_access.specs.{Transactions.Begin, Transactions.may_begin}
+use Rattle.rls_core.specs.rls_access.specs.{Transactions.Begin, Transactions.may_begin}
 use Rattle.rls_history.specs.Structures.{is_dangerous}
 use Rattle.rls_core.specs.Records.{Record, history_by}
 use Rattle.rls_core.specs.Events.{Event, Running}

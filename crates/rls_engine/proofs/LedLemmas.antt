@@ -7,7 +7,7 @@ use Rattle.rls_value.specs.declared.refusal.Refusal.TheVariants.{NoMemory, TxnSt
 use Rattle.rls_value.specs.declared.refusal.TxnState.TheVariants.{NoneInProgress}
 use Rattle.rls_value.specs.declared.refusal.Cause.TheVariants as cause
 use Rattle.rls_statement.specs.declared.statement.Statement.{Statement}
-use Rattle.rls_access.specs.Transactions.{Begin}
+use Rattle.rls_core.specs.rls_access.specs.Transactions.{Begin}
 use Rattle.rls_core.specs.Events.{Event, World, happens, run, after}
 use Rattle.rls_core.specs.Seen.{Seen, world_of, core_rules, nothing_yet, Happens}
 use Rattle.rls_core.specs.Calls.{NotPosted}

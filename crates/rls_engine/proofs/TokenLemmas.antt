@@ -14,9 +14,9 @@ use Rattle.rls_catalog.specs.Changed.{changed, changed_all}
 use Rattle.rls_catalog.specs.declared.change.Change.{Change}
 use Rattle.rls_statement.specs.declared.statement.Statement.{Statement}
 use Rattle.rls_guard.specs.Effects.{changes_of}
-use Rattle.rls_access.specs.{Statements.effect_in, Transactions.Begin, Transactions.may_begin}
+use Rattle.rls_core.specs.rls_access.specs.{Statements.effect_in, Transactions.Begin, Transactions.may_begin}
 use Rattle.rls_history.specs.Structures.{is_dangerous}
-use Rattle.rls_conflict.specs.Begun.{at_number}
+use Rattle.rls_core.specs.rls_conflict.specs.Begun.{at_number}
 use Rattle.rls_core.specs.Records.{Record, record_at, history_by, state_after}
 use Rattle.rls_core.specs.Events.{Event, Running, World, with_running, is_taken, begin, post, commit, seen_by}
 use Rattle.rls_core.specs.Opened.{Looks}

@@ -8,7 +8,7 @@ use Rattle.rls_guard.specs.declared.reply.Reply.{Reply}
 use Rattle.rls_guard.specs.declared.effect.Effect.{Effect}
 use Rattle.rls_guard.specs.declared.effect.Effect.TheVariants as effect
 use Rattle.rls_statement.specs.declared.statement.Statement.{Statement}
-use Rattle.rls_access.specs.Transactions.{Begin, first_ctx}
+use Rattle.rls_core.specs.rls_access.specs.Transactions.{Begin, first_ctx}
 use Rattle.rls_core.specs.Records.{new_record}
 use Rattle.rls_core.specs.Seen.{Seen}
 use Rattle.rls_core.specs.Calls.{is_serial}

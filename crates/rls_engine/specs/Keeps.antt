@@ -1,6 +1,6 @@
 -- What lies under the lock, whenever it is got.
 use Rattle.std.specs.Prelude.{◌≡◌, ℕ, ◌+◌, ◌≤◌, List, length, Option, Some, None}
-use Rattle.rls_conflict.specs.Begun.{at_number}
+use Rattle.rls_core.specs.rls_conflict.specs.Begun.{at_number}
 use Rattle.rls_core.specs.Records.{Record}
 use Rattle.rls_core.specs.Events.{Running}
 use Rattle.rls_core.specs.Seen.{Seen, runs_at}

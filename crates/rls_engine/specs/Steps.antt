@@ -8,10 +8,10 @@ use Rattle.rls_value.specs.declared.refusal.Cause.TheVariants as cause
 use Rattle.rls_value.specs.declared.refusal.TxnState.TheVariants.{NoneInProgress}
 use Rattle.rls_statement.specs.declared.statement.Statement.{Statement}
 use Rattle.rls_guard.specs.Effects.{changes_of}
-use Rattle.rls_access.specs.Transactions.{Begin}
+use Rattle.rls_core.specs.rls_access.specs.Transactions.{Begin}
 use Rattle.rls_history.specs.Structures.{is_dangerous}
-use Rattle.rls_conflict.specs.Causes.{IsCauseOf}
-use Rattle.rls_conflict.specs.Written.{writes_object}
+use Rattle.rls_core.specs.rls_conflict.specs.Causes.{IsCauseOf}
+use Rattle.rls_core.specs.rls_conflict.specs.Written.{writes_object}
 use Rattle.rls_core.specs.Records.{Record, transaction_of, history_by}
 use Rattle.rls_core.specs.Events.{Event, Running}
 use Rattle.rls_core.specs.Seen.{Seen, runs_at, Happens, newest_state}

@@ -1,7 +1,7 @@
 //! What stands of a commit for good.
 
 use rls_core::Record;
-use rls_rows::State;
+use rls_core::rls_rows::State;
 
 /// The record of a committed transaction, and the state after its commit.
 #[derive(Drop)]

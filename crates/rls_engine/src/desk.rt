@@ -1,8 +1,8 @@
 //! What lies under the lock. Each method that changes it is one event of the core, or none.
 
 ghost use Rattle.std.specs.Prelude.{◌≡◌, ◌≤◌, Some, true, length, IfOk, OnErr, IfErr, IfSome, is_some};
-ghost use Rattle.rls_conflict.specs.Begun.{at_number};
-ghost use Rattle.rls_access.specs.Transactions.{first_ctx};
+ghost use Rattle.rls_core.specs.rls_conflict.specs.Begun.{at_number};
+ghost use Rattle.rls_core.specs.rls_access.specs.Transactions.{first_ctx};
 ghost use Rattle.rls_core.specs.Events.Event.{RollsBack};
 ghost use Rattle.rls_core.specs.Seen.{nothing_yet, newest_state, world_of};
 ghost use Rattle.rls_core.specs.Calls.{NotBegun, NotReady};
@@ -20,9 +20,9 @@ use crate::named::Named;
 use crate::place::Place;
 use crate::step::Step;
 use boxcar::{Pushed, Vec as Shared};
-use rls_access::Ctx;
+use rls_core::rls_access::Ctx;
+use rls_core::rls_rows::State;
 use rls_core::{Begin, Core, Ready, Record, Work};
-use rls_rows::State;
 use rls_value::Refusal;
 use std::alloc::{AllocError, Global};
 use std::collections::BTreeMap;

@@ -6,7 +6,7 @@ ghost use Rattle.rls_engine.specs.Knows.{IsOf};
 use crate::commit::Commit;
 use crate::named::Named;
 use boxcar::{Pushed, Vec as Shared};
-use rls_rows::State;
+use rls_core::rls_rows::State;
 use std::marker::{Model, PhantomData};
 
 /// The number and the token of a commit's place: they show its record and the state after it for good.

@@ -7,10 +7,10 @@ use Rattle.std.specs.Cmp.Lexicographic.{slice_cmp}
 use Rattle.std.specs.Ordering.{ordering_reverse}
 use Rattle.std.specs.declared.cmp.Ordering.{Ordering}
 use Rattle.std.specs.declared.cmp.Ordering.TheVariants.{Less, Equal, Greater}
-use Rattle.rls_value.specs.declared.value.Value.{Value}
-use Rattle.rls_value.specs.Values.{listed}
-use Rattle.rls_value.specs.Listing.{listed_total, rows_total}
-use Rattle.rls_value.proofs.ListingLaws.{values_same, rows_same}
+use Rattle.rls_catalog.specs.rls_value.specs.declared.value.Value.{Value}
+use Rattle.rls_catalog.specs.rls_value.specs.Values.{listed}
+use Rattle.rls_catalog.specs.rls_value.specs.Listing.{listed_total, rows_total}
+use Rattle.rls_catalog.specs.rls_value.proofs.ListingLaws.{values_same, rows_same}
 
 -- names are the same where their bytes are
 pub names_decide : (a b : List ℕ) → Decides (bytes_eq a b) (a ≡ b)

@@ -1,6 +1,6 @@
 -- Lists of terms.
 use Rattle.std.proofs.Common.{◌≡◌, ℕ, ◌+◌, ◌<◌, ◌≤◌, List, [], ◌∷◌, length, arith, ap}
-use Rattle.rls_expr.specs.Terms.{Term, terms_of, Terms, End, More}
+use Rattle.rls_catalog.specs.rls_expr.specs.Terms.{Term, terms_of, Terms, End, More}
 
 -- how many terms
 abbrev count : Terms → ℕ

@@ -1,8 +1,8 @@
 //! Equality of what a state keeps.
 
 use crate::same::{Same, are_both_same, are_same};
+use rls_catalog::rls_expr::{Column, Grantee, Policy, TableDef};
 use rls_catalog::{BorrowedRow, Grant, Keyed, Membership, RoleDef, Stored};
-use rls_expr::{Column, Grantee, Policy, TableDef};
 
 impl Same for RoleDef {
     fn is_same(&self, other: &RoleDef) -> bool {

@@ -3,8 +3,8 @@
 ghost use Rattle.std.specs.Prelude.{◌≡◌};
 
 use crate::same::{Same, are_both_same, are_same};
-use rls_expr::{ColumnName, FromItem, Selects, Var};
-use rls_value::{Name, Row, RowId, Value, cmp_rows, cmp_values};
+use rls_catalog::rls_expr::{ColumnName, FromItem, Selects, Var};
+use rls_catalog::rls_value::{Name, Row, RowId, Value, cmp_rows, cmp_values};
 use std::cmp::Ordering;
 
 impl Same for Name {

@@ -1,7 +1,7 @@
 //! Equality of refusals.
 
 use crate::same::{Same, are_both_same};
-use rls_value::{Cause, GrantFault, Object, Refusal, Why};
+use rls_catalog::rls_value::{Cause, GrantFault, Object, Refusal, Why};
 
 impl Same for Refusal {
     fn is_same(&self, other: &Refusal) -> bool {

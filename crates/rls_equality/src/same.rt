@@ -3,7 +3,7 @@
 ghost use Rattle.std.specs.Prelude.{◌≡◌, true, ◌↔◌};
 ghost use Rattle.std.specs.Option.{option_copied};
 
-use rls_value::Items;
+use rls_catalog::rls_value::Items;
 
 /// Values that can be told apart.
 pub trait Same {

@@ -1,11 +1,11 @@
 //! Equality of expressions.
 
 ghost use Rattle.std.specs.Prelude.{◌≡◌, ◌↔◌, true};
-ghost use Rattle.rls_expr.specs.ExprTerms.{query_of};
-ghost use Rattle.rls_expr.specs.Terms.{maybe_term, terms_of};
+ghost use Rattle.rls_catalog.specs.rls_expr.specs.ExprTerms.{query_of};
+ghost use Rattle.rls_catalog.specs.rls_expr.specs.Terms.{maybe_term, terms_of};
 
 use crate::same::{Same, are_same};
-use rls_expr::{Comparison, Expr, Node, Sign, Subquery};
+use rls_catalog::rls_expr::{Comparison, Expr, Node, Sign, Subquery};
 
 impl Same for Comparison {
     fn is_same(&self, other: &Comparison) -> bool {

@@ -6,7 +6,7 @@ use Rattle.std.specs.declared.cmp.Ordering.TheVariants.{Less, Equal, Greater}
 use Rattle.std.proofs.Common.{ap, sym, ◌∙◌, subst, arith}
 use Rattle.std.proofs.lemmas.Bool.{true≢false, or_left, or_right}
 use Rattle.rls_value.specs.{declared.value.Value.Value, declared.object.Object.Object, Objects.object_order, ObjectOrder.objects_total}
-use Rattle.rls_catalog.specs.State.{State}
+use Rattle.rls_verdict.specs.rls_catalog.specs.State.{State}
 use Rattle.rls_source.specs.{Footprints.with_object, Footprints.with_reads, Footprints.is_object, Footprints.is_among, Footprints.IsInOrder, FootprintLaws.is_object_same, FootprintLaws.among_with_object, FootprintLaws.among_with_reads}
 use Rattle.rls_source.proofs.FootprintOrderLaws.{with_object_in_order}
 use Rattle.rls_evaluation.specs.{declared.relation.SecuredRelation.SecuredRelation, declared.execution_state.CachedSubplan.CachedSubplan, declared.execution_state.CachedRows.CachedRows, declared.execution_state.ExecutionState.ExecutionState, CachedSubplans.IsCached, CachedSubplans.AreCached, CachedSubplans.subplan_of, Holding.IsKept, Holding.Holds, Holding.Evaluates, Holding.at_place, Holding.found_in, Holding.shown_at}

@@ -4,7 +4,7 @@ use Rattle.std.proofs.Common.{arith, ap, sym, ◌∙◌, subst}
 use Rattle.std.specs.declared.alloc.AllocError.{AllocError}
 use Rattle.rls_value.specs.{declared.value.Value.Value, declared.truth.Truth.Truth, declared.object.Object.Object, declared.value.Value.TheVariants.Null, declared.value.Value.TheVariants.Bool as Flag}
 use Rattle.rls_expr.specs.{ExprTerms.query_of, declared.expr.FromItem.FromItem, declared.expr.Selects.Selects, Terms.Terms, Terms.Query, Terms.Select, Terms.Exists}
-use Rattle.rls_catalog.specs.State.{State}
+use Rattle.rls_verdict.specs.rls_catalog.specs.State.{State}
 use Rattle.rls_source.specs.{Footprints.with_reads, Footprints.IsInOrder, Askings.Asking, Askings.known, Askings.asked_if, Askings.followed_by}
 use Rattle.rls_evaluation.specs.{declared.relation.SecuredRelation.SecuredRelation, declared.execution_state.CachedSubplan.CachedSubplan, declared.execution_state.ExecutionState.ExecutionState, declared.value_set.ValueSet.ValueSet, Gathering.gathered, Showing.shows, ValueSets.IsSetOf, Alone.is_alone, Alone.items_seen, Alone.asked_query, Alone.items_for, Alone.with_item, Alone.any_equal, Alone.is_some, CachedSubplans.IsFor, CachedSubplans.FoundAt, CachedSubplans.NoneBelow, CachedSubplans.IsOneMore, CachedSubplans.IsCached, CachedSubplans.AreCached, CachedSubplans.Comes, CachedSubplans.subplan_of, Environments.Environment, Environments.alone, Environments.inside, Holding.Holds, Holding.IsKept, Holding.Evaluates, Holding.found_in, Eval.Shows, Eval.value_of, Eval.among_items, Eval.has_row, Eval.ranged_over, Eval.item_if, Eval.item_of, Eval.meets}
 use Rattle.rls_evaluation.proofs.{Absorbing.noted_absorbed, AloneLemmas.among_items_seen, AloneLemmas.has_row_seen, AloneLemmas.alone_same, AloneLemmas.bare_alone, Telling.tells_same, Telling.tells_map, Telling.tells_as, Telling.tells_then, Telling.tells_result}

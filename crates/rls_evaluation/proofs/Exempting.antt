@@ -5,7 +5,7 @@ use Rattle.std.proofs.Common.{ap, sym, subst, ◌∙◌}
 use Rattle.std.proofs.lemmas.Bool.{true≢false}
 use Rattle.rls_value.specs.{declared.object.Object.Object, declared.value.Value.Value}
 use Rattle.rls_value.specs.declared.object.Object.TheVariants as o
-use Rattle.rls_catalog.specs.State.{State}
+use Rattle.rls_verdict.specs.rls_catalog.specs.State.{State}
 use Rattle.rls_source.specs.{Askings.Asking, Askings.known, Readings.unread, Readings.read_then}
 use Rattle.rls_evaluation.specs.{declared.relation.SecuredRelation.SecuredRelation, declared.relation.SecurityQuals.SecurityQuals, Eval.Shows, declared.relation.SecurityQuals.TheVariants.Exempt, declared.relation.SecurityQuals.TheVariants.Policies, Gathering.kept, Gathering.with_row, Holding.Evaluates, Holding.asked_of, Holding.shown_at, Holding.shown_of, Showing.asked_for, Showing.is_allowed, Showing.is_exempt, Showing.shown, Showing.shows}
 use Rattle.rls_evaluation.proofs.Telling.{tells_on, tells_result, tells_unread}

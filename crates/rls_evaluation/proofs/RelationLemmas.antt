@@ -5,7 +5,7 @@ use Rattle.std.proofs.Common.{arith, ap, sym, ◌∙◌}
 use Rattle.std.proofs.lemmas.Bool.{true≢false}
 use Rattle.rls_value.specs.declared.value.Value.{Value}
 use Rattle.rls_expr.specs.{declared.policy.Policy.Policy, Terms.Term, Terms.term_size}
-use Rattle.rls_catalog.specs.State.{State}
+use Rattle.rls_verdict.specs.rls_catalog.specs.State.{State}
 use Rattle.rls_source.specs.Readings.{Reading, unread}
 use Rattle.rls_evaluation.specs.declared.relation.SecuredRelation.{SecuredRelation}
 use Rattle.rls_evaluation.specs.Showing.{shown, shows, shown_first, place_from}

@@ -6,7 +6,7 @@ use Rattle.std.specs.declared.alloc.AllocError.{AllocError}
 use Rattle.std.specs.List.{list_any}
 use Rattle.rls_value.specs.{declared.refusal.Refusal.Refusal, declared.value.Value.Value, Values.is_null, declared.object.Object.Object, Giving.and_then}
 use Rattle.rls_value.specs.declared.object.Object.TheVariants as o
-use Rattle.rls_catalog.specs.State.{State, rows_of, rows_with_key}
+use Rattle.rls_verdict.specs.rls_catalog.specs.State.{State, rows_of, rows_with_key}
 use Rattle.rls_source.specs.Asked.{rows_at, keyed_at, asked_key}
 use Rattle.rls_evaluation.specs.{Eval.item_if, Showing.values_of, Holding.Evaluates, Holding.asked_of}
 use Rattle.rls_source.specs.{Footprints.with_object, Footprints.with_reads, FootprintLaws.with_reads_more, Readings.unread, Readings.next_reads}

@@ -2,7 +2,7 @@
 use Rattle.std.specs.Prelude.{◌≡◌, ℕ, ◌<◌, List, [], ◌∷◌, ◌++◌, Bool, true, Ok, drop, length, get_or}
 use Rattle.rls_value.specs.{declared.value.Value.Value, declared.object.Object.Object}
 use Rattle.rls_expr.specs.{ExprTerms.query_of, Terms.Query}
-use Rattle.rls_catalog.specs.State.{State}
+use Rattle.rls_verdict.specs.rls_catalog.specs.State.{State}
 use Rattle.rls_source.specs.{Footprints.with_reads, Askings.Asking}
 use Rattle.rls_evaluation.specs.{declared.relation.SecuredRelation.SecuredRelation, declared.execution_state.CachedSubplan.CachedSubplan, declared.value_set.ValueSet.ValueSet, Environments.alone, Showing.shows, ValueSets.IsSetOf}
 use Rattle.rls_evaluation.specs.Alone.{is_alone, items_seen, asked_query}

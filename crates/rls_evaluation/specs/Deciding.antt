@@ -4,8 +4,8 @@ use Rattle.rls_value.specs.declared.value.Value.{Value}
 use Rattle.rls_value.specs.declared.truth.Truth.{Truth}
 use Rattle.rls_expr.specs.declared.policy.Policy.{Policy}
 use Rattle.rls_expr.specs.Terms.{Term}
-use Rattle.rls_catalog.specs.State.{State}
-use Rattle.rls_catalog.specs.Verdict.{is_such, lesser, verdict_by}
+use Rattle.rls_verdict.specs.rls_catalog.specs.State.{State}
+use Rattle.rls_verdict.specs.rls_catalog.specs.Verdict.{is_such, lesser, verdict_by}
 use Rattle.rls_source.specs.Readings.{unread}
 use Rattle.rls_evaluation.specs.declared.relation.SecurityQuals.TheVariants.{Policies}
 use Rattle.rls_evaluation.specs.Eval.{Shows}

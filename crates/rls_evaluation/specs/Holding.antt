@@ -5,7 +5,7 @@ use Rattle.std.specs.Map.{lookup}
 use Rattle.std.specs.declared.alloc.AllocError.{AllocError}
 use Rattle.rls_value.specs.{Objects.object_order, declared.value.Value.Value, declared.object.Object.Object}
 use Rattle.rls_value.specs.declared.object.Object.TheVariants as o
-use Rattle.rls_catalog.specs.State.{State}
+use Rattle.rls_verdict.specs.rls_catalog.specs.State.{State}
 use Rattle.rls_source.specs.Footprints.{with_reads, IsInOrder}
 use Rattle.rls_source.specs.Askings.{Asking, known}
 use Rattle.rls_evaluation.specs.{declared.relation.SecuredRelation.SecuredRelation, declared.execution_state.CachedRows.CachedRows, declared.execution_state.ExecutionState.ExecutionState, CachedSubplans.AreCached}

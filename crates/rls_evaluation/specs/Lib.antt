@@ -14,3 +14,5 @@ pub mod Wides
 pub mod ValueSets
 pub mod CachedSubplans
 pub mod Holding
+pub use Rattle.rls_source
+pub use Rattle.rls_verdict.specs.rls_catalog

@@ -5,8 +5,8 @@ use Rattle.std.specs.List.{list_any}
 use Rattle.std.specs.Str.{bytes_eq}
 use Rattle.rls_value.specs.{declared.value.Value.Value, declared.truth.Truth.Truth, Values.truth_in, Values.is_null}
 use Rattle.rls_expr.specs.{declared.policy.Policy.Policy, Terms.Term}
-use Rattle.rls_catalog.specs.{declared.stored.Stored.Stored, declared.verdict.Verdict.Verdict, Verdict.verdict_of}
-use Rattle.rls_catalog.specs.declared.verdict.Verdict.TheVariants as v
+use Rattle.rls_verdict.specs.rls_catalog.specs.{declared.stored.Stored.Stored, declared.verdict.Verdict.Verdict, Verdict.verdict_of}
+use Rattle.rls_verdict.specs.rls_catalog.specs.declared.verdict.Verdict.TheVariants as v
 use Rattle.rls_source.specs.Askings.{Asking, known, asked_if, followed_by}
 use Rattle.rls_source.specs.Asked.{asked_rows, asked_key}
 use Rattle.rls_evaluation.specs.{declared.relation.SecurityQuals.SecurityQuals, declared.relation.SecuredRelation.SecuredRelation, Environments.over}

@@ -2,15 +2,15 @@
 
 ghost use Rattle.std.specs.Prelude.{◌≡◌, true, false, IfOk, IfSome};
 ghost use Rattle.std.specs.Option.{option_copied};
-ghost use Rattle.rls_catalog.specs.Verdict.{verdict_by};
+ghost use Rattle.rls_verdict.specs.rls_catalog.specs.Verdict.{verdict_by};
 ghost use Rattle.rls_evaluation.specs.Deciding.{IsDecided, named_if};
 
 use crate::plain::plain_condition;
 use crate::scope::{Env, Scoped};
-use rls_catalog::Verdict;
 use rls_expr::{Expr, Policy};
-use rls_role::lesser_name;
 use rls_value::{Name, Reference, Row, Truth};
+use rls_verdict::lesser_name;
+use rls_verdict::rls_catalog::Verdict;
 use std::alloc::AllocError;
 
 /// The policies that decide on a row: by name the first permissive one that is true, and the first restrictive one that

@@ -22,10 +22,10 @@ use crate::relation::{SecurityQuals, VisibleRelations, allows, is_exempt, place_
 use crate::scope::{Env, Scoped, column_value};
 use crate::tables::Tables;
 use crate::value_set::ValueSet;
-use rls_catalog::Verdict;
 use rls_expr::{Comparison, Expr, Node, Policy, Sign, Subquery};
-use rls_policy::{Judgement, combine};
 use rls_value::{Items, Name, Object, Reference, Row, Truth, Value};
+use rls_verdict::rls_catalog::Verdict;
+use rls_verdict::{Judgement, combine};
 use std::alloc::{AllocError, Global};
 
 /// The value of the expression. Nothing is cut short: every part is evaluated.

@@ -5,7 +5,7 @@ ghost use Rattle.std.specs.{BTreeMap.is_at, Map.lookup};
 ghost use Rattle.rls_value.specs.Objects.{object_order};
 ghost use Rattle.rls_source.specs.Footprints.{is_object, IsInOrder};
 ghost use Rattle.rls_expr.specs.ExprTerms.{query_of};
-ghost use Rattle.rls_catalog.specs.State.{State};
+ghost use Rattle.rls_verdict.specs.rls_catalog.specs.State.{State};
 ghost use Rattle.rls_evaluation.specs.{declared.relation.SecuredRelation.SecuredRelation, Holding.Holds, Holding.found_in, CachedSubplans.IsFor, CachedSubplans.FoundAt, CachedSubplans.IsOneMore, CachedSubplans.NoneBelow};
 
 use crate::read_set::ReadSet;

@@ -3,9 +3,9 @@
 ghost use Rattle.std.specs.Prelude.{◌≡◌, drop};
 ghost use Rattle.rls_evaluation.specs.Showing.{place_from, allows, is_exempt};
 
-use rls_catalog::Verdict;
 use rls_expr::{Expr, Policy};
 use rls_value::{Items, Name, Reference};
+use rls_verdict::rls_catalog::Verdict;
 
 /// The security quals of a table's rows.
 #[derive(Drop)]

@@ -1,12 +1,12 @@
 //! Who gives the rows of tables.
 
 ghost use Rattle.std.specs.Prelude.{◌≡◌, IfOk};
-ghost use Rattle.rls_catalog.specs.State.{State, rows_of, rows_with_key};
+ghost use Rattle.rls_verdict.specs.rls_catalog.specs.State.{State, rows_of, rows_with_key};
 ghost use Rattle.rls_evaluation.specs.Showing.{values_of};
 
-use rls_catalog::BorrowedRow;
 use rls_source::RowSource;
 use rls_value::{Items, Name, Row};
+use rls_verdict::rls_catalog::BorrowedRow;
 use std::alloc::{AllocError, Global};
 use std::marker::PhantomData;
 

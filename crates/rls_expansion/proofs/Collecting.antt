@@ -4,10 +4,10 @@ use Rattle.rls_value.specs.declared.refusal.Refusal.{Refusal}
 use Rattle.std.proofs.Common.{arith, ap, sym, ◌∙◌, subst, append-nil, append_assoc}
 use Rattle.rls_value.specs.declared.object.Object.{Object}
 use Rattle.rls_value.specs.Giving.{and_then}
-use Rattle.rls_catalog.specs.State.{State}
-use Rattle.rls_catalog.specs.Membership.{fresh}
-use Rattle.rls_source.specs.Answering.{Tells}
-use Rattle.rls_source.specs.Askings.{Asking, known, followed_by}
+use Rattle.rls_recursion.specs.rls_catalog.specs.State.{State}
+use Rattle.rls_recursion.specs.rls_catalog.specs.Membership.{fresh}
+use Rattle.rls_guard.specs.rls_source.specs.Answering.{Tells}
+use Rattle.rls_guard.specs.rls_source.specs.Askings.{Asking, known, followed_by}
 use Rattle.rls_expansion.specs.Enough.{LeadsWithin, asked_all, collect, collect_step, collect_end, collect_settles, visits}
 use Rattle.rls_expansion.proofs.Telling.{Leads, leads_on, leads_map, leads_same}
 

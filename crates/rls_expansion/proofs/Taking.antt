@@ -6,9 +6,9 @@ use Rattle.rls_value.specs.declared.verb.PolicyKind.{PolicyKind}
 use Rattle.rls_value.specs.declared.verb.PolicyKind.TheVariants as pk
 use Rattle.rls_expr.specs.declared.policy.Policy.{Policy}
 use Rattle.rls_expr.specs.Terms.{Term}
-use Rattle.rls_catalog.specs.declared.verdict.Side.{Side}
-use Rattle.rls_catalog.specs.declared.verdict.Side.TheVariants as side
-use Rattle.rls_catalog.specs.Verdict.{expression_of, check_or_using}
+use Rattle.rls_recursion.specs.rls_catalog.specs.declared.verdict.Side.{Side}
+use Rattle.rls_recursion.specs.rls_catalog.specs.declared.verdict.Side.TheVariants as side
+use Rattle.rls_recursion.specs.rls_catalog.specs.Verdict.{expression_of, check_or_using}
 use Rattle.rls_expansion.specs.Used.{using_stands_in, takes_using, takes_check, expression_by}
 use Rattle.std.specs.Prelude.{if◌then◌else◌}
 

@@ -4,10 +4,10 @@ use Rattle.std.proofs.Common.{ap, sym, ◌∙◌, subst, append-nil, append_asso
 use Rattle.rls_value.specs.declared.refusal.Refusal.{Refusal}
 use Rattle.rls_value.specs.declared.object.Object.{Object}
 use Rattle.rls_value.specs.Giving.{and_then}
-use Rattle.rls_catalog.specs.State.{State}
-use Rattle.rls_source.specs.Answering.{Tells}
-use Rattle.rls_source.specs.Askings.{Asking, known, followed_by}
-use Rattle.rls_source.specs.Readings.{unread, next_reads}
+use Rattle.rls_recursion.specs.rls_catalog.specs.State.{State}
+use Rattle.rls_guard.specs.rls_source.specs.Answering.{Tells}
+use Rattle.rls_guard.specs.rls_source.specs.Askings.{Asking, known, followed_by}
+use Rattle.rls_guard.specs.rls_source.specs.Readings.{unread, next_reads}
 
 -- what is left to ask gives the whole, joined to what was given; its read set and its reads behind those so far are all
 pub record Leads {S A B : Type 0} (after : S → List Object → S) (whole : Asking A) (rest : Asking B) (join : B → A) (now : State) (start source : S) (old new : List Object) : Type 0 where

@@ -5,9 +5,9 @@ use Rattle.std.proofs.Common.{ap, subst}
 use Rattle.rls_value.specs.declared.refusal.Refusal.{Refusal}
 use Rattle.rls_value.specs.declared.verb.Kind.TheVariants as k
 use Rattle.rls_expr.specs.{declared.table.TableDef.TableDef, declared.policy.Policy.Policy}
-use Rattle.rls_catalog.specs.declared.verdict.Side.TheVariants as side
-use Rattle.rls_catalog.specs.{Membership.fresh, Membership.Within, State.State, Verdict.chosen, Verdict.exempts}
-use Rattle.rls_source.specs.{Asked.asked_policies, Asked.asked_table, Asked.policies_at, Asked.table_at, Askings.Asking, Askings.asked_if, Askings.followed_by, Askings.known}
+use Rattle.rls_recursion.specs.rls_catalog.specs.declared.verdict.Side.TheVariants as side
+use Rattle.rls_recursion.specs.rls_catalog.specs.{Membership.fresh, Membership.Within, State.State, Verdict.chosen, Verdict.exempts}
+use Rattle.rls_guard.specs.rls_source.specs.{Asked.asked_policies, Asked.asked_table, Asked.policies_at, Asked.table_at, Askings.Asking, Askings.asked_if, Askings.followed_by, Askings.known}
 use Rattle.rls_guard.specs.{declared.role_privileges.RolePrivileges.RolePrivileges, RolePrivileges.has_owner}
 use Rattle.rls_recursion.specs.declared.dependency.PolicyDependency.{PolicyDependency}
 use Rattle.rls_expansion.specs.{Enough.LeadsWithin, Enough.asked_all, Policies.policies_for, Leading.named, Leading.none_within, Leading.used_named, Used.Ask, Used.holds_subquery, Used.tables_used}

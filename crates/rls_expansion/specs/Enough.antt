@@ -5,11 +5,11 @@ use Rattle.std.proofs.lemmas.List.{length-append}
 use Rattle.std.proofs.lemmas.Option.{slice_get_past}
 use Rattle.rls_value.specs.declared.refusal.Refusal.{Refusal}
 use Rattle.rls_value.specs.declared.object.Object.{Object}
-use Rattle.rls_catalog.specs.State.{State, AgreesOn}
-use Rattle.rls_catalog.specs.Membership.{fresh, Within}
-use Rattle.rls_catalog.proofs.Walks.{left, left_all, fresh_few}
-use Rattle.rls_source.specs.Readings.{Reading, unread, read_then}
-use Rattle.rls_source.specs.Askings.{Asking, IsFramed, known, followed_by}
+use Rattle.rls_recursion.specs.rls_catalog.specs.State.{State, AgreesOn}
+use Rattle.rls_recursion.specs.rls_catalog.specs.Membership.{fresh, Within}
+use Rattle.rls_recursion.specs.rls_catalog.proofs.Walks.{left, left_all, fresh_few}
+use Rattle.rls_guard.specs.rls_source.specs.Readings.{Reading, unread, read_then}
+use Rattle.rls_guard.specs.rls_source.specs.Askings.{Asking, IsFramed, known, followed_by}
 
 -- ---- enough steps
 

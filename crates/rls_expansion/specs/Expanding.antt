@@ -5,9 +5,9 @@ use Rattle.std.specs.Prelude.{ℕ, List, [], ◌∷◌, ◌++◌, Bool, true, fa
 use Rattle.rls_value.specs.{declared.refusal.Refusal.Refusal, declared.verb.Kind.Kind, Giving.and_then}
 use Rattle.rls_value.specs.declared.verb.Kind.TheVariants as k
 use Rattle.rls_expr.specs.{declared.policy.Policy.Policy, declared.table.TableDef.TableDef, Scopes.InScope}
-use Rattle.rls_catalog.specs.declared.verdict.Side.{Side}
-use Rattle.rls_catalog.specs.declared.verdict.Side.TheVariants as side
-use Rattle.rls_source.specs.Askings.{Asking, known, followed_by}
+use Rattle.rls_recursion.specs.rls_catalog.specs.declared.verdict.Side.{Side}
+use Rattle.rls_recursion.specs.rls_catalog.specs.declared.verdict.Side.TheVariants as side
+use Rattle.rls_guard.specs.rls_source.specs.Askings.{Asking, known, followed_by}
 use Rattle.rls_guard.specs.{declared.role_privileges.RolePrivileges.RolePrivileges, declared.quals.RowCheck.RowCheck, SecurityQuals.row_checks_by}
 use Rattle.rls_recursion.specs.{declared.dependency.PolicyDependency.PolicyDependency, declared.searching.Reached.Reached, Searching.ordered_by}
 use Rattle.rls_expansion.specs.{declared.expansion.PolicyExpansion.PolicyExpansion, Policies.policies_for, Dependencies.dependencies_of}

@@ -4,9 +4,9 @@ use Rattle.std.specs.Borrow.{Bor}
 use Rattle.std.specs.Option.{option_copied}
 use Rattle.rls_expr.specs.declared.table.TableDef.{TableDef}
 use Rattle.rls_expr.specs.declared.policy.Policy.{Policy}
-use Rattle.rls_catalog.specs.Verdict.{exempts}
-use Rattle.rls_source.specs.Askings.{Asking, known, asked_if, followed_by}
-use Rattle.rls_source.specs.Asked.{asked_policies}
+use Rattle.rls_recursion.specs.rls_catalog.specs.Verdict.{exempts}
+use Rattle.rls_guard.specs.rls_source.specs.Askings.{Asking, known, asked_if, followed_by}
+use Rattle.rls_guard.specs.rls_source.specs.Asked.{asked_policies}
 use Rattle.rls_guard.specs.declared.role_privileges.RolePrivileges.{RolePrivileges}
 use Rattle.rls_guard.specs.RolePrivileges.{has_owner}
 

@@ -5,10 +5,10 @@ use Rattle.rls_value.specs.declared.verb.Kind.TheVariants as k
 use Rattle.rls_expr.specs.declared.policy.Policy.{Policy}
 use Rattle.rls_expr.specs.declared.table.TableDef.{TableDef}
 use Rattle.rls_expr.specs.Scopes.{InScope, known_table}
-use Rattle.rls_catalog.specs.declared.verdict.Side.TheVariants as side
-use Rattle.rls_evaluation.specs.declared.relation.SecuredRelation.{SecuredRelation}
-use Rattle.rls_evaluation.specs.declared.relation.SecurityQuals.{SecurityQuals}
-use Rattle.rls_evaluation.specs.declared.relation.SecurityQuals.TheVariants.{Exempt, Policies}
+use Rattle.rls_recursion.specs.rls_catalog.specs.declared.verdict.Side.TheVariants as side
+use Rattle.rls_guard.specs.rls_evaluation.specs.declared.relation.SecuredRelation.{SecuredRelation}
+use Rattle.rls_guard.specs.rls_evaluation.specs.declared.relation.SecurityQuals.{SecurityQuals}
+use Rattle.rls_guard.specs.rls_evaluation.specs.declared.relation.SecurityQuals.TheVariants.{Exempt, Policies}
 use Rattle.rls_guard.specs.SecurityQuals.{conditions_of}
 use Rattle.rls_recursion.specs.declared.dependency.PolicyDependency.{PolicyDependency}
 use Rattle.rls_recursion.specs.Searching.{dependency_in}

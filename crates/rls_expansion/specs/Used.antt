@@ -6,8 +6,8 @@ use Rattle.rls_value.specs.declared.verb.Kind.TheVariants as k
 use Rattle.rls_value.specs.declared.verb.PolicyKind.TheVariants as pk
 use Rattle.rls_expr.specs.{declared.policy.Policy.Policy, Parts.has_query, Terms.Term}
 use Rattle.rls_expr.specs.Naming.{Step, Look, Enter, Leave, names_of}
-use Rattle.rls_catalog.specs.{declared.verdict.Side.Side, Privileges.includes, Verdict.is_for_kind}
-use Rattle.rls_catalog.specs.declared.verdict.Side.TheVariants as side
+use Rattle.rls_recursion.specs.rls_catalog.specs.{declared.verdict.Side.Side, Privileges.includes, Verdict.is_for_kind}
+use Rattle.rls_recursion.specs.rls_catalog.specs.declared.verdict.Side.TheVariants as side
 
 -- ---- the tables in an expression
 

@@ -2,20 +2,20 @@
 
 ghost use Rattle.std.specs.Prelude.{◌≡◌, [], ◌∷◌, ◌++◌, Some, slice_get, IfOk, OnOk};
 ghost use Rattle.std.specs.{List.list_any, Option.option_copied};
-ghost use Rattle.rls_catalog.specs.Membership.{fresh};
-ghost use Rattle.rls_source.specs.Answering.{Tells};
+ghost use Rattle.rls_recursion.specs.rls_catalog.specs.Membership.{fresh};
+ghost use Rattle.rls_guard.specs.rls_source.specs.Answering.{Tells};
 ghost use Rattle.rls_expansion.specs.Dependencies as spec;
 ghost use Rattle.rls_expansion.specs.Used as used;
 
 use crate::policies::policies_for;
 use crate::used::{holds_subquery, tables_used};
-use rls_catalog::Side;
 use rls_expr::{NamedTable, Policy, TableDef};
 use rls_guard::RolePrivileges;
-use rls_policy::chosen;
+use rls_guard::rls_policy::chosen;
+use rls_guard::rls_role::is_among;
+use rls_guard::rls_source::{Reads, RowSource, noted_table};
 use rls_recursion::PolicyDependency;
-use rls_role::is_among;
-use rls_source::{Reads, RowSource, noted_table};
+use rls_recursion::rls_catalog::Side;
 use rls_value::{Items, Kind, Name, Reference};
 use std::alloc::{AllocError, Global};
 

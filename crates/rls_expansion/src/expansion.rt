@@ -4,19 +4,19 @@ ghost use Rattle.std.specs.Prelude.{◌≡◌, [], ◌++◌, IfOk, OnOk};
 ghost use Rattle.std.specs.Option.{option_copied};
 ghost use Rattle.rls_value.specs.Giving.{Gives};
 ghost use Rattle.rls_expr.specs.Scopes.{in_scope};
-ghost use Rattle.rls_source.specs.Answering.{Answers};
+ghost use Rattle.rls_guard.specs.rls_source.specs.Answering.{Answers};
 ghost use Rattle.rls_expansion.specs.Expanding as spec;
 
 use crate::dependencies::dependencies_of;
 use crate::policies::policies_for;
 use crate::relations::{known_in, relations_of};
 use crate::used::tables_used;
-use rls_catalog::Side;
-use rls_evaluation::SecuredRelation;
 use rls_expr::{FromTable, NamedTable, Policy};
+use rls_guard::rls_evaluation::SecuredRelation;
+use rls_guard::rls_source::{Reads, RowSource};
 use rls_guard::{PolicyScope, RolePrivileges, RowCheck, row_checks_by};
+use rls_recursion::rls_catalog::Side;
 use rls_recursion::{PolicyDependency, Reached, search};
-use rls_source::{Reads, RowSource};
 use rls_value::{Items, Kind, Name, Refusal};
 use std::alloc::{AllocError, Global};
 

@@ -1,12 +1,12 @@
 //! The policies of a table, unless row security doesn't apply.
 
-ghost use Rattle.rls_source.specs.Answering.{Tells};
+ghost use Rattle.rls_guard.specs.rls_source.specs.Answering.{Tells};
 ghost use Rattle.rls_expansion.specs.Policies as spec;
 ghost use Rattle.rls_expansion.specs.Policies.{policies_borrowed};
 
 use rls_expr::{Policy, TableDef};
 use rls_guard::RolePrivileges;
-use rls_source::{Reads, RowSource, noted_policies};
+use rls_guard::rls_source::{Reads, RowSource, noted_policies};
 use rls_value::Name;
 use std::alloc::{AllocError, Global};
 

@@ -6,10 +6,10 @@ ghost use Rattle.rls_expr.specs.Scopes.{known_table};
 ghost use Rattle.rls_recursion.specs.Searching.{dependency_in};
 ghost use Rattle.rls_expansion.specs.Relations as spec;
 
-use rls_catalog::Side;
-use rls_evaluation::{SecuredRelation, SecurityQuals};
 use rls_expr::{FromTable, NamedTable, Policy, TableDef, known_table};
+use rls_guard::rls_evaluation::{SecuredRelation, SecurityQuals};
 use rls_guard::{PolicyScope, conditions_of};
+use rls_recursion::rls_catalog::Side;
 use rls_recursion::{PolicyDependency, dependency_in};
 use rls_value::{Items, Kind, Name, Reference};
 use std::alloc::{AllocError, Global};

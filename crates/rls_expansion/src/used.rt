@@ -3,13 +3,13 @@
 ghost use Rattle.std.specs.Prelude.{◌≡◌, [], ◌∷◌, ◌++◌, map, IfOk, OnOk};
 ghost use Rattle.std.specs.List.{list_any};
 ghost use Rattle.rls_expr.specs.Naming.{step_of};
-ghost use Rattle.rls_catalog.specs.Privileges.{includes};
-ghost use Rattle.rls_catalog.specs.Verdict as verdict;
+ghost use Rattle.rls_recursion.specs.rls_catalog.specs.Privileges.{includes};
+ghost use Rattle.rls_recursion.specs.rls_catalog.specs.Verdict as verdict;
 ghost use Rattle.rls_expansion.specs.Used as spec;
 
-use rls_catalog::Side;
 use rls_expr::{Expr, NameStep, Policy, has_query, put_names};
-use rls_role::EffectiveRoles;
+use rls_guard::rls_role::EffectiveRoles;
+use rls_recursion::rls_catalog::Side;
 use rls_value::{Items, Kind, Name, PolicyKind};
 use std::alloc::{AllocError, Global};
 

@@ -11,8 +11,8 @@ use Rattle.rls_catalog.specs.declared.verdict.Side.TheVariants as side
 use Rattle.rls_catalog.proofs.Inheriting.{fresh_all}
 use Rattle.rls_evaluation.specs.{declared.relation.SecurityQuals.SecurityQuals, declared.relation.SecurityQuals.TheVariants.Exempt, declared.relation.SecurityQuals.TheVariants.Policies, Environments.Environment, Environments.over, Eval.Shows, Eval.value_of, Showing.shows}
 use Rattle.rls_guard.specs.{declared.role_privileges.RolePrivileges.RolePrivileges, SecurityQuals.conditions_of, SecurityQuals.quals_from, SecurityQuals.with_condition, RolePrivileges.role_privileges_in}
-use Rattle.rls_expansion.specs.{declared.expansion.PolicyExpansion.PolicyExpansion, Used.tables_of, Expanding.asks_of, Expanding.own_tables}
-use Rattle.rls_depth.{specs.Deep.policies_in, specs.Deep.ruled, specs.Leading.condition_tables, specs.Leading.quals_tables, proofs.Deepening.conditions_tables, proofs.ExpansionLaws.Taken, proofs.Tables.within_append, proofs.Tables.within_first, proofs.Tables.within_last, proofs.Tables.within_nothing, proofs.Using.IsAsk, proofs.Using.chosen_used, proofs.Using.in_front, proofs.Using.own_ask}
+use Rattle.rls_meaning.specs.rls_expansion.specs.{declared.expansion.PolicyExpansion.PolicyExpansion, Used.tables_of, Expanding.asks_of, Expanding.own_tables}
+use Rattle.rls_meaning.specs.rls_depth.{specs.Deep.policies_in, specs.Deep.ruled, specs.Leading.condition_tables, specs.Leading.quals_tables, proofs.Deepening.conditions_tables, proofs.ExpansionLaws.Taken, proofs.Tables.within_append, proofs.Tables.within_first, proofs.Tables.within_last, proofs.Tables.within_nothing, proofs.Using.IsAsk, proofs.Using.chosen_used, proofs.Using.in_front, proofs.Using.own_ask}
 use Rattle.rls_meaning.specs.{Chains.subquery_tables_in, Commands.Command, Commands.closing_in, Commands.depth_of, Commands.own_of, Parts.tables_of as tables_in_part, Needing.needed_by, Needing.needs, Expanding.IsExpanded, Expanding.IsExpansionIn, Expanding.Made, Expanding.Refused, Expanding.expansion_in, Expanding.sees}
 use Rattle.rls_meaning.proofs.{Asking.alike_append, Asking.asked_in, Asking.needs_alike, Asking.own_alike, States.own_told}
 use Rattle.rls_explain.specs.Saying.{command_on, conditions_in, first_conditions, said_as, said_by, said_found, said_in, truth_told, unless_closing, unless_refused, row_checks_for}

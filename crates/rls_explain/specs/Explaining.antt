@@ -6,7 +6,7 @@ use Rattle.rls_statement.specs.declared.statement.Statement.{Statement}
 use Rattle.rls_statement.specs.declared.statement.Statement.TheVariants as statement
 use Rattle.rls_guard.specs.{declared.context.Ctx.Ctx, declared.effect.Effect.Effect, declared.reply.Decision.Decision}
 use Rattle.rls_guard.specs.declared.effect.Effect.TheVariants as effect
-use Rattle.rls_access.specs.Statements.{effect_in}
+use Rattle.rls_meaning.specs.rls_access.specs.Statements.{effect_in}
 use Rattle.rls_explain.specs.{declared.explanation.Explained.Explained, declared.explanation.Said.Said, Finding.row_judged, Saying.said_on}
 
 -- the table whose rows the statement is about

@@ -4,3 +4,4 @@ pub mod Finding
 pub mod Saying
 pub mod Explaining
 pub mod Texts
+pub use Rattle.rls_meaning

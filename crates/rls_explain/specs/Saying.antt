@@ -7,8 +7,8 @@ use Rattle.rls_catalog.specs.{declared.verdict.Side.Side, State.State, State.tab
 use Rattle.rls_catalog.specs.declared.verdict.Side.TheVariants as side
 use Rattle.rls_evaluation.specs.{declared.relation.SecurityQuals.SecurityQuals, declared.relation.SecurityQuals.TheVariants.Exempt, declared.relation.SecurityQuals.TheVariants.Policies, Environments.over, Eval.Shows, Eval.value_of, Showing.shows}
 use Rattle.rls_guard.specs.declared.quals.RowCheck.{RowCheck}
-use Rattle.rls_expansion.specs.declared.expansion.PolicyExpansion.{PolicyExpansion}
-use Rattle.rls_depth.specs.Deep.{ruled}
+use Rattle.rls_meaning.specs.rls_expansion.specs.declared.expansion.PolicyExpansion.{PolicyExpansion}
+use Rattle.rls_meaning.specs.rls_depth.specs.Deep.{ruled}
 use Rattle.rls_meaning.specs.{Commands.Command, Commands.closing_in, Expanding.sees}
 use Rattle.rls_explain.specs.declared.explanation.Said.{Said}
 

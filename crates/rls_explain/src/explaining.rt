@@ -3,14 +3,14 @@
 ghost use Rattle.std.specs.Prelude.{◌≡◌, IfOk, filter, map};
 ghost use Rattle.std.specs.Option.{option_copied};
 ghost use Rattle.rls_catalog.specs.State.{is_same_id};
-ghost use Rattle.rls_access.specs.Statements.{effect_in};
+ghost use Rattle.rls_meaning.specs.rls_access.specs.Statements.{effect_in};
 ghost use Rattle.rls_explain.specs.Explaining as spec;
 ghost use Rattle.rls_explain.specs.Explaining.{explained_in};
 
 use crate::asking::said_on;
 use crate::explanation::{Explained, Explanation, Said};
 use crate::finding::{is_same_id, row_judged};
-use rls_access::{Ctx, Decision, Effect, Outcome, run_statement};
+use rls_meaning::rls_access::{Ctx, Decision, Effect, Outcome, run_statement};
 use rls_source::{RowSource, StatementSource};
 use rls_statement::Statement;
 use rls_value::{Items, Name, Row, RowId};

@@ -1,6 +1,6 @@
 //! What a statement came to, and why.
 
-use rls_access::{Decision, Effect};
+use rls_meaning::rls_access::{Decision, Effect};
 use rls_value::{Items, Name, PolicyKind, Truth};
 
 /// What a policy that applies says of a row: its USING or WITH CHECK.

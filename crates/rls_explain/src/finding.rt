@@ -7,8 +7,8 @@ ghost use Rattle.rls_explain.specs.Finding as spec;
 ghost use Rattle.rls_explain.specs.Rows as numbered;
 
 use crate::proposing::proposed;
-use rls_access::{Ctx, Decision, Effect};
 use rls_catalog::{BorrowedRow, Change, Keyed, RowChange, Side};
+use rls_meaning::rls_access::{Ctx, Decision, Effect};
 use rls_source::RowSource;
 use rls_statement::Statement;
 use rls_value::{Name, Row, RowId};

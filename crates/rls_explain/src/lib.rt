@@ -12,4 +12,5 @@ mod texts;
 
 pub use explaining::explain_row;
 pub use explanation::{Explained, Explanation, Said};
+pub use rls_meaning;
 pub use texts::DecisionText;

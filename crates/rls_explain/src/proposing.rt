@@ -10,9 +10,9 @@ ghost use Rattle.rls_guard.specs.Naming.{names_over};
 ghost use Rattle.rls_explain.specs.Proposing as spec;
 
 use crate::finding::row_before;
-use rls_access::Ctx;
 use rls_evaluation::value_over;
 use rls_expr::{Column, Expr, FromTable, NamedTable, Scope, TableDef, has_query, resolve_columns};
+use rls_meaning::rls_access::Ctx;
 use rls_source::RowSource;
 use rls_statement::{Assignment, Insert, Statement, Update};
 use rls_value::{Items, Name, Row, RowId, Value};

@@ -8,3 +8,4 @@ pub mod Naming
 pub mod Typing
 pub mod Resolving
 pub mod Parts
+pub use Rattle.rls_value

@@ -1,8 +1,8 @@
 -- Grants without anyone's options left out are all; without a grantee's they are those of the rule.
 use Rattle.std.specs.Prelude.{◌≡◌, refl, ℕ, List, [], ◌∷◌, Some, None, Bool, true, false, ◌&&◌, not, if◌then◌else◌}
-use Rattle.rls_expr.specs.declared.policy.Grantee.TheVariants as g
-use Rattle.rls_catalog.specs.declared.grant.Grant.{Grant}
-use Rattle.rls_catalog.specs.GrantOptions.{is_same_grantee, not_grantable, without_options_of}
+use Rattle.rls_verdict.specs.rls_expr.specs.declared.policy.Grantee.TheVariants as g
+use Rattle.rls_verdict.specs.rls_catalog.specs.declared.grant.Grant.{Grant}
+use Rattle.rls_verdict.specs.rls_catalog.specs.GrantOptions.{is_same_grantee, not_grantable, without_options_of}
 use Rattle.rls_grant.specs.Considered.{considered}
 
 kept_option : (b : Bool) → (b && true) ≡ b

@@ -4,9 +4,9 @@ use Rattle.std.specs.List.{list_any}
 use Rattle.std.proofs.Common.{sym}
 use Rattle.std.proofs.lemmas.Bool.{true≢false}
 use Rattle.rls_value.specs.{Names.one_of, declared.verb.Privilege.Privilege}
-use Rattle.rls_catalog.specs.{declared.grant.Grant.Grant, Privileges.Options}
-use Rattle.rls_catalog.specs.GrantOptions.{GoesBack, HasDependents, LeftAfterRevoke, without_options_of}
-use Rattle.rls_catalog.proofs.Revoking.{has_dependents_is, left_by_is}
+use Rattle.rls_verdict.specs.rls_catalog.specs.{declared.grant.Grant.Grant, Privileges.Options}
+use Rattle.rls_verdict.specs.rls_catalog.specs.GrantOptions.{GoesBack, HasDependents, LeftAfterRevoke, without_options_of}
+use Rattle.rls_verdict.specs.rls_catalog.proofs.Revoking.{has_dependents_is, left_by_is}
 use Rattle.rls_grant.specs.{Granting.goes_back, Holders.holders_of, Revoking.stays}
 use Rattle.rls_grant.proofs.HolderLaws.{holders_are}
 

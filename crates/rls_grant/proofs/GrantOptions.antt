@@ -5,12 +5,12 @@ use Rattle.std.specs.Str.{bytes_eq}
 use Rattle.std.proofs.Common.{arith, sym, ap, ◌∙◌, subst, append_assoc, append-nil}
 use Rattle.std.proofs.lemmas.Bool.{true≢false, or_left}
 use Rattle.rls_value.specs.{Names.one_of, declared.verb.Privilege.Privilege}
-use Rattle.rls_catalog.specs.{declared.grant.Grant.Grant, State.name_order, Membership.fresh, Membership.Within}
-use Rattle.rls_catalog.specs.Privileges.{optioned_by, Options, Owner, Granted}
-use Rattle.rls_catalog.proofs.Walks.{one_of-append, among_first, bytes_same, bytes_own, reads_all}
+use Rattle.rls_verdict.specs.rls_catalog.specs.{declared.grant.Grant.Grant, State.name_order, Membership.fresh, Membership.Within}
+use Rattle.rls_verdict.specs.rls_catalog.specs.Privileges.{optioned_by, Options, Owner, Granted}
+use Rattle.rls_verdict.specs.rls_catalog.proofs.Walks.{one_of-append, among_first, bytes_same, bytes_own, reads_all}
 use Rattle.rls_grant.specs.Seen.{IsSetOf}
 use Rattle.rls_grant.specs.Optioned.{AreHolders}
-use Rattle.rls_catalog.proofs.Inheriting.{or_either, among_got, fresh_within, fresh_all, take_on}
+use Rattle.rls_verdict.specs.rls_catalog.proofs.Inheriting.{or_either, among_got, fresh_within, fresh_all, take_on}
 
 -- each of the names holds the option
 abbrev pub Sound : List ℕ → List Grant → Privilege → List (List ℕ) → Type 0

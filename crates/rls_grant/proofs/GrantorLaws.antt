@@ -1,8 +1,8 @@
 -- Who grants, told by whose privileges a role has, is what the rule over a state says.
 use Rattle.std.specs.Prelude.{◌≡◌, refl, ℕ, List}
 use Rattle.rls_value.specs.Names.{one_of}
-use Rattle.rls_catalog.specs.State.{State}
-use Rattle.rls_catalog.specs.GrantOptions.{grantor_of}
+use Rattle.rls_verdict.specs.rls_catalog.specs.State.{State}
+use Rattle.rls_verdict.specs.rls_catalog.specs.GrantOptions.{grantor_of}
 use Rattle.rls_role.specs.Reaching.{effective_roles_in}
 use Rattle.rls_grant.specs.Grantors.{grantor_by}
 

@@ -8,8 +8,8 @@ use Rattle.std.proofs.Common.{ap, sym, ◌∙◌, subst, append_assoc}
 use Rattle.std.proofs.lemmas.Cmp.{eq_by_cmp_equiv, nat_list_cmp_total}
 use Rattle.std.proofs.{lemmas.Map.lookup-set_value, lemmas.Map.Text.is_eq-slice_cmp}
 use Rattle.rls_value.specs.declared.verb.Privilege.{Privilege}
-use Rattle.rls_expr.specs.declared.policy.Grantee.{Grantee}
-use Rattle.rls_catalog.specs.{declared.grant.Grant.Grant, State.name_order, State.or_none, Privileges.is_same_privilege, Privileges.is_option_by, Privileges.optioned_by, Privileges.roles_in}
+use Rattle.rls_verdict.specs.rls_expr.specs.declared.policy.Grantee.{Grantee}
+use Rattle.rls_verdict.specs.rls_catalog.specs.{declared.grant.Grant.Grant, State.name_order, State.or_none, Privileges.is_same_privilege, Privileges.is_option_by, Privileges.optioned_by, Privileges.roles_in}
 use Rattle.rls_grant.specs.Handed.{handed_to, role_in, under}
 
 -- ---- one entry more

@@ -5,11 +5,11 @@ use Rattle.std.proofs.Common.{arith, sym, ap, ◌∙◌, subst, append-nil}
 use Rattle.std.proofs.lemmas.Bool.{true≢false, or_left, or_right}
 use Rattle.rls_value.specs.Names.{one_of}
 use Rattle.rls_value.specs.declared.verb.Privilege.{Privilege}
-use Rattle.rls_catalog.specs.declared.grant.Grant.{Grant}
-use Rattle.rls_catalog.specs.Membership.{fresh, Within}
-use Rattle.rls_catalog.specs.Privileges.{roles_in, is_option_by, optioned_by, Options, Owner, Granted, AreOptions}
-use Rattle.rls_catalog.proofs.Walks.{one_of-append, among_first, bytes_same, bytes_own, left, left_all, fresh_few}
-use Rattle.rls_catalog.proofs.Inheriting.{or_either, fresh_within, fresh_all}
+use Rattle.rls_verdict.specs.rls_catalog.specs.declared.grant.Grant.{Grant}
+use Rattle.rls_verdict.specs.rls_catalog.specs.Membership.{fresh, Within}
+use Rattle.rls_verdict.specs.rls_catalog.specs.Privileges.{roles_in, is_option_by, optioned_by, Options, Owner, Granted, AreOptions}
+use Rattle.rls_verdict.specs.rls_catalog.proofs.Walks.{one_of-append, among_first, bytes_same, bytes_own, left, left_all, fresh_few}
+use Rattle.rls_verdict.specs.rls_catalog.proofs.Inheriting.{or_either, fresh_within, fresh_all}
 use Rattle.rls_grant.specs.Holders.{optioned_by_all, rounds, grantees_of, holders_of}
 
 -- ---- they hold it

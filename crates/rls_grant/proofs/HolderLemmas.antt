@@ -3,7 +3,7 @@ use Rattle.std.specs.Prelude.{◌≡◌, refl, ℕ, List, Bool, true, false}
 use Rattle.std.specs.BTreeSet.{BTreeSet, contains}
 use Rattle.std.proofs.Common.{sym}
 use Rattle.rls_value.specs.{Names.one_of, declared.verb.Privilege.Privilege}
-use Rattle.rls_catalog.specs.{declared.grant.Grant.Grant, State.name_order}
+use Rattle.rls_verdict.specs.rls_catalog.specs.{declared.grant.Grant.Grant, State.name_order}
 use Rattle.rls_role.specs.declared.effective_roles.EffectiveRoles.{EffectiveRoles}
 use Rattle.rls_grant.specs.{Grantors.grantor_by, Holders.holders_of, Optioned.AreHolders, Revoking.left_or_refused}
 use Rattle.rls_grant.proofs.HolderLaws.{holders_are}

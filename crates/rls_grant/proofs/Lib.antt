@@ -7,3 +7,4 @@ pub mod GrantorLaws
 pub mod ConsideredLaws
 pub mod HolderLaws
 pub mod OptionedLaws
+mod PassedOn

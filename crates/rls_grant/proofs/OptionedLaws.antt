@@ -2,9 +2,9 @@
 use Rattle.std.specs.Prelude.{◌≡◌, ◌↔◌, ℕ, List, Option}
 use Rattle.std.proofs.Common.{sym, subst}
 use Rattle.rls_value.specs.declared.verb.Privilege.{Privilege}
-use Rattle.rls_expr.specs.declared.table.TableDef.{TableDef}
-use Rattle.rls_catalog.specs.declared.grant.Grant.{Grant}
-use Rattle.rls_catalog.specs.State.{State, AgreesOn, table_of, grants_of}
+use Rattle.rls_verdict.specs.rls_expr.specs.declared.table.TableDef.{TableDef}
+use Rattle.rls_verdict.specs.rls_catalog.specs.declared.grant.Grant.{Grant}
+use Rattle.rls_verdict.specs.rls_catalog.specs.State.{State, AgreesOn, table_of, grants_of}
 use Rattle.rls_grant.specs.Optioned.{HoldsOn, HoldsOption, option_reads}
 
 moved : (a b : Option TableDef) (grants others : List Grant) (privilege : Privilege) (role : List ℕ) → a ≡ b → grants ≡ others → HoldsOn a grants privilege role → HoldsOn b others privilege role

@@ -6,8 +6,8 @@ use Rattle.std.specs.Str.{bytes_eq}
 use Rattle.std.proofs.Common.{ap, ◌∙◌, sym}
 use Rattle.std.proofs.lemmas.Map.Text.{is_eq-slice_cmp}
 use Rattle.rls_value.specs.Names.{one_of}
-use Rattle.rls_catalog.specs.State.{name_order}
-use Rattle.rls_catalog.proofs.Walks.{one_of-append}
+use Rattle.rls_verdict.specs.rls_catalog.specs.State.{name_order}
+use Rattle.rls_verdict.specs.rls_catalog.proofs.Walks.{one_of-append}
 use Rattle.rls_grant.specs.Seen.{IsSetOf}
 
 or_put : (a b : Bool) → cond a true b ≡ (b || (a || false))

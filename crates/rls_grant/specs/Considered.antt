@@ -1,9 +1,9 @@
 -- Grants seen without the grant options of one grantee.
 use Rattle.std.specs.Prelude.{ℕ, List, Option, Some, None, Bool, false, ◌&&◌, not, map}
-use Rattle.rls_expr.specs.declared.policy.Grantee.{Grantee}
-use Rattle.rls_expr.specs.declared.policy.Grantee.TheVariants as g
-use Rattle.rls_catalog.specs.declared.grant.Grant.{Grant}
-use Rattle.rls_catalog.specs.GrantOptions.{is_same_grantee}
+use Rattle.rls_verdict.specs.rls_expr.specs.declared.policy.Grantee.{Grantee}
+use Rattle.rls_verdict.specs.rls_expr.specs.declared.policy.Grantee.TheVariants as g
+use Rattle.rls_verdict.specs.rls_catalog.specs.declared.grant.Grant.{Grant}
+use Rattle.rls_verdict.specs.rls_catalog.specs.GrantOptions.{is_same_grantee}
 
 -- the grantee is the one that is left out, if one is
 abbrev pub is_left_out : Option (List ℕ) → Grantee → Bool

@@ -5,10 +5,10 @@ use Rattle.std.specs.Ordering.{nat_cmp, ordering_then, is_eq, is_lt}
 use Rattle.std.specs.declared.cmp.Ordering.{Ordering}
 use Rattle.std.specs.declared.cmp.Ordering.TheVariants.{Less, Equal, Greater}
 use Rattle.rls_value.specs.{Giving.and_then, Names.one_of, declared.verb.Privilege.Privilege, declared.refusal.Refusal.Refusal, declared.refusal.Refusal.TheVariants.GrantOp, declared.refusal.GrantFault.TheVariants.PublicOption, declared.refusal.GrantFault.TheVariants.Back}
-use Rattle.rls_expr.specs.{declared.table.TableDef.TableDef, declared.policy.Grantee.Grantee}
-use Rattle.rls_catalog.specs.{declared.change.Change.Change, declared.grant.Grant.Grant, GrantOptions.without_options_of, State.name_order}
-use Rattle.rls_source.specs.{Asked.asked_grants, Named.table_or_undefined, Named.grantees_or_undefined, Sequences.each_or_refused, Sequences.put_before, Askings.Asking, Askings.known, Askings.followed_by}
-use Rattle.rls_statement.specs.declared.statement.GrantPrivileges.{GrantPrivileges}
+use Rattle.rls_verdict.specs.rls_expr.specs.{declared.table.TableDef.TableDef, declared.policy.Grantee.Grantee}
+use Rattle.rls_verdict.specs.rls_catalog.specs.{declared.change.Change.Change, declared.grant.Grant.Grant, GrantOptions.without_options_of, State.name_order}
+use Rattle.rls_role.specs.rls_source.specs.{Asked.asked_grants, Named.table_or_undefined, Named.grantees_or_undefined, Sequences.each_or_refused, Sequences.put_before, Askings.Asking, Askings.known, Askings.followed_by}
+use Rattle.rls_role.specs.rls_statement.specs.declared.statement.GrantPrivileges.{GrantPrivileges}
 use Rattle.rls_role.specs.{Reaching.effective_roles_of, declared.effective_roles.EffectiveRoles.EffectiveRoles}
 use Rattle.rls_grant.specs.{declared.grantors.Grantor.Grantor, Holders.holders_of, Grantors.all_privileges, Grantors.grantors}
 

@@ -2,10 +2,10 @@
 use Rattle.std.specs.Prelude.{ℕ, List, [], ◌∷◌, Option, Some, None, Bool, ◌||◌, Result, Ok, Err, if◌then◌else◌, filter}
 use Rattle.rls_value.specs.{Names.one_of, declared.verb.Privilege.Privilege, declared.refusal.Refusal.Refusal, declared.refusal.Refusal.TheVariants.Denied, declared.refusal.Why.TheVariants.GrantOption}
 use Rattle.rls_value.specs.declared.verb.Privilege.TheVariants as p
-use Rattle.rls_expr.specs.declared.table.TableDef.{TableDef}
-use Rattle.rls_catalog.specs.{declared.grant.Grant.Grant, Verdict.least}
-use Rattle.rls_source.specs.Sequences.{each_of}
-use Rattle.rls_statement.specs.declared.statement.Privileges.{Privileges}
+use Rattle.rls_verdict.specs.rls_expr.specs.declared.table.TableDef.{TableDef}
+use Rattle.rls_verdict.specs.rls_catalog.specs.{declared.grant.Grant.Grant, Verdict.least}
+use Rattle.rls_role.specs.rls_source.specs.Sequences.{each_of}
+use Rattle.rls_role.specs.rls_statement.specs.declared.statement.Privileges.{Privileges}
 use Rattle.rls_role.specs.declared.effective_roles.EffectiveRoles.{EffectiveRoles}
 use Rattle.rls_grant.specs.{declared.grantors.Grantor.Grantor, Holders.holders_of}
 

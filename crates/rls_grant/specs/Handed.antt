@@ -3,11 +3,11 @@ use Rattle.std.specs.Prelude.{◌≡◌, ℕ, List, Option, Some, None, ◌&&◌
 use Rattle.std.specs.BTreeMap.{is_at}
 use Rattle.std.specs.Map.{lookup}
 use Rattle.rls_value.specs.declared.verb.Privilege.{Privilege}
-use Rattle.rls_expr.specs.declared.policy.Grantee.{Grantee}
-use Rattle.rls_expr.specs.declared.policy.Grantee.TheVariants as g
-use Rattle.rls_catalog.specs.declared.grant.Grant.{Grant}
-use Rattle.rls_catalog.specs.Privileges.{is_same_privilege, optioned_by}
-use Rattle.rls_catalog.specs.State.{name_order, or_none}
+use Rattle.rls_verdict.specs.rls_expr.specs.declared.policy.Grantee.{Grantee}
+use Rattle.rls_verdict.specs.rls_expr.specs.declared.policy.Grantee.TheVariants as g
+use Rattle.rls_verdict.specs.rls_catalog.specs.declared.grant.Grant.{Grant}
+use Rattle.rls_verdict.specs.rls_catalog.specs.Privileges.{is_same_privilege, optioned_by}
+use Rattle.rls_verdict.specs.rls_catalog.specs.State.{name_order, or_none}
 
 -- the role that a grantee is; PUBLIC is none
 abbrev pub role_in : Grantee → Option (List ℕ)

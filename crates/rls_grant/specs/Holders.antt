@@ -3,9 +3,9 @@
 use Rattle.std.specs.Prelude.{ℕ, zero, suc, List, [], ◌∷◌, ◌++◌, length}
 use Rattle.std.specs.List.{flat_map}
 use Rattle.rls_value.specs.declared.verb.Privilege.{Privilege}
-use Rattle.rls_catalog.specs.declared.grant.Grant.{Grant}
-use Rattle.rls_catalog.specs.Membership.{fresh}
-use Rattle.rls_catalog.specs.Privileges.{roles_in, optioned_by}
+use Rattle.rls_verdict.specs.rls_catalog.specs.declared.grant.Grant.{Grant}
+use Rattle.rls_verdict.specs.rls_catalog.specs.Membership.{fresh}
+use Rattle.rls_verdict.specs.rls_catalog.specs.Privileges.{roles_in, optioned_by}
 
 -- those to whom one of the names granted the option
 abbrev pub optioned_by_all : List Grant → Privilege → List (List ℕ) → List (List ℕ)

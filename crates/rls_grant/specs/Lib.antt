@@ -1,4 +1,4 @@
-pub use Rattle.rls_catalog.specs.Privileges
+pub use Rattle.rls_verdict.specs.rls_catalog.specs.Privileges
 pub mod Holders
 pub mod Seen
 pub mod Considered

@@ -4,10 +4,10 @@ use Rattle.std.specs.BTreeSet.{BTreeSet, contains}
 use Rattle.rls_value.specs.declared.verb.Privilege.{Privilege}
 use Rattle.rls_value.specs.declared.object.Object.{Object}
 use Rattle.rls_value.specs.declared.object.Object.TheVariants as o
-use Rattle.rls_expr.specs.declared.table.TableDef.{TableDef}
-use Rattle.rls_catalog.specs.declared.grant.Grant.{Grant}
-use Rattle.rls_catalog.specs.Privileges.{Options}
-use Rattle.rls_catalog.specs.State.{State, name_order, table_of, grants_of}
+use Rattle.rls_verdict.specs.rls_expr.specs.declared.table.TableDef.{TableDef}
+use Rattle.rls_verdict.specs.rls_catalog.specs.declared.grant.Grant.{Grant}
+use Rattle.rls_verdict.specs.rls_catalog.specs.Privileges.{Options}
+use Rattle.rls_verdict.specs.rls_catalog.specs.State.{State, name_order, table_of, grants_of}
 
 -- the set is that of those who hold it by the grants
 abbrev pub AreHolders : List ℕ → List Grant → Privilege → BTreeSet (List ℕ) → Type 0

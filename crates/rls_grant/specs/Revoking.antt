@@ -3,13 +3,13 @@
 use Rattle.std.specs.Prelude.{ℕ, List, [], ◌∷◌, Bool, ◌||◌, not, Result, Ok, Err, if◌then◌else◌, map, filter}
 use Rattle.std.specs.List.{list_any}
 use Rattle.rls_value.specs.{Giving.and_then, Names.one_of, declared.verb.Privilege.Privilege, declared.refusal.Refusal.Refusal, declared.refusal.Refusal.TheVariants.Dependent}
-use Rattle.rls_expr.specs.{declared.table.TableDef.TableDef, declared.policy.Grantee.Grantee}
-use Rattle.rls_catalog.specs.{declared.change.Change.Change, declared.grant.Grant.Grant, Privileges.is_same_privilege}
-use Rattle.rls_catalog.specs.GrantOptions.{is_grant_of, not_grantable}
-use Rattle.rls_source.specs.Asked.{asked_grants}
-use Rattle.rls_source.specs.Askings.{Asking, known, followed_by}
-use Rattle.rls_source.specs.Named.{table_or_undefined, grantees_or_undefined}
-use Rattle.rls_statement.specs.declared.statement.RevokePrivileges.{RevokePrivileges}
+use Rattle.rls_verdict.specs.rls_expr.specs.{declared.table.TableDef.TableDef, declared.policy.Grantee.Grantee}
+use Rattle.rls_verdict.specs.rls_catalog.specs.{declared.change.Change.Change, declared.grant.Grant.Grant, Privileges.is_same_privilege}
+use Rattle.rls_verdict.specs.rls_catalog.specs.GrantOptions.{is_grant_of, not_grantable}
+use Rattle.rls_role.specs.rls_source.specs.Asked.{asked_grants}
+use Rattle.rls_role.specs.rls_source.specs.Askings.{Asking, known, followed_by}
+use Rattle.rls_role.specs.rls_source.specs.Named.{table_or_undefined, grantees_or_undefined}
+use Rattle.rls_role.specs.rls_statement.specs.declared.statement.RevokePrivileges.{RevokePrivileges}
 use Rattle.rls_role.specs.{Reaching.effective_roles_of, declared.effective_roles.EffectiveRoles.EffectiveRoles}
 use Rattle.rls_grant.specs.{declared.grantors.Grantor.Grantor, Granting.grants_written, Grantors.grantors, Holders.holders_of}
 

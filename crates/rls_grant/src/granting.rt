@@ -3,20 +3,20 @@
 ghost use Rattle.std.specs.Prelude.{◌≡◌, [], ◌∷◌, ◌++◌, ◌↔◌, ℕ, List, true, IfOk, OnOk};
 ghost use Rattle.std.specs.List.{flat_map};
 ghost use Rattle.rls_value.specs.{Giving.Gives, declared.verb.Privilege.Privilege as Kind};
-ghost use Rattle.rls_catalog.specs.{GrantOptions.GoesBack, declared.grant.Grant.Grant as Given};
-ghost use Rattle.rls_source.specs.{Answering.Answers, Sequences.each_or_refused};
+ghost use Rattle.rls_verdict.specs.rls_catalog.specs.{GrantOptions.GoesBack, declared.grant.Grant.Grant as Given};
+ghost use Rattle.rls_role.specs.rls_source.specs.{Answering.Answers, Sequences.each_or_refused};
 ghost use Rattle.rls_grant.specs.Granting as spec;
 ghost use Rattle.rls_grant.specs.Granting.{goes_back, grant_on, granted, grants_by, grants_made, grants_with};
 
 use crate::grantors::{Grantor, grantors_of};
 use crate::optioning::options_without;
 use crate::placing::put_grants;
-use rls_catalog::{Change, Delta, Grant};
-use rls_expr::{Grantee, TableDef};
+use rls_role::rls_source::{Reads, RowSource, noted_grants, require_grantees, table_named};
+use rls_role::rls_statement::GrantPrivileges;
 use rls_role::{EffectiveRoles, noted_effective_roles};
-use rls_source::{Reads, RowSource, noted_grants, require_grantees, table_named};
-use rls_statement::GrantPrivileges;
 use rls_value::{GrantFault, Items, Name, Privilege, Refusal};
+use rls_verdict::rls_catalog::{Change, Delta, Grant};
+use rls_verdict::rls_expr::{Grantee, TableDef};
 use std::alloc::{AllocError, Global};
 
 /// What it takes that the role grants the privileges to each grantee: all grants on the table (PostgreSQL manual, GRANT).

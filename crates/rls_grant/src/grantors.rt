@@ -3,17 +3,18 @@
 ghost use Rattle.std.specs.Prelude.{◌≡◌, None, filter, IfOk};
 ghost use Rattle.std.specs.{BTreeSet.contains, Option.option_copied};
 ghost use Rattle.rls_value.specs.{Giving.Gives, Names.one_of};
-ghost use Rattle.rls_catalog.specs.{State.name_order, Verdict.least};
-ghost use Rattle.rls_source.specs.Sequences.{each_of};
+ghost use Rattle.rls_verdict.specs.rls_catalog.specs.{State.name_order, Verdict.least};
+ghost use Rattle.rls_role.specs.rls_source.specs.Sequences.{each_of};
 ghost use Rattle.rls_grant.specs.Grantors as spec;
 ghost use Rattle.rls_grant.specs.{Grantors.grantor_by, Holders.holders_of};
 
 use crate::optioning::options;
-use rls_catalog::Grant;
-use rls_expr::TableDef;
-use rls_role::{EffectiveRoles, lesser_name};
-use rls_statement::Privileges;
+use rls_role::EffectiveRoles;
+use rls_role::rls_statement::Privileges;
 use rls_value::{Items, Name, Privilege, Refusal, Why};
+use rls_verdict::lesser_name;
+use rls_verdict::rls_catalog::Grant;
+use rls_verdict::rls_expr::TableDef;
 use std::alloc::{AllocError, Global};
 use std::collections::BTreeSet;
 

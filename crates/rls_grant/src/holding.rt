@@ -2,20 +2,20 @@
 
 ghost use Rattle.std.specs.Prelude.{◌≡◌, ◌&&◌, IfOk, OnOk};
 ghost use Rattle.std.specs.List.{list_any};
-ghost use Rattle.rls_catalog.specs.Privileges as spec;
-ghost use Rattle.rls_catalog.specs.Privileges.{holds_reads};
-ghost use Rattle.rls_catalog.specs.State.{State, AgreesOn};
+ghost use Rattle.rls_verdict.specs.rls_catalog.specs.Privileges as spec;
+ghost use Rattle.rls_verdict.specs.rls_catalog.specs.Privileges.{holds_reads};
+ghost use Rattle.rls_verdict.specs.rls_catalog.specs.State.{State, AgreesOn};
 
-use rls_catalog::Grant;
+use rls_role::rls_source::RowSource;
 use rls_role::{EffectiveRoles, effective_roles_of};
-use rls_source::RowSource;
 use rls_value::{Name, Privilege};
+use rls_verdict::rls_catalog::Grant;
 use std::alloc::{AllocError, Global};
 
 /// Whether the role holds the privilege on the table: it is a superuser, or there is a grant of it to PUBLIC or to a
 /// role whose privileges it has. It reads the role and, unless that is a superuser, each role that it reaches, and the
 /// grants on the table; in every state that agrees on them the answer is the same.
-#[tactic(auto, using(rls_catalog::proofs::Frames::holds_frame))]
+#[tactic(auto, using(crate::proofs::PassedOn::holds_frame))]
 pub fn holds<'c, S: RowSource<'c>>(
     alloc: Global,
     source: &mut S,

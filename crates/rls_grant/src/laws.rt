@@ -2,10 +2,10 @@
 
 ghost use Rattle.std.specs.Prelude.{◌≡◌, ℕ, List};
 ghost use Rattle.rls_value.specs.Names.{one_of};
-ghost use Rattle.rls_catalog.specs.GrantOptions.{grantor_of};
-ghost use Rattle.rls_catalog.specs.Privileges.{AreOptions};
-ghost use Rattle.rls_catalog.specs.State.{State};
-ghost use Rattle.rls_catalog.specs.declared.grant.Grant.{Grant};
+ghost use Rattle.rls_verdict.specs.rls_catalog.specs.GrantOptions.{grantor_of};
+ghost use Rattle.rls_verdict.specs.rls_catalog.specs.Privileges.{AreOptions};
+ghost use Rattle.rls_verdict.specs.rls_catalog.specs.State.{State};
+ghost use Rattle.rls_verdict.specs.rls_catalog.specs.declared.grant.Grant.{Grant};
 ghost use Rattle.rls_value.specs.declared.verb.Privilege.{Privilege};
 ghost use Rattle.rls_role.specs.Reaching.{effective_roles_in};
 ghost use Rattle.rls_grant.specs.Grantors.{grantor_by};

@@ -3,18 +3,18 @@
 ghost use Rattle.std.specs.Prelude.{◌≡◌, ◌↔◌, ◌++◌, ◌∷◌, [], ℕ, List, None, true, cond, slice_get, IfOk, OnOk};
 ghost use Rattle.std.specs.{BTreeMap.is_at, BTreeSet.contains, Map.lookup, Option.option_copied};
 ghost use Rattle.rls_value.specs.declared.verb.Privilege.{Privilege as Kind};
-ghost use Rattle.rls_catalog.specs.GrantOptions as given;
-ghost use Rattle.rls_catalog.specs.{GrantOptions.without_options_of, Membership.fresh, declared.grant.Grant.Grant as Given, State.State, State.AgreesOn, State.name_order};
+ghost use Rattle.rls_verdict.specs.rls_catalog.specs.GrantOptions as given;
+ghost use Rattle.rls_verdict.specs.rls_catalog.specs.{GrantOptions.without_options_of, Membership.fresh, declared.grant.Grant.Grant as Given, State.State, State.AgreesOn, State.name_order};
 ghost use Rattle.rls_grant.specs.Seen.{IsSetOf};
 ghost use Rattle.rls_grant.specs.Considered as seen;
 ghost use Rattle.rls_grant.specs.{Considered.considered, Considered.considered_one, Handed.HandsOn, Handed.under, Optioned.AreHolders, Optioned.HoldsOption, Optioned.HoldsOn, Optioned.option_reads};
 ghost use Rattle.rls_grant.specs.Handed as handed;
 
 use crate::holding::is_same_privilege;
-use rls_catalog::Grant;
-use rls_expr::{Grantee, TableDef};
-use rls_source::RowSource;
+use rls_role::rls_source::RowSource;
 use rls_value::{Items, Name, Privilege};
+use rls_verdict::rls_catalog::Grant;
+use rls_verdict::rls_expr::{Grantee, TableDef};
 use std::alloc::{AllocError, Global};
 use std::collections::{BTreeMap, BTreeSet};
 

@@ -3,13 +3,13 @@
 ghost use Rattle.std.specs.Prelude.{◌≡◌, ◌≤◌, length, map, IfOk};
 ghost use Rattle.std.specs.List.{position_or_len};
 ghost use Rattle.std.specs.Ordering.{is_lt};
-ghost use Rattle.rls_source.specs.Sequences.{put_before};
+ghost use Rattle.rls_role.specs.rls_source.specs.Sequences.{put_before};
 ghost use Rattle.rls_grant.specs.Granting as spec;
 ghost use Rattle.rls_grant.specs.Granting.{with_grants};
 
-use rls_catalog::Grant;
-use rls_expr::Grantee;
 use rls_value::{Items, Privilege};
+use rls_verdict::rls_catalog::Grant;
+use rls_verdict::rls_expr::Grantee;
 use std::alloc::{AllocError, Global};
 use std::cmp::Ordering;
 

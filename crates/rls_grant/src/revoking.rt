@@ -3,8 +3,8 @@
 ghost use Rattle.std.specs.Prelude.{◌≡◌, ◌↔◌, ℕ, List, true, not, map, filter, IfOk};
 ghost use Rattle.std.specs.{BTreeSet.contains, List.list_any};
 ghost use Rattle.rls_value.specs.{Giving.Gives, Names.one_of, declared.verb.Privilege.Privilege as Kind};
-ghost use Rattle.rls_catalog.specs.{GrantOptions.HasDependents, GrantOptions.LeftAfterRevoke, GrantOptions.is_grant_of, State.name_order, declared.grant.Grant.Grant as Given};
-ghost use Rattle.rls_source.specs.Answering.{Answers};
+ghost use Rattle.rls_verdict.specs.rls_catalog.specs.{GrantOptions.HasDependents, GrantOptions.LeftAfterRevoke, GrantOptions.is_grant_of, State.name_order, declared.grant.Grant.Grant as Given};
+ghost use Rattle.rls_role.specs.rls_source.specs.Answering.{Answers};
 ghost use Rattle.rls_grant.specs.{Holders.holders_of, Revoking.grants_revoked, Revoking.is_by, Revoking.is_taken, Revoking.left_after, Revoking.left_or_refused, Revoking.revoke_on, Revoking.without_grant_option, Revoking.without_taken};
 ghost use Rattle.rls_grant.specs.Revoking as spec;
 
@@ -12,12 +12,12 @@ use crate::granting::write_grants;
 use crate::grantors::{Grantor, grantors_of};
 use crate::holding::is_same_privilege;
 use crate::optioning::{is_same_grantee, options};
-use rls_catalog::{Delta, Grant};
-use rls_expr::{Grantee, TableDef};
+use rls_role::rls_source::{Reads, RowSource, noted_grants, require_grantees, table_named};
+use rls_role::rls_statement::RevokePrivileges;
 use rls_role::{EffectiveRoles, noted_effective_roles};
-use rls_source::{Reads, RowSource, noted_grants, require_grantees, table_named};
-use rls_statement::RevokePrivileges;
 use rls_value::{Items, Name, Privilege, Refusal};
+use rls_verdict::rls_catalog::{Delta, Grant};
+use rls_verdict::rls_expr::{Grantee, TableDef};
 use std::alloc::{AllocError, Global};
 use std::collections::BTreeSet;
 

@@ -1,13 +1,13 @@
 -- What a role's privileges tell is what the rules over a state say.
 use Rattle.std.specs.Prelude.{◌≡◌, refl, ℕ, List, ◌||◌}
-use Rattle.rls_value.specs.declared.verb.Privilege.{Privilege}
-use Rattle.rls_value.specs.declared.verb.Kind.{Kind}
+use Rattle.rls_expr.specs.rls_value.specs.declared.verb.Privilege.{Privilege}
+use Rattle.rls_expr.specs.rls_value.specs.declared.verb.Kind.{Kind}
 use Rattle.rls_expr.specs.declared.table.TableDef.{TableDef}
-use Rattle.rls_catalog.specs.declared.verdict.Side.{Side}
-use Rattle.rls_catalog.specs.State.{State, grants_of, policies_of}
-use Rattle.rls_catalog.specs.Membership.{attributes_of, has_privileges_of}
-use Rattle.rls_catalog.specs.Privileges.{holds}
-use Rattle.rls_catalog.specs.Verdict.{exempts, is_exempt, chosen, applying_of}
+use Rattle.rls_evaluation.specs.rls_catalog.specs.declared.verdict.Side.{Side}
+use Rattle.rls_evaluation.specs.rls_catalog.specs.State.{State, grants_of, policies_of}
+use Rattle.rls_evaluation.specs.rls_catalog.specs.Membership.{attributes_of, has_privileges_of}
+use Rattle.rls_evaluation.specs.rls_catalog.specs.Privileges.{holds}
+use Rattle.rls_evaluation.specs.rls_catalog.specs.Verdict.{exempts, is_exempt, chosen, applying_of}
 use Rattle.rls_guard.specs.RolePrivileges.{role_privileges_in, has_owner, is_granted}
 
 -- the owner's privileges

@@ -1,6 +1,6 @@
 -- Worked examples of what is supported, around a table t whose primary key is its column 0. Each is a theorem that computes.
 use Rattle.std.specs.Prelude.{◌≡◌, refl, ℕ, pos, List, [], ◌∷◌, true, false, None, codes}
-use Rattle.rls_value.specs.declared.value.Value.TheVariants as v
+use Rattle.rls_expr.specs.rls_value.specs.declared.value.Value.TheVariants as v
 use Rattle.rls_expr.specs.declared.expr.Category.TheVariants as c
 use Rattle.rls_expr.specs.declared.expr.Comparison.TheVariants.{Equal, Less}
 use Rattle.rls_expr.specs.declared.expr.FromItem.{FromItem}

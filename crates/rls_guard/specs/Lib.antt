@@ -5,3 +5,9 @@ pub mod RolePrivileges
 pub mod SecurityQuals
 pub mod Effects
 pub mod Keeping
+pub mod PassedOn
+pub use Rattle.rls_evaluation
+pub use Rattle.rls_evaluation.specs.rls_catalog
+pub use Rattle.rls_evaluation.specs.rls_source
+pub use Rattle.rls_grant
+pub use Rattle.rls_policy.specs.rls_role

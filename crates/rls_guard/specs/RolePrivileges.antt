@@ -1,16 +1,16 @@
 -- What the current role may do with a table, by its attributes and whose privileges it has.
 use Rattle.std.specs.Prelude.{ℕ, List, ◌∷◌, Bool, ◌&&◌, ◌||◌, Result, Ok, Err, if◌then◌else◌}
 use Rattle.std.specs.List.{list_any}
-use Rattle.rls_value.specs.{Names.one_of, declared.object.Object.Object, declared.verb.Privilege.Privilege, declared.refusal.Refusal.Refusal, declared.refusal.Refusal.TheVariants.Denied}
-use Rattle.rls_value.specs.declared.object.Object.TheVariants as o
-use Rattle.rls_value.specs.declared.refusal.Why.TheVariants as why
+use Rattle.rls_expr.specs.rls_value.specs.{Names.one_of, declared.object.Object.Object, declared.verb.Privilege.Privilege, declared.refusal.Refusal.Refusal, declared.refusal.Refusal.TheVariants.Denied}
+use Rattle.rls_expr.specs.rls_value.specs.declared.object.Object.TheVariants as o
+use Rattle.rls_expr.specs.rls_value.specs.declared.refusal.Why.TheVariants as why
 use Rattle.rls_expr.specs.declared.table.TableDef.{TableDef}
-use Rattle.rls_catalog.specs.{declared.grant.Grant.Grant, State.State, Privileges.includes, Privileges.is_same_privilege}
-use Rattle.rls_catalog.specs.Membership.{attributes_of, walked_by, effective_roles_reads}
-use Rattle.rls_catalog.proofs.Frames.{attributes_frame, walked_frame, effective_roles_reads_frame}
+use Rattle.rls_evaluation.specs.rls_catalog.specs.{declared.grant.Grant.Grant, State.State, Privileges.includes, Privileges.is_same_privilege}
+use Rattle.rls_evaluation.specs.rls_catalog.specs.Membership.{attributes_of, walked_by, effective_roles_reads}
+use Rattle.rls_evaluation.specs.rls_catalog.proofs.Frames.{attributes_frame, walked_frame, effective_roles_reads_frame}
 use Rattle.rls_guard.specs.declared.role_privileges.RolePrivileges.{RolePrivileges}
-use Rattle.rls_source.specs.Askings.{Asking, IsFramed, known, asked_if, followed_by}
-use Rattle.rls_source.specs.Asked.{asked_grants}
+use Rattle.rls_evaluation.specs.rls_source.specs.Askings.{Asking, IsFramed, known, asked_if, followed_by}
+use Rattle.rls_evaluation.specs.rls_source.specs.Asked.{asked_grants}
 
 -- what tells a role's attributes and whose privileges it has
 unfoldable pub role_privileges_reads : State → List ℕ → List Object

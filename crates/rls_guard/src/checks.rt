@@ -1,14 +1,14 @@
 //! What a statement is checked for: who may, and what is supported.
 
 ghost use Rattle.std.specs.Prelude.{◌≡◌};
-ghost use Rattle.rls_source.specs.Answering.{Answers};
+ghost use Rattle.rls_evaluation.specs.rls_source.specs.Answering.{Answers};
 ghost use Rattle.rls_guard.specs.Checks as spec;
 ghost use Rattle.rls_guard.specs.Checks.{superuser_or_denied};
 
 use crate::support::is_unsupported_with;
+use rls_evaluation::rls_source::{Reads, RowSource, noted_role};
+use rls_expr::rls_value::{Name, Refusal, Why};
 use rls_expr::{Expr, has_query, has_sum};
-use rls_source::{Reads, RowSource, noted_role};
-use rls_value::{Name, Refusal, Why};
 use std::alloc::Global;
 
 /// Denied where the role is no superuser.

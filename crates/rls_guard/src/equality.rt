@@ -1,7 +1,7 @@
 //! Equality of replies and decisions.
 
 use crate::reply::{Decision, Reply};
-use rls_equality::Same;
+use rls_evaluation::rls_equality::Same;
 
 impl Same for Reply {
     fn is_same(&self, other: &Reply) -> bool {

@@ -2,13 +2,13 @@
 
 ghost use Rattle.std.specs.Prelude.{◌≡◌, ◌≤◌, ◌||◌, ℕ, List, [], Bool, true, false, Some, IfOk, length};
 ghost use Rattle.std.specs.Option.{is_some};
-ghost use Rattle.rls_value.specs.{declared.verb.Kind.Kind, declared.verb.Privilege.Privilege};
+ghost use Rattle.rls_expr.specs.rls_value.specs.{declared.verb.Kind.Kind, declared.verb.Privilege.Privilege};
 ghost use Rattle.rls_expr.specs.{declared.expr.FromItem.FromItem, declared.expr.Selects.Selects, Naming.Step, Scopes.InScope, declared.table.TableDef.TableDef};
 ghost use Rattle.rls_expr.specs.Resolving.{Names, definition_of, resolved, query_resolved};
 ghost use Rattle.rls_expr.specs.Terms.{Query, Term, Terms, Scalar, Select};
-ghost use Rattle.rls_catalog.specs.{declared.verdict.Side.Side, Privileges.holds, SoundRows.RowsAreSound, Membership.attributes_of, Membership.has_privileges_of};
-ghost use Rattle.rls_catalog.specs.State.{State, grants_of, policies_of, table_of};
-ghost use Rattle.rls_catalog.specs.Verdict.{exempts, is_exempt, chosen, applying_of};
+ghost use Rattle.rls_evaluation.specs.rls_catalog.specs.{declared.verdict.Side.Side, Privileges.holds, SoundRows.RowsAreSound, Membership.attributes_of, Membership.has_privileges_of};
+ghost use Rattle.rls_evaluation.specs.rls_catalog.specs.State.{State, grants_of, policies_of, table_of};
+ghost use Rattle.rls_evaluation.specs.rls_catalog.specs.Verdict.{exempts, is_exempt, chosen, applying_of};
 ghost use Rattle.rls_evaluation.specs.{declared.relation.SecuredRelation.SecuredRelation, Environments.Environment, Eval.ranged_over, Keys.key_of, Plain.IsPlainly, Showing.shows, Tableless.value_in};
 ghost use Rattle.rls_guard.specs.{Checks.is_unsupported_item, Naming.AreTablesOf, Naming.named, Support.is_unsupported, Support.pins_key};
 ghost use Rattle.rls_guard.specs.RolePrivileges.{role_privileges_in, has_owner, is_granted};

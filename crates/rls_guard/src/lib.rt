@@ -20,6 +20,10 @@ pub use laws::{item_means, pinned_key_means, resolved_subquery_means, role_privi
 pub use naming::{Found, named, named_over};
 pub use quals::{PolicyScope, RowCheck, conditions_of, row_checks_by};
 pub use reply::{Decision, Reply};
-pub use rls_policy::Judgement;
+pub use rls_evaluation;
+pub use rls_evaluation::{rls_catalog, rls_equality, rls_source};
+pub use rls_grant;
+pub use rls_policy;
+pub use rls_policy::{Judgement, rls_role};
 pub use role_privileges::{RolePrivileges, require_ownership, role_privileges_of};
 pub use support::is_unsupported_with;

@@ -7,11 +7,11 @@ ghost use Rattle.rls_guard.specs.Naming.{names_over};
 ghost use Rattle.rls_guard.specs.SecurityQuals as spec;
 
 use crate::role_privileges::RolePrivileges;
-use rls_catalog::Side;
 use rls_evaluation::SecurityQuals;
+use rls_evaluation::rls_catalog::Side;
+use rls_expr::rls_value::{Items, Kind, Reference};
 use rls_expr::{Expr, FromTable, NamedTable, Policy, Scope, resolve_columns};
 use rls_policy::{chosen, expression_of};
-use rls_value::{Items, Kind, Reference};
 use std::alloc::{AllocError, Global};
 
 /// The check of the rows of one side, before or after, for a type of command: its quals.

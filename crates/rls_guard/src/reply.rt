@@ -2,8 +2,8 @@
 
 ghost use Rattle.std.specs.Prelude.{◌≡◌, IfOk};
 
-use rls_catalog::{Side, Verdict};
-use rls_value::{Items, Kind, Row, RowId};
+use rls_evaluation::rls_catalog::{Side, Verdict};
+use rls_expr::rls_value::{Items, Kind, Row, RowId};
 use std::alloc::{AllocError, Global};
 
 /// What a statement answers that isn't refused.

@@ -1,18 +1,18 @@
 //! Who the current role is for a statement: its attributes, and whose privileges it has.
 
 ghost use Rattle.std.specs.Prelude.{◌≡◌};
-ghost use Rattle.rls_value.specs.Giving.{Gives};
-ghost use Rattle.rls_catalog.specs.Verdict.{exempts};
-ghost use Rattle.rls_source.specs.Answering.{Answers, Tells};
+ghost use Rattle.rls_expr.specs.rls_value.specs.Giving.{Gives};
+ghost use Rattle.rls_evaluation.specs.rls_catalog.specs.Verdict.{exempts};
+ghost use Rattle.rls_evaluation.specs.rls_source.specs.Answering.{Answers, Tells};
 ghost use Rattle.rls_guard.specs.RolePrivileges as spec;
 
-use rls_catalog::RoleDef;
+use rls_evaluation::rls_catalog::RoleDef;
+use rls_evaluation::rls_source::{Reads, RowSource, noted_grants, noted_role};
 use rls_expr::TableDef;
+use rls_expr::rls_value::{Name, Privilege, Refusal, Why};
 use rls_grant::is_granted;
 use rls_policy::exempt;
-use rls_role::{EffectiveRoles, noted_effective_roles};
-use rls_source::{Reads, RowSource, noted_grants, noted_role};
-use rls_value::{Name, Privilege, Refusal, Why};
+use rls_policy::rls_role::{EffectiveRoles, noted_effective_roles};
 use std::alloc::{AllocError, Global};
 
 /// The current role, as its attributes and its memberships make it.
@@ -23,7 +23,7 @@ pub struct RolePrivileges {
 }
 
 /// The role's privileges. It reads the role and, unless that is a superuser, each role whose privileges it has.
-#[tactic(auto, unfolding(rls_source::specs::Asked::role_at, rls_role::specs::Reaching::effective_roles_in, rls_role::specs::Reaching::effective_roles_reads_in, crate::specs::RolePrivileges::role_privileges_in, crate::specs::RolePrivileges::role_privileges_reads))]
+#[tactic(auto, unfolding(crate::specs::PassedOn::role_at, crate::specs::PassedOn::effective_roles_in, crate::specs::PassedOn::effective_roles_reads_in, crate::specs::RolePrivileges::role_privileges_in, crate::specs::RolePrivileges::role_privileges_reads))]
 pub fn role_privileges_of<'c, S: RowSource<'c>>(
     alloc: Global,
     source: &mut S,

@@ -1,7 +1,7 @@
 -- Two row checks by the same quals.
 use Rattle.std.specs.Prelude.{◌≡◌, List, [], ◌∷◌}
 use Rattle.rls_value.specs.declared.row.RowId.{RowId}
-use Rattle.rls_catalog.specs.declared.verdict.Verdict.{Verdict}
+use Rattle.rls_guard.specs.rls_catalog.specs.declared.verdict.Verdict.{Verdict}
 use Rattle.rls_guard.specs.{declared.quals.RowCheck.RowCheck, declared.reply.Decision.Decision}
 
 -- where there are two row checks, they are by the same quals

@@ -4,9 +4,9 @@ use Rattle.std.specs.Prelude.{ℕ, List, [], ◌∷◌, ◌++◌, Bool, true, fa
 use Rattle.std.specs.List.{list_all}
 use Rattle.rls_value.specs.{declared.row.RowId.RowId, declared.value.Value.Value}
 use Rattle.rls_expr.specs.Terms.{Term, Terms, maybe_term}
-use Rattle.rls_catalog.specs.declared.stored.Stored.{Stored}
-use Rattle.rls_source.specs.Askings.{Asking, known, followed_by, asked_if}
-use Rattle.rls_source.specs.Once.{each_once}
+use Rattle.rls_guard.specs.rls_catalog.specs.declared.stored.Stored.{Stored}
+use Rattle.rls_evaluation.specs.rls_source.specs.Askings.{Asking, known, followed_by, asked_if}
+use Rattle.rls_evaluation.specs.rls_source.specs.Once.{each_once}
 use Rattle.rls_evaluation.specs.{declared.relation.SecuredRelation.SecuredRelation, Environments.over, Gathering.gathered}
 use Rattle.rls_evaluation.specs.Eval.{Shows, meets}
 use Rattle.rls_evaluation.specs.Showing.{shows, verdict_on, allows}

@@ -5,9 +5,9 @@ use Rattle.rls_value.specs.declared.value.Value.{Value}
 use Rattle.rls_value.specs.Values.{is_null}
 use Rattle.rls_expr.specs.declared.table.TableDef.{TableDef}
 use Rattle.rls_expr.specs.Terms.{Term, maybe_term}
-use Rattle.rls_catalog.specs.declared.stored.Stored.{Stored}
-use Rattle.rls_source.specs.Askings.{Asking, known, asked_if}
-use Rattle.rls_source.specs.Asked.{asked_rows, asked_key}
+use Rattle.rls_guard.specs.rls_catalog.specs.declared.stored.Stored.{Stored}
+use Rattle.rls_evaluation.specs.rls_source.specs.Askings.{Asking, known, asked_if}
+use Rattle.rls_evaluation.specs.rls_source.specs.Asked.{asked_rows, asked_key}
 use Rattle.rls_evaluation.specs.{Environments.alone, Keys.key_of}
 
 -- the key that WHERE pins, where no row is in scope

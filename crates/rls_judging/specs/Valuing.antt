@@ -3,9 +3,9 @@
 use Rattle.std.specs.Prelude.{ℕ, List, [], ◌∷◌, ◌++◌, map}
 use Rattle.rls_value.specs.declared.value.Value.{Value}
 use Rattle.rls_expr.specs.Terms.{Term}
-use Rattle.rls_catalog.specs.declared.stored.Stored.{Stored}
-use Rattle.rls_source.specs.Askings.{Asking}
-use Rattle.rls_source.specs.Once.{each_once}
+use Rattle.rls_guard.specs.rls_catalog.specs.declared.stored.Stored.{Stored}
+use Rattle.rls_evaluation.specs.rls_source.specs.Askings.{Asking}
+use Rattle.rls_evaluation.specs.rls_source.specs.Once.{each_once}
 use Rattle.rls_evaluation.specs.declared.relation.SecuredRelation.{SecuredRelation}
 use Rattle.rls_evaluation.specs.Environments.{Environment, over, alone}
 use Rattle.rls_evaluation.specs.Gathering.{gathered}

@@ -2,9 +2,9 @@
 
 ghost use Rattle.std.specs.Prelude.{◌≡◌, ◌++◌, OnOk};
 
+use rls_evaluation::rls_source::{Reads, RowSource};
 use rls_evaluation::{ExecutionState, SecuredRelation};
 use rls_guard::RowCheck;
-use rls_source::{Reads, RowSource};
 use rls_value::Name;
 use std::alloc::{AllocError, Global};
 

@@ -2,7 +2,7 @@
 
 ghost use Rattle.std.specs.Prelude.{◌≡◌, [], ◌∷◌, ◌++◌, ◌&&◌, IsTrue, OnOk};
 ghost use Rattle.rls_expr.specs.Terms.{maybe_term};
-ghost use Rattle.rls_source.specs.{Answering.Tells as Reading, Askings.followed_by, Askings.known};
+ghost use Rattle.rls_evaluation.specs.rls_source.specs.{Answering.Tells as Reading, Askings.followed_by, Askings.known};
 ghost use Rattle.rls_evaluation.specs.{Holding.Holds, Holding.Evaluates, Showing.shows};
 ghost use Rattle.rls_judging.specs.Handed.{EvaluatesAt, allowing, behind, beside, items_now, judged_now, rows_borrowed};
 ghost use Rattle.rls_judging.specs.Alike.{AreAlike};
@@ -10,14 +10,14 @@ ghost use Rattle.rls_judging.specs.Judging as spec;
 
 use crate::alike::{are_alike, put_both};
 use crate::check_context::{CheckContext, mark_all};
-use rls_catalog::{BorrowedRow, Stored};
+use rls_evaluation::rls_source::{Reads, RowSource};
 use rls_evaluation::{
     Env, ExecutionState, Looked, Scoped, Tables, VisibleRelations, allows, meets_condition,
     verdict_on,
 };
 use rls_expr::Expr;
+use rls_guard::rls_catalog::{BorrowedRow, Stored};
 use rls_guard::{Decision, Judgement, RowCheck};
-use rls_source::{Reads, RowSource};
 use rls_value::{Row, RowId};
 use std::alloc::{AllocError, Global};
 

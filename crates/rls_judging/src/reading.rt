@@ -3,13 +3,13 @@
 ghost use Rattle.std.specs.Prelude.{◌≡◌, IfOk};
 ghost use Rattle.std.specs.List.{list_any};
 ghost use Rattle.rls_value.specs.Values.{is_null};
-ghost use Rattle.rls_source.specs.Answering.{Tells};
+ghost use Rattle.rls_evaluation.specs.rls_source.specs.Answering.{Tells};
 ghost use Rattle.rls_judging.specs.ScannedRows as spec;
 
-use rls_catalog::BorrowedRow;
+use rls_evaluation::rls_source::{Reads, RowSource, noted_key, noted_scan};
 use rls_evaluation::{Env, Scoped, key_of};
 use rls_expr::{Expr, FromTable};
-use rls_source::{Reads, RowSource, noted_key, noted_scan};
+use rls_guard::rls_catalog::BorrowedRow;
 use rls_value::{Items, Name, Row, Value};
 use std::alloc::{AllocError, Global};
 

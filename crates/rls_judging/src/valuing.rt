@@ -1,18 +1,18 @@
 //! The values that a statement gives to rows.
 
 ghost use Rattle.std.specs.Prelude.{◌≡◌, ◌++◌, [], Ok, OnOk, map};
-ghost use Rattle.rls_source.specs.{Answering.Tells as Reading, Askings.followed_by, Askings.known};
+ghost use Rattle.rls_evaluation.specs.rls_source.specs.{Answering.Tells as Reading, Askings.followed_by, Askings.known};
 ghost use Rattle.rls_evaluation.specs.{Holding.Holds, Holding.Evaluates, Holding.put_in, Scoping.env_of, Scoping.rows_in, Showing.shows};
 ghost use Rattle.rls_judging.specs.Handed.{EvaluatesAt, datum_values_all, datum_values_each, datum_values};
 ghost use Rattle.rls_judging.specs.Valuing as spec;
 
 use crate::check_context::mark_all;
-use rls_catalog::BorrowedRow;
+use rls_evaluation::rls_source::{Reads, RowSource};
 use rls_evaluation::{
     Datum, Env, ExecutionState, Looked, Scoped, SecuredRelation, Tables, VisibleRelations, eval,
 };
 use rls_expr::Expr;
-use rls_source::{Reads, RowSource};
+use rls_guard::rls_catalog::BorrowedRow;
 use rls_value::{Items, Name};
 use std::alloc::{AllocError, Global};
 

@@ -7,8 +7,8 @@ use Rattle.rls_catalog.specs.declared.change.Change.{Change}
 use Rattle.rls_source.specs.{Named.found_or, Sequences.each_of, Sequences.each_or_refused}
 use Rattle.rls_guard.specs.{declared.effect.Effect.Effect, Effects.shown}
 use Rattle.rls_guard.specs.declared.effect.Effect.TheVariants as effect
-use Rattle.rls_audit.specs.RefusalCodecs.{IsAudited}
-use Rattle.rls_meaning.specs.Naming.{provided}
+use Rattle.rls_check.specs.rls_audit.specs.RefusalCodecs.{IsAudited}
+use Rattle.rls_check.specs.rls_meaning.specs.Naming.{provided}
 
 -- this holds of what is given, where something is
 abbrev pub GivenAs : {A : Type 0} → (A → Type 0) → Result A Refusal → Type 0

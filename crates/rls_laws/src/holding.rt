@@ -2,7 +2,7 @@
 
 ghost use Rattle.std.specs.Prelude.{ℕ, Bool, List};
 ghost use Rattle.std.specs.List.{AllZip};
-ghost use Rattle.rls_audit.specs.{Audits.AuditHolds, Shows.Means};
+ghost use Rattle.rls_check.specs.rls_audit.specs.{Audits.AuditHolds, Shows.Means};
 ghost use Rattle.rls_check.specs.{Audited.lines_of, Wholes.IsAuditOf, declared.audit.Audit.Audit};
 
 use rls_check::lines_are_shown;

@@ -7,12 +7,12 @@ ghost use Rattle.rls_catalog.specs.State.{State};
 ghost use Rattle.rls_statement.specs.declared.statement.Statement.{Statement};
 ghost use Rattle.rls_guard.specs.{declared.context.Ctx.Ctx, declared.reply.Decision.Decision};
 ghost use Rattle.rls_guard.specs.declared.effect.Effect.TheVariants as effect;
-ghost use Rattle.rls_access.specs.Statements.{effect_in};
-ghost use Rattle.rls_core.specs.Events.{Event, Rules, after};
-ghost use Rattle.rls_audit.specs.{Audits.AuditHolds, Lines.Line, RefusalCodecs.IsAudited, Showing.CanShow};
+ghost use Rattle.rls_check.specs.rls_access.specs.Statements.{effect_in};
+ghost use Rattle.rls_check.specs.rls_core.specs.Events.{Event, Rules, after};
+ghost use Rattle.rls_check.specs.rls_audit.specs.{Audits.AuditHolds, Lines.Line, RefusalCodecs.IsAudited, Showing.CanShow};
 ghost use Rattle.rls_laws.specs.Shown.{KeysAreThere};
 
-use rls_meaning::statement_means;
+use rls_check::rls_meaning::statement_means;
 
 /// The refusal of a statement is one that an audit has: none of a text, of a login, of a conflict, of want of memory or of
 /// another engine. Where the columns of primary keys are there, an audit can show what a statement comes to; so after every

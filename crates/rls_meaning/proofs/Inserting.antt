@@ -8,12 +8,12 @@ use Rattle.rls_catalog.specs.{declared.stored.Stored.Stored, Membership.Within, 
 use Rattle.rls_catalog.specs.declared.verdict.Side.TheVariants as side
 use Rattle.rls_source.specs.{Readings.read_then, Readings.unread, Sequences.each_of}
 use Rattle.rls_statement.specs.{declared.statement.Insert.Insert}
-use Rattle.rls_evaluation.specs.{Environments.Environment, Environments.alone, Eval.Shows, Eval.value_of, Gathering.gathered, Showing.shows}
+use Rattle.rls_guard.specs.rls_evaluation.specs.{Environments.Environment, Environments.alone, Eval.Shows, Eval.value_of, Gathering.gathered, Showing.shows}
 use Rattle.rls_guard.specs.{declared.context.Ctx.Ctx, declared.effect.Effect.Effect, declared.reply.Decision.Decision, Effects.shown, RolePrivileges.role_privileges_in}
-use Rattle.rls_expansion.specs.{declared.expansion.PolicyExpansion.PolicyExpansion, Used.all_tables, Used.tables_of}
+use Rattle.rls_depth.specs.rls_expansion.specs.{declared.expansion.PolicyExpansion.PolicyExpansion, Used.all_tables, Used.tables_of}
 use Rattle.rls_depth.proofs.{Tables.within_first, Tables.within_last}
-use Rattle.rls_judging.specs.{Valuing.values_on, Valuing.values_put, Valuing.with_values}
-use Rattle.rls_dml.specs.{declared.analysed_insert.AnalysedInsert.AnalysedInsert, Checking.returning_names, Checking.returning_reads, Inserting.analysed_insert_for, Inserting.analysed_insert_in, Inserting.insert_as, Inserting.insert_with_quals, Inserting.insert_into, Inserting.insert_judged, Inserting.insert_made, Inserting.insert_rows as insert_new, Inserting.insert_values, Inserting.inserted as machine_inserted, Inserting.new_rows, Inserting.numbered, Inserting.places_of, Inserting.row_of_tuple as machine_row, Inserting.tuples_names, Inserting.tuples_tables, Writing.each_with, Writing.order_of}
+use Rattle.rls_access.specs.rls_judging.specs.{Valuing.values_on, Valuing.values_put, Valuing.with_values}
+use Rattle.rls_access.specs.rls_dml.specs.{declared.analysed_insert.AnalysedInsert.AnalysedInsert, Checking.returning_names, Checking.returning_reads, Inserting.analysed_insert_for, Inserting.analysed_insert_in, Inserting.insert_as, Inserting.insert_with_quals, Inserting.insert_into, Inserting.insert_judged, Inserting.insert_made, Inserting.insert_rows as insert_new, Inserting.insert_values, Inserting.inserted as machine_inserted, Inserting.new_rows, Inserting.numbered, Inserting.places_of, Inserting.row_of_tuple as machine_row, Inserting.tuples_names, Inserting.tuples_tables, Writing.each_with, Writing.order_of}
 use Rattle.rls_access.specs.{Statements.mode_or_refused}
 use Rattle.rls_meaning.specs.{Commands.Command, Commands.permitted_in, Constraints.allowed_in, Inserting.InsertMeans, Inserting.insert_parts, Inserting.insert_rows, Inserting.inserted, Inserting.row_of_tuple, Expanding.IsExpanded, Expanding.IsExpansionIn, Expanding.sees, Replies.done_or_refused, Replies.reply_of, Rows.decisions}
 use Rattle.rls_meaning.proofs.{Questions.decisions_in, Questions.put_value, Questions.put_values, Questions.tuple_values, Replying.made_then, Replying.reply_told, Replying.with_its_own, Showing.decisions_told as plain_decisions, Showing.put_values_told, Constraining.allowed_told, Qualifying.decisions_told, Qualifying.privileges_told, Qualifying.queries_checked, Qualifying.under_told, Naming.named_told, Naming.table_told, Analysing.insert_analysed, Analysing.insert_reads, Analysing.insert_tables}

@@ -13,7 +13,7 @@ use Rattle.rls_catalog.specs.State.{State, table_of}
 use Rattle.rls_source.specs.{Named.found_or, Sequences.each_or_refused}
 use Rattle.rls_statement.specs.declared.changing.Assignment.{Assignment}
 use Rattle.rls_guard.specs.Naming.{there_or_undefined}
-use Rattle.rls_dml.specs.{Checking.where_names, Inserting.tuples_names, Updating.assignments_names}
+use Rattle.rls_access.specs.rls_dml.specs.{Checking.where_names, Inserting.tuples_names, Updating.assignments_names}
 use Rattle.rls_meaning.specs.Naming.{named_in}
 use Rattle.rls_meaning.specs.Parts.{Part, Expression, around_in, found_in, is_there, names_in, parts, parts_all, query_parts, table_of_part, tables_of}
 

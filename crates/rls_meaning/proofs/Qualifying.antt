@@ -10,12 +10,12 @@ use Rattle.rls_catalog.specs.{declared.stored.Stored.Stored, Membership.Within, 
 use Rattle.rls_catalog.specs.declared.verdict.Side.TheVariants as side
 use Rattle.rls_catalog.proofs.{Walks.among_first}
 use Rattle.rls_source.specs.{Asked.asked_grants, Asked.asked_key, Asked.grants_at, Asked.keyed_at, Asked.rows_at, Askings.Asking, Askings.asked_if, Askings.followed_by, Askings.known, Readings.read_then, Readings.unread}
-use Rattle.rls_evaluation.specs.{Environments.Environment, Environments.over, Eval.Shows, Eval.meets, Eval.value_of, Gathering.gathered, Showing.shows}
+use Rattle.rls_guard.specs.rls_evaluation.specs.{Environments.Environment, Environments.over, Eval.Shows, Eval.meets, Eval.value_of, Gathering.gathered, Showing.shows}
 use Rattle.rls_guard.specs.{declared.effect.Effect.Effect, declared.quals.RowCheck.RowCheck, declared.reply.Decision.Decision, declared.role_privileges.RolePrivileges.RolePrivileges, RolePrivileges.is_granted, RolePrivileges.privilege_or_denied, RolePrivileges.role_privileges_in}
-use Rattle.rls_expansion.specs.{declared.expansion.PolicyExpansion.PolicyExpansion, Expanding.judges_new, Expanding.judges_old, Used.tables_if}
+use Rattle.rls_depth.specs.rls_expansion.specs.{declared.expansion.PolicyExpansion.PolicyExpansion, Expanding.judges_new, Expanding.judges_old, Used.tables_if}
 use Rattle.rls_depth.specs.{Deep.JudgeAlike}
-use Rattle.rls_judging.specs.{ScannedRows.scanned_rows, ScannedRows.scanned_rows_with, ScannedRows.pinned_key, Judging.are_allowed, Judging.decisions_on, Judging.qualifying_rows_of, Judging.judged_all, Judging.judged_new, Judging.judged_old, Judging.with_decision, Judging.with_decisions, Judging.with_judged}
-use Rattle.rls_dml.specs.{Writing.privileges_or_denied, Writing.readable_or_denied}
+use Rattle.rls_access.specs.rls_judging.specs.{ScannedRows.scanned_rows, ScannedRows.scanned_rows_with, ScannedRows.pinned_key, Judging.are_allowed, Judging.decisions_on, Judging.qualifying_rows_of, Judging.judged_all, Judging.judged_new, Judging.judged_old, Judging.with_decision, Judging.with_decisions, Judging.with_judged}
+use Rattle.rls_access.specs.rls_dml.specs.{Writing.privileges_or_denied, Writing.readable_or_denied}
 use Rattle.rls_meaning.specs.{Chains.subquery_tables_in, Commands.Command, Commands.depth_of, Commands.needed_in, Commands.own_of, Commands.permitted, Commands.permitted_in, Commands.privilege_of, Commands.required, Naming.provided, Expanding.IsExpanded, Expanding.IsExpansionIn, Expanding.Made, Expanding.Refused, Expanding.checks_if, Expanding.expansion_in, Expanding.sees, Expanding.checks, Showing.rows_at_key, Needing.needed_by}
 use Rattle.rls_meaning.proofs.{Questions.decisions_in, Questions.qualifying_rows_in}
 

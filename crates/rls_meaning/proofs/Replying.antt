@@ -8,10 +8,10 @@ use Rattle.rls_catalog.specs.declared.stored.Stored.{Stored}
 use Rattle.rls_source.specs.Sequences.{each_of}
 use Rattle.rls_statement.specs.declared.statement.Selected.{Selected}
 use Rattle.rls_statement.specs.declared.statement.Selected.TheVariants.{All, Items, Count}
-use Rattle.rls_evaluation.specs.Environments.{over}
+use Rattle.rls_guard.specs.rls_evaluation.specs.Environments.{over}
 use Rattle.rls_guard.specs.declared.reply.Reply.TheVariants as reply
-use Rattle.rls_dml.specs.{Listings.listing, Listings.values_of, Writing.each_taking, Writing.each_with}
-use Rattle.rls_dml.specs.Listings.{answered as machine_answered, reply_of as machine_reply_of}
+use Rattle.rls_access.specs.rls_dml.specs.{Listings.listing, Listings.values_of, Writing.each_taking, Writing.each_with}
+use Rattle.rls_access.specs.rls_dml.specs.Listings.{answered as machine_answered, reply_of as machine_reply_of}
 use Rattle.rls_meaning.specs.{Evaluating.no_rows, Evaluating.value, Replies.answered, Replies.reply_of}
 use Rattle.rls_meaning.proofs.Evaluating.{listed_told}
 

@@ -10,8 +10,8 @@ use Rattle.rls_statement.specs.{declared.statement.Select.Select}
 use Rattle.rls_guard.specs.{Effects.shown}
 use Rattle.rls_guard.specs.declared.effect.Effect.TheVariants as effect
 use Rattle.rls_guard.specs.declared.reply.Reply.TheVariants as reply
-use Rattle.rls_expansion.specs.{Used.tables_if}
-use Rattle.rls_dml.specs.{declared.selecting.AnalysedSelect.AnalysedSelect, Selecting.listed_by, Selecting.listed_for, Selecting.listed_from, Selecting.qualifier_of, Selecting.analysed_select_for, Selecting.analysed_select_in, Selecting.analysed_select_names, Selecting.select_as, Selecting.select_from}
+use Rattle.rls_depth.specs.rls_expansion.specs.{Used.tables_if}
+use Rattle.rls_access.specs.rls_dml.specs.{declared.selecting.AnalysedSelect.AnalysedSelect, Selecting.listed_by, Selecting.listed_for, Selecting.listed_from, Selecting.qualifier_of, Selecting.analysed_select_for, Selecting.analysed_select_in, Selecting.analysed_select_names, Selecting.select_as, Selecting.select_from}
 use Rattle.rls_access.specs.{Statements.mode_or_refused}
 use Rattle.rls_meaning.specs.{Commands.Command, Commands.permitted_in, Expanding.IsExpanded, Rows.decisions, Rows.qualifying, Rows.scanned, Selecting.SelectMeans, Selecting.select_parts, Selecting.select_rows}
 use Rattle.rls_meaning.proofs.{Qualifying.done_told, Naming.named_told, Naming.table_told, Replying.answered_told, Showing.qualifying_told, Analysing.select_analysed, Parts.tables_if_told}

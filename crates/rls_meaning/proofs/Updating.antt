@@ -8,12 +8,12 @@ use Rattle.rls_catalog.specs.{declared.stored.Stored.Stored, Membership.Within, 
 use Rattle.rls_catalog.specs.declared.verdict.Side.TheVariants as side
 use Rattle.rls_source.specs.{Sequences.each_of}
 use Rattle.rls_statement.specs.{declared.changing.Update.Update}
-use Rattle.rls_evaluation.specs.{Environments.over, Showing.shows}
+use Rattle.rls_guard.specs.rls_evaluation.specs.{Environments.over, Showing.shows}
 use Rattle.rls_guard.specs.{declared.effect.Effect.Effect, declared.reply.Decision.Decision, Effects.shown, RolePrivileges.role_privileges_in}
-use Rattle.rls_expansion.specs.{declared.expansion.PolicyExpansion.PolicyExpansion, Used.all_tables, Used.tables_if}
+use Rattle.rls_depth.specs.rls_expansion.specs.{declared.expansion.PolicyExpansion.PolicyExpansion, Used.all_tables, Used.tables_if}
 use Rattle.rls_depth.proofs.{Tables.within_first, Tables.within_last}
-use Rattle.rls_judging.specs.{ScannedRows.scanned_rows_with, ScannedRows.pinned_key, Judging.judged_all, Valuing.values_on, Valuing.values_set, Valuing.with_row_values}
-use Rattle.rls_dml.specs.{declared.analysed_update.AnalysedUpdate.AnalysedUpdate, Updating.places_set, Updating.analysed_update_for, Updating.analysed_update_in, Updating.analysed_update_names, Updating.analysed_update_reads, Updating.analysed_update_tables, Updating.update_as, Updating.update_with_quals, Updating.update_qualifying_rows, Updating.update_in as update_of, Updating.update_judged, Updating.update_made, Updating.update_rows as update_new, Updating.update_values, Updating.changed_row, Updating.changed_rows, Updating.updated as machine_updated, Updating.updated_row, Updating.updated_rows, Writing.order_of}
+use Rattle.rls_access.specs.rls_judging.specs.{ScannedRows.scanned_rows_with, ScannedRows.pinned_key, Judging.judged_all, Valuing.values_on, Valuing.values_set, Valuing.with_row_values}
+use Rattle.rls_access.specs.rls_dml.specs.{declared.analysed_update.AnalysedUpdate.AnalysedUpdate, Updating.places_set, Updating.analysed_update_for, Updating.analysed_update_in, Updating.analysed_update_names, Updating.analysed_update_reads, Updating.analysed_update_tables, Updating.update_as, Updating.update_with_quals, Updating.update_qualifying_rows, Updating.update_in as update_of, Updating.update_judged, Updating.update_made, Updating.update_rows as update_new, Updating.update_values, Updating.changed_row, Updating.changed_rows, Updating.updated as machine_updated, Updating.updated_row, Updating.updated_rows, Writing.order_of}
 use Rattle.rls_access.specs.{Statements.mode_or_refused}
 use Rattle.rls_meaning.specs.{Commands.Command, Constraints.allowed_in, Expanding.IsExpanded, Expanding.IsExpansionIn, Expanding.sees, Replies.done_or_refused, Replies.reply_of, Rows.decisions, Rows.qualifying, Rows.scanned, Rows.shown_to, Evaluating.value, Commands.permitted_in, Updating.UpdateMeans, Updating.new_version, Updating.update_parts, Updating.update_rows, Updating.updated}
 use Rattle.rls_meaning.proofs.{Questions.decisions_in, Questions.new_values, Questions.qualifying_rows_in, Questions.row_values, Replying.mapped_length, Replying.reply_told, Replying.taking_its_own, Showing.decisions_told as plain_decisions, Showing.qualifying_told, Showing.set_values_told, Constraining.allowed_told, Qualifying.behind_privileges, Qualifying.decisions_told, Qualifying.gathered_same, Qualifying.looked_told, Qualifying.privileges_told, Qualifying.queries_checked, Qualifying.then_then, Qualifying.under_told, Inserting.values_same, Naming.named_told, Naming.table_told, Analysing.update_analysed, Analysing.update_reads, Analysing.update_tables}

@@ -7,7 +7,7 @@ use Rattle.rls_value.specs.{declared.refusal.GrantFault.TheVariants.Back, declar
 use Rattle.rls_expr.specs.{declared.policy.Grantee.Grantee, declared.policy.Grantee.TheVariants.Public, declared.policy.Grantee.TheVariants.Role}
 use Rattle.rls_catalog.specs.{declared.grant.Grant.Grant, GrantOptions.is_grant_of}
 use Rattle.rls_source.specs.Sequences.{each_or_refused, put_before}
-use Rattle.rls_grant.specs.{declared.grantors.Grantor.Grantor, Granting.goes_back, Granting.grant_order, Holders.holders_of, Revoking.stays}
+use Rattle.rls_guard.specs.rls_grant.specs.{declared.grantors.Grantor.Grantor, Granting.goes_back, Granting.grant_order, Holders.holders_of, Revoking.stays}
 use Rattle.rls_meaning.specs.Naming.{provided}
 
 -- the grant in its place: one that is there keeps its grant option, and gets that of the new one

@@ -23,3 +23,8 @@ pub mod Privileges
 pub mod Memberships
 pub mod Meaning
 pub mod Expanding
+pub use Rattle.rls_access
+pub use Rattle.rls_access.specs.rls_ddl
+pub use Rattle.rls_access.specs.rls_dml
+pub use Rattle.rls_depth
+pub use Rattle.rls_depth.specs.rls_expansion

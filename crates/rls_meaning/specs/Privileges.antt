@@ -8,7 +8,7 @@ use Rattle.rls_catalog.specs.declared.change.Change.TheVariants as change
 use Rattle.rls_catalog.specs.{declared.change.Change.Change, declared.grant.Grant.Grant, GrantOptions.grantor_of, GrantOptions.not_grantable, State.State, State.grants_of}
 use Rattle.rls_source.specs.{Named.found_or, Sequences.each_of, Sequences.each_or_refused}
 use Rattle.rls_statement.specs.{declared.statement.GrantPrivileges.GrantPrivileges, declared.statement.Privileges.Privileges, declared.statement.RevokePrivileges.RevokePrivileges}
-use Rattle.rls_grant.specs.{declared.grantors.Grantor.Grantor, Grantors.all_privileges, Grantors.is_named, Holders.holders_of}
+use Rattle.rls_guard.specs.rls_grant.specs.{declared.grantors.Grantor.Grantor, Grantors.all_privileges, Grantors.is_named, Holders.holders_of}
 use Rattle.rls_meaning.specs.{Grants.is_taken, Grants.left_in, Grants.option_in, Grants.put_grant, Naming.grantees_in, Naming.table_in}
 
 -- who grants a privilege: the owner, where the role has its privileges; else the role itself, where it holds the grant

@@ -9,8 +9,8 @@ use Rattle.rls_catalog.specs.declared.change.Change.TheVariants as change
 use Rattle.rls_source.specs.Sequences.{each_of}
 use Rattle.rls_statement.specs.{declared.statement.AlterTable.AlterTable, declared.statement.CreateTable.CreateTable}
 use Rattle.rls_guard.specs.{declared.effect.Effect.Effect, Effects.writes}
-use Rattle.rls_grant.specs.Grantors.{all_privileges}
-use Rattle.rls_ddl.specs.AlteringTables.{altered}
+use Rattle.rls_guard.specs.rls_grant.specs.Grantors.{all_privileges}
+use Rattle.rls_access.specs.rls_ddl.specs.AlteringTables.{altered}
 use Rattle.rls_meaning.specs.{Analysing.place_in, Grants.put_grant, Naming.provided, Naming.table_in}
 
 -- CREATE TABLE: the columns of the key have to be defined, those of the constraint or, without one, those that are marked, and

@@ -11,9 +11,9 @@ use Rattle.rls_catalog.specs.declared.verdict.Side.TheVariants as side
 use Rattle.rls_source.specs.{Sequences.each_of}
 use Rattle.rls_statement.specs.{declared.changing.Update.Update}
 use Rattle.rls_statement.specs.declared.statement.Statement.TheVariants as statement
-use Rattle.rls_evaluation.specs.{Environments.over}
+use Rattle.rls_guard.specs.rls_evaluation.specs.{Environments.over}
 use Rattle.rls_guard.specs.{declared.context.Ctx.Ctx, declared.effect.Effect.Effect, declared.reply.Decision.Decision, Effects.shown}
-use Rattle.rls_dml.specs.{declared.analysed_update.AnalysedUpdate.AnalysedUpdate, Updating.places_set, Writing.assigned, Writing.key_at, Writing.order_of}
+use Rattle.rls_access.specs.rls_dml.specs.{declared.analysed_update.AnalysedUpdate.AnalysedUpdate, Updating.places_set, Writing.assigned, Writing.key_at, Writing.order_of}
 use Rattle.rls_access.specs.{Statements.effect_in, Statements.mode_or_refused}
 use Rattle.rls_meaning.specs.{Commands.Command, Commands.permitted_in, Constraints.allowed_in, Evaluating.value, Naming.table_in, Replies.done_or_refused, Replies.kept, Replies.reply_of, Replies.row_change, Rows.decisions, Rows.qualifying, Rows.scanned, Rows.shown_to, Analysing.checked, Analysing.items_of, Analysing.items_resolved, Analysing.of_both, Analysing.of_value, Analysing.place_in, Analysing.reads_in, Resolving.resolved, Parts.names_in, Parts.tables_of}
 

@@ -7,3 +7,6 @@ pub use laws::{
     delete_means, expansion_means, insert_means, needed_means, relations_mean, select_means,
     statement_means, update_means,
 };
+pub use rls_access;
+pub use rls_depth;
+pub use rls_depth::rls_expansion;

@@ -3,12 +3,12 @@ use Rattle.std.specs.Prelude.{◌≡◌, refl, ℕ, List, [], ◌∷◌, Bool, t
 use Rattle.std.specs.List.{list_any, list_all}
 use Rattle.std.proofs.Common.{ap, sym}
 use Rattle.std.proofs.lemmas.Bool.{true≢false}
-use Rattle.rls_expr.specs.declared.policy.Grantee.{Grantee}
-use Rattle.rls_expr.specs.declared.policy.Grantee.TheVariants.{Public, Role}
-use Rattle.rls_expr.specs.declared.policy.Policy.{Policy}
-use Rattle.rls_catalog.specs.State.{State}
-use Rattle.rls_catalog.specs.Privileges.{concerns}
-use Rattle.rls_catalog.specs.Verdict.{is_everyone, is_to_everyone, is_to}
+use Rattle.rls_verdict.specs.rls_expr.specs.declared.policy.Grantee.{Grantee}
+use Rattle.rls_verdict.specs.rls_expr.specs.declared.policy.Grantee.TheVariants.{Public, Role}
+use Rattle.rls_verdict.specs.rls_expr.specs.declared.policy.Policy.{Policy}
+use Rattle.rls_verdict.specs.rls_catalog.specs.State.{State}
+use Rattle.rls_verdict.specs.rls_catalog.specs.Privileges.{concerns}
+use Rattle.rls_verdict.specs.rls_catalog.specs.Verdict.{is_everyone, is_to_everyone, is_to}
 
 or_true : (a : Bool) (b : Bool) → b ≡ true → (a || b) ≡ true
 or_true true b is = refl

@@ -1,1 +1,2 @@
 pub mod Everyone
+mod PassedOn

@@ -1,1 +1,2 @@
-pub use Rattle.rls_catalog.specs.Verdict
+pub use Rattle.rls_verdict.specs.rls_catalog.specs.Verdict
+pub use Rattle.rls_role

@@ -3,15 +3,15 @@
 ghost use Rattle.std.specs.Prelude.{◌≡◌, Some, filter, IfOk, OnOk};
 ghost use Rattle.std.specs.Option.{option_copied};
 ghost use Rattle.std.specs.List.{list_any, list_all};
-ghost use Rattle.rls_catalog.specs.{Privileges.includes, State.State, State.AgreesOn, Applying.applying_on, Applying.applying_to, Applying.applying_on_reads, Applying.applying_to_reads};
-ghost use Rattle.rls_catalog.specs.Verdict as spec;
+ghost use Rattle.rls_verdict.specs.rls_catalog.specs.{Privileges.includes, State.State, State.AgreesOn, Applying.applying_on, Applying.applying_to, Applying.applying_on_reads, Applying.applying_to_reads};
+ghost use Rattle.rls_verdict.specs.rls_catalog.specs.Verdict as spec;
 
 use crate::exemption::is_exempt;
-use rls_catalog::Side;
-use rls_expr::{Expr, Grantee, Policy, TableDef};
+use rls_role::rls_source::RowSource;
 use rls_role::{EffectiveRoles, effective_roles_of};
-use rls_source::RowSource;
-use rls_value::{Items, Kind, Name, PolicyKind, Reference};
+use rls_verdict::rls_catalog::Side;
+use rls_verdict::rls_expr::{Expr, Grantee, Policy, TableDef};
+use rls_verdict::rls_value::{Items, Kind, Name, PolicyKind, Reference};
 use std::alloc::{AllocError, Global};
 
 /// The expression that the policy is asked for: USING for SELECT, DELETE and the old row of UPDATE; else WITH CHECK or,
@@ -87,7 +87,7 @@ fn is_to(policy: &Policy, effective_roles: &EffectiveRoles) -> bool
 /// expression asked for; in byte order of their names (PostgreSQL manual, CREATE POLICY). It reads the table, what tells
 /// whether the role is exempt and, unless it is, the policies and, unless all that it asks are TO PUBLIC, each role that
 /// the role reaches; in every state that agrees on them the answer is the same.
-#[tactic(auto, using(rls_catalog::proofs::ApplyingLaws::applying_to_frame))]
+#[tactic(auto, using(crate::proofs::PassedOn::applying_to_frame))]
 pub fn applying<'c, S: RowSource<'c>>(
     alloc: Global,
     source: &mut S,

@@ -1,28 +1,20 @@
 //! Who is exempt from row security.
 
 ghost use Rattle.std.specs.Prelude.{◌≡◌, IfOk, OnOk};
-ghost use Rattle.rls_catalog.specs.State.{State, AgreesOn};
-ghost use Rattle.rls_catalog.specs.Verdict as spec;
-ghost use Rattle.rls_catalog.specs.Verdict.{exempts, exempt_reads};
+ghost use Rattle.rls_verdict.specs.rls_catalog.specs.State.{State, AgreesOn};
+ghost use Rattle.rls_verdict.specs.rls_catalog.specs.Verdict as spec;
+ghost use Rattle.rls_verdict.specs.rls_catalog.specs.Verdict.{exempt_reads};
 
-use rls_catalog::RoleDef;
-use rls_expr::TableDef;
 use rls_role::has;
-use rls_source::RowSource;
-use rls_value::Name;
+use rls_role::rls_source::RowSource;
+use rls_verdict::rls_catalog::RoleDef;
+use rls_verdict::rls_expr::TableDef;
+use rls_verdict::rls_value::Name;
 use std::alloc::{AllocError, Global};
-
-/// Whether row security doesn't apply to the role on the table; `has_owner` tells whether the role has the privileges of
-/// the table's owner (PostgreSQL manual, 5.8).
-pub fn exempt(role: &RoleDef, table: &TableDef, has_owner: bool) -> bool
-    ensures { result ≡ exempts role.now table.now has_owner }
-{
-    !table.enabled || role.superuser || role.bypass_rls || (has_owner && !table.forced)
-}
 
 /// Whether the role is exempt on the table. It reads nothing where row security is off, the role alone where that is
 /// SUPERUSER or BYPASSRLS or the table under FORCE, and else each role that it reaches; in every state that agrees on that the answer is the same.
-#[tactic(auto, using(rls_catalog::proofs::Frames::exempt_frame))]
+#[tactic(auto, using(crate::proofs::PassedOn::exempt_frame))]
 pub fn is_exempt<'c, S: RowSource<'c>>(
     alloc: Global,
     source: &mut S,

@@ -2,11 +2,11 @@
 #![tactic(auto)]
 
 mod choosing;
-mod combining;
 mod exemption;
 
 pub use choosing::{applying, chosen, expression_of};
-pub use combining::{Judgement, combine};
-pub use exemption::{exempt, is_exempt};
-pub use rls_catalog::{Side, Verdict};
-pub use rls_expr::Policy;
+pub use exemption::is_exempt;
+pub use rls_role;
+pub use rls_verdict::rls_catalog::{Side, Verdict};
+pub use rls_verdict::rls_expr::Policy;
+pub use rls_verdict::{Judgement, combine, exempt};

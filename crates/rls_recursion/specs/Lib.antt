@@ -1,2 +1,3 @@
 pub mod Searching
 pub mod Chains
+pub use Rattle.rls_catalog

@@ -1,6 +1,6 @@
 //! The tables that chains of policies meet.
 
-use rls_expr::{NamedTable, Policy};
+use rls_catalog::rls_expr::{NamedTable, Policy};
 use rls_value::{Items, Name, Reference};
 
 /// A table that chains of policies meet, and what is read for it.

@@ -8,4 +8,5 @@ mod searching;
 
 pub use dependency::PolicyDependency;
 pub use laws::search_means;
+pub use rls_catalog;
 pub use searching::{Reached, dependency_in, search};

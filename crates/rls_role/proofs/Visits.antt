@@ -1,16 +1,16 @@
 -- One more visit of a walk.
 use Rattle.std.specs.Prelude.{◌≡◌, ℕ, suc, ◌+◌, List, [], ◌∷◌, ◌++◌, Some, None, take, slice_get}
 use Rattle.std.proofs.Common.{arith, ap, ◌∙◌, sym}
-use Rattle.rls_value.specs.declared.object.Object.{Object}
-use Rattle.rls_catalog.specs.State.{State}
-use Rattle.rls_catalog.specs.Membership.{fresh, inherited_by, walk, visit_reads, walk_reads}
-use Rattle.rls_catalog.specs.Paths.{granted_where, held_by, inheriting}
-use Rattle.rls_catalog.proofs.Reaching.{inherited_marked}
+use Rattle.rls_source.specs.rls_value.specs.declared.object.Object.{Object}
+use Rattle.rls_source.specs.rls_catalog.specs.State.{State}
+use Rattle.rls_source.specs.rls_catalog.specs.Membership.{fresh, inherited_by, walk, visit_reads, walk_reads}
+use Rattle.rls_source.specs.rls_catalog.specs.Paths.{granted_where, held_by, inheriting}
+use Rattle.rls_source.specs.rls_catalog.proofs.Reaching.{inherited_marked}
 use Rattle.rls_role.specs.declared.walking.Step.{Step}
 use Rattle.rls_role.specs.declared.holding.HeldMembership.{HeldMembership}
 use Rattle.rls_role.specs.Holdings.{with_held}
 use Rattle.rls_role.specs.Steps.{takes}
-use Rattle.rls_catalog.proofs.Walks.{leads_on, reads_on, reads_all}
+use Rattle.rls_source.specs.rls_catalog.proofs.Walks.{leads_on, reads_on, reads_all}
 
 one_more : (next : ℕ) → next + 1 ≡ suc next
 one_more next = omega arith

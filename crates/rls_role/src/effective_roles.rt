@@ -1,17 +1,17 @@
 //! Whose privileges a role has.
 
 ghost use Rattle.std.specs.Prelude.{◌≡◌, ◌↔◌, ◌||◌, if◌then◌else◌, [], true, IfOk, OnOk};
-ghost use Rattle.rls_value.specs.Names.{one_of};
-ghost use Rattle.rls_catalog.specs.{Membership.attributes_of, Membership.walked_by, Membership.walk_reads, Membership.effective_roles_reads, Membership.has_privileges_of, HasPrivileges.HasPrivilegesOf, Privileges.includes, State.State, State.AgreesOn, Paths.MaySet, Paths.can_set_reads, Paths.reached_where};
-ghost use Rattle.rls_catalog.specs.Paths as paths;
+ghost use Rattle.rls_source.specs.rls_value.specs.Names.{one_of};
+ghost use Rattle.rls_source.specs.rls_catalog.specs.{Membership.attributes_of, Membership.walked_by, Membership.walk_reads, Membership.effective_roles_reads, Membership.has_privileges_of, HasPrivileges.HasPrivilegesOf, Privileges.includes, State.State, State.AgreesOn, Paths.MaySet, Paths.can_set_reads, Paths.reached_where};
+ghost use Rattle.rls_source.specs.rls_catalog.specs.Paths as paths;
 ghost use Rattle.rls_role.specs.Steps.{takes, walked_where, walked_reads};
 
 use crate::names::is_among;
 use crate::walking::{Step, reached};
-use rls_catalog::RoleDef;
-use rls_expr::Grantee;
 use rls_source::RowSource;
-use rls_value::{Items, Name};
+use rls_source::rls_catalog::RoleDef;
+use rls_source::rls_value::{Items, Name};
+use rls_statement::rls_expr::Grantee;
 use std::alloc::{AllocError, Global};
 
 /// Whose privileges a role has, so that one walk over memberships serves many questions.
@@ -96,7 +96,7 @@ fn walked<'c, S: RowSource<'c>>(
 
 /// Whether the role has the privileges of the other: it is a superuser itself, or reaches it over memberships whose
 /// INHERIT option is true (PostgreSQL manual, 22.3). In every state that agrees on what is read the answer is the same.
-#[tactic(auto, using(rls_catalog::proofs::HasPrivilegesLaws::has_privileges_means, rls_catalog::proofs::Frames::has_frame))]
+#[tactic(auto, using(crate::proofs::PassedOn::has_privileges_means, crate::proofs::PassedOn::has_frame))]
 pub fn has<'c, S: RowSource<'c>>(
     alloc: Global,
     source: &mut S,
@@ -117,7 +117,7 @@ pub fn has<'c, S: RowSource<'c>>(
 
 /// Whether the login may set the role: it is a superuser, or reaches it over memberships whose SET option is true
 /// (PostgreSQL manual, SET ROLE). In every state that agrees on what is read the answer is the same.
-#[tactic(auto, using(rls_catalog::proofs::Reaching::can_set_is, rls_catalog::proofs::PathFrames::can_set_frame, crate::proofs::StepLaws::can_set_walked, crate::proofs::StepLaws::can_set_reads_walked))]
+#[tactic(auto, using(crate::proofs::PassedOn::can_set_is, crate::proofs::PassedOn::can_set_frame, crate::proofs::StepLaws::can_set_walked, crate::proofs::StepLaws::can_set_reads_walked))]
 pub fn can_set<'c, S: RowSource<'c>>(
     alloc: Global,
     source: &mut S,

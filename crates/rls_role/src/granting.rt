@@ -2,8 +2,8 @@
 
 ghost use Rattle.std.specs.Prelude.{◌≡◌, ◌≤◌, length, map, IfOk};
 ghost use Rattle.std.specs.{List.position_or_len, Ordering.is_lt};
-ghost use Rattle.rls_value.specs.Giving.{Gives};
-ghost use Rattle.rls_catalog.specs.State.{name_order};
+ghost use Rattle.rls_source.specs.rls_value.specs.Giving.{Gives};
+ghost use Rattle.rls_source.specs.rls_catalog.specs.State.{name_order};
 ghost use Rattle.rls_source.specs.{Answering.Answers, Answering.Tells, Sequences.put_before};
 ghost use Rattle.rls_role.specs.Granting as spec;
 ghost use Rattle.rls_role.specs.Granting.{asked_path, each_granted, memberships_granted, pair_granted, pair_or_refused, role_granted, roles_granted};
@@ -14,10 +14,10 @@ use crate::managing::require_managed;
 use crate::names::is_among;
 use crate::noting::note_walk;
 use crate::walking::{Step, reached};
-use rls_catalog::{Delta, Membership};
+use rls_source::rls_catalog::{Delta, Membership};
+use rls_source::rls_value::{GrantFault, Items, Name, Refusal};
 use rls_source::{Reads, RowSource, require_roles};
 use rls_statement::{GrantRoles, MembershipOptions};
-use rls_value::{GrantFault, Items, Name, Refusal};
 use std::alloc::{AllocError, Global};
 
 /// What it takes that the current role grants each of the roles to each of the members: all memberships of each member

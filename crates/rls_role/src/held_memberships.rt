@@ -1,15 +1,15 @@
 //! The memberships of members, as they are and as they are written.
 
 ghost use Rattle.std.specs.Prelude.{◌≡◌, [], ◌∷◌, ◌++◌, IfOk, OnOk};
-ghost use Rattle.rls_catalog.specs.Membership.{fresh};
+ghost use Rattle.rls_source.specs.rls_catalog.specs.Membership.{fresh};
 ghost use Rattle.rls_source.specs.Answering.{Tells};
 ghost use Rattle.rls_role.specs.Granting.{asked_held, held_one, members_written};
 
 use crate::holding::HeldMembership;
 use crate::names::is_among;
-use rls_catalog::{Change, Delta, Membership};
+use rls_source::rls_catalog::{Change, Delta, Membership};
+use rls_source::rls_value::{Items, Name, Object};
 use rls_source::{Reads, RowSource, noted_members};
-use rls_value::{Items, Name, Object};
 use std::alloc::{AllocError, Global};
 
 /// The memberships of each of the members, who may be named twice and stand there once.

@@ -17,7 +17,9 @@ pub use effective_roles::{EffectiveRoles, can_set, effective_roles_by, effective
 pub use granting::grant_member;
 pub use holding::HeldMembership;
 pub use laws::memberships_mean;
-pub use names::{is_among, lesser_name};
+pub use names::is_among;
 pub use noting::{note_effective_roles, note_walk, noted_effective_roles};
 pub use revoking::revoke_member;
+pub use rls_source;
+pub use rls_statement;
 pub use walking::{Step, reached};

@@ -1,17 +1,17 @@
 //! Who holds the ADMIN option on which roles, and so may grant and revoke them.
 
 ghost use Rattle.std.specs.Prelude.{◌≡◌, ◌++◌, ◌||◌, IfOk, OnOk, OnErr};
-ghost use Rattle.rls_value.specs.Giving.{Gives};
-ghost use Rattle.rls_catalog.specs.{Membership.visit_reads, Membership.walk_reads, Paths.granted_where, Paths.held_by};
+ghost use Rattle.rls_source.specs.rls_value.specs.Giving.{Gives};
+ghost use Rattle.rls_source.specs.rls_catalog.specs.{Membership.visit_reads, Membership.walk_reads, Paths.granted_where, Paths.held_by};
 ghost use Rattle.rls_source.specs.{Answering.Answers, Answering.Tells, Sequences.each_or_refused};
 ghost use Rattle.rls_role.specs.{Granting.asked_managed, Granting.each_managed, Granting.managed_or_denied, Granting.managed_or_refused, Holdings.has_admin, Holdings.managed_by};
 
 use crate::effective_roles::EffectiveRoles;
 use crate::names::is_among;
 use crate::noting::{note_walk, noted_effective_roles};
-use rls_catalog::Membership;
+use rls_source::rls_catalog::Membership;
+use rls_source::rls_value::{Items, Name, Refusal, Why};
 use rls_source::{Reads, RowSource};
-use rls_value::{Items, Name, Refusal, Why};
 use std::alloc::{AllocError, Global};
 
 /// The first of the roles is denied that neither a superuser nor one who has the privileges of a member with the ADMIN

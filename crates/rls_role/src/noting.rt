@@ -1,13 +1,13 @@
 //! Walks over memberships that are noted.
 
 ghost use Rattle.std.specs.Prelude.{◌≡◌, ◌∷◌, ◌++◌, OnOk};
-ghost use Rattle.rls_catalog.specs.Membership.{walk_reads};
+ghost use Rattle.rls_source.specs.rls_catalog.specs.Membership.{walk_reads};
 ghost use Rattle.rls_source.specs.Answering.{Tells};
 ghost use Rattle.rls_role.specs.Reaching as spec;
 
 use crate::effective_roles::{EffectiveRoles, effective_roles_of};
+use rls_source::rls_value::{Name, Object};
 use rls_source::{Reads, RowSource};
-use rls_value::{Name, Object};
 use std::alloc::{AllocError, Global};
 
 /// Whose privileges the role has. It reads the role and, unless that is a superuser, each role that it reaches.

@@ -1,7 +1,7 @@
 //! REVOKE of roles.
 
 ghost use Rattle.std.specs.Prelude.{◌≡◌, map, filter, not, IfOk};
-ghost use Rattle.rls_value.specs.Names.{one_of};
+ghost use Rattle.rls_source.specs.rls_value.specs.Names.{one_of};
 ghost use Rattle.rls_source.specs.Answering.{Answers};
 ghost use Rattle.rls_role.specs.{Granting.members_written, Revoking.memberships_revoked, Revoking.roles_revoked, Revoking.taken_in};
 ghost use Rattle.rls_role.specs.Revoking as spec;
@@ -10,10 +10,10 @@ use crate::held_memberships::{held_of, write_held};
 use crate::holding::HeldMembership;
 use crate::managing::require_managed;
 use crate::names::is_among;
-use rls_catalog::{Delta, Membership};
+use rls_source::rls_catalog::{Delta, Membership};
+use rls_source::rls_value::{Items, Name, Refusal};
 use rls_source::{Reads, RowSource, require_roles};
 use rls_statement::{MembershipOption, RevokeRoles};
-use rls_value::{Items, Name, Refusal};
 use std::alloc::{AllocError, Global};
 
 /// What it takes that the current role takes each of the roles from each of the members, or one option of those

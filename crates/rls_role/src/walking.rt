@@ -2,15 +2,15 @@
 
 ghost use Rattle.std.specs.Prelude.{◌≡◌, ◌++◌, slice_get, IfOk, OnOk, OnErr};
 ghost use Rattle.std.specs.Option.{option_copied};
-ghost use Rattle.rls_catalog.specs.Membership.{fresh, visit_reads, walk_reads};
-ghost use Rattle.rls_catalog.specs.Paths.{granted_where, held_by, reached_where};
+ghost use Rattle.rls_source.specs.rls_catalog.specs.Membership.{fresh, visit_reads, walk_reads};
+ghost use Rattle.rls_source.specs.rls_catalog.specs.Paths.{granted_where, held_by, reached_where};
 ghost use Rattle.rls_role.specs.{Holdings.with_held, Steps.takes};
 
 use crate::holding::HeldMembership;
 use crate::name_set::NameSet;
-use rls_catalog::Membership;
 use rls_source::RowSource;
-use rls_value::{Items, Name};
+use rls_source::rls_catalog::Membership;
+use rls_source::rls_value::{Items, Name};
 use std::alloc::{AllocError, Global};
 
 /// Which memberships a walk takes.

@@ -2,10 +2,10 @@
 
 ghost use Rattle.std.specs.Prelude.{◌≡◌, refl};
 
+use rls_catalog::rls_expr::{Policy, TableDef};
 use rls_catalog::{BorrowedRow, Catalog, Grant, Membership, RoleDef};
-use rls_expr::{Policy, TableDef};
+use rls_source::rls_value::{Items, Name, Object, Row};
 use rls_source::{Footprint, RowSource, StatementSource};
-use rls_value::{Items, Name, Object, Row};
 use std::alloc::{AllocError, Global};
 use std::marker::Model;
 

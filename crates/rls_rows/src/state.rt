@@ -4,8 +4,8 @@ ghost use Rattle.std.specs.Prelude.{◌≡◌, IfOk};
 ghost use Rattle.rls_catalog.specs.Changed.{opening, changed_all};
 
 use crate::snapshot::Snapshot;
+use rls_catalog::shared_map::Share;
 use rls_catalog::{Catalog, Delta};
-use shared_map::Share;
 use std::alloc::{AllocError, Global};
 use std::marker::Model;
 

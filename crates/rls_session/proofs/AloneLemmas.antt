@@ -11,26 +11,26 @@ use Rattle.std.proofs.lemmas.Bool.{cases_lt, cases_eq, cases_Bool}
 use Rattle.std.proofs.lemmas.Slice.Eq.{bytes_eq-Decides}
 use Rattle.rls_catalog.specs.State.{State}
 use Rattle.rls_catalog.specs.Changed.{opening}
-use Rattle.rls_guard.specs.{declared.context.Mode.Mode, declared.effect.Effect.Effect}
+use Rattle.rls_script.specs.rls_guard.specs.{declared.context.Mode.Mode, declared.effect.Effect.Effect}
 use Rattle.rls_value.specs.declared.refusal.Refusal.{Refusal}
 use Rattle.rls_statement.specs.declared.statement.Statement.{Statement}
-use Rattle.rls_access.specs.Transactions.{first_ctx}
+use Rattle.rls_engine.specs.rls_access.specs.Transactions.{first_ctx}
 use Rattle.rls_history.specs.History.{History, before, concurrent, rw as edge}
 use Rattle.rls_history.specs.Orders.{precedes, with_placed, none_placed, IsNext, StandInTurn, placed_by, IsOrder}
-use Rattle.rls_conflict.specs.Transactions.{Transaction, at}
-use Rattle.rls_core.specs.Records.{Record, nobody, record_at, transaction_of, history_by}
-use Rattle.rls_core.specs.Alone.{Explains, effects_alone, state_alone}
+use Rattle.rls_engine.specs.rls_conflict.specs.Transactions.{Transaction, at}
+use Rattle.rls_engine.specs.rls_core.specs.Records.{Record, nobody, record_at, transaction_of, history_by}
+use Rattle.rls_engine.specs.rls_core.specs.Alone.{Explains, effects_alone, state_alone}
+use Rattle.rls_script.specs.Lines.{IsRead}
+use Rattle.rls_script.specs.declared.answer.Answer.{Answer}
+use Rattle.rls_script.specs.declared.line.Line.{Line}
+use Rattle.rls_script.specs.declared.line.Line.TheVariants as l
+use Rattle.rls_script.specs.declared.requesting.Ask.{Ask}
+use Rattle.rls_script.specs.declared.requesting.Ask.TheVariants as ask
+use Rattle.rls_script.specs.declared.requesting.Request.{Request}
+use Rattle.rls_script.specs.declared.requesting.Request.TheVariants as q
 use Rattle.rls_session.specs.Parts.{Part, Block, Session, Shown, Notes, part_of, noted, newest_after}
 use Rattle.rls_session.specs.Blocks.{Came, Given, Ticket, Executes, begun, committed, connected, given, given_as, given_in, in_block, posted, ran, rolled_back}
 use Rattle.rls_session.specs.Books.{IsBooked}
-use Rattle.rls_session.specs.Lines.{IsRead}
-use Rattle.rls_session.specs.declared.answer.Answer.{Answer}
-use Rattle.rls_session.specs.declared.line.Line.{Line}
-use Rattle.rls_session.specs.declared.line.Line.TheVariants as l
-use Rattle.rls_session.specs.declared.requesting.Ask.{Ask}
-use Rattle.rls_session.specs.declared.requesting.Ask.TheVariants as ask
-use Rattle.rls_session.specs.declared.requesting.Request.{Request}
-use Rattle.rls_session.specs.declared.requesting.Request.TheVariants as q
 use Rattle.rls_session.specs.Labels.{Entry, Script, opening_script, place_of, session_of, with_session, AnswersIf, AnswersUnder, ExecutesUnder}
 use Rattle.rls_session.specs.Scripts.{RunsLine, RunsLines, RunsRead, RunsCommand, none, next}
 use Rattle.rls_session.specs.Alone.{StandsUnder, IsUnder, AreAlone}

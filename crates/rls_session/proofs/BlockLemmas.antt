@@ -5,12 +5,12 @@ use Rattle.rls_value.specs.declared.refusal.TxnState.TheVariants.{Over}
 use Rattle.rls_statement.specs.declared.command.Command.{Command}
 use Rattle.rls_statement.specs.declared.command.Command.TheVariants as c
 use Rattle.rls_statement.specs.declared.statement.Statement.{Statement}
-use Rattle.rls_guard.specs.declared.effect.Effect.{Effect}
+use Rattle.rls_script.specs.rls_guard.specs.declared.effect.Effect.{Effect}
+use Rattle.rls_script.specs.Requests.{asked}
+use Rattle.rls_script.specs.declared.requesting.Ask.TheVariants as a
+use Rattle.rls_script.specs.declared.requesting.Status.TheVariants as st
 use Rattle.rls_session.specs.Blocks.{behind, committed, inside, outside, role_behind, rolled_back, with_statement}
 use Rattle.rls_session.specs.Parts.{Block}
-use Rattle.rls_session.specs.Requests.{asked}
-use Rattle.rls_session.specs.declared.requesting.Ask.TheVariants as a
-use Rattle.rls_session.specs.declared.requesting.Status.TheVariants as st
 
 pub over_ends : (read : Result Command Refusal) → (asked st.Over read ≡ Err (Refusal.TxnState Over)) ⊎ ((asked st.Over read ≡ Ok a.Rollback) × ((read ≡ Ok c.Commit) ⊎ (read ≡ Ok c.Rollback)))
 over_ends (Ok c.Commit) = inr (refl, inl refl)

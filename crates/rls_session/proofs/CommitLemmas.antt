@@ -1,7 +1,7 @@
 -- What a commit adds to what a caller was shown.
 use Rattle.std.proofs.Common.{◌≡◌, ℕ, max, ◌+◌, ◌≤◌, ◌<◌, ◌==◌, true, List, [], ◌∷◌, ◌++◌, length, All, MatchBool, if◌then◌else◌, refl, sym, ap, subst, ◌∙◌, arith, eq-eqb, length-append}
 use Rattle.std.proofs.lemmas.List.Elements.{All-append, All-cons, All-nil, All-weaker}
-use Rattle.rls_core.specs.Records.{Record}
+use Rattle.rls_engine.specs.rls_core.specs.Records.{Record}
 use Rattle.rls_engine.specs.Stands.{Stand}
 use Rattle.rls_engine.specs.Views.{Proof, Standing, Watch}
 use Rattle.rls_engine.specs.Knows.{Learns, spent}

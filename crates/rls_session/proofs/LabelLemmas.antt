@@ -8,7 +8,8 @@ use Rattle.std.proofs.lemmas.List.Sums.{passes_at_first}
 use Rattle.std.proofs.lemmas.Option.{slice_get_read, slice_get_past}
 use Rattle.std.proofs.lemmas.Slice.Eq.{bytes_eq-Decides}
 use Rattle.std.proofs.lemmas.Grind.{common_steps}
-use Rattle.rls_session.specs.{Blocks.Executes, Parts.Notes, Parts.Session, declared.answer.Answer.Answer}
+use Rattle.rls_script.specs.declared.answer.Answer.{Answer}
+use Rattle.rls_session.specs.{Blocks.Executes, Parts.Notes, Parts.Session}
 use Rattle.rls_session.specs.Labels.{Entry, place_of, session_at, session_of, with_session, ExecutesUnder}
 
 -- a label at its place has its name

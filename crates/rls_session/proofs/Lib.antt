@@ -1,17 +1,9 @@
 pub mod AloneLemmas
 pub mod BlockLemmas
 pub mod CommitLemmas
-pub mod Examples
 pub mod LabelLemmas
-pub mod LimitLemmas
-pub mod LineLemmas
-pub mod NameLemmas
-pub mod PlanLemmas
-pub mod RenderingLemmas
 pub mod RuleLemmas
 pub mod ScriptLemmas
-pub mod SpelledLemmas
-pub mod TaskLemmas
 pub mod TextLemmas
 pub mod TrackLemmas
 pub mod WorkersCross

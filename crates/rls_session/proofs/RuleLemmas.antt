@@ -7,23 +7,22 @@ use Rattle.rls_value.specs.declared.refusal.TxnState.{TxnState}
 use Rattle.rls_value.specs.declared.refusal.TxnState.TheVariants.{NoneInProgress}
 use Rattle.rls_value.specs.declared.tag.Tag.{Tag}
 use Rattle.rls_statement.specs.{Tags.tag_of, declared.statement.Statement.Statement}
-use Rattle.rls_guard.specs.{declared.context.Mode.Mode, declared.effect.Effect.Effect, declared.reply.Reply.Reply}
-use Rattle.rls_guard.specs.declared.context.Mode.TheVariants as m
-use Rattle.rls_guard.specs.declared.effect.Effect.TheVariants as e
-use Rattle.rls_guard.specs.declared.reply.Reply.TheVariants as p
-use Rattle.rls_access.specs.{Statements.role_after, Transactions.Begin}
+use Rattle.rls_script.specs.rls_guard.specs.{declared.context.Mode.Mode, declared.effect.Effect.Effect, declared.reply.Reply.Reply}
+use Rattle.rls_script.specs.rls_guard.specs.declared.context.Mode.TheVariants as m
+use Rattle.rls_script.specs.rls_guard.specs.declared.effect.Effect.TheVariants as e
+use Rattle.rls_script.specs.rls_guard.specs.declared.reply.Reply.TheVariants as p
+use Rattle.rls_engine.specs.rls_access.specs.{Statements.role_after, Transactions.Begin}
 use Rattle.rls_engine.specs.Drafts.{told_of}
-use Rattle.rls_session.specs.Sessions.{answer_to}
+use Rattle.rls_script.specs.Requests.{AsksOf, Requests}
+use Rattle.rls_script.specs.declared.answer.Answer.{Answer}
+use Rattle.rls_script.specs.declared.answer.Answer.TheVariants as a
+use Rattle.rls_script.specs.declared.requesting.Ask.{Ask}
+use Rattle.rls_script.specs.declared.requesting.Ask.TheVariants as ask
+use Rattle.rls_script.specs.declared.requesting.Request.{Request}
+use Rattle.rls_script.specs.declared.requesting.Request.TheVariants as q
+use Rattle.rls_session.specs.Blocks.{answer_to, status_of, Came, CanCome, Carries, Executes, ExecutesIn, Given, RefusesAnyBegin, Ticket, begin_of, begun, committed, given, given_in, in_block, inside, outside, over_in, posted, ran, shows, started, with_statement}
 use Rattle.rls_session.specs.Parts.{Block, Session, Shown, Notes, noted}
-use Rattle.rls_session.specs.Requests.{AsksOf, Requests, status_of}
-use Rattle.rls_session.specs.Blocks.{Came, CanCome, Carries, Executes, ExecutesIn, Given, RefusesAnyBegin, Ticket, begin_of, begun, committed, given, given_in, in_block, inside, outside, over_in, posted, ran, shows, started, with_statement}
 use Rattle.rls_session.specs.Stops.{CommitsAlone, Ended, HasCommitted, HasPosted, IsConflictAnswer, IsStarted}
-use Rattle.rls_session.specs.declared.answer.Answer.{Answer}
-use Rattle.rls_session.specs.declared.answer.Answer.TheVariants as a
-use Rattle.rls_session.specs.declared.requesting.Ask.{Ask}
-use Rattle.rls_session.specs.declared.requesting.Ask.TheVariants as ask
-use Rattle.rls_session.specs.declared.requesting.Request.{Request}
-use Rattle.rls_session.specs.declared.requesting.Request.TheVariants as q
 
 -- nothing was asked of the engine
 abbrev pub unasked : Came

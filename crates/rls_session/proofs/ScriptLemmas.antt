@@ -1,58 +1,20 @@
--- A script's lines from its front, and what is written line by line.
+-- What is written line by line.
 use Rattle.std.proofs.Common.{◌≡◌, ◌<◌, ◌≤◌, ℕ, ◌+◌, ◌-◌, Bool, true, false, cond, nat_lt, List, [], ◌∷◌, ◌++◌, length, refl, sym, ap, subst, ◌∙◌, Bor, append_assoc, arith, rules, Option, Result, Ok, Err, OnOk, IfOk}
-use Rattle.std.specs.List.{All, slice_split, position_or_len, before_first, after_first}
-use Rattle.std.specs.Str.Lines.{lines, lines_of_parts}
-use Rattle.std.proofs.lemmas.List.Splits.{slice_split_first, slice_split_none, length-slice_split}
-use Rattle.std.proofs.lemmas.List.Sums.{fails_before_first}
+use Rattle.std.specs.List.{All, after_first}
+use Rattle.std.specs.Str.Lines.{lines}
 use Rattle.std.proofs.lemmas.Grind.{common_steps}
-use Rattle.std.proofs.lemmas.Bool.Decides.{nat_tests}
-use Rattle.rls_core.specs.Records.{Record}
-use Rattle.rls_core.specs.Seen.{Seen, world_of}
-use Rattle.rls_core.specs.Headline.{AreExplained}
+use Rattle.rls_engine.specs.rls_core.specs.Records.{Record}
+use Rattle.rls_engine.specs.rls_core.specs.Seen.{Seen, world_of}
+use Rattle.rls_engine.specs.rls_core.specs.Headline.{AreExplained}
 use Rattle.rls_engine.specs.Views.{Closed}
-use Rattle.rls_session.specs.{Books.IsBooked, Lines.IsRead, Lines.ends_line, Lines.first_line_of, Lines.without_return, Parts.Notes, Rendering.answer_text, declared.answer.Answer.Answer, declared.line.Line.Line}
+use Rattle.rls_script.specs.{Lines.IsRead, Lines.ends_line, Lines.first_line_of, Rendering.answer_text, declared.answer.Answer.Answer, declared.line.Line.Line}
+use Rattle.rls_script.proofs.LinesLaws.{lines_first}
+use Rattle.rls_script.specs.Streams.{GrewBy}
+use Rattle.rls_script.specs.declared.line.Line.TheVariants as l
+use Rattle.rls_session.specs.{Books.IsBooked, Parts.Notes}
 use Rattle.rls_session.proofs.AloneLemmas.{one_label}
 use Rattle.rls_session.specs.Labels.{Entry, Script, opening_script, AnswersUnder}
-use Rattle.rls_session.specs.Scripts.{RunsLine, RunsLines, RunsRead, RunsScript, IsScriptText, LeadsTo, GrewBy, none, next}
-use Rattle.rls_session.specs.declared.line.Line.TheVariants as l
-
--- a part in front of others is a line of its own
-lines_of_more : (part : List ℕ) (parts : List (List ℕ)) → 0 < length parts → lines_of_parts (part ∷ parts) ≡ without_return part ∷ lines_of_parts parts
-lines_of_more part [] h = absurd (omega arith)
-lines_of_more part (behind ∷ parts) h = refl
-
--- a script with an LF
-lines_cut : (script : List ℕ) → position_or_len ends_line script < length script → lines script ≡ without_return (before_first ends_line script) ∷ lines (after_first ends_line script)
-lines_cut script h =
-    let cut : slice_split ends_line script ≡ before_first ends_line script ∷ slice_split ends_line (after_first ends_line script) = slice_split_first ends_line script 0 h in
-    let some : 0 < length (slice_split ends_line (after_first ends_line script)) = omega (arith, length-slice_split ends_line (after_first ends_line script)) in
-    ap lines_of_parts cut ∙ lines_of_more (before_first ends_line script) (slice_split ends_line (after_first ends_line script)) some
-
--- one part that isn't empty
-lines_of_one : (part : List ℕ) → 0 < length part → lines_of_parts (part ∷ []) ≡ part ∷ []
-lines_of_one [] h = absurd (omega arith)
-lines_of_one (byte ∷ bytes) h = grind (arith, common_steps)
-
--- a script without an LF
-lines_whole : (script : List ℕ) → 0 < length script → length script ≤ position_or_len ends_line script → lines script ≡ script ∷ []
-lines_whole script some h =
-    let none : All (λ byte. ends_line byte ≡ false) script = λ k e m. let k' = fails_before_first ends_line script k e (grind (arith, common_steps)) in grind (arith, common_steps) in
-    ap lines_of_parts (slice_split_none ends_line script none) ∙ lines_of_one script some
-
--- the same, with what stands behind it
-lines_last : (script : List ℕ) → 0 < length script → length script ≤ position_or_len ends_line script → lines script ≡ script ∷ lines (after_first ends_line script)
-lines_last script some h =
-    let behind : after_first ends_line script ≡ [] = grind (arith, common_steps) in
-    rw behind (lines_whole script some h)
-
--- the same, by whether there is an LF
-lines_first_if : (script : List ℕ) (cut : Bool) → nat_lt (position_or_len ends_line script) (length script) ≡ cut → 0 < length script → lines script ≡ cond cut (without_return (before_first ends_line script)) script ∷ lines (after_first ends_line script)
-lines_first_if script true e some = lines_cut script (grind (arith, nat_tests))
-lines_first_if script false e some = lines_last script some (grind (arith, nat_tests))
-
--- a script that isn't empty begins with its first line
-pub lines_first : (script : List ℕ) → 0 < length script → lines script ≡ first_line_of script ∷ lines (after_first ends_line script)
-lines_first script some = lines_first_if script (nat_lt (position_or_len ends_line script) (length script)) refl some
+use Rattle.rls_session.specs.Scripts.{RunsLine, RunsLines, RunsRead, RunsScript, IsScriptText, LeadsTo, none, next}
 
 -- a command's line: its answer, and what is written for it
 pub said : (before now : List ℕ) (line : Line) (label command : Bor (List ℕ)) (answer : Answer) (run after : Script) {E : Type 0} (r : Result (Unit {0}) E) → line ≡ l.Command label command → AnswersUnder run label.now command.now answer after → OnOk r (GrewBy before now (λ written. written ≡ answer_text label.now answer)) → OnOk r (GrewBy before now (λ written. RunsRead line run written after))

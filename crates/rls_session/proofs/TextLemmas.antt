@@ -2,10 +2,10 @@
 use Rattle.std.proofs.Common.{◌≡◌, ◌≤◌, ℕ, List, ◌++◌, All, length, sym, subst, Result, Ok, Err, OnOk, IfOk}
 use Rattle.std.specs.Str.Lines.{lines}
 use Rattle.rls_engine.specs.Views.{Closed}
+use Rattle.rls_script.specs.Streams.{GrewBy}
+use Rattle.rls_script.specs.Plans.{Plan, ReadsLines, Task, opening_plan, phases_of}
 use Rattle.rls_session.specs.Books.{IsBooked}
 use Rattle.rls_session.specs.Parts.{Notes}
-use Rattle.rls_session.specs.Scripts.{GrewBy}
-use Rattle.rls_session.specs.Plans.{Plan, ReadsLines, Task, opening_plan, phases_of}
 use Rattle.rls_session.specs.Phases.{RunsPhases, Seat}
 use Rattle.rls_session.specs.Texts.{IsPhasesText, LeadsTo, RunsInPhases}
 

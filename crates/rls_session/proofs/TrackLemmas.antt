@@ -5,11 +5,12 @@ use Rattle.std.proofs.lemmas.List.Edits.{map_over_more}
 use Rattle.std.proofs.lemmas.Bool.{cases_lt}
 use Rattle.std.proofs.Math.ListN.{get_or}
 use Rattle.rls_value.specs.declared.refusal.Refusal.{Refusal}
-use Rattle.rls_session.specs.declared.answer.Answer.TheVariants as a
-use Rattle.rls_session.specs.{Blocks.Executes, Parts.Notes, Parts.Session, Parts.joined, Rendering.answer_text, declared.answer.Answer.Answer}
-use Rattle.rls_session.specs.Scripts.{GrewBy}
-use Rattle.rls_session.specs.Plans.{Task, place_in, standing_of}
-use Rattle.rls_session.specs.Phases.{Seat, Stage, Track, AreLate, EachFollows, Follows, Passes, RunsPhases, RunsServed, RunsTask, enters, late_line, late_text, notes_after, opening_seat, opening_seats, opening_stage, refusal_of, seats_of, texts_of, none, next}
+use Rattle.rls_script.specs.declared.answer.Answer.TheVariants as a
+use Rattle.rls_script.specs.{Rendering.answer_text, declared.answer.Answer.Answer}
+use Rattle.rls_script.specs.Streams.{GrewBy}
+use Rattle.rls_script.specs.Plans.{Task, place_in, standing_of, refusal_of}
+use Rattle.rls_session.specs.{Blocks.Executes, Parts.Notes, Parts.Session, Parts.joined}
+use Rattle.rls_session.specs.Phases.{Seat, Stage, Track, AreLate, EachFollows, Follows, Passes, RunsPhases, RunsServed, RunsTask, enters, late_line, late_text, notes_after, opening_seat, opening_seats, opening_stage, seats_of, texts_of, none, next}
 use Rattle.rls_session.specs.Works.{Work, IsRan, entered, finished, tracks_of, work_seats}
 
 -- one line more

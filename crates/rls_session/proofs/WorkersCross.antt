@@ -9,9 +9,9 @@ use Rattle.std.specs.declared.sync.ledger.Ledger as ledger
 use Rattle.rls_engine.specs.declared.named.Named as named
 use Rattle.rls_value.proofs.name.Name.TheSendSync as Name
 use Rattle.rls_value.proofs.refusal.Refusal.TheSendSync as Refusal
-use Rattle.rls_session.proofs.standing.Standing.TheSendSync as Standing
 use Rattle.rls_engine.proofs.seen.Seen.TheSendSync as Seen
 use Rattle.rls_engine.proofs.EngineCrosses.{place_send, engine_sync, txn_send}
+use Rattle.rls_script.proofs.standing.Standing.TheSendSync as Standing
 use Rattle.rls_session.specs.contracts.open.Kept as Kept_
 use Rattle.rls_session.specs.contracts.open.Kept.TheInside as Kept_Inside
 use Rattle.rls_session.specs.contracts.notes.Notes as Notes_

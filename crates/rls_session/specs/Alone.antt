@@ -2,12 +2,12 @@
 use Rattle.std.specs.Prelude.{◌≡◌, ℕ, List, [], ◌∷◌, All}
 use Rattle.std.specs.Str.Lines.{lines}
 use Rattle.rls_catalog.specs.State.{State}
-use Rattle.rls_access.specs.Transactions.{first_ctx}
-use Rattle.rls_core.specs.Alone.{effects_alone, state_alone}
-use Rattle.rls_session.specs.Lines.{IsRead}
+use Rattle.rls_engine.specs.rls_access.specs.Transactions.{first_ctx}
+use Rattle.rls_engine.specs.rls_core.specs.Alone.{effects_alone, state_alone}
+use Rattle.rls_script.specs.Lines.{IsRead}
+use Rattle.rls_script.specs.declared.line.Line.{Line}
+use Rattle.rls_script.specs.declared.line.Line.TheVariants as l
 use Rattle.rls_session.specs.Parts.{Shown}
-use Rattle.rls_session.specs.declared.line.Line.{Line}
-use Rattle.rls_session.specs.declared.line.Line.TheVariants as l
 
 -- a command stands under this label; other lines may be anything
 abbrev pub StandsUnder : List ℕ → Line → Type 0

@@ -1,19 +1,38 @@
 -- A label's session with transaction blocks, without an engine: given what came of what a command requests, what it is answered,
 -- which session the label has then, and which transaction it shows as committed (PostgreSQL manual, 3.4, "Transactions", and SET
 -- ROLE).
-use Rattle.std.specs.Prelude.{◌≡◌, ℕ, true, false, List, [], ◌∷◌, ◌++◌, Option, Some, None, Result, Ok, Err, IfErr}
+use Rattle.std.specs.Prelude.{◌≡◌, ℕ, Bool, true, false, List, [], ◌∷◌, ◌++◌, Option, Some, None, Result, Ok, Err, IfErr}
 use Rattle.rls_value.specs.{declared.refusal.Refusal.Refusal, declared.refusal.TxnState.TxnState, declared.tag.Tag.Tag}
 use Rattle.rls_value.specs.declared.refusal.Refusal.TheVariants.{NoLogin, Limit, Serial}
 use Rattle.rls_value.specs.declared.refusal.Limit.TheVariants as limit
 use Rattle.rls_statement.specs.{Tags.tag_of, declared.statement.Statement.Statement}
-use Rattle.rls_guard.specs.{declared.context.Mode.Mode, declared.effect.Effect.Effect}
-use Rattle.rls_guard.specs.declared.context.Mode.TheVariants as m
-use Rattle.rls_guard.specs.declared.reply.Reply.TheVariants as p
-use Rattle.rls_access.specs.{Statements.role_after, Transactions.Begin}
-use Rattle.rls_session.specs.{Sessions.answer_to, Parts.Part, Parts.Block, Parts.Session, Parts.Shown, Parts.Notes, Parts.noted, Requests.Requests, Requests.AsksOf, Requests.as_request, Requests.status_of, declared.answer.Answer.Answer, declared.requesting.Ask.Ask, declared.requesting.Request.Request}
-use Rattle.rls_session.specs.declared.answer.Answer.TheVariants as a
-use Rattle.rls_session.specs.declared.requesting.Ask.TheVariants as ask
-use Rattle.rls_session.specs.declared.requesting.Request.TheVariants as q
+use Rattle.rls_script.specs.rls_guard.specs.{declared.context.Mode.Mode, declared.effect.Effect.Effect}
+use Rattle.rls_script.specs.rls_guard.specs.declared.context.Mode.TheVariants as m
+use Rattle.rls_script.specs.rls_guard.specs.declared.effect.Effect.TheVariants as e
+use Rattle.rls_script.specs.rls_guard.specs.declared.reply.Reply.TheVariants as p
+use Rattle.rls_engine.specs.rls_access.specs.{Statements.role_after, Transactions.Begin}
+use Rattle.rls_script.specs.{Requests.Requests, Requests.AsksOf, Requests.as_request, declared.answer.Answer.Answer, declared.requesting.Ask.Ask, declared.requesting.Request.Request, declared.requesting.Status.Status}
+use Rattle.rls_script.specs.declared.answer.Answer.TheVariants as a
+use Rattle.rls_script.specs.declared.requesting.Ask.TheVariants as ask
+use Rattle.rls_script.specs.declared.requesting.Request.TheVariants as q
+use Rattle.rls_script.specs.declared.requesting.Status.TheVariants as st
+use Rattle.rls_session.specs.{Parts.Part, Parts.Block, Parts.Session, Parts.Shown, Parts.Notes, Parts.noted}
+
+-- how a session stands: its block is over, or open, or it has none
+abbrev pub status_in : Bool → Option Block → Status
+status_in true block = st.Over
+status_in false None = st.Outside
+status_in false (Some block) = st.Open
+
+-- how a label stands
+abbrev pub status_of : Option Session → Status
+status_of None = st.Nobody
+status_of (Some session) = status_in session.over session.block
+
+-- what a statement's effect is answered
+abbrev pub answer_to : Tag → Effect → Answer
+answer_to tag (e.Done reply decisions changes sets) = a.Replied tag reply
+answer_to tag (e.Refused refusal decisions) = a.Refused refusal
 
 -- the number of a transaction that began, and how many had committed then
 pub record Ticket : Type 0 where

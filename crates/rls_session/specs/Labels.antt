@@ -5,8 +5,9 @@ use Rattle.std.specs.List.{position_or_len}
 use Rattle.std.specs.Str.{bytes_eq}
 use Rattle.rls_value.specs.declared.refusal.Refusal.TheVariants as r
 use Rattle.rls_value.specs.declared.refusal.Limit.TheVariants as l
-use Rattle.rls_session.specs.{Blocks.Executes, Parts.Notes, Parts.Session, Parts.session_code, declared.answer.Answer.Answer}
-use Rattle.rls_session.specs.declared.answer.Answer.TheVariants as a
+use Rattle.rls_script.specs.declared.answer.Answer.{Answer}
+use Rattle.rls_script.specs.declared.answer.Answer.TheVariants as a
+use Rattle.rls_session.specs.{Blocks.Executes, Parts.Notes, Parts.Session, Parts.session_code}
 
 -- a label that has come, with its session where somebody is connected under it
 pub record Entry : Type 0 where

@@ -3,11 +3,11 @@ use Rattle.std.specs.Prelude.{ℕ, max, Bool, List, [], ◌∷◌, ◌++◌, len
 use Rattle.std.specs.Coded.{Coded, code_by, coded×, coded_list, coded_option, coded_bool, coded_ℕ}
 use Rattle.rls_statement.specs.declared.statement.Statement.{Statement}
 use Rattle.rls_statement.specs.contracts.statement.Statement as statement
-use Rattle.rls_guard.specs.declared.effect.Effect.{Effect}
-use Rattle.rls_guard.specs.contracts.effect.Effect as effect
-use Rattle.rls_access.specs.Transactions.{Begin}
-use Rattle.rls_core.specs.Records.{Record}
-use Rattle.rls_core.specs.Codes.{begin_code}
+use Rattle.rls_script.specs.rls_guard.specs.declared.effect.Effect.{Effect}
+use Rattle.rls_script.specs.rls_guard.specs.contracts.effect.Effect as effect
+use Rattle.rls_engine.specs.rls_access.specs.Transactions.{Begin}
+use Rattle.rls_engine.specs.rls_core.specs.Records.{Record}
+use Rattle.rls_engine.specs.rls_core.specs.Codes.{begin_code}
 
 -- of a transaction its number, what it began as, how many had committed then, and its statements with what each came to: replies,
 -- refusals, decisions on rows, changes

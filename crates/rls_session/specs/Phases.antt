@@ -4,15 +4,13 @@ use Rattle.std.specs.Prelude.{◌≡◌, ℕ, zero, suc, min, Bool, true, false,
 use Rattle.std.specs.List.{filter}
 use Rattle.std.specs.List.Sorted.{IsPermutation, IsSorted}
 use Rattle.std.specs.Ordering.{nat_cmp}
-use Rattle.rls_value.specs.declared.refusal.Refusal.{Refusal}
-use Rattle.rls_value.specs.declared.refusal.Refusal.TheVariants as r
-use Rattle.rls_value.specs.declared.refusal.Limit.TheVariants as l
-use Rattle.rls_session.specs.{Blocks.Executes, Parts.Notes, Parts.Session, Parts.alike, Parts.joined, Rendering.answer_text, declared.answer.Answer.Answer}
-use Rattle.rls_session.specs.declared.answer.Answer.TheVariants as a
+use Rattle.rls_script.specs.{Rendering.answer_text, declared.answer.Answer.Answer}
+use Rattle.rls_script.specs.declared.answer.Answer.TheVariants as a
+use Rattle.rls_script.specs.declared.standing.Standing.{Standing}
+use Rattle.rls_script.specs.declared.standing.Standing.TheVariants as s
+use Rattle.rls_script.specs.Plans.{Task, place_in, refusal_of, standing_of}
+use Rattle.rls_session.specs.{Blocks.Executes, Parts.Notes, Parts.Session, Parts.alike, Parts.joined}
 use Rattle.rls_session.specs.Labels.{opening_script}
-use Rattle.rls_session.specs.declared.standing.Standing.{Standing}
-use Rattle.rls_session.specs.declared.standing.Standing.TheVariants as s
-use Rattle.rls_session.specs.Plans.{Task, place_in, standing_of}
 
 -- a label between phases: its place, its name, its standing, and its session where somebody is connected under it
 pub record Seat : Type 0 where
@@ -26,11 +24,6 @@ pub record Track : Type 0 where
   pub seat : Seat
   pub notes : Notes
   pub written : List ℕ
-
--- every line under a label without a session is refused so
-abbrev pub refusal_of : Standing → Refusal
-refusal_of s.Unlabelled = r.Syntax
-refusal_of standing = r.Limit l.Sessions
 
 -- its text
 abbrev pub refused_text : List ℕ → Standing → List ℕ

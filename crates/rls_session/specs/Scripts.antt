@@ -2,14 +2,15 @@
 use Rattle.std.specs.Prelude.{◌≡◌, ◌≤◌, ℕ, List, [], ◌∷◌, ◌++◌, All, codes, length}
 use Rattle.std.specs.Str.Lines.{lines}
 use Rattle.rls_value.specs.declared.refusal.Refusal.TheVariants as r
-use Rattle.rls_core.specs.Records.{Record}
+use Rattle.rls_engine.specs.rls_core.specs.Records.{Record}
+use Rattle.rls_script.specs.Lines.{IsRead}
+use Rattle.rls_script.specs.Rendering.{answer_text}
+use Rattle.rls_script.specs.Streams.{GrewBy}
+use Rattle.rls_script.specs.declared.answer.Answer.{Answer}
+use Rattle.rls_script.specs.declared.answer.Answer.TheVariants as a
+use Rattle.rls_script.specs.declared.line.Line.{Line}
+use Rattle.rls_script.specs.declared.line.Line.TheVariants as l
 use Rattle.rls_session.specs.Books.{IsBooked}
-use Rattle.rls_session.specs.Lines.{IsRead}
-use Rattle.rls_session.specs.Rendering.{answer_text}
-use Rattle.rls_session.specs.declared.answer.Answer.{Answer}
-use Rattle.rls_session.specs.declared.answer.Answer.TheVariants as a
-use Rattle.rls_session.specs.declared.line.Line.{Line}
-use Rattle.rls_session.specs.declared.line.Line.TheVariants as l
 use Rattle.rls_catalog.specs.Changed.{opening}
 use Rattle.rls_session.specs.Parts.{Notes}
 use Rattle.rls_session.specs.Alone.{AreAlone, HasOneLabel}
@@ -48,12 +49,6 @@ pub record IsScriptText (script written : List ℕ) (history : List Record) : Ty
   pub booked : All (IsBooked history) after.notes.shown
   pub enough : length after.notes.shown ≤ length history
   pub alone : HasOneLabel script → length history ≡ length after.notes.shown → AreAlone opening after.notes.shown
-
--- a list grew by one of which the fact holds
-pub record GrewBy (before now : List ℕ) (Fact : List ℕ → Type 0) : Type 0 where
-  pub more : List ℕ
-  pub grew : now ≡ before ++ more
-  pub fact : Fact more
 
 -- lines from the opening on led to these notes
 pub record LeadsTo (script written : List ℕ) (notes : Notes) : Type 0 where

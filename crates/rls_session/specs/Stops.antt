@@ -3,15 +3,15 @@ use Rattle.std.specs.Prelude.{◌≡◌, ◌⊎◌, ℕ, List, [], ◌∷◌, Re
 use Rattle.rls_value.specs.declared.refusal.Refusal.{Refusal}
 use Rattle.rls_value.specs.declared.refusal.Refusal.TheVariants.{NoMemory, Foreign, Serial}
 use Rattle.rls_value.specs.declared.refusal.Cause.{Cause}
-use Rattle.rls_guard.specs.declared.effect.Effect.{Effect}
-use Rattle.rls_guard.specs.declared.reply.Reply.{Reply}
+use Rattle.rls_script.specs.rls_guard.specs.declared.effect.Effect.{Effect}
+use Rattle.rls_script.specs.rls_guard.specs.declared.reply.Reply.{Reply}
 use Rattle.rls_statement.specs.declared.statement.Statement.{Statement}
-use Rattle.rls_access.specs.Transactions.{Begin}
+use Rattle.rls_engine.specs.rls_access.specs.Transactions.{Begin}
 use Rattle.rls_engine.specs.Drafts.{told_of}
+use Rattle.rls_script.specs.declared.answer.Answer.{Answer}
+use Rattle.rls_script.specs.declared.answer.Answer.TheVariants as a
 use Rattle.rls_session.specs.Parts.{Block, Notes, Session, noted}
 use Rattle.rls_session.specs.Blocks.{RefusesAnyBegin, Ticket, outside, shows, started, with_statement}
-use Rattle.rls_session.specs.declared.answer.Answer.{Answer}
-use Rattle.rls_session.specs.declared.answer.Answer.TheVariants as a
 use Rattle.rls_session.specs.declared.open.Stopped.{Stopped}
 use Rattle.rls_session.specs.declared.open.Stopped.TheVariants as stop
 

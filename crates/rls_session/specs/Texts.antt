@@ -1,11 +1,11 @@
 -- What is written for a script that is run in phases, and the transactions that this shows as committed.
 use Rattle.std.specs.Prelude.{◌≡◌, ◌≤◌, ℕ, List, ◌++◌, All, length}
 use Rattle.std.specs.Str.Lines.{lines}
-use Rattle.rls_core.specs.Records.{Record}
+use Rattle.rls_engine.specs.rls_core.specs.Records.{Record}
+use Rattle.rls_script.specs.Streams.{GrewBy}
+use Rattle.rls_script.specs.Plans.{Plan, ReadsLines, opening_plan, phases_of}
 use Rattle.rls_session.specs.Books.{IsBooked}
 use Rattle.rls_session.specs.Parts.{Notes}
-use Rattle.rls_session.specs.Scripts.{GrewBy}
-use Rattle.rls_session.specs.Plans.{Plan, ReadsLines, opening_plan, phases_of}
 use Rattle.rls_session.specs.Phases.{Seat, RunsPhases}
 
 -- phases from the opening on led to these notes

@@ -1,10 +1,10 @@
 -- A label's thread.
 use Rattle.std.specs.Prelude.{◌≡◌, ℕ, Bool, false, List, map, Option, refl}
 use Rattle.std.specs.Coded.{Coded, code_by, coded×, coded_list, coded_option, coded_bool, coded_ℕ}
-use Rattle.rls_session.specs.declared.standing.Standing.{Standing}
-use Rattle.rls_session.specs.contracts.standing.Standing as standing
+use Rattle.rls_script.specs.declared.standing.Standing.{Standing}
+use Rattle.rls_script.specs.contracts.standing.Standing as standing
+use Rattle.rls_script.specs.Plans.{Task}
 use Rattle.rls_session.specs.Parts.{Notes, Session, alike, notes_code, session_code}
-use Rattle.rls_session.specs.Plans.{Task}
 use Rattle.rls_session.specs.Phases.{Seat, Track, Follows, enters}
 
 -- the label's track, and whether it met a fault

@@ -6,12 +6,12 @@ ghost use Rattle.rls_value.specs.declared.refusal.TxnState.TheVariants.{Over};
 ghost use Rattle.rls_statement.specs.declared.command.Command.{Command};
 ghost use Rattle.rls_statement.specs.declared.command.Command.TheVariants as c;
 ghost use Rattle.rls_statement.specs.declared.statement.Statement.{Statement};
-ghost use Rattle.rls_guard.specs.declared.effect.Effect.{Effect};
+ghost use Rattle.rls_script.specs.rls_guard.specs.declared.effect.Effect.{Effect};
+ghost use Rattle.rls_script.specs.Requests.{asked};
+ghost use Rattle.rls_script.specs.declared.requesting.Ask.TheVariants as a;
+ghost use Rattle.rls_script.specs.declared.requesting.Status.TheVariants as st;
 ghost use Rattle.rls_session.specs.Blocks.{behind, committed, inside, outside, role_behind, rolled_back};
 ghost use Rattle.rls_session.specs.Parts.{Block};
-ghost use Rattle.rls_session.specs.Requests.{asked};
-ghost use Rattle.rls_session.specs.declared.requesting.Ask.TheVariants as a;
-ghost use Rattle.rls_session.specs.declared.requesting.Status.TheVariants as st;
 
 /// In a block that is over each command is refused as such, but COMMIT and ROLLBACK, which end it.
 pub fn over_until_ended()

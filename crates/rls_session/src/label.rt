@@ -2,21 +2,20 @@
 
 ghost use Rattle.std.specs.Prelude.{◌≡◌, None, IfOk, IfErr, IsOk, OnErr};
 ghost use Rattle.rls_value.specs.declared.refusal.Refusal.TheVariants.{NoMemory};
-ghost use Rattle.rls_session.specs.Blocks.{Carries, Executes, RefusesAnyBegin};
-ghost use Rattle.rls_session.specs.Connects.{ConnectsToLongName};
-ghost use Rattle.rls_session.specs.Requests.{IsAtOnce, status_of};
-ghost use Rattle.rls_session.specs.Spelled.{AsksTexts, IfAsked, IfRequested};
+ghost use Rattle.rls_script.specs.Connects.{ConnectsToLongName};
+ghost use Rattle.rls_script.specs.Requests.{IsAtOnce};
+ghost use Rattle.rls_script.specs.Spelled.{AsksTexts, IfAsked, IfRequested};
+ghost use Rattle.rls_script.specs.declared.requesting.Ask.TheVariants as a;
+ghost use Rattle.rls_script.specs.declared.requesting.Request.TheVariants as q;
+ghost use Rattle.rls_session.specs.Blocks.{Carries, Executes, RefusesAnyBegin, status_of};
 ghost use Rattle.rls_session.specs.Stops.{IsFault, StopsBegin};
-ghost use Rattle.rls_session.specs.declared.requesting.Ask.TheVariants as a;
-ghost use Rattle.rls_session.specs.declared.requesting.Request.TheVariants as q;
 
-use crate::answer::Answer;
 use crate::gate::{At, Gate, Point};
 use crate::notes::Notes;
-use crate::requesting::{Ask, Request, Status, request_for};
 use crate::session::{Session, answered};
-use rls_access::Reply;
+use rls_engine::rls_access::Reply;
 use rls_engine::{Engine, Named};
+use rls_script::{Answer, Ask, Request, Status, request_for};
 use rls_value::{Name, Refusal, Tag};
 use std::alloc::Global;
 use std::marker::Model;
@@ -85,7 +84,7 @@ impl<'a, N: Named> Label<'a, N> {
         answer
     }
 
-    #[tactic(auto, using(crate::proofs::RuleLemmas::executes_as, crate::proofs::SpelledLemmas::may_request))]
+    #[tactic(auto, using(crate::proofs::RuleLemmas::executes_as, rls_script::proofs::SpelledLaws::may_request))]
     fn answer<R: Wait + Clock, G: Gate>(
         &mut self,
         rt: &R,

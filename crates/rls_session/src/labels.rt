@@ -2,16 +2,15 @@
 
 ghost use Rattle.std.specs.Prelude.{◌≡◌, ◌<◌, ◌≤◌, [], length, List, ℕ, IfOk, IsErrOf};
 ghost use Rattle.std.specs.Str.{bytes_eq};
+ghost use Rattle.rls_script.specs.Spelled.{AsksTexts};
 ghost use Rattle.rls_session.specs.Labels as spec;
 ghost use Rattle.rls_session.specs.Labels.{AnswersUnder, ExecutesUnder};
-ghost use Rattle.rls_session.specs.Spelled.{AsksTexts};
 
-use crate::answer::Answer;
-use crate::fault::RunFault;
 use crate::gate::{At, NoGate};
 use crate::label::Label;
 use crate::notes::Notes;
 use rls_engine::{Engine, Named};
+use rls_script::{Answer, RunFault};
 use rls_value::{Limit, Refusal, Text};
 use std::alloc::Global;
 use std::marker::Model;

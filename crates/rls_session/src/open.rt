@@ -7,8 +7,8 @@ ghost use Rattle.rls_session.specs.Parts.{Block};
 ghost use Rattle.rls_session.specs.Stops.{HasPosted, IsStarted, StopsBegin, WhenStopped};
 
 use crate::gate::{At, Gate, Point};
-use rls_access::Reply;
-use rls_core::Begin;
+use rls_engine::rls_access::Reply;
+use rls_engine::rls_core::Begin;
 use rls_engine::{Book, Engine, Named, Place, PostFault, Seen, Txn};
 use rls_statement::Statement;
 use rls_value::{Cause, Refusal};

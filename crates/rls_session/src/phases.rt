@@ -2,24 +2,18 @@
 
 ghost use Rattle.std.specs.Prelude.{◌≡◌, ℕ, ◌<◌, ◌≤◌, ◌++◌, ◌∷◌, [], false, length, map, min, OnOk, IfOk, IsErrOf, slice_index_or};
 ghost use Rattle.std.specs.List.{filter};
+ghost use Rattle.rls_script.specs.Streams.{GrewBy};
+ghost use Rattle.rls_script.specs.Plans.{place_in};
+ghost use Rattle.rls_script.specs.Spelled.{AsksTexts};
 ghost use Rattle.rls_session.specs.Labels.{opening_script};
-ghost use Rattle.rls_session.specs.Scripts.{GrewBy};
 ghost use Rattle.rls_session.specs.Phases.{AreLate, Passes, RunsPhases, is_late, late_text, notes_after, opening_seats, texts_of};
-ghost use Rattle.rls_session.specs.Plans.{place_in};
-ghost use Rattle.rls_session.specs.Spelled.{AsksTexts};
 ghost use Rattle.rls_session.specs.Works.{IsRan, Work, entered, finished, tracks_of, work_seats};
 
-use crate::answer::Answer;
-use crate::fault::RunFault;
 use crate::gate::Gate;
-use crate::names::Names;
 use crate::notes::Notes;
-use crate::plan::Task;
-use crate::script::write_answer;
-use crate::standing::Standing;
-use crate::stream::ScriptOut;
 use crate::worker::Worker;
 use rls_engine::{Engine, Named};
+use rls_script::{Answer, Names, RunFault, ScriptOut, Standing, Task, write_answer};
 use std::alloc::Global;
 use std::sync::Wait;
 use std::thread;

@@ -1,31 +1,28 @@
 //! A script, run line by line.
 
 ghost use Rattle.std.specs.Prelude.{◌≡◌, [], ◌⊎◌, ◌+◌, ◌<◌, ◌≤◌, ◌++◌, length, true, All, IfOk, OnOk, OnErr, IsErrOf};
-ghost use Rattle.rls_core.specs.Seen.{world_of};
-ghost use Rattle.rls_core.specs.Headline.{HaveOrder, AreExplained};
+ghost use Rattle.rls_engine.specs.rls_core.specs.Seen.{world_of};
+ghost use Rattle.rls_engine.specs.rls_core.specs.Headline.{HaveOrder, AreExplained};
 ghost use Rattle.rls_engine.specs.Led.{IsLed};
+ghost use Rattle.rls_script.specs.Rendering.{answer_text};
+ghost use Rattle.rls_script.specs.Streams.{GrewBy};
+ghost use Rattle.rls_script.specs.Spelled.{AsksTexts, IsSpellable};
 ghost use Rattle.rls_session.specs.Books.{IsBooked};
-ghost use Rattle.rls_session.specs.Rendering.{answer_text};
 ghost use Rattle.rls_session.specs.Labels.{opening_script};
-ghost use Rattle.rls_session.specs.Scripts.{GrewBy, IsScriptText, LeadsTo, RunsRead, RunsScript};
-ghost use Rattle.rls_session.specs.Spelled.{AsksTexts, IsSpellable};
+ghost use Rattle.rls_session.specs.Scripts.{IsScriptText, LeadsTo, RunsRead, RunsScript};
 
-use crate::answer::Answer;
-use crate::fault::RunFault;
 use crate::labels::Labels;
-use crate::line::{Line, first_line, read_line};
 use crate::notes::Notes;
-use crate::rendering::render;
-use crate::stream::{Failed, ScriptIn, ScriptOut};
 use rls_engine::{Book, Engine, Named, Records};
+use rls_script::{
+    Answer, Line, MAX_SCRIPT, RunFault, ScriptIn, ScriptOut, first_line, read_line, read_script,
+    write_answer,
+};
 use rls_value::Refusal;
 use std::alloc::Global;
 use std::marker::{Brand, Model};
 use std::sync::Wait;
 use std::time::Clock;
-
-/// The most bytes that a script has.
-pub const MAX_SCRIPT: usize = 16_777_216;
 
 /// The tag of a run's engine.
 pub(crate) const TAG: u64 = 1;
@@ -59,56 +56,6 @@ pub fn run_script<R: Wait + Clock, I: ScriptIn, O: ScriptOut>(
         return Err(RunFault::NoMemory);
     };
     run_named::<Brand, R, O>(rt, alloc, records, script.as_slice(), output)
-}
-
-/// The script, in as much memory as it takes. What it is read into has room for the longest one and is given back before a
-/// line runs: glibc keeps free memory by the largest block that it got back, so that large statements don't ask the system
-/// for theirs again and again.
-pub(crate) fn read_script<I: ScriptIn>(alloc: Global, input: &mut I) -> Result<Vec<u8>, RunFault>
-    ensures read { IsErrOf result RunFault.Read → (I.failures input.old < I.failures input.new) ⊎ (length (I.given input.old) + MAX_SCRIPT < length (I.given input.new)) }
-    ensures read_failed { I.failures input.old < I.failures input.new → IsErrOf result RunFault.Read }
-    ensures too_long { length (I.given input.old) + MAX_SCRIPT < length (I.given input.new) → IsErrOf result RunFault.Read }
-    ensures write { ¬ IsErrOf result RunFault.Write }
-    ensures reads { length (I.given input.new) ≤ length (I.given input.old) + MAX_SCRIPT + 1 }
-    ensures ok { IfOk result (λ script. I.given input.new ≡ I.given input.old ++ script.items) }
-    ensures ended { OnOk result (I.ended input.new ≡ true) }
-{
-    let mut buffer = Vec::with_capacity(alloc, MAX_SCRIPT)?;
-    match fill(input, &mut buffer) {
-        Ok(()) => {
-            let script = buffer.to_vec(alloc);
-            drop(buffer);
-            Ok(script?)
-        }
-        Err(fault) => {
-            drop(buffer);
-            Err(fault)
-        }
-    }
-}
-
-/// Reads to the end, behind nothing.
-fn fill<I: ScriptIn>(input: &mut I, script: &mut Vec<u8>) -> Result<(), RunFault>
-    requires { script.old.items ≡ [] }
-    ensures read { IsErrOf result RunFault.Read → (I.failures input.old < I.failures input.new) ⊎ (length (I.given input.old) + MAX_SCRIPT < length (I.given input.new)) }
-    ensures read_failed { I.failures input.old < I.failures input.new → IsErrOf result RunFault.Read }
-    ensures too_long { length (I.given input.old) + MAX_SCRIPT < length (I.given input.new) → IsErrOf result RunFault.Read }
-    ensures write { ¬ IsErrOf result RunFault.Write }
-    ensures reads { length (I.given input.new) ≤ length (I.given input.old) + MAX_SCRIPT + 1 }
-    ensures ok { OnOk result (I.given input.new ≡ I.given input.old ++ script.new.items) }
-    ensures ended { OnOk result (I.ended input.new ≡ true) }
-{
-    for _ in 0..MAX_SCRIPT {
-        match input.next_byte() {
-            Ok(Some(byte)) => script.push(byte)?,
-            Ok(None) => return Ok(()),
-            Err(Failed) => return Err(RunFault::Read),
-        }
-    }
-    match input.next_byte() {
-        Ok(None) => Ok(()),
-        Ok(Some(_)) | Err(Failed) => Err(RunFault::Read),
-    }
 }
 
 fn run_named<N: Named, R: Wait + Clock, O: ScriptOut>(
@@ -240,40 +187,4 @@ fn run_line<N: Named, R: Wait + Clock, O: ScriptOut>(
         },
         Line::Unlabelled => write_answer(alloc, "?", Answer::Refused(Refusal::Syntax), output),
     }
-}
-
-/// Writes an answer under a label.
-pub(crate) fn write_answer<O: ScriptOut>(
-    alloc: Global,
-    label: &str,
-    answer: Answer,
-    output: &mut O,
-) -> Result<(), RunFault>
-    ensures text { OnOk result (GrewBy (O.taken output.old) (O.taken output.new) (λ written. written ≡ answer_text label.now answer)) }
-    ensures ok { OnOk result (O.failures output.new ≡ O.failures output.old) }
-    ensures read { ¬ IsErrOf result RunFault.Read }
-    ensures write { IsErrOf result RunFault.Write → O.failures output.old < O.failures output.new }
-    ensures write_failed { O.failures output.old < O.failures output.new → IsErrOf result RunFault.Write }
-{
-    let rendered = render(alloc, label, &answer);
-    drop(answer);
-    let bytes = rendered?;
-    match write_all(bytes.as_slice(), output) {
-        Ok(()) => Ok(()),
-        Err(Failed) => Err(RunFault::Write),
-    }
-}
-
-/// Writes bytes, in as many calls as it takes.
-pub fn write_all<O: ScriptOut>(bytes: &[u8], output: &mut O) -> Result<(), Failed>
-    ensures taken { OnOk result (O.taken output.new ≡ O.taken output.old ++ bytes.now) }
-    ensures ok { OnOk result (O.failures output.new ≡ O.failures output.old) }
-    ensures err { OnErr result (O.failures output.new ≡ O.failures output.old + 1) }
-{
-    let mut rest = bytes;
-    while !rest.is_empty() {
-        let taken = output.write_some(rest)?;
-        rest = &rest[taken..];
-    }
-    Ok(())
 }

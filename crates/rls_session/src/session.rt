@@ -2,23 +2,22 @@
 
 ghost use Rattle.std.specs.Prelude.{◌≡◌, true, Some, None, IfOk, IfErr, IfSome, IfNone, OnErr};
 ghost use Rattle.rls_value.specs.declared.refusal.Refusal.TheVariants.{NoMemory};
-ghost use Rattle.rls_guard.specs.declared.context.Mode.TheVariants.{Write};
-ghost use Rattle.rls_session.specs.Blocks.{Carries, ExecutesIn, RefusesAnyBegin, begin_of, inside, outside};
+ghost use Rattle.rls_script.specs.rls_guard.specs.declared.context.Mode.TheVariants.{Write};
+ghost use Rattle.rls_script.specs.Spelled.{AsksTexts, IfAsked};
+ghost use Rattle.rls_script.specs.declared.requesting.Ask.TheVariants as a;
+ghost use Rattle.rls_script.specs.declared.requesting.Request.TheVariants as q;
+ghost use Rattle.rls_session.specs.Blocks.{Carries, ExecutesIn, RefusesAnyBegin, begin_of, inside, outside, status_of};
 ghost use Rattle.rls_session.specs.Parts.{noted};
-ghost use Rattle.rls_session.specs.Requests.{status_of};
-ghost use Rattle.rls_session.specs.Spelled.{AsksTexts, IfAsked};
 ghost use Rattle.rls_session.specs.Stops.{CommitsAlone, IsConflictAnswer, IsFault, IsStarted, StopsBegin};
-ghost use Rattle.rls_session.specs.declared.requesting.Ask.TheVariants as a;
-ghost use Rattle.rls_session.specs.declared.requesting.Request.TheVariants as q;
 
-use crate::answer::Answer;
+use crate::answering::answer_of;
 use crate::gate::{At, Gate, NoGate, Point};
 use crate::notes::Notes;
 use crate::open::{Open, Stopped};
-use crate::requesting::{Ask, Status, ask_of};
-use rls_access::{Mode, Reply};
-use rls_core::Begin;
+use rls_engine::rls_access::{Mode, Reply};
+use rls_engine::rls_core::Begin;
 use rls_engine::{Engine, Named, Seen};
+use rls_script::{Answer, Ask, Status, ask_of};
 use rls_statement::Statement;
 use rls_value::{Name, Refusal, Tag, TxnState};
 use std::alloc::{AllocError, Global};
@@ -123,7 +122,7 @@ impl<'a, N: Named> Session<'a, N> {
     }
 
     /// The same, at a gate.
-    #[tactic(auto, using(crate::proofs::RuleLemmas::executes_nothing, crate::proofs::RuleLemmas::executes_asked, crate::proofs::SpelledLemmas::may_ask))]
+    #[tactic(auto, using(crate::proofs::RuleLemmas::executes_nothing, crate::proofs::RuleLemmas::executes_asked, rls_script::proofs::SpelledLaws::may_ask))]
     pub fn execute_at<R: Wait + Clock, G: Gate>(
         &mut self,
         rt: &R,
@@ -229,7 +228,7 @@ impl<'a, N: Named> Session<'a, N> {
         match open.post(rt, at, &asked) {
             Ok((open, told)) => {
                 self.put(rt, open);
-                Ok(Answer::of(asked.tag(), told))
+                Ok(answer_of(asked.tag(), told))
             }
             Err(Stopped::Over(why)) => {
                 self.over = true;
@@ -325,7 +324,7 @@ impl<'a, N: Named> Session<'a, N> {
     {
         match open.post(rt, at, &asked) {
             Ok((open, told)) => {
-                let answer = Answer::of(asked.tag(), told);
+                let answer = answer_of(asked.tag(), told);
                 self.commit_alone(rt, notes, open, answer)
             }
             Err(stopped) => {

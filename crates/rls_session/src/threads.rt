@@ -1,22 +1,20 @@
 //! A script, run in phases with a thread for each label.
 
 ghost use Rattle.std.specs.Prelude.{◌≡◌, ◌⊎◌, ◌+◌, ◌<◌, ◌≤◌, length, true, All, IfOk, OnOk, IsErrOf};
-ghost use Rattle.rls_core.specs.Seen.{world_of};
-ghost use Rattle.rls_core.specs.Headline.{HaveOrder, AreExplained};
+ghost use Rattle.rls_engine.specs.rls_core.specs.Seen.{world_of};
+ghost use Rattle.rls_engine.specs.rls_core.specs.Headline.{HaveOrder, AreExplained};
 ghost use Rattle.rls_engine.specs.Led.{IsLed};
+ghost use Rattle.rls_script.specs.Streams.{GrewBy};
+ghost use Rattle.rls_script.specs.Spelled.{AsksTexts, IsSpellable};
 ghost use Rattle.rls_session.specs.Labels.{opening_script};
-ghost use Rattle.rls_session.specs.Scripts.{GrewBy};
-ghost use Rattle.rls_session.specs.Spelled.{AsksTexts, IsSpellable};
 ghost use Rattle.rls_session.specs.Texts.{IsPhasesText, LeadsTo, RunsInPhases};
 
-use crate::fault::RunFault;
 use crate::gate::Gate;
 use crate::notes::Notes;
 use crate::phases::{add_workers, close_workers, run_phases};
-use crate::plan::{Plan, read_plan};
-use crate::script::{MAX_SCRIPT, TAG, close, read_script};
-use crate::stream::{ScriptIn, ScriptOut};
+use crate::script::{TAG, close};
 use rls_engine::{Book, Engine, Named, Records};
+use rls_script::{MAX_SCRIPT, Plan, RunFault, ScriptIn, ScriptOut, read_plan, read_script};
 use std::alloc::Global;
 use std::marker::Brand;
 use std::sync::Wait;

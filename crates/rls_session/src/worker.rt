@@ -1,25 +1,19 @@
 //! A label's thread.
 
 ghost use Rattle.std.specs.Prelude.{◌≡◌, ◌<◌, ◌++◌, None, codes, length, false, slice_index_or, IfOk, OnOk, OnErr, IsErrOf, IfErr};
+ghost use Rattle.rls_script.specs.Rendering.{answer_text};
+ghost use Rattle.rls_script.specs.Plans.{standing_of};
+ghost use Rattle.rls_script.specs.Spelled.{AsksTexts};
 ghost use Rattle.rls_session.specs.Blocks.{Executes};
 ghost use Rattle.rls_session.specs.Parts.{joined, alike};
-ghost use Rattle.rls_session.specs.Rendering.{answer_text};
 ghost use Rattle.rls_session.specs.Phases.{Follows, RunsAs, RunsServed, RunsTask, opening_seat, refused_text};
-ghost use Rattle.rls_session.specs.Plans.{standing_of};
-ghost use Rattle.rls_session.specs.Spelled.{AsksTexts};
 ghost use Rattle.rls_session.specs.Works.{IsRan, entered, finished};
 
-use crate::answer::Answer;
-use crate::fault::RunFault;
 use crate::gate::{At, Gate};
 use crate::label::Label;
 use crate::notes::Notes;
-use crate::plan::Task;
-use crate::rendering::render;
-use crate::script::write_all;
-use crate::standing::Standing;
-use crate::stream::{Failed, ScriptOut};
 use rls_engine::{Engine, Named};
+use rls_script::{Answer, Failed, RunFault, ScriptOut, Standing, Task, render, write_all};
 use rls_value::Refusal;
 use std::alloc::Global;
 use std::marker::Model;

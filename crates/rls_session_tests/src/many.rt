@@ -1,8 +1,8 @@
 //! 64 labels at once.
 
 use crate::texts::run;
-use rls_core::Record;
 use rls_session::NoGate;
+use rls_session::rls_core::Record;
 use std::alloc::{AllocError, Global};
 
 /// In the first phase all connect, in the second each puts 50 rows, and in the third they are counted.

@@ -3,7 +3,8 @@
 ghost use Rattle.std.specs.Prelude.{length};
 
 use crate::passed::Passed;
-use rls_session::{Book, Failed, Gate, RunFault, ScriptIn, ScriptOut, run_threads};
+use rls_session::rls_script::{Failed, RunFault, ScriptIn, ScriptOut};
+use rls_session::{Book, Gate, run_threads};
 use std::alloc::Global;
 use std::sync::Wait;
 use std::thread::Threads;

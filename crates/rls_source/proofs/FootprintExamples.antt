@@ -1,8 +1,8 @@
 -- Worked examples of footprints. Each is a theorem that computes.
 use Rattle.std.specs.Prelude.{◌≡◌, refl, pos, List, [], ◌∷◌, false, codes}
-use Rattle.rls_value.specs.declared.object.Object.{Object}
-use Rattle.rls_value.specs.declared.object.Object.TheVariants as o
-use Rattle.rls_value.specs.declared.value.Value.TheVariants as v
+use Rattle.rls_catalog.specs.rls_value.specs.declared.object.Object.{Object}
+use Rattle.rls_catalog.specs.rls_value.specs.declared.object.Object.TheVariants as o
+use Rattle.rls_catalog.specs.rls_value.specs.declared.value.Value.TheVariants as v
 use Rattle.rls_source.specs.Footprints.{footprint_of, is_among}
 
 -- the rows of t, the role alice, the key 2 of t, the rows of t once more, the key 1 of t

@@ -8,8 +8,8 @@ use Rattle.std.specs.declared.cmp.Ordering.{Ordering}
 use Rattle.std.specs.declared.cmp.Ordering.TheVariants.{Less, Equal, Greater}
 use Rattle.std.proofs.Common.{ap, sym, ◌∙◌, subst, append-nil, append_assoc}
 use Rattle.std.proofs.{lemmas.Bool.true≢false, lemmas.Cmp.tied_itself}
-use Rattle.rls_value.specs.{declared.object.Object.Object, Objects.object_order, ObjectOrder.objects_total}
-use Rattle.rls_value.proofs.ObjectOrderLaws.{objects_same}
+use Rattle.rls_catalog.specs.rls_value.specs.{declared.object.Object.Object, Objects.object_order, ObjectOrder.objects_total}
+use Rattle.rls_catalog.specs.rls_value.proofs.ObjectOrderLaws.{objects_same}
 use Rattle.rls_source.specs.{Footprints.with_object, Footprints.with_reads, Footprints.footprint_of, Footprints.is_object, Footprints.is_among, Footprints.IsInOrder, FootprintLaws.among_footprint}
 
 -- ---- an object stands in a footprint once, in order

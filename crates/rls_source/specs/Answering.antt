@@ -1,8 +1,8 @@
 -- What a call over a source does: it answers a question to the state that the source stands for, and notes what is read.
 use Rattle.std.specs.Prelude.{◌≡◌, List, ◌++◌, Result, Ok, IfOk, OnOk}
-use Rattle.rls_value.specs.declared.refusal.Refusal.{Refusal}
-use Rattle.rls_value.specs.declared.object.Object.{Object}
-use Rattle.rls_value.specs.Giving.{Gives, UnlessNoMemory}
+use Rattle.rls_catalog.specs.rls_value.specs.declared.refusal.Refusal.{Refusal}
+use Rattle.rls_catalog.specs.rls_value.specs.declared.object.Object.{Object}
+use Rattle.rls_catalog.specs.rls_value.specs.Giving.{Gives, UnlessNoMemory}
 use Rattle.rls_catalog.specs.State.{State}
 use Rattle.rls_source.specs.Askings.{Asking}
 

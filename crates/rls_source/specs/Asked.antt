@@ -2,9 +2,9 @@
 -- which object is asked, and the noted look-ups alone open it.
 use Rattle.std.specs.Prelude.{ℕ, List, Option}
 use Rattle.std.proofs.Common.{ap, sym}
-use Rattle.rls_value.specs.declared.value.Value.{Value}
-use Rattle.rls_value.specs.declared.object.Object.TheVariants as o
-use Rattle.rls_expr.specs.{declared.table.TableDef.TableDef, declared.policy.Policy.Policy}
+use Rattle.rls_catalog.specs.rls_value.specs.declared.value.Value.{Value}
+use Rattle.rls_catalog.specs.rls_value.specs.declared.object.Object.TheVariants as o
+use Rattle.rls_catalog.specs.rls_expr.specs.{declared.table.TableDef.TableDef, declared.policy.Policy.Policy}
 use Rattle.rls_catalog.specs.{declared.role.RoleDef.RoleDef, declared.role.Membership.Membership, declared.grant.Grant.Grant, declared.stored.Stored.Stored}
 use Rattle.rls_catalog.specs.State.{State, role_of, members_of, table_of, grants_of, policies_of, rows_of, rows_with_key}
 use Rattle.rls_source.specs.Readings.{told}

@@ -3,8 +3,8 @@
 -- each statement.
 use Rattle.std.specs.Prelude.{◌≡◌, refl, List, ◌++◌, Bool, true, false, Result, Ok, Err, if◌then◌else◌}
 use Rattle.std.proofs.Common.{ap, ◌∙◌}
-use Rattle.rls_value.specs.declared.refusal.Refusal.{Refusal}
-use Rattle.rls_value.specs.declared.object.Object.{Object}
+use Rattle.rls_catalog.specs.rls_value.specs.declared.refusal.Refusal.{Refusal}
+use Rattle.rls_catalog.specs.rls_value.specs.declared.object.Object.{Object}
 use Rattle.rls_catalog.specs.State.{State, AgreesOn}
 use Rattle.rls_catalog.proofs.StateLaws.{agrees-append}
 use Rattle.rls_source.specs.Readings.{Reading, unread, next_reads, read_then, read_settled}

@@ -6,10 +6,10 @@ use Rattle.std.specs.declared.cmp.Ordering.TheVariants.{Less, Equal, Greater}
 use Rattle.std.proofs.Common.{ap, sym, ◌∙◌}
 use Rattle.std.proofs.lemmas.Bool.{true≢false}
 use Rattle.std.proofs.lemmas.Cmp.{tied_itself}
-use Rattle.rls_value.specs.declared.object.Object.{Object}
-use Rattle.rls_value.specs.Objects.{object_order}
-use Rattle.rls_value.specs.ObjectOrder.{objects_total}
-use Rattle.rls_value.proofs.ObjectOrderLaws.{objects_same}
+use Rattle.rls_catalog.specs.rls_value.specs.declared.object.Object.{Object}
+use Rattle.rls_catalog.specs.rls_value.specs.Objects.{object_order}
+use Rattle.rls_catalog.specs.rls_value.specs.ObjectOrder.{objects_total}
+use Rattle.rls_catalog.specs.rls_value.proofs.ObjectOrderLaws.{objects_same}
 use Rattle.rls_source.specs.Footprints.{with_object, with_reads, footprint_of, is_object, is_among}
 
 -- ---- the same objects

@@ -5,8 +5,8 @@ use Rattle.std.specs.declared.cmp.Ordering.{Ordering}
 use Rattle.std.specs.declared.cmp.Ordering.TheVariants.{Less, Equal, Greater}
 use Rattle.std.proofs.Common.{ap, sym, ◌∙◌}
 use Rattle.std.proofs.lemmas.Cmp.{tied_itself}
-use Rattle.rls_value.specs.{declared.object.Object.Object, Objects.object_order, ObjectOrder.objects_total}
-use Rattle.rls_value.proofs.ObjectOrderLaws.{objects_same}
+use Rattle.rls_catalog.specs.rls_value.specs.{declared.object.Object.Object, Objects.object_order, ObjectOrder.objects_total}
+use Rattle.rls_catalog.specs.rls_value.proofs.ObjectOrderLaws.{objects_same}
 use Rattle.rls_source.specs.Footprints.{with_object, with_reads, footprint_of}
 
 -- ---- where an object goes

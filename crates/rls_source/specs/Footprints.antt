@@ -4,8 +4,8 @@ use Rattle.std.specs.BTreeMap.{is_at}
 use Rattle.std.specs.BTreeSet.{insert_key}
 use Rattle.std.specs.List.{list_any}
 use Rattle.std.specs.List.Sorted.{IsStrictlySortedBy}
-use Rattle.rls_value.specs.declared.object.Object.{Object}
-use Rattle.rls_value.specs.Objects.{object_order}
+use Rattle.rls_catalog.specs.rls_value.specs.declared.object.Object.{Object}
+use Rattle.rls_catalog.specs.rls_value.specs.Objects.{object_order}
 
 -- the objects with this one in its place; as they are where it is among them
 abbrev pub with_object : List Object → Object → List Object

@@ -11,3 +11,5 @@ pub mod Answering
 pub use Rattle.rls_catalog.specs.State
 pub use Rattle.rls_catalog.specs.Changed
 pub use Rattle.rls_catalog.specs.Bases
+pub use Rattle.rls_catalog
+pub use Rattle.rls_catalog.specs.rls_value

@@ -1,11 +1,11 @@
 -- What a statement names has to be there (PostgreSQL manual, appendix A: 42P01, 42704).
 use Rattle.std.specs.Prelude.{ℕ, List, [], ◌∷◌, Option, Some, None, Result, Ok, Err}
-use Rattle.rls_value.specs.declared.refusal.Refusal.{Refusal}
-use Rattle.rls_value.specs.declared.refusal.Refusal.TheVariants.{Undefined}
-use Rattle.rls_value.specs.declared.refusal.NameKind.TheVariants as kind
-use Rattle.rls_expr.specs.declared.table.TableDef.{TableDef}
-use Rattle.rls_expr.specs.declared.policy.Grantee.{Grantee}
-use Rattle.rls_expr.specs.declared.policy.Grantee.TheVariants.{Public, Role}
+use Rattle.rls_catalog.specs.rls_value.specs.declared.refusal.Refusal.{Refusal}
+use Rattle.rls_catalog.specs.rls_value.specs.declared.refusal.Refusal.TheVariants.{Undefined}
+use Rattle.rls_catalog.specs.rls_value.specs.declared.refusal.NameKind.TheVariants as kind
+use Rattle.rls_catalog.specs.rls_expr.specs.declared.table.TableDef.{TableDef}
+use Rattle.rls_catalog.specs.rls_expr.specs.declared.policy.Grantee.{Grantee}
+use Rattle.rls_catalog.specs.rls_expr.specs.declared.policy.Grantee.TheVariants.{Public, Role}
 use Rattle.rls_catalog.specs.declared.role.RoleDef.{RoleDef}
 use Rattle.rls_source.specs.Askings.{Asking, known, followed_by}
 use Rattle.rls_source.specs.Asked.{asked_table, asked_role}

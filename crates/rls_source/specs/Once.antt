@@ -2,7 +2,7 @@
 use Rattle.std.specs.Prelude.{◌≡◌, refl, List, [], ◌∷◌, true}
 use Rattle.std.proofs.Common.{ap, sym, subst, ◌∙◌}
 use Rattle.std.proofs.lemmas.Bool.{true≢false, or_left, or_right}
-use Rattle.rls_value.specs.declared.object.Object.{Object}
+use Rattle.rls_catalog.specs.rls_value.specs.declared.object.Object.{Object}
 use Rattle.rls_catalog.specs.State.{State, AgreesAt, AgreesOn}
 use Rattle.rls_catalog.proofs.Inheriting.{or_either}
 use Rattle.rls_source.specs.Footprints.{footprint_of, is_object, is_among}

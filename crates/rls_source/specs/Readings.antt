@@ -1,8 +1,8 @@
 -- What is asked of a state gives, and the objects that are read for it.
 use Rattle.std.specs.Prelude.{List, [], ◌∷◌, ◌++◌, Result, Ok, Err}
-use Rattle.rls_value.specs.declared.refusal.Refusal.{Refusal}
-use Rattle.rls_value.specs.declared.object.Object.{Object}
-use Rattle.rls_value.specs.Giving.{and_then}
+use Rattle.rls_catalog.specs.rls_value.specs.declared.refusal.Refusal.{Refusal}
+use Rattle.rls_catalog.specs.rls_value.specs.declared.object.Object.{Object}
+use Rattle.rls_catalog.specs.rls_value.specs.Giving.{and_then}
 
 -- a value or a refusal, and the objects that tell it
 pub record Reading (A : Type 0) : Type 0 where

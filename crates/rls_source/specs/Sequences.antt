@@ -1,8 +1,8 @@
 -- Lists that are gone through in order, where the first refusal stands.
 use Rattle.std.specs.Prelude.{List, [], ◌∷◌, ◌++◌, Bool, take, drop, Result, Ok}
 use Rattle.std.specs.List.{position_or_len}
-use Rattle.rls_value.specs.declared.refusal.Refusal.{Refusal}
-use Rattle.rls_value.specs.Giving.{and_then}
+use Rattle.rls_catalog.specs.rls_value.specs.declared.refusal.Refusal.{Refusal}
+use Rattle.rls_catalog.specs.rls_value.specs.Giving.{and_then}
 
 -- what each of a list gives
 abbrev pub each_of : {A B : Type 0} → (A → Result B Refusal) → List A → Result (List B) Refusal

@@ -4,8 +4,8 @@ ghost use Rattle.std.specs.Prelude.{◌≡◌, ◌||◌};
 ghost use Rattle.rls_catalog.specs.Bases as spec;
 ghost use Rattle.rls_catalog.specs.Writes.{is_written, is_rows_of};
 
+use rls_catalog::rls_value::{Object, Row};
 use rls_catalog::{Change, Keyed, is_same_row};
-use rls_value::{Object, Row};
 
 /// Whether the object shows what stood at the place that the change overwrites, or what stands there now: what the change
 /// writes, which of a row are the row and the keys that it had and has, and the rows of the table whose row changes.

@@ -1,11 +1,11 @@
 //! The objects that were read, each once.
 
 ghost use Rattle.std.specs.Prelude.{◌≡◌, [], length, IfOk, OnOk, OnErr};
-ghost use Rattle.rls_value.specs.declared.object.Object.{Object as Read};
+ghost use Rattle.rls_catalog.specs.rls_value.specs.declared.object.Object.{Object as Read};
 ghost use Rattle.rls_source.specs.Footprints.{with_object, with_reads, footprint_of, is_among, IsInOrder};
 
 use crate::reads::Reads;
-use rls_value::Object;
+use rls_catalog::rls_value::Object;
 use std::alloc::{AllocError, Global};
 use std::collections::{BTreeSet, btree_set};
 use std::marker::Model;
@@ -18,8 +18,8 @@ pub struct Footprint {
 
 impl Model for Footprint {
     ghost use Rattle.std.specs.Prelude.{List};
-    ghost use Rattle.rls_value.specs.declared.object.Object.{Object};
-    ghost use Rattle.rls_value.specs.contracts.object.Object as object;
+    ghost use Rattle.rls_catalog.specs.rls_value.specs.declared.object.Object.{Object};
+    ghost use Rattle.rls_catalog.specs.rls_value.specs.contracts.object.Object as object;
     ghost use Rattle.std.specs.Coded.{coded_list};
 
     ghost Value = { List Object };

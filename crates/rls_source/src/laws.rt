@@ -1,7 +1,7 @@
 //! Laws of the definitions, each a clause of a function that does nothing.
 
 ghost use Rattle.std.specs.Prelude.{◌≡◌, false};
-ghost use Rattle.rls_value.specs.declared.object.Object.{Object};
+ghost use Rattle.rls_catalog.specs.rls_value.specs.declared.object.Object.{Object};
 ghost use Rattle.rls_catalog.specs.Bases.{Fits, covers};
 ghost use Rattle.rls_catalog.specs.Changed.{changed};
 ghost use Rattle.rls_catalog.specs.State.{State, AgreesAt};

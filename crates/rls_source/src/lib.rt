@@ -23,5 +23,7 @@ pub use noted::{
 pub use plain::Plain;
 pub use reads::Reads;
 pub use recording::Recording;
+pub use rls_catalog;
+pub use rls_catalog::rls_value;
 pub use source::RowSource;
 pub use statement_source::StatementSource;

@@ -1,6 +1,6 @@
 //! What a statement names, which has to be there.
 
-ghost use Rattle.rls_value.specs.Giving.{borrowed_now};
+ghost use Rattle.rls_catalog.specs.rls_value.specs.Giving.{borrowed_now};
 ghost use Rattle.rls_source.specs.Answering.{Answers};
 ghost use Rattle.rls_source.specs.Named.{table_or_undefined, role_or_undefined, roles_or_undefined, grantees_or_undefined};
 
@@ -8,8 +8,8 @@ use crate::noted::{noted_role, noted_table};
 use crate::reads::Reads;
 use crate::source::RowSource;
 use rls_catalog::RoleDef;
-use rls_expr::{Grantee, TableDef};
-use rls_value::{Name, NameKind, Refusal};
+use rls_catalog::rls_expr::{Grantee, TableDef};
+use rls_catalog::rls_value::{Name, NameKind, Refusal};
 use std::alloc::Global;
 
 /// The table of that name; undefined where there is none.

@@ -8,9 +8,9 @@ ghost use Rattle.rls_source.specs.Asked.{role_at, members_at, table_at, grants_a
 
 use crate::reads::Reads;
 use crate::source::RowSource;
+use rls_catalog::rls_expr::{Policy, TableDef};
+use rls_catalog::rls_value::{Items, Name, Object, Row};
 use rls_catalog::{BorrowedRow, Grant, Membership, RoleDef};
-use rls_expr::{Policy, TableDef};
-use rls_value::{Items, Name, Object, Row};
 use std::alloc::{AllocError, Global};
 
 /// The role's attributes, none where it isn't there, with a note of the role.

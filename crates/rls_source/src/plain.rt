@@ -5,9 +5,9 @@ ghost use Rattle.std.specs.Prelude.{◌≡◌, refl};
 use crate::footprint::Footprint;
 use crate::source::RowSource;
 use crate::statement_source::StatementSource;
+use rls_catalog::rls_expr::{Policy, TableDef};
+use rls_catalog::rls_value::{Items, Name, Object, Row};
 use rls_catalog::{BorrowedRow, Catalog, Grant, Membership, RoleDef};
-use rls_expr::{Policy, TableDef};
-use rls_value::{Items, Name, Object, Row};
 use std::alloc::{AllocError, Global};
 
 /// A borrowed catalogue, as a source that keeps no note of what is read.

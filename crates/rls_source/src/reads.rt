@@ -2,7 +2,7 @@
 
 ghost use Rattle.std.specs.Prelude.{◌≡◌, [], ◌∷◌, ◌++◌, IfOk, OnOk, OnErr};
 
-use rls_value::Object;
+use rls_catalog::rls_value::Object;
 use std::alloc::{AllocError, Global};
 use std::marker::Model;
 
@@ -14,8 +14,8 @@ pub struct Reads {
 
 impl Model for Reads {
     ghost use Rattle.std.specs.Prelude.{List};
-    ghost use Rattle.rls_value.specs.declared.object.Object.{Object};
-    ghost use Rattle.rls_value.specs.contracts.object.Object as object;
+    ghost use Rattle.rls_catalog.specs.rls_value.specs.declared.object.Object.{Object};
+    ghost use Rattle.rls_catalog.specs.rls_value.specs.contracts.object.Object as object;
     ghost use Rattle.std.specs.Coded.{coded_list};
 
     ghost Value = { List Object };

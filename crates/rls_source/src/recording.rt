@@ -8,9 +8,9 @@ ghost use Rattle.rls_source.specs.FootprintSets.{with_footprint};
 use crate::footprint::Footprint;
 use crate::source::RowSource;
 use crate::statement_source::StatementSource;
+use rls_catalog::rls_expr::{Policy, TableDef};
+use rls_catalog::rls_value::{Items, Name, Object, Row};
 use rls_catalog::{BorrowedRow, Grant, Membership, RoleDef};
-use rls_expr::{Policy, TableDef};
-use rls_value::{Items, Name, Object, Row};
 use std::alloc::{AllocError, Global};
 
 /// A source, and what was read from it.

@@ -5,11 +5,11 @@ ghost use Rattle.std.specs.Option.{option_copied};
 ghost use Rattle.rls_catalog.specs.InOrder.{RowsInOrder};
 ghost use Rattle.rls_catalog.specs.PolicyLists.{InNameOrder};
 ghost use Rattle.rls_catalog.specs.State.{State, role_of, members_of, table_of, grants_of, policies_of, rows_of, rows_with_key};
-ghost use Rattle.rls_value.specs.declared.object.Object.{Object as Read};
+ghost use Rattle.rls_catalog.specs.rls_value.specs.declared.object.Object.{Object as Read};
 
+use rls_catalog::rls_expr::{Policy, TableDef};
+use rls_catalog::rls_value::{Items, Name, Object, Row};
 use rls_catalog::{BorrowedRow, Grant, Membership, RoleDef};
-use rls_expr::{Policy, TableDef};
-use rls_value::{Items, Name, Object, Row};
 use std::alloc::{AllocError, Global};
 
 /// Stands for one state, which no read changes. What is found is borrowed for the lifetime `'c`. Each look-up is a read of one object; after

@@ -1,6 +1,6 @@
 -- The tag that each statement is answered with (PostgreSQL manual, 55.7, "CommandComplete").
-use Rattle.rls_value.specs.declared.tag.Tag.{Tag}
-use Rattle.rls_value.specs.declared.tag.Tag.TheVariants as t
+use Rattle.rls_expr.specs.rls_value.specs.declared.tag.Tag.{Tag}
+use Rattle.rls_expr.specs.rls_value.specs.declared.tag.Tag.TheVariants as t
 use Rattle.rls_statement.specs.declared.statement.Statement.{Statement}
 use Rattle.rls_statement.specs.declared.statement.Statement.TheVariants as s
 use Rattle.rls_statement.specs.declared.statement.SetRole.TheVariants as sr

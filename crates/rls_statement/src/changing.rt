@@ -4,7 +4,7 @@ ghost use Rattle.std.specs.Prelude.{◌≡◌, IfOk};
 
 use crate::statement::{Selected, copy_condition, copy_returning};
 use rls_expr::Expr;
-use rls_value::{Items, Name};
+use rls_expr::rls_value::{Items, Name};
 use std::alloc::{AllocError, Global};
 
 /// `UPDATE`; no column is set twice.

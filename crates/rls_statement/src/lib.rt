@@ -7,6 +7,7 @@ mod statement;
 
 pub use changing::{Assignment, Delete, Update};
 pub use command::{AccessMode, Command};
+pub use rls_expr;
 pub use statement::{
     AlterPolicy, AlterRole, AlterTable, Attributes, CreatePolicy, CreateRole, CreateTable,
     DropPolicy, GrantPrivileges, GrantRoles, Insert, MarkedColumn, MembershipOption,

@@ -4,8 +4,8 @@ ghost use Rattle.std.specs.Prelude.{◌≡◌, IfOk};
 ghost use Rattle.rls_statement.specs.Tags.{tag_of};
 
 use crate::changing::{Delete, Update};
+use rls_expr::rls_value::{Items, Name, Tag};
 use rls_expr::{Column, Expr, Grantee, Policy};
-use rls_value::{Items, Name, Tag};
 use std::alloc::{AllocError, Global};
 
 /// A statement of SQL.

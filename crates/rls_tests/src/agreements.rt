@@ -1,6 +1,6 @@
 //! Two states that agree on what was read, or don't.
 
-use crate::states::{add_role, says};
+use crate::states::{Stands, says, state_with};
 use rls_agreement::agrees_on;
 use rls_catalog::Catalog;
 use rls_source::{Footprint, Plain};
@@ -41,14 +41,7 @@ fn agree_on_role(
 
 /// The opening state with the role `a` beside.
 fn with_a(alloc: Global) -> Result<Catalog, Refusal> {
-    let mut catalog = Catalog::new(alloc)?;
-    match add_role(&mut catalog, alloc, "a", false) {
-        Ok(()) => Ok(catalog),
-        Err(refusal) => {
-            drop(catalog);
-            Err(refusal)
-        }
-    }
+    state_with(alloc, &[Stands::Role("a", false)])
 }
 
 /// Whether the opening state and the one with the role `a` agree on the role.

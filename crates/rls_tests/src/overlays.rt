@@ -1,6 +1,6 @@
 //! A source behind changes that aren't put on.
 
-use crate::states::{add_role, says};
+use crate::states::{Stands, says, state_with};
 use rls_catalog::{Catalog, Change, RoleDef};
 use rls_overlay::Overlay;
 use rls_role::has;
@@ -44,14 +44,7 @@ fn has_behind(
 
 /// A state in which `a` is a role.
 fn with_a(alloc: Global) -> Result<Catalog, Refusal> {
-    let mut catalog = Catalog::new(alloc)?;
-    match add_role(&mut catalog, alloc, "a", false) {
-        Ok(()) => Ok(catalog),
-        Err(refusal) => {
-            drop(catalog);
-            Err(refusal)
-        }
-    }
+    state_with(alloc, &[Stands::Role("a", false)])
 }
 
 /// A change that makes `a` a superuser.

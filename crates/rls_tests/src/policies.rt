@@ -1,6 +1,6 @@
 //! Row security by worked examples (PostgreSQL manual, 5.8 and CREATE POLICY).
 
-use crate::states::{add_role, membership, put_members, says};
+use crate::states::{Stands, put_all, says, state_with};
 use rls_catalog::{Catalog, PolicyList, Verdict};
 use rls_expr::{Policy, TableDef};
 use rls_policy::{Judgement, combine, is_exempt};
@@ -103,12 +103,31 @@ fn one_policy(alloc: Global, name: &str) -> Result<PolicyList, Refusal> {
     Ok(PolicyList::new(alloc).with(only)?)
 }
 
+fn left_without(alloc: Global, list: PolicyList, name: &str) -> Result<usize, Refusal> {
+    match Name::new(alloc, name) {
+        Ok(name) => {
+            let left = list.without(&name);
+            drop(name);
+            let count = left.as_slice().len();
+            drop(left);
+            Ok(count)
+        }
+        Err(refusal) => {
+            drop(list);
+            Err(refusal)
+        }
+    }
+}
+
 /// How many policies are left after one is exchanged and one taken away.
 fn left_after(alloc: Global, list: PolicyList, name: &str) -> Result<usize, Refusal> {
-    let exchanged = list.replaced(policy(alloc, name, false)?);
-    let name = Name::new(alloc, name)?;
-    let left = exchanged.without(&name);
-    Ok(left.as_slice().len())
+    match policy(alloc, name, false) {
+        Ok(other) => left_without(alloc, list.replaced(other), name),
+        Err(refusal) => {
+            drop(list);
+            Err(refusal)
+        }
+    }
 }
 
 /// Whether a list has one policy, and none once that is exchanged and taken away.
@@ -135,32 +154,6 @@ fn table(alloc: Global, forced: bool) -> Result<TableDef, Refusal> {
     })
 }
 
-fn add_member(
-    catalog: &mut Catalog,
-    alloc: Global,
-    member: &str,
-    role: &str,
-    inherit: bool,
-) -> Result<(), Refusal> {
-    let mut content = Items::new(alloc);
-    content.push(membership(alloc, role, inherit, true)?)?;
-    put_members(catalog, alloc, member, content)
-}
-
-/// `a` is a member of `b`, which has BYPASSRLS or not, and `b` of `c`, with INHERIT or not.
-fn chain(
-    catalog: &mut Catalog,
-    alloc: Global,
-    bypass_rls: bool,
-    inherit: bool,
-) -> Result<(), Refusal> {
-    add_role(catalog, alloc, "a", false)?;
-    add_role(catalog, alloc, "b", bypass_rls)?;
-    add_role(catalog, alloc, "c", false)?;
-    add_member(catalog, alloc, "a", "b", true)?;
-    add_member(catalog, alloc, "b", "c", inherit)
-}
-
 /// Whether the role is exempt on the table of `c`.
 fn exempts(catalog: &Catalog, alloc: Global, role: &str, forced: bool) -> Result<bool, Refusal> {
     let table = table(alloc, forced)?;
@@ -181,7 +174,7 @@ fn exempts_on(
     Ok(exempt?)
 }
 
-/// The same in the state of the chain.
+/// The same where `a` is a member of `b`, which has BYPASSRLS or not, and `b` of `c`, with INHERIT or not.
 fn exempts_by_chain(
     alloc: Global,
     bypass_rls: bool,
@@ -189,11 +182,17 @@ fn exempts_by_chain(
     role: &str,
     forced: bool,
 ) -> Result<bool, Refusal> {
-    let mut catalog = Catalog::new(alloc)?;
-    let exempt = match chain(&mut catalog, alloc, bypass_rls, inherit) {
-        Ok(()) => exempts(&catalog, alloc, role, forced),
-        Err(refusal) => Err(refusal),
-    };
+    let in_b = [("b", true, true)];
+    let in_c = [("c", inherit, true)];
+    let chain = [
+        Stands::Role("a", false),
+        Stands::Role("b", bypass_rls),
+        Stands::Role("c", false),
+        Stands::Members("a", &in_b),
+        Stands::Members("b", &in_c),
+    ];
+    let catalog = state_with(alloc, &chain)?;
+    let exempt = exempts(&catalog, alloc, role, forced);
     drop(catalog);
     exempt
 }
@@ -241,9 +240,15 @@ fn add_linked(
     next: u32,
     inherit: bool,
 ) -> Result<(), Refusal> {
-    add_role(catalog, alloc, role, false)?;
     let next = format!(in alloc; "r{next}")?;
-    let added = add_member(catalog, alloc, role, next.as_str(), inherit);
+    let added = put_all(
+        catalog,
+        alloc,
+        &[
+            Stands::Role(role, false),
+            Stands::Members(role, &[(next.as_str(), inherit, true)]),
+        ],
+    );
     drop(next);
     added
 }
@@ -253,9 +258,15 @@ fn long_chain(catalog: &mut Catalog, alloc: Global, broken: u32) -> Result<(), R
     for n in 0..1000 {
         add_link(catalog, alloc, n, n + 1, n != broken)?;
     }
-    add_role(catalog, alloc, "r1000", false)?;
-    add_member(catalog, alloc, "r1000", "c", true)?;
-    add_role(catalog, alloc, "c", false)
+    put_all(
+        catalog,
+        alloc,
+        &[
+            Stands::Role("r1000", false),
+            Stands::Members("r1000", &[("c", true, true)]),
+            Stands::Role("c", false),
+        ],
+    )
 }
 
 /// Whether the first of the long chain is exempt on the table of `c`.

@@ -1,56 +1,22 @@
 //! Whose privileges a role has, and which roles a login may set, by a worked example (PostgreSQL manual, 22.3, "Role
 //! Membership", and SET ROLE).
 
-use crate::states::{add_role, membership, put_members, says};
-use rls_catalog::{Catalog, Membership};
+use crate::states::{Stands, says, state_with};
+use rls_catalog::Catalog;
 use rls_role::{can_set, has};
 use rls_source::Plain;
-use rls_value::{Items, Name, Refusal};
+use rls_value::{Name, Refusal};
 use std::alloc::{AllocError, Global};
 
-/// Memberships by the role, and whether it has INHERIT and SET.
-fn add_memberships(
-    content: &mut Items<Membership>,
-    alloc: Global,
-    memberships: &[(&str, bool, bool)],
-) -> Result<(), Refusal> {
-    for (role, inherit, set) in memberships {
-        content.push(membership(alloc, role, *inherit, *set)?)?;
-    }
-    Ok(())
-}
-
-/// The member gets these memberships: the role, and whether it has INHERIT and SET.
-fn give(
-    catalog: &mut Catalog,
-    alloc: Global,
-    member: &str,
-    memberships: &[(&str, bool, bool)],
-) -> Result<(), Refusal> {
-    let mut content = Items::new(alloc);
-    match add_memberships(&mut content, alloc, memberships) {
-        Ok(()) => put_members(catalog, alloc, member, content),
-        Err(refusal) => {
-            drop(content);
-            Err(refusal)
-        }
-    }
-}
-
-fn add_roles(catalog: &mut Catalog, alloc: Global) -> Result<(), Refusal> {
-    for name in ["bob", "crew", "fleet", "team"] {
-        add_role(catalog, alloc, name, false)?;
-    }
-    Ok(())
-}
-
 /// `bob` may set `crew`, and by it `fleet`, and inherits from `team` alone.
-fn crews(catalog: &mut Catalog, alloc: Global) -> Result<(), Refusal> {
-    add_roles(catalog, alloc)?;
-    let of_bob = [("crew", false, true), ("team", true, false)];
-    give(catalog, alloc, "bob", &of_bob)?;
-    give(catalog, alloc, "crew", &[("fleet", true, true)])
-}
+const CREWS: [Stands<'static>; 6] = [
+    Stands::Role("bob", false),
+    Stands::Role("crew", false),
+    Stands::Role("fleet", false),
+    Stands::Role("team", false),
+    Stands::Members("bob", &[("crew", false, true), ("team", true, false)]),
+    Stands::Members("crew", &[("fleet", true, true)]),
+];
 
 /// Whether the member has the role's privileges, and whether it may set it, are these.
 fn are(
@@ -100,11 +66,8 @@ fn are_in_crews(
     role: &str,
     want: (bool, bool),
 ) -> Result<bool, Refusal> {
-    let mut catalog = Catalog::new(alloc)?;
-    let answer = match crews(&mut catalog, alloc) {
-        Ok(()) => are_by_names(&catalog, alloc, member, role, want),
-        Err(refusal) => Err(refusal),
-    };
+    let catalog = state_with(alloc, &CREWS)?;
+    let answer = are_by_names(&catalog, alloc, member, role, want);
     drop(catalog);
     answer
 }

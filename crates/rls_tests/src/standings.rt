@@ -1,6 +1,6 @@
 //! What a role may do by the contents of a state: privileges, grant options, policies that apply (PostgreSQL manual, 5.7, 5.8).
 
-use crate::states::{add_role, membership, put, put_members, says};
+use crate::states::{Stands, put, put_all};
 use rls_catalog::{Catalog, Change, Grant, PolicyList};
 use rls_expr::{Expr, Grantee, Node, Policy, TableDef};
 use rls_grant::{holds, option};
@@ -96,18 +96,17 @@ fn put_policy(catalog: &mut Catalog, alloc: Global) -> Result<(), Refusal> {
     }
 }
 
-fn put_member(catalog: &mut Catalog, alloc: Global) -> Result<(), Refusal> {
-    let mut content = Items::new(alloc);
-    content.push(membership(alloc, "b", true, true)?)?;
-    put_members(catalog, alloc, "a", content)
-}
+/// `a` is a member of `b`.
+const ROLES: [Stands<'static>; 4] = [
+    Stands::Role("a", false),
+    Stands::Role("b", false),
+    Stands::Role("c", false),
+    Stands::Members("a", &[("b", true, true)]),
+];
 
 /// `a` is a member of `b`; `c` owns `t`, and granted `b` SELECT with its option; `t` has a policy for SELECT.
 fn small(catalog: &mut Catalog, alloc: Global) -> Result<(), Refusal> {
-    add_role(catalog, alloc, "a", false)?;
-    add_role(catalog, alloc, "b", false)?;
-    add_role(catalog, alloc, "c", false)?;
-    put_member(catalog, alloc)?;
+    put_all(catalog, alloc, &ROLES)?;
     put_table(catalog, alloc)?;
     put_grant(catalog, alloc)?;
     put_policy(catalog, alloc)

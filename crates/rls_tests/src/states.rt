@@ -4,6 +4,42 @@ use rls_catalog::{Catalog, Change, Delta, Membership, RoleDef};
 use rls_value::{Items, Name, Refusal};
 use std::alloc::Global;
 
+/// What stands in a state, as plain data.
+#[derive(Clone, Copy)]
+pub enum Stands<'a> {
+    /// A role with LOGIN, and with BYPASSRLS or not.
+    Role(&'a str, bool),
+    /// The memberships of a member: each role, with INHERIT and SET or without, and without ADMIN.
+    Members(&'a str, &'a [(&'a str, bool, bool)]),
+}
+
+/// The opening state with all these beside.
+pub fn state_with(alloc: Global, all: &[Stands<'_>]) -> Result<Catalog, Refusal> {
+    let mut catalog = Catalog::new(alloc)?;
+    match put_all(&mut catalog, alloc, all) {
+        Ok(()) => Ok(catalog),
+        Err(refusal) => {
+            drop(catalog);
+            Err(refusal)
+        }
+    }
+}
+
+pub fn put_all(catalog: &mut Catalog, alloc: Global, all: &[Stands<'_>]) -> Result<(), Refusal> {
+    for it in all {
+        match it {
+            Stands::Role(name, bypass_rls) => add_role(catalog, alloc, name, *bypass_rls)?,
+            Stands::Members(member, memberships) => put_members(
+                catalog,
+                alloc,
+                member,
+                memberships,
+            )?,
+        }
+    }
+    Ok(())
+}
+
 /// The change is put on.
 pub fn put(catalog: &mut Catalog, alloc: Global, change: Change) -> Result<(), Refusal> {
     let mut delta = Delta::new(alloc);
@@ -13,8 +49,7 @@ pub fn put(catalog: &mut Catalog, alloc: Global, change: Change) -> Result<(), R
     Ok(put?)
 }
 
-/// A role with LOGIN, and with BYPASSRLS or not.
-pub fn add_role(
+fn add_role(
     catalog: &mut Catalog,
     alloc: Global,
     name: &str,
@@ -28,13 +63,7 @@ pub fn add_role(
     put(catalog, alloc, Change::Role(Name::new(alloc, name)?, def))
 }
 
-/// A membership without ADMIN.
-pub fn membership(
-    alloc: Global,
-    role: &str,
-    inherit: bool,
-    set: bool,
-) -> Result<Membership, Refusal> {
+fn membership(alloc: Global, role: &str, inherit: bool, set: bool) -> Result<Membership, Refusal> {
     Ok(Membership {
         role: Name::new(alloc, role)?,
         admin: false,
@@ -43,13 +72,13 @@ pub fn membership(
     })
 }
 
-/// The member gets these memberships.
-pub fn put_members(
+fn put_members(
     catalog: &mut Catalog,
     alloc: Global,
     member: &str,
-    content: Items<Membership>,
+    memberships: &[(&str, bool, bool)],
 ) -> Result<(), Refusal> {
+    let content = memberships_of(alloc, memberships)?;
     match Name::new(alloc, member) {
         Ok(member) => put(catalog, alloc, Change::Members(member, content)),
         Err(refusal) => {
@@ -57,6 +86,31 @@ pub fn put_members(
             Err(refusal)
         }
     }
+}
+
+fn memberships_of(
+    alloc: Global,
+    memberships: &[(&str, bool, bool)],
+) -> Result<Items<Membership>, Refusal> {
+    let mut content = Items::new(alloc);
+    match add_memberships(&mut content, alloc, memberships) {
+        Ok(()) => Ok(content),
+        Err(refusal) => {
+            drop(content);
+            Err(refusal)
+        }
+    }
+}
+
+fn add_memberships(
+    content: &mut Items<Membership>,
+    alloc: Global,
+    memberships: &[(&str, bool, bool)],
+) -> Result<(), Refusal> {
+    for (role, inherit, set) in memberships {
+        content.push(membership(alloc, role, *inherit, *set)?)?;
+    }
+    Ok(())
 }
 
 /// Whether the answer came, and is that one.

@@ -7,7 +7,7 @@ ghost use Rattle.rls_value.specs.Names as spec;
 ghost use Rattle.rls_value.specs.Names.{folded, spells_name, is_name_text, one_of, reserved, IsName};
 
 use crate::refusal::{Limit, Refusal};
-use shared_map::Shared;
+use shared::Shared;
 use std::alloc::{AllocError, Global};
 use std::cmp::Ordering;
 use std::fmt;

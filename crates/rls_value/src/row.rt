@@ -6,7 +6,7 @@ ghost use Rattle.std.specs.Cmp.Lexicographic.{slice_cmp};
 ghost use Rattle.rls_value.specs.Values.{listed, value_at};
 
 use crate::value::{Value, cmp_values};
-use shared_map::Shared;
+use shared::Shared;
 use std::alloc::{AllocError, Global};
 use std::cmp::Ordering;
 use std::fmt;

@@ -4,16 +4,16 @@ use Rattle.std.proofs.Math.Seq.{drop-cons}
 use Rattle.std.proofs.lemmas.List.Elements.{All-get_or}
 use Rattle.std.specs.List.{All}
 use Rattle.std.specs.Prelude.{slice_index_or}
-use Rattle.rls_audit.specs.declared.lines.Line.{Line}
-use Rattle.rls_audit.specs.Lines as shown
-use Rattle.rls_audit.specs.Shows.{ShowsLine}
-use Rattle.rls_audit.specs.Showing.{AreTexts}
-use Rattle.rls_core.specs.Events.{Event, Rules, World, after}
-use Rattle.rls_core.specs.Events.Event.{Begins, Posts, Commits, RollsBack}
-use Rattle.rls_core.specs.Seen.{Seen, core_rules}
-use Rattle.rls_engine.specs.Led.{IsLed, PostsAsked}
+use Rattle.rls_laws.specs.rls_audit.specs.declared.lines.Line.{Line}
+use Rattle.rls_laws.specs.rls_audit.specs.Lines as shown
+use Rattle.rls_laws.specs.rls_audit.specs.Shows.{ShowsLine}
+use Rattle.rls_laws.specs.rls_audit.specs.Showing.{AreTexts}
+use Rattle.rls_laws.specs.rls_core.specs.Events.{Event, Rules, World, after}
+use Rattle.rls_laws.specs.rls_core.specs.Events.Event.{Begins, Posts, Commits, RollsBack}
+use Rattle.rls_laws.specs.rls_core.specs.Seen.{Seen, core_rules}
+use Rattle.rls_session.specs.rls_engine.specs.Led.{IsLed, PostsAsked}
 use Rattle.rls_laws.specs.Spelled.{PostsText}
-use Rattle.rls_session.specs.Spelled.{IsSpellable}
+use Rattle.rls_session.specs.rls_script.specs.Spelled.{IsSpellable}
 use Rattle.rlsdb.specs.AuditLines.{WritesLine, WritesLines, none, next}
 
 -- lines behind lines

@@ -2,7 +2,7 @@
 use Rattle.std.specs.Prelude.{◌≡◌, ◌⊎◌, ℕ, Bool, true}
 use Rattle.rls_value.specs.declared.refusal.Refusal.{Refusal}
 use Rattle.rls_value.specs.declared.refusal.Refusal.TheVariants as r
-use Rattle.rls_session.specs.declared.fault.RunFault.TheVariants as run
+use Rattle.rls_session.specs.rls_script.specs.declared.fault.RunFault.TheVariants as run
 use Rattle.rlsdb.specs.declared.fault.Fault.{Fault}
 use Rattle.rlsdb.specs.declared.fault.Fault.TheVariants as fault
 use Rattle.rlsdb.specs.declared.command_line.Mistake.{Mistake}

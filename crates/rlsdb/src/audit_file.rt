@@ -4,8 +4,8 @@ ghost use Rattle.std.specs.Prelude.{◌≡◌, ◌∷◌, [], ◌++◌, ◌⊎�
 ghost use Rattle.std.specs.Option.{option_to_list};
 ghost use Rattle.rlsdb.specs.AuditLines.{ReadsNext, WritesLine};
 
-use rls_audit::{Line, write_line};
-use rls_session::{Failed, RunFault, ScriptIn, ScriptOut, write_all};
+use rls_laws::rls_audit::{Line, write_line};
+use rls_session::rls_script::{Failed, RunFault, ScriptIn, ScriptOut, write_all};
 use std::alloc::Global;
 
 /// The most bytes that an audit file has.

@@ -1,7 +1,7 @@
 //! The commands about audits.
 
 ghost use Rattle.std.specs.Prelude.{◌≡◌, ◌++◌, ℕ, true, List, IfOk, OnOk};
-ghost use Rattle.rls_check.specs.Wholes.{AreConverted, HasConverted, HasRead, IsAuditOf};
+ghost use Rattle.rls_laws.specs.rls_check.specs.Wholes.{AreConverted, HasConverted, HasRead, IsAuditOf};
 ghost use Rattle.rlsdb.specs.AuditLines.{Converted, Reads, ended_lines};
 ghost use Rattle.rlsdb.specs.Faults.{IsToldOf};
 
@@ -10,8 +10,8 @@ use crate::device::{DeviceIn, DeviceOut, Nowhere};
 use crate::fault::Fault;
 use crate::same_file::is_same_file;
 use crate::words::Explain;
-use rls_check::{Audit, Converter, Finding, Reader};
-use rls_session::{RunFault, ScriptIn, ScriptOut};
+use rls_laws::rls_check::{Audit, Converter, Finding, Reader};
+use rls_session::rls_script::{RunFault, ScriptIn, ScriptOut};
 use std::alloc::Global;
 use std::fs::File;
 use std::io::Write;

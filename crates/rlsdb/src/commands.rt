@@ -10,7 +10,7 @@ use crate::fault::Fault;
 use crate::words::Request;
 use crate::{audits, command_line, running};
 use clap::error::ErrorKind;
-use rls_session::RunFault;
+use rls_session::rls_script::RunFault;
 use std::sync::Wait;
 use std::thread::Threads;
 use std::time::Clock;

@@ -6,7 +6,7 @@ ghost use Rattle.std.specs.Io.Buffered.{reader_remaining, writer_contents};
 ghost use Rattle.std.specs.Io.KnownBytes.{Consumes, Appends};
 
 use crate::passed::Passed;
-use rls_session::{Failed, ScriptIn, ScriptOut};
+use rls_session::rls_script::{Failed, ScriptIn, ScriptOut};
 use std::alloc::Global;
 use std::io;
 use std::io::{BufRead, BufReader, BufWriter, ErrorKind, Read, Write};

@@ -3,13 +3,13 @@
 ghost use Rattle.std.specs.Prelude.{◌≡◌};
 ghost use Rattle.std.specs.IoError.{error_kind};
 ghost use Rattle.std.specs.declared.io.ErrorKind.TheVariants.{OutOfMemory};
-ghost use Rattle.rls_session.specs.declared.fault.RunFault.TheVariants.{NoMemory, Foreign, Write};
-ghost use Rattle.rls_audit.specs.declared.showing.Unshown.TheVariants.{Never};
+ghost use Rattle.rls_session.specs.rls_script.specs.declared.fault.RunFault.TheVariants.{NoMemory, Foreign, Write};
+ghost use Rattle.rls_laws.specs.rls_audit.specs.declared.showing.Unshown.TheVariants.{Never};
 ghost use Rattle.rlsdb.specs.declared.fault.Fault.TheVariants.{Ended};
 ghost use Rattle.rlsdb.specs.Faults.{line_fault};
 
-use rls_audit::Unshown;
-use rls_session::RunFault;
+use rls_laws::rls_audit::Unshown;
+use rls_session::rls_script::RunFault;
 use rls_value::Refusal;
 use std::alloc::{AllocError, AllocFailed};
 use std::io;

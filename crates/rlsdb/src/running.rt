@@ -2,10 +2,10 @@
 
 ghost use Rattle.std.specs.Prelude.{IfOk, OnOk};
 ghost use Rattle.std.specs.List.{All};
-ghost use Rattle.rls_audit.specs.Lines.{audit_of, lines_from};
-ghost use Rattle.rls_audit.specs.Showing.{AreTexts};
-ghost use Rattle.rls_engine.specs.Led.{IsLed};
-ghost use Rattle.rls_session.specs.Spelled.{IsSpellable};
+ghost use Rattle.rls_laws.specs.rls_audit.specs.Lines.{audit_of, lines_from};
+ghost use Rattle.rls_laws.specs.rls_audit.specs.Showing.{AreTexts};
+ghost use Rattle.rls_session.specs.rls_engine.specs.Led.{IsLed};
+ghost use Rattle.rls_session.specs.rls_script.specs.Spelled.{IsSpellable};
 ghost use Rattle.rlsdb.specs.AuditLines.{WritesLines};
 
 use crate::audit_file::write_audit_line;
@@ -13,9 +13,10 @@ use crate::device::{DeviceIn, DeviceOut};
 use crate::fault::Fault;
 use crate::same_file::is_same_file;
 use crate::words::ScriptFile;
-use rls_audit::{Line, line_of_record};
 use rls_laws::records_are_texts;
-use rls_session::{Book, NoGate, RunFault, ScriptOut, run_script, run_threads};
+use rls_laws::rls_audit::{Line, line_of_record};
+use rls_session::rls_script::{RunFault, ScriptOut};
+use rls_session::{Book, NoGate, run_script, run_threads};
 use rls_value::Items;
 use std::alloc::Global;
 use std::fs::File;

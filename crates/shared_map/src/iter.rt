@@ -5,7 +5,7 @@ ghost use Rattle.shared_map.specs.Entries.{Ascend, entries_from, is_reached};
 ghost use Rattle.shared_map.specs.Left.{entries_after, entries_left};
 
 use crate::map::SharedMap;
-use crate::shared::Shared;
+use shared::Shared;
 use std::marker::Model;
 
 /// The entries of a map that are left, in order, lent one after another.

@@ -2,12 +2,12 @@
 #![tactic(auto)]
 
 mod branch;
+mod items;
 mod iter;
 mod map;
 mod page;
 mod part;
 mod share;
-mod shared;
 mod tree;
 
 pub use iter::Iter;

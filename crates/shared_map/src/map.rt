@@ -9,8 +9,8 @@ ghost use Rattle.shared_map.specs.Entries.{Ascend, IsFirstRun, entries_from, is_
 use crate::branch::Branch;
 use crate::page::Page;
 use crate::part::Part;
-use crate::shared::Shared;
 use crate::tree;
+use shared::Shared;
 use std::alloc::{AllocError, Global};
 use std::marker::Model;
 use std::sync::Arc;

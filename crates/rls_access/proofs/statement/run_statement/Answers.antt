@@ -1,6 +1,6 @@
 use Rattle.std.proofs.Common.{rules, ap, ◌∙◌}
-use Rattle.rls_catalog.specs.State.{State}
-use Rattle.rls_source.specs.Footprints.{footprint_of}
+use Rattle.rls_guard.specs.rls_catalog.specs.State.{State}
+use Rattle.rls_guard.specs.rls_source.specs.Footprints.{footprint_of}
 use Rattle.rls_access.specs.Framing.{framed_by}
 use Rattle.rls_access.specs.Statements.{step}
 use Rattle.rls_access.proofs.statement.run_statement.Goals as goal

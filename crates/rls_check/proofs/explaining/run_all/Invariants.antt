@@ -1,5 +1,5 @@
 use Rattle.std.proofs.Common.{◌≡◌, drop}
-use Rattle.rls_core.specs.Alone.{state_alone}
+use Rattle.rls_audit.specs.rls_core.specs.Alone.{state_alone}
 use Rattle.rls_check.specs.Audited.{asked_of}
 use Rattle.rls_check.specs.Explaining.{ctx_alone}
 use Rattle.rls_check.proofs.explaining.run_all.Given as goal

@@ -2,7 +2,7 @@ use Rattle.std.proofs.Common.{◌≡◌, ◌+◌, ◌++◌, ℕ, drop}
 use Rattle.std.specs.Prelude.{Option}
 use Rattle.std.specs.List.{flat_map}
 use Rattle.rls_audit.specs.Lines.{ordered_changes}
-use Rattle.rls_core.specs.Alone.{effects_alone, state_alone, changes_made}
+use Rattle.rls_audit.specs.rls_core.specs.Alone.{effects_alone, state_alone, changes_made}
 use Rattle.rls_check.specs.Audited.{asked_of}
 use Rattle.rls_check.specs.Checking.{FirstOther}
 use Rattle.rls_check.proofs.running.run_statements.Given as goal

@@ -1,6 +1,6 @@
 use Rattle.std.specs.Prelude.{List, ℕ}
 use Rattle.rls_value.specs.declared.verb.Kind.TheVariants.{Select}
-use Rattle.rls_evaluation.specs.Showing.{shows}
+use Rattle.rls_guard.specs.rls_evaluation.specs.Showing.{shows}
 use Rattle.rls_depth.specs.Deep.{shows_deep, state_quals}
 use Rattle.rls_depth.proofs.Agreeing.{value_same}
 use Rattle.rls_depth.proofs.ExpansionLaws.{IsMade, is_made, made_new, made_new_alike, made_old, made_old_alike, made_queries, made_shows, made_target, own_of}

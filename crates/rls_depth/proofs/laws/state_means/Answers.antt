@@ -1,4 +1,4 @@
-use Rattle.rls_evaluation.specs.Showing.{shows}
+use Rattle.rls_guard.specs.rls_evaluation.specs.Showing.{shows}
 use Rattle.rls_expansion.specs.Relations.{known_in, relations_of}
 use Rattle.rls_depth.specs.Deep.{shows_deep, state_quals}
 use Rattle.rls_depth.proofs.Agreeing.{value_same, allowed_same}

@@ -1,6 +1,6 @@
 use Rattle.std.proofs.Common.{◌≡◌, ◌↔◌, ◌+◌, ◌*◌, ◌≤◌, length}
-use Rattle.rls_expr.specs.ExprTerms.{query_of}
-use Rattle.rls_expr.specs.Terms.{maybe_term, terms_of, term_size, terms_size, query_size}
+use Rattle.rls_catalog.specs.rls_expr.specs.ExprTerms.{query_of}
+use Rattle.rls_catalog.specs.rls_expr.specs.Terms.{maybe_term, terms_of, term_size, terms_size, query_size}
 use Rattle.rls_equality.proofs.term.+comparing.Given as goal
 
 -- what is left decides, and is no larger than all

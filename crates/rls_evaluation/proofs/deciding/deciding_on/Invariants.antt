@@ -1,7 +1,7 @@
 use Rattle.std.proofs.Common.{◌≡◌, drop}
 use Rattle.std.specs.Prelude.{None}
 use Rattle.std.specs.Option.{option_copied}
-use Rattle.rls_catalog.specs.State.{State}
+use Rattle.rls_verdict.specs.rls_catalog.specs.State.{State}
 use Rattle.rls_evaluation.specs.Eval.{Shows}
 use Rattle.rls_evaluation.proofs.DecidingLemmas.{verdict_beside}
 use Rattle.rls_evaluation.proofs.deciding.deciding_on.Given as goal

@@ -1,5 +1,5 @@
 use Rattle.std.proofs.Common.{◌≡◌, ◌++◌, drop}
-use Rattle.rls_catalog.specs.Membership.{fresh}
+use Rattle.rls_recursion.specs.rls_catalog.specs.Membership.{fresh}
 use Rattle.rls_expansion.proofs.dependencies.add_fresh.Given as goal
 
 -- what is left to add leads to the whole

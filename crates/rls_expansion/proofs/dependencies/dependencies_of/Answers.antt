@@ -1,6 +1,6 @@
 use Rattle.std.proofs.Common.{rules, refl, ◌∙◌, ◌≡◌, Some, None, []}
 use Rattle.std.specs.Prelude.{slice_get}
-use Rattle.rls_catalog.specs.Membership.{fresh}
+use Rattle.rls_recursion.specs.rls_catalog.specs.Membership.{fresh}
 use Rattle.rls_expansion.specs.Leading.{named}
 use Rattle.rls_expansion.specs.Dependencies.{dependency_of, dependencies_of, dependencies_lead}
 use Rattle.rls_expansion.proofs.Collecting.{collect_first, collect_next, collect_told}

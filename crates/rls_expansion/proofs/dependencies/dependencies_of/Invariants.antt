@@ -1,5 +1,5 @@
 use Rattle.std.proofs.Common.{◌≡◌, ◌-◌, ◌+◌, ◌^◌, ◌++◌, ℕ, []}
-use Rattle.rls_catalog.specs.Membership.{fresh}
+use Rattle.rls_recursion.specs.rls_catalog.specs.Membership.{fresh}
 use Rattle.rls_expansion.specs.Enough.{collect}
 use Rattle.rls_expansion.specs.Dependencies as spec
 use Rattle.rls_expansion.proofs.Telling.{Leads}

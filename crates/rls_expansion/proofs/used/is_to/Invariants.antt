@@ -1,6 +1,6 @@
 use Rattle.std.proofs.Common.{◌≡◌, drop}
 use Rattle.std.specs.List.{list_any}
-use Rattle.rls_catalog.specs.Privileges.{includes}
+use Rattle.rls_recursion.specs.rls_catalog.specs.Privileges.{includes}
 use Rattle.rls_expansion.proofs.used.is_to.Given as goal
 
 -- none of those so far includes the role

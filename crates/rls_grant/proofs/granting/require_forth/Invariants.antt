@@ -1,5 +1,5 @@
 use Rattle.std.proofs.Common.{◌≡◌, drop}
-use Rattle.rls_source.specs.Sequences.{each_or_refused}
+use Rattle.rls_role.specs.rls_source.specs.Sequences.{each_or_refused}
 use Rattle.rls_grant.specs.Granting.{forth_or_refused}
 use Rattle.rls_grant.proofs.granting.require_forth.Given as goal
 

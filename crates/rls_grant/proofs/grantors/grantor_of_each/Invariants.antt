@@ -1,7 +1,7 @@
 use Rattle.std.proofs.Common.{◌≡◌}
-use Rattle.rls_source.specs.Sequences.{each_of}
+use Rattle.rls_role.specs.rls_source.specs.Sequences.{each_of}
 use Rattle.rls_grant.specs.Grantors.{granted_by}
-use Rattle.rls_source.proofs.EachLemmas.{left}
+use Rattle.rls_role.specs.rls_source.proofs.EachLemmas.{left}
 use Rattle.rls_grant.proofs.grantors.grantor_of_each.Given as goal
 
 -- what is left, behind what is found, gives what the whole gives

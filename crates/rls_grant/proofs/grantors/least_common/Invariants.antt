@@ -2,8 +2,8 @@ use Rattle.std.proofs.Common.{◌≡◌, filter, drop}
 use Rattle.std.specs.Prelude.{None}
 use Rattle.std.specs.Option.{option_copied}
 use Rattle.std.specs.BTreeSet.{contains}
-use Rattle.rls_catalog.specs.State.{name_order}
-use Rattle.rls_catalog.specs.Verdict.{least}
+use Rattle.rls_verdict.specs.rls_catalog.specs.State.{name_order}
+use Rattle.rls_verdict.specs.rls_catalog.specs.Verdict.{least}
 use Rattle.rls_grant.proofs.grantors.least_common.Given as goal
 
 -- what is left leads to the whole

@@ -2,7 +2,7 @@ use Rattle.std.proofs.Common.{ap, sym, ◌∙◌, ◌≡◌, Some, ◌++◌, ◌
 use Rattle.std.specs.BTreeMap.{is_at}
 use Rattle.std.specs.Map.{lookup, set_value}
 use Rattle.std.specs.Option.{option_copied_mut}
-use Rattle.rls_catalog.specs.State.{name_order}
+use Rattle.rls_verdict.specs.rls_catalog.specs.State.{name_order}
 use Rattle.rls_grant.proofs.HandedLemmas.{added}
 use Rattle.rls_grant.proofs.optioning.add.Goals as goal
 

@@ -1,5 +1,5 @@
 use Rattle.std.proofs.Common.{◌≡◌, ◌++◌, drop}
-use Rattle.rls_catalog.specs.Membership.{fresh}
+use Rattle.rls_verdict.specs.rls_catalog.specs.Membership.{fresh}
 use Rattle.rls_grant.specs.Seen.{IsSetOf}
 use Rattle.rls_grant.proofs.optioning.add_each.Given as goal
 

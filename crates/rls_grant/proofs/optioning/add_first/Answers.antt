@@ -1,7 +1,7 @@
 use Rattle.std.proofs.Common.{◌∙◌, ◌≡◌, Some, cond, ◌++◌, ◌∷◌, []}
 use Rattle.std.specs.BTreeMap.{is_at}
 use Rattle.std.specs.Map.{lookup}
-use Rattle.rls_catalog.specs.State.{name_order}
+use Rattle.rls_verdict.specs.rls_catalog.specs.State.{name_order}
 use Rattle.rls_grant.proofs.HandedLemmas.{added_first}
 use Rattle.rls_grant.proofs.optioning.add_first.Goals as goal
 

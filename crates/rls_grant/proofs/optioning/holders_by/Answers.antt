@@ -2,7 +2,7 @@ use Rattle.std.proofs.Common.{rules, ◌≡◌, ◌<◌, ◌++◌, Some, None, [
 use Rattle.std.proofs.lemmas.Option.{slice_get_within}
 use Rattle.std.specs.Prelude.{slice_get}
 use Rattle.rls_value.specs.Names.{one_of}
-use Rattle.rls_catalog.specs.Membership.{fresh}
+use Rattle.rls_verdict.specs.rls_catalog.specs.Membership.{fresh}
 use Rattle.rls_grant.proofs.GrantOptions.{Sound, sound_owner, own_owner, closed_none, sound_next, keeps_next, closed_next, all_options}
 use Rattle.rls_grant.proofs.optioning.holders_by.Goals as goal
 

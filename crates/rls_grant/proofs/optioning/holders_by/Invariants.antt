@@ -1,7 +1,7 @@
 use Rattle.std.proofs.Common.{◌≡◌, ◌-◌, ◌^◌, List, take, true}
 use Rattle.rls_value.specs.Names.{one_of}
 use Rattle.rls_value.specs.declared.verb.Privilege.{Privilege}
-use Rattle.rls_catalog.specs.declared.grant.Grant.{Grant}
+use Rattle.rls_verdict.specs.rls_catalog.specs.declared.grant.Grant.{Grant}
 use Rattle.rls_grant.specs.Seen.{IsSetOf}
 use Rattle.rls_grant.specs.Handed.{HandsOn}
 use Rattle.rls_grant.proofs.GrantOptions.{Sound, Closed}

@@ -1,8 +1,8 @@
 use Rattle.std.proofs.Common.{ap, sym, ◌∙◌, ◌≡◌, ◌++◌, ◌∷◌, ◌+◌, Option, List, ℕ, drop}
 use Rattle.std.proofs.lemmas.List.{drop_more}
 use Rattle.std.specs.Option.{option_copied}
-use Rattle.rls_catalog.specs.declared.grant.Grant.{Grant}
-use Rattle.rls_catalog.specs.Privileges.{optioned_by}
+use Rattle.rls_verdict.specs.rls_catalog.specs.declared.grant.Grant.{Grant}
+use Rattle.rls_verdict.specs.rls_catalog.specs.Privileges.{optioned_by}
 use Rattle.rls_grant.specs.Considered.{considered, considered_one}
 use Rattle.rls_grant.specs.Handed.{under}
 use Rattle.rls_grant.proofs.HandedLemmas.{next_added, next_skipped}

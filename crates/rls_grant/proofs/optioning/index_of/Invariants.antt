@@ -1,6 +1,6 @@
 use Rattle.std.proofs.Common.{◌≡◌, ◌++◌, ℕ, List, drop}
 use Rattle.std.specs.Option.{option_copied}
-use Rattle.rls_catalog.specs.Privileges.{optioned_by}
+use Rattle.rls_verdict.specs.rls_catalog.specs.Privileges.{optioned_by}
 use Rattle.rls_grant.specs.Considered.{considered}
 use Rattle.rls_grant.specs.Handed.{under}
 use Rattle.rls_grant.proofs.optioning.index_of.Given as goal

@@ -1,7 +1,7 @@
 use Rattle.std.proofs.Common.{◌≡◌, ◌++◌, filter}
 use Rattle.std.specs.Vec.Iter.{into_iter_items}
 use Rattle.std.specs.BTreeSet.{contains}
-use Rattle.rls_catalog.specs.State.{name_order}
+use Rattle.rls_verdict.specs.rls_catalog.specs.State.{name_order}
 use Rattle.rls_grant.specs.Revoking.{stays}
 use Rattle.rls_grant.proofs.revoking.keep_held.Given as goal
 

@@ -1,6 +1,6 @@
 use Rattle.std.proofs.Common.{sym, subst}
 use Rattle.std.specs.Prelude.{Ok}
-use Rattle.rls_source.specs.Askings.{followed_by, known}
+use Rattle.rls_evaluation.specs.rls_source.specs.Askings.{followed_by, known}
 use Rattle.rls_evaluation.specs.Holding.{Evaluates}
 use Rattle.rls_evaluation.specs.Showing.{shows}
 use Rattle.rls_judging.specs.Judging.{decisions_on}

@@ -2,7 +2,7 @@ use Rattle.std.proofs.Common.{◌≡◌, ◌++◌, drop}
 use Rattle.std.specs.Prelude.{List}
 use Rattle.rls_evaluation.specs.Holding.{Holds}
 use Rattle.rls_evaluation.proofs.Telling.{Leads}
-use Rattle.rls_catalog.specs.declared.stored.Stored.{Stored}
+use Rattle.rls_guard.specs.rls_catalog.specs.declared.stored.Stored.{Stored}
 use Rattle.rls_guard.specs.declared.reply.Decision.{Decision}
 use Rattle.rls_judging.specs.Judging.{judged_all}
 use Rattle.rls_judging.specs.Handed.{rows_borrowed}

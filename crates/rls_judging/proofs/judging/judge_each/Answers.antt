@@ -1,6 +1,6 @@
 use Rattle.std.proofs.Common.{rules, ◌∙◌, ◌≡◌, ◌++◌, ◌∷◌, [], ◌&&◌}
 use Rattle.std.specs.Prelude.{List, Ok}
-use Rattle.rls_source.specs.Askings.{followed_by, known}
+use Rattle.rls_evaluation.specs.rls_source.specs.Askings.{followed_by, known}
 use Rattle.rls_evaluation.specs.Showing.{shows, verdict_on}
 use Rattle.rls_evaluation.proofs.LoopLemmas.{rows_turn}
 use Rattle.rls_evaluation.proofs.Telling.{tells_as, leads_map, leads_whole}

@@ -1,5 +1,5 @@
 use Rattle.std.proofs.Common.{◌≡◌, ◌++◌, ◌&&◌, drop}
-use Rattle.rls_source.specs.Askings.{followed_by, known}
+use Rattle.rls_evaluation.specs.rls_source.specs.Askings.{followed_by, known}
 use Rattle.std.specs.Prelude.{Ok, List}
 use Rattle.rls_evaluation.specs.Gathering.{gathered}
 use Rattle.rls_evaluation.specs.Holding.{Holds}

@@ -1,6 +1,6 @@
 use Rattle.std.proofs.Common.{◌≡◌, ◌++◌, drop, map}
 use Rattle.std.specs.Prelude.{List, Ok}
-use Rattle.rls_source.specs.Askings.{followed_by, known}
+use Rattle.rls_evaluation.specs.rls_source.specs.Askings.{followed_by, known}
 use Rattle.rls_value.specs.declared.value.Value.{Value}
 use Rattle.rls_evaluation.specs.Holding.{Holds}
 use Rattle.rls_evaluation.specs.Scoping.{env_of}

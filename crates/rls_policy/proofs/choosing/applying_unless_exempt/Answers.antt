@@ -1,6 +1,6 @@
 use Rattle.std.proofs.Common.{rules, ap, sym, ◌∙◌, ◌≡◌, filter, true}
 use Rattle.std.specs.List.{list_all}
-use Rattle.rls_catalog.specs.Verdict as spec
+use Rattle.rls_verdict.specs.rls_catalog.specs.Verdict as spec
 use Rattle.rls_policy.proofs.Everyone.{all_are_to}
 use Rattle.rls_policy.proofs.choosing.applying_unless_exempt.Goals as goal
 

@@ -1,5 +1,5 @@
 use Rattle.std.proofs.Common.{◌≡◌, ◌++◌, drop, filter}
-use Rattle.rls_catalog.specs.Verdict as spec
+use Rattle.rls_verdict.specs.rls_catalog.specs.Verdict as spec
 use Rattle.rls_policy.proofs.choosing.asked.Given as goal
 
 -- what is left leads to the whole

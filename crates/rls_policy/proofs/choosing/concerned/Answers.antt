@@ -1,7 +1,7 @@
 use Rattle.std.proofs.Common.{rules, ap, ◌∙◌, filter}
 use Rattle.std.specs.List.{list_any}
 use Rattle.std.proofs.lemmas.Fn.{filter_same}
-use Rattle.rls_catalog.specs.Privileges.{includes}
+use Rattle.rls_verdict.specs.rls_catalog.specs.Privileges.{includes}
 use Rattle.rls_policy.proofs.choosing.concerned.Goals as goal
 
 pub returns : goal.returns

@@ -1,5 +1,5 @@
 use Rattle.std.proofs.Common.{◌≡◌, ◌++◌, drop}
-use Rattle.rls_catalog.specs.Membership.{walk_reads}
+use Rattle.rls_source.specs.rls_catalog.specs.Membership.{walk_reads}
 use Rattle.rls_role.specs.Holdings.{managed_by}
 use Rattle.rls_role.proofs.managing.managed.Given as goal
 

@@ -1,5 +1,5 @@
 use Rattle.std.proofs.Common.{◌≡◌, ◌++◌, drop}
-use Rattle.rls_catalog.specs.Membership.{walk_reads}
+use Rattle.rls_source.specs.rls_catalog.specs.Membership.{walk_reads}
 use Rattle.rls_role.proofs.noting.note_walk.Given as goal
 
 -- what is noted and what is left to note is the whole walk

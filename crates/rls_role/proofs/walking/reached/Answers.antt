@@ -1,11 +1,11 @@
 use Rattle.std.proofs.Common.{rules, ap, ◌∙◌, ◌≡◌, Some, None}
 use Rattle.std.specs.Prelude.{slice_get}
-use Rattle.rls_catalog.specs.State.{State}
-use Rattle.rls_catalog.specs.Membership.{reached_of}
-use Rattle.rls_catalog.specs.Paths.{inheriting}
+use Rattle.rls_source.specs.rls_catalog.specs.State.{State}
+use Rattle.rls_source.specs.rls_catalog.specs.Membership.{reached_of}
+use Rattle.rls_source.specs.rls_catalog.specs.Paths.{inheriting}
 use Rattle.rls_role.specs.Holdings.{with_held}
 use Rattle.rls_role.specs.Steps.{takes}
-use Rattle.rls_catalog.proofs.Walks.{reached_is}
+use Rattle.rls_source.specs.rls_catalog.proofs.Walks.{reached_is}
 use Rattle.rls_role.proofs.Visits.{leads_next, reads_next, reads_end}
 use Rattle.rls_role.proofs.walking.reached.Goals as goal
 

@@ -1,6 +1,6 @@
 use Rattle.std.proofs.Common.{◌≡◌, ◌-◌, ◌+◌, ◌^◌, ℕ, [], ◌∷◌, take}
-use Rattle.rls_catalog.specs.Membership.{walk, walk_reads}
-use Rattle.rls_catalog.specs.Paths.{inheriting}
+use Rattle.rls_source.specs.rls_catalog.specs.Membership.{walk, walk_reads}
+use Rattle.rls_source.specs.rls_catalog.specs.Paths.{inheriting}
 use Rattle.rls_role.specs.Holdings.{with_held}
 use Rattle.rls_role.specs.Steps.{takes}
 use Rattle.rls_role.proofs.walking.reached.Given as goal

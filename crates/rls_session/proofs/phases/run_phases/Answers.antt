@@ -1,8 +1,8 @@
 use Rattle.std.proofs.Common.{◌<◌, ◌++◌, ◌∷◌, [], List, length, take, map, ap, sym, ◌∙◌, arith, refl, Vec, Global}
 use Rattle.std.proofs.lemmas.List.{map_more}
 use Rattle.std.proofs.lemmas.Bool.Decides.{nat_tests}
+use Rattle.rls_script.specs.Plans.{Task}
 use Rattle.rls_session.specs.Phases.{opening_seats}
-use Rattle.rls_session.specs.Plans.{Task}
 use Rattle.rls_session.proofs.TrackLemmas.{phases_more, phases_opening}
 use Rattle.rls_session.proofs.phases.run_phases.Goals as goal
 

@@ -1,5 +1,5 @@
 use Rattle.std.proofs.Common.{◌≡◌, take, map}
-use Rattle.rls_session.specs.Scripts.{GrewBy}
+use Rattle.rls_script.specs.Streams.{GrewBy}
 use Rattle.rls_session.specs.Phases.{RunsPhases}
 use Rattle.rls_session.specs.Works.{work_seats}
 use Rattle.rls_session.proofs.phases.run_phases.Given as goal

@@ -2,9 +2,8 @@ use Rattle.std.proofs.Common.{◌≡◌, ◌<◌, ℕ, length, ap, ◌∙◌, co
 use Rattle.std.proofs.Math.ListN.{get_or}
 use Rattle.std.proofs.lemmas.Bool.Decides.{nat_tests}
 use Rattle.rls_value.specs.declared.refusal.Refusal.{Refusal}
-use Rattle.rls_session.specs.Phases.{refusal_of}
-use Rattle.rls_session.specs.Plans.{place_in, standing_of}
-use Rattle.rls_session.specs.declared.standing.Standing.{Standing}
+use Rattle.rls_script.specs.Plans.{refusal_of, place_in, standing_of}
+use Rattle.rls_script.specs.declared.standing.Standing.{Standing}
 use Rattle.rls_session.proofs.TrackLemmas.{late_more}
 use Rattle.rls_session.proofs.phases.write_places.Goals as goal
 

@@ -1,4 +1,4 @@
-use Rattle.rls_session.specs.Spelled.{IsSpellable}
+use Rattle.rls_script.specs.Spelled.{IsSpellable}
 use Rattle.rls_session.proofs.threads.run_threads.Given as goal
 
 abbrev pub ghosts-run_named-N-Ledger : goal.ghosts-run_named-N-Ledger

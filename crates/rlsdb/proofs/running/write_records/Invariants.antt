@@ -1,7 +1,7 @@
 use Rattle.std.proofs.Common.{◌≡◌, ℕ, suc, List, drop}
 use Rattle.std.specs.List.{All}
-use Rattle.rls_audit.specs.Lines.{lines_from}
-use Rattle.rls_audit.specs.Showing.{AreTexts}
+use Rattle.rls_laws.specs.rls_audit.specs.Lines.{lines_from}
+use Rattle.rls_laws.specs.rls_audit.specs.Showing.{AreTexts}
 use Rattle.rlsdb.specs.AuditLines.{WritesLines}
 use Rattle.rlsdb.proofs.running.write_records.Given as goal
 

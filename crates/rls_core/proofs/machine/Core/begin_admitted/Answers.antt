@@ -1,7 +1,7 @@
 use Rattle.std.proofs.Common.{◌≡◌, ◌∙◌, ◌+◌, ℕ, suc, refl, ap, sym, subst, arith, List, length, add-one}
 use Rattle.std.specs.Vec.{vec_capacity}
 use Rattle.std.proofs.lemmas.List.{length-map}
-use Rattle.rls_access.specs.Transactions.{may_begin}
+use Rattle.rls_meaning.specs.rls_access.specs.Transactions.{may_begin}
 use Rattle.rls_core.specs.Records.{Record}
 use Rattle.rls_core.specs.Events.{Event}
 use Rattle.rls_core.specs.Seen.{Seen, newest_state, Happens}

@@ -1,6 +1,6 @@
 use Rattle.std.proofs.Common.{subst}
-use Rattle.rls_session.specs.Requests.{Requests}
-use Rattle.rls_session.specs.declared.requesting.Status.{Status}
+use Rattle.rls_script.specs.Requests.{Requests}
+use Rattle.rls_script.specs.declared.requesting.Status.{Status}
 use Rattle.rls_session.proofs.RuleLemmas.{executes_as}
 use Rattle.rls_session.proofs.label.Label.answer.Goals as goal
 

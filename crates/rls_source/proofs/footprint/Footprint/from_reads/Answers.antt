@@ -1,7 +1,7 @@
 use Rattle.std.proofs.Common.{rules, subst, ◌∙◌}
 use Rattle.std.specs.BTreeSet.{IsFromIterResult}
 use Rattle.std.proofs.IntoIterSteps.{All-taken}
-use Rattle.rls_value.specs.Objects.{object_order}
+use Rattle.rls_catalog.specs.rls_value.specs.Objects.{object_order}
 use Rattle.rls_source.proofs.FootprintOrderLaws.{set_of_reads}
 use Rattle.rls_source.proofs.footprint.Footprint.from_reads.Goals as goal
 

@@ -1,0 +1,3 @@
+-- Lemmas of libraries below that tactics of this crate name.
+pub use Rattle.rls_verdict.specs.rls_catalog.proofs.ApplyingLaws.{applying_to_frame}
+pub use Rattle.rls_verdict.specs.rls_catalog.proofs.Frames.{exempt_frame}

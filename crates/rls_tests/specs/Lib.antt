@@ -1,0 +1,5 @@
+pub mod CodedValues
+pub mod CodedRefusals
+pub mod CodedStatements
+pub mod CodedChanges
+pub mod CodedLines
