@@ -5,7 +5,7 @@ ghost use Rattle.rls_catalog.specs.State.{AgreesAt, is_same_id};
 ghost use Rattle.rls_agreement.specs.LookedUp.{looked_up};
 
 use rls_catalog::BorrowedRow;
-use rls_equality::{are_both_same, are_same};
+use rls_equality::{Same, are_both_same, are_same};
 use rls_source::RowSource;
 use rls_value::{Items, Name, Object, Row, RowId};
 use std::alloc::{AllocError, Global};
@@ -67,7 +67,7 @@ fn members_agree<'c, A: RowSource<'c>, B: RowSource<'c>>(
 {
     let found = left.members(alloc, member)?;
     let others = right.members(alloc, member)?;
-    Ok(are_same(found, others))
+    Ok(found.is_same(others))
 }
 
 fn table_agrees<'c, A: RowSource<'c>, B: RowSource<'c>>(
@@ -101,7 +101,7 @@ fn grants_agree<'c, A: RowSource<'c>, B: RowSource<'c>>(
 {
     let found = left.grants(alloc, table)?;
     let others = right.grants(alloc, table)?;
-    Ok(are_same(found, others))
+    Ok(found.is_same(others))
 }
 
 fn policies_agree<'c, A: RowSource<'c>, B: RowSource<'c>>(
@@ -118,7 +118,7 @@ fn policies_agree<'c, A: RowSource<'c>, B: RowSource<'c>>(
 {
     let found = left.policies(alloc, table)?;
     let others = right.policies(alloc, table)?;
-    Ok(are_same(found, others))
+    Ok(found.is_same(others))
 }
 
 fn rows_agree<'c, A: RowSource<'c>, B: RowSource<'c>>(

@@ -22,6 +22,16 @@ zip_more R xs ys i x y lt is all r =
 pub zip_whole : {A B : Type 0} (R : A → B → Type 0) (xs : List A) (ys : List B) (i : ℕ) → length ys ≤ i → AllZip R xs (take i ys) → AllZip R xs ys
 zip_whole R xs ys i over all = subst (AllZip R xs) (take_all i ys over) all
 
+-- where whatever belongs to those that are left completes the lists, it does so once the next one is taken
+pub zip_next : {A B : Type 0} (R : A → B → Type 0) (xs : List A) (x : A) (y : B) (left all : List B) → R x y
+    → ((more : List A) → AllZip R more (y ∷ left) → AllZip R (xs ++ more) all) → (more : List A) → AllZip R more left → AllZip R ((xs ++ x ∷ []) ++ more) all
+zip_next R xs x y left all r completes more zipped = subst (λ zs. AllZip R zs all) (sym (append_assoc xs (x ∷ []) more)) (completes (x ∷ more) (r, zipped))
+
+-- and where none is left, they are complete
+pub zip_none : {A B : Type 0} (R : A → B → Type 0) (xs : List A) (left all : List B) → left ≡ []
+    → ((more : List A) → AllZip R more left → AllZip R (xs ++ more) all) → AllZip R xs all
+zip_none R xs left all none completes = subst (λ zs. AllZip R zs all) (append-nil xs) (completes [] (subst (AllZip R []) (sym none) tt))
+
 -- what a function gives of each, one behind the other, with one more
 flat_push : {X Y Z : Type 0} (f : Y → List Z) (g : X → Y) (xs : List X) (x : X) → flat_map f (map g (xs ++ x ∷ [])) ≡ flat_map f (map g xs) ++ f (g x)
 flat_push f g [] x = append-nil (f (g x))

@@ -56,7 +56,7 @@ state_behind = rest_via state_to state_from state_same
 
 -- what is missing, as one of its shapes
 abbrev pub WhyShape : Type 0
-WhyShape = (Privilege × (List ℕ × Unit {0})) ⊎ ((List ℕ × Unit {0}) ⊎ ((List ℕ × Unit {0}) ⊎ ((List ℕ × Unit {0}) ⊎ ((Privilege × (List ℕ × Unit {0})) ⊎ ((List ℕ × (Kind × Unit {0})) ⊎ ((List ℕ × (List ℕ × Unit {0})) ⊎ ⊥))))))
+WhyShape = (Privilege × (List ℕ × Unit {0})) ⊎ ((List ℕ × Unit {0}) ⊎ ((List ℕ × Unit {0}) ⊎ ((List ℕ × Unit {0}) ⊎ ((Privilege × (List ℕ × Unit {0})) ⊎ ((List ℕ × (Kind × Unit {0})) ⊎ ((List ℕ × (List ℕ × Unit {0})) ⊎ ((Privilege × (List ℕ × (List ℕ × Unit {0}))) ⊎ ⊥)))))))
 
 abbrev pub why_to : Why → WhyShape
 why_to (w.Privilege privilege table) = inl (privilege, (table, tt))
@@ -66,6 +66,7 @@ why_to (w.SetRole role) = inr (inr (inr (inl (role, tt))))
 why_to (w.GrantOption privilege table) = inr (inr (inr (inr (inl (privilege, (table, tt))))))
 why_to (w.NoPermissive table kind) = inr (inr (inr (inr (inr (inl (table, (kind, tt)))))))
 why_to (w.Restrictive policy table) = inr (inr (inr (inr (inr (inr (inl (policy, (table, tt))))))))
+why_to (w.Column privilege table column) = inr (inr (inr (inr (inr (inr (inr (inl (privilege, (table, (column, tt))))))))))
 
 abbrev pub why_from : WhyShape → Why
 why_from (inl p) = w.Privilege p.0 p.1.0
@@ -75,7 +76,8 @@ why_from (inr (inr (inr (inl p)))) = w.SetRole p.0
 why_from (inr (inr (inr (inr (inl p))))) = w.GrantOption p.0 p.1.0
 why_from (inr (inr (inr (inr (inr (inl p)))))) = w.NoPermissive p.0 p.1.0
 why_from (inr (inr (inr (inr (inr (inr (inl p))))))) = w.Restrictive p.0 p.1.0
-why_from (inr (inr (inr (inr (inr (inr (inr e))))))) = absurd e
+why_from (inr (inr (inr (inr (inr (inr (inr (inl p)))))))) = w.Column p.0 p.1.0 p.1.1.0
+why_from (inr (inr (inr (inr (inr (inr (inr (inr e)))))))) = absurd e
 
 pub why_same : (x : Why) → why_from (why_to x) ≡ x
 why_same (w.Privilege _ table) = refl
@@ -85,6 +87,7 @@ why_same (w.SetRole role) = refl
 why_same (w.GrantOption _ table) = refl
 why_same (w.NoPermissive table _) = refl
 why_same (w.Restrictive policy table) = refl
+why_same (w.Column _ table column) = refl
 
 -- a word for what is missing, and the names
 abbrev pub why_behind : Rest Why
@@ -92,7 +95,7 @@ why_behind = rest_via why_to why_from why_same
     (chosen (choice (by_word (codes "Privilege")) (part privilege name_item) (choice (by_word (codes "Owner")) name_item
     (choice (by_word (codes "Admin")) name_item (choice (by_word (codes "SetRole")) name_item
     (choice (by_word (codes "GrantOption")) (part privilege name_item) (choice (by_word (codes "NoPermissive")) (part name (part kind no_more))
-    (choice (by_word (codes "Restrictive")) (part name name_item) no_choice refl) refl) refl) refl) refl) refl) refl))
+    (choice (by_word (codes "Restrictive")) (part name name_item) (choice (by_word (codes "Column")) (part privilege (part name name_item)) no_choice refl) refl) refl) refl) refl) refl) refl) refl))
 
 -- ---- grants that may not be
 

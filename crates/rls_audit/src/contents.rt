@@ -127,7 +127,11 @@ impl<F: Format> Coded<Audit<F>> for TableShape {
 impl<F: Format> Coded<Audit<F>> for Grant {
     ghost codec = { codec.grant F.second };
 
+    // One on a column isn't written: no statement makes it.
     fn to_json(&self, alloc: Global) -> Result<Value, AllocError> {
+        if !self.is_whole() || self.place != 0 {
+            return Err(AllocError);
+        }
         if F::is_second() {
             json!(in alloc; [
                 json_of::<Audit<F>, _>(alloc, &self.privilege)?,
@@ -157,6 +161,8 @@ impl<F: Format> Coded<Audit<F>> for Grant {
             grantee,
             grantor,
             option,
+            column: None,
+            place: 0,
         })
     }
 }

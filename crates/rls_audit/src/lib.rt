@@ -4,6 +4,7 @@
 mod answers;
 mod changes;
 mod contents;
+mod copying;
 mod format;
 mod lines;
 mod meaning;

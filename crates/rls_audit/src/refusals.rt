@@ -168,6 +168,13 @@ fn write_why<F: Format>(alloc: Global, why: &Why) -> Result<Value, AllocError>
             policy,
             table,
         ),
+        Why::Column(privilege, table, column) => json!(in alloc; [
+            11u64,
+            "Column",
+            json_of::<Audit<F>, _>(alloc, privilege)?,
+            json_of::<Audit<F>, _>(alloc, table)?,
+            json_of::<Audit<F>, _>(alloc, column)?
+        ]),
     }
 }
 
@@ -361,6 +368,13 @@ fn read_why<F: Format>(alloc: Global, json: &Value) -> Result<Why, Unread>
     if is_word(json, 1, "Restrictive") {
         let (policy, table) = read_two::<F, _, _>(alloc, json)?;
         return Ok(Why::Restrictive(policy, table));
+    }
+    if is_word(json, 1, "Column") {
+        let privilege = item::<Audit<F>, _>(alloc, json, 2)?;
+        let table = item::<Audit<F>, _>(alloc, json, 3)?;
+        let column = item::<Audit<F>, _>(alloc, json, 4)?;
+        require_length(json, 5)?;
+        return Ok(Why::Column(privilege, table, column));
     }
     Err(Unread::Bad)
 }

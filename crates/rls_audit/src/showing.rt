@@ -12,11 +12,12 @@ ghost use Rattle.rls_text.specs.{ParseResults.IsSpelled, Words.words_of};
 
 use crate::changes::Changed;
 use crate::contents::TableShape;
+use crate::copying::copies;
 use crate::lines::{Answered, Line, Shown};
 use crate::ordering::{are_in_order, in_order};
 use crate::refusals::Audited;
 use rls_catalog::shared_map::Share;
-use rls_catalog::{Change, Grant, Keyed, Membership};
+use rls_catalog::{Change, Keyed, Policies};
 use rls_core::{Posted, Record};
 use rls_expr::{Column, Policy, TableDef};
 use rls_guard::{Effect, Reply};
@@ -233,21 +234,19 @@ fn changed_by(alloc: Global, change: &Change) -> Result<Changed, Unshown>
 {
     match change {
         Change::Role(name, def) => Ok(Changed::Role(name.copy()?, *def)),
-        Change::Members(member, content) => Ok(Changed::Members(
-            member.copy()?,
-            Membership::copy_all(alloc, content.as_slice())?,
-        )),
+        Change::Members(member, content) => {
+            Ok(Changed::Members(member.copy()?, copies(alloc, content)?))
+        }
         Change::Table(name, def) => match shape_of(alloc, def) {
             Ok(shape) => Ok(Changed::Table(name.copy()?, shape)),
             Err(why) => Err(why),
         },
-        Change::Grants(table, content) => Ok(Changed::Grants(
-            table.copy()?,
-            Grant::copy_all(alloc, content.as_slice())?,
-        )),
+        Change::Grants(table, content) => {
+            Ok(Changed::Grants(table.copy()?, copies(alloc, content)?))
+        }
         Change::Policies(table, content) => Ok(Changed::Policies(
             table.copy()?,
-            policy_texts(alloc, table, content.as_slice())?,
+            policy_texts(alloc, table, content)?,
         )),
         Change::Row(row) => Ok(Changed::Row(
             row.table.copy()?,
@@ -316,12 +315,12 @@ fn key_name(columns: &[Column], place: usize) -> Result<Name, Unshown>
 }
 
 /// The policies of the table, as statements that create them.
-fn policy_texts(alloc: Global, table: &Name, policies: &[Policy]) -> Result<Items<Text>, AllocError>
+fn policy_texts(alloc: Global, table: &Name, policies: &Policies) -> Result<Items<Text>, AllocError>
     ensures { IfOk result (λ texts. All (IsPolicySpellable table.now) policies.now → AllZip (SpellsPolicy table.now) texts policies.now) }
 {
     let mut texts = Items::new(alloc);
-    for policy in policies {
-        let text = policy_text(alloc, table, policy)?;
+    for policy in policies.iter() {
+        let text = policy_text(alloc, table, policy.get())?;
         texts.push(text)?;
     }
     Ok(texts)

@@ -3,10 +3,10 @@ use Rattle.std.specs.Prelude.{◌≡◌, refl, ℕ, pos, negsuc, List, [], ◌�
 use Rattle.std.proofs.Common.{ap, sym, subst}
 use Rattle.std.proofs.lemmas.Bool.{true≢false, or_left}
 use Rattle.std.specs.declared.cmp.Ordering.TheVariants.{Less, Greater}
-use Rattle.rls_expr.specs.rls_value.specs.{declared.verb.Privilege.Privilege, declared.truth.Truth.TheVariants.True, declared.truth.Truth.TheVariants.False, declared.truth.Truth.TheVariants.Unknown, declared.row.RowId.RowId, Names.one_of, Truths.conjunction_of, Truths.disjunction_of, Truths.negation_of, Values.equal_values, Values.less_values, Values.listed, Values.fits_type, declared.verb.Kind.Kind, declared.verb.PolicyKind.PolicyKind, declared.value.Value.Value, declared.value.ColType.ColType, declared.object.Object.Object}
+use Rattle.rls_expr.specs.rls_value.specs.{declared.verb.Privilege.Privilege, declared.truth.Truth.TheVariants.True, declared.truth.Truth.TheVariants.False, declared.truth.Truth.TheVariants.Unknown, declared.row.RowId.RowId, Names.one_of, Truths.conjunction_of, Truths.disjunction_of, Truths.negation_of, Values.equal_values, Values.less_values, Values.listed, Values.fits_type, declared.verb.Kind.Kind, declared.verb.PolicyKind.PolicyKind, declared.value.Value.Value, declared.value.ColType.ColType, declared.object.Object.Object, declared.refusal.Why.Why}
 use Rattle.std.specs.Str.{bytes_eq}
 use Rattle.rls_expr.specs.{declared.table.TableDef.TableDef, declared.policy.Policy.Policy, Terms.Term, Terms.Literal, declared.policy.Grantee.Grantee}
-use Rattle.rls_catalog.specs.{declared.role.RoleDef.RoleDef, declared.role.Membership.Membership, declared.grant.Grant.Grant, declared.stored.Keyed.Keyed, declared.stored.Stored.Stored, declared.change.Change.Change, GrantOptions.LeftAfterRevoke, GrantOptions.HasDependents, GrantOptions.left_by, GrantOptions.without_grant, GrantOptions.without_option, GrantOptions.grantor_of, State.State, State.role_of, State.rows_of, State.AgreesAt, State.AgreesOn, Changed.opening, Changed.changed_all, Membership.reached_of, Membership.has_privileges_of, Paths.can_set, Paths.is_member, Paths.may_grant, Paths.closes_circle, Privileges.holds, Privileges.optioned_by, Privileges.Options, Privileges.Owner, Privileges.AreOptions, Verdict.is_exempt, Verdict.expression_of, Verdict.applying_of, Verdict.verdict_of}
+use Rattle.rls_catalog.specs.{declared.role.RoleDef.RoleDef, declared.role.Membership.Membership, declared.grant.Grant.Grant, declared.stored.Keyed.Keyed, declared.stored.Stored.Stored, declared.change.Change.Change, GrantOptions.LeftAfterRevoke, GrantOptions.HasDependents, GrantOptions.left_by, GrantOptions.without_grant, GrantOptions.without_option, GrantOptions.grantor_of, State.State, State.role_of, State.rows_of, State.AgreesAt, State.AgreesOn, Changed.opening, Changed.changed_all, Membership.reached_of, Membership.has_privileges_of, Paths.can_set, Paths.is_member, Paths.may_grant, Paths.closes_circle, Privileges.holds, Privileges.missing, Privileges.optioned_by, Privileges.Options, Privileges.Owner, Privileges.AreOptions, Verdict.is_exempt, Verdict.expression_of, Verdict.applying_of, Verdict.verdict_of}
 use Rattle.rls_catalog.specs.declared.change.Change.TheVariants as change
 use Rattle.rls_catalog.specs.declared.verdict.Side.TheVariants as side
 use Rattle.rls_catalog.specs.declared.verdict.Verdict.TheVariants as verdict
@@ -22,7 +22,7 @@ abbrev of_role : List ℕ → Bool → Membership
 of_role role inherit = record { role = role; admin = false; inherit = inherit; set = true }
 
 abbrev select_on_t : Grant
-select_on_t = record { privilege = Privilege.Select; grantee = Grantee.Role (codes "staff"); grantor = codes "board"; option = false }
+select_on_t = record { privilege = Privilege.Select; grantee = Grantee.Role (codes "staff"); grantor = codes "board"; option = false; column = None; place = 0 }
 
 abbrev company : State
 company = record {
@@ -77,6 +77,52 @@ insert_not_held = refl
 grantor_not_held : holds company (codes "board") Privilege.Select (codes "t") ≡ false
 unfolding reached_of
 grantor_not_held = refl
+
+-- ---- privileges on columns: SELECT and DELETE on the column a of t are granted to staff, and UPDATE on the whole table
+
+abbrev on_a : Privilege → Grant
+on_a privilege = record { privilege = privilege; grantee = Grantee.Role (codes "staff"); grantor = codes "board"; option = false; column = Some (codes "a"); place = 1 }
+
+abbrev with_columns : State
+with_columns = record company { grants = (codes "t", on_a Privilege.Select ∷ on_a Privilege.Delete ∷ record select_on_t { privilege = Privilege.Update } ∷ []) ∷ [] }
+
+-- a grant on a column isn't one on the whole table, and does for that column
+column_is_not_whole : holds with_columns (codes "alice") Privilege.Select (codes "t") ≡ false
+unfolding reached_of
+column_is_not_whole = refl
+
+column_suffices : missing with_columns (codes "alice") Privilege.Select (codes "t") (codes "a" ∷ []) ≡ None
+unfolding reached_of
+column_suffices = refl
+
+-- what is missing is the first column that no grant is on
+first_column_missing : missing with_columns (codes "alice") Privilege.Select (codes "t") (codes "a" ∷ codes "b" ∷ codes "c" ∷ []) ≡ Some (Why.Column Privilege.Select (codes "t") (codes "b"))
+unfolding reached_of
+first_column_missing = refl
+
+-- where no column is asked for, some column does
+some_column_suffices : missing with_columns (codes "alice") Privilege.Select (codes "t") [] ≡ None
+unfolding reached_of
+some_column_suffices = refl
+
+-- where no grant reaches the role, the privilege is missing
+privilege_missing : missing with_columns (codes "board") Privilege.Select (codes "t") (codes "a" ∷ []) ≡ Some (Why.Privilege Privilege.Select (codes "t"))
+unfolding reached_of
+privilege_missing = refl
+
+-- the whole privilege does for each column
+whole_suffices : missing with_columns (codes "alice") Privilege.Update (codes "t") (codes "a" ∷ codes "b" ∷ []) ≡ None
+unfolding reached_of
+whole_suffices = refl
+
+-- DELETE needs the whole
+delete_needs_whole : missing with_columns (codes "alice") Privilege.Delete (codes "t") [] ≡ Some (Why.Privilege Privilege.Delete (codes "t"))
+unfolding reached_of
+delete_needs_whole = refl
+
+-- a superuser lacks nothing
+superuser_lacks_nothing : missing with_columns (codes "chief") Privilege.Insert (codes "t") (codes "b" ∷ []) ≡ None
+superuser_lacks_nothing = refl
 
 -- ---- who is exempt
 
@@ -368,7 +414,7 @@ not_over_itself = refl
 -- gave SELECT to cid
 
 abbrev given : List ℕ → List ℕ → Bool → Grant
-given grantor grantee option = record { privilege = Privilege.Select; grantee = Grantee.Role grantee; grantor = grantor; option = option }
+given grantor grantee option = record { privilege = Privilege.Select; grantee = Grantee.Role grantee; grantor = grantor; option = option; column = None; place = 0 }
 
 abbrev circle : List Grant
 circle = given (codes "ann") (codes "ben") true ∷ given (codes "ben") (codes "ann") true ∷ given (codes "ben") (codes "cid") false ∷ []

@@ -1,13 +1,15 @@
 -- States that agree on what is read give the same: whose privileges a role has, which it holds, which policies apply.
 use Rattle.std.specs.Prelude.{◌≡◌, refl, ℕ, zero, suc, ◌+◌, ◌≤◌, List, [], ◌∷◌, ◌++◌, Option, Some, None, Bool, true, false, ◌||◌, ◌&&◌, not, cond, if◌then◌else◌, length, filter, slice_get}
 use Rattle.std.specs.List.{list_any, list_all}
+use Rattle.std.specs.Option.{option_map}
 use Rattle.std.specs.Str.{bytes_eq}
 use Rattle.std.proofs.Common.{arith, sym, ap, ◌∙◌, subst}
 use Rattle.std.proofs.lemmas.Bool.{true≢false}
-use Rattle.rls_expr.specs.rls_value.specs.{Names.one_of, declared.verb.Privilege.Privilege, declared.verb.Kind.Kind}
+use Rattle.rls_expr.specs.rls_value.specs.{Names.one_of, declared.verb.Privilege.Privilege, declared.verb.Kind.Kind, declared.refusal.Why.Why}
+use Rattle.rls_expr.specs.rls_value.specs.declared.refusal.Why.TheVariants as w
 use Rattle.rls_expr.specs.rls_value.specs.declared.object.Object.TheVariants as o
 use Rattle.rls_expr.specs.{declared.table.TableDef.TableDef, declared.policy.Grantee.Grantee, declared.policy.Policy.Policy, declared.policy.Grantee.TheVariants.Public, declared.policy.Grantee.TheVariants.Role}
-use Rattle.rls_catalog.specs.{declared.verdict.Side.Side, State.State, State.role_of, State.grants_of, State.policies_of, State.AgreesOn, Privileges.includes, Privileges.concerns, Privileges.is_same_privilege, Privileges.holds, Privileges.holds_reads}
+use Rattle.rls_catalog.specs.{declared.grant.Grant.Grant, declared.verdict.Side.Side, State.State, State.role_of, State.grants_of, State.policies_of, State.AgreesOn, Privileges.includes, Privileges.concerns, Privileges.is_same_privilege, Privileges.is_whole, Privileges.is_on, Privileges.is_of_columns, Privileges.holds, Privileges.holds_reads, Privileges.missing}
 use Rattle.rls_catalog.proofs.{StateLaws.agrees-append, Inheriting.or_either, Inheriting.among_got, Inheriting.walk_keeps, Walks.bytes_same, Walks.left_all, Walks.walk_step, Walks.walk_end, Walks.walk_finished}
 use Rattle.rls_catalog.specs.Membership.{attributes_in, attributes_of, inherited_if, inherited_by, fresh, walk, granted_roles, reached_of, walk_reads, walked_by, has_privileges_of, effective_roles_reads}
 use Rattle.rls_catalog.specs.Verdict.{asked_of, is_asked, is_everyone, is_to, is_to_everyone, applying_of, applying_reads, is_exempt, exempt_reads}
@@ -74,21 +76,42 @@ has_frame s other role name agrees = λ i. (attributes_frame s other role agrees
 -- privileges
 holds_if : (superuser : Bool) (s other : State) (role : List ℕ) (privilege : Privilege) (table : List ℕ)
     → AgreesOn s other (if superuser then [] else (o.Grants table ∷ [])) → walked_by other role ≡ walked_by s role
-    → (superuser || list_any (λ grant. is_same_privilege grant.privilege privilege && includes superuser (walked_by other role) grant.grantee) (grants_of other table))
-    ≡ (superuser || list_any (λ grant. is_same_privilege grant.privilege privilege && includes superuser (walked_by s role) grant.grantee) (grants_of s table))
+    → (superuser || list_any (λ grant. is_whole grant && (is_same_privilege grant.privilege privilege && includes superuser (walked_by other role) grant.grantee)) (grants_of other table))
+    ≡ (superuser || list_any (λ grant. is_whole grant && (is_same_privilege grant.privilege privilege && includes superuser (walked_by s role) grant.grantee)) (grants_of s table))
 holds_if true s other role privilege table agrees walked = refl
-holds_if false s other role privilege table agrees walked = λ i. list_any (λ grant. is_same_privilege grant.privilege privilege && includes false (walked i) grant.grantee) (sym agrees.0 i)
+holds_if false s other role privilege table agrees walked = λ i. list_any (λ grant. is_whole grant && (is_same_privilege grant.privilege privilege && includes false (walked i) grant.grantee)) (sym agrees.0 i)
 
 pub holds_frame : (s other : State) (role : List ℕ) (privilege : Privilege) (table : List ℕ) → AgreesOn s other (holds_reads s role table) → holds other role privilege table ≡ holds s role privilege table
 holds_frame s other role privilege table agrees =
     let parts = agrees-append s other (effective_roles_reads s role) (if (attributes_of s role).superuser then [] else (o.Grants table ∷ [])) agrees in
-    (λ i. (attributes_frame s other role parts.0.0 i).superuser || list_any (λ grant. is_same_privilege grant.privilege privilege && includes (attributes_frame s other role parts.0.0 i).superuser (walked_by other role) grant.grantee) (grants_of other table))
+    (λ i. (attributes_frame s other role parts.0.0 i).superuser || list_any (λ grant. is_whole grant && (is_same_privilege grant.privilege privilege && includes (attributes_frame s other role parts.0.0 i).superuser (walked_by other role) grant.grantee)) (grants_of other table))
     ∙ holds_if (attributes_of s role).superuser s other role privilege table parts.1 (walked_frame s other role parts.0)
 
 pub holds_reads_frame : (s other : State) (role table : List ℕ) → AgreesOn s other (holds_reads s role table) → holds_reads other role table ≡ holds_reads s role table
 holds_reads_frame s other role table agrees =
     let parts = agrees-append s other (effective_roles_reads s role) (if (attributes_of s role).superuser then [] else (o.Grants table ∷ [])) agrees in
     λ i. effective_roles_reads_frame s other role parts.0 i ++ (if (attributes_frame s other role parts.0.0 i).superuser then [] else (o.Grants table ∷ []))
+
+-- what a role lacks, by whose privileges it has and by the grants on the table
+abbrev lacking : Bool → List (List ℕ) → List Grant → Privilege → List ℕ → List (List ℕ) → Option Why
+lacking superuser names grants privilege table columns =
+    if superuser || list_any (λ grant. is_whole grant && (is_same_privilege grant.privilege privilege && includes superuser names grant.grantee)) grants then None
+    else (if is_of_columns privilege && list_any (λ grant. not (is_whole grant) && (is_same_privilege grant.privilege privilege && includes superuser names grant.grantee)) grants
+    then option_map (w.Column privilege table) (slice_get (filter (λ column. not (list_any (λ grant. is_on column grant && (is_same_privilege grant.privilege privilege && includes superuser names grant.grantee)) grants)) columns) 0)
+    else Some (w.Privilege privilege table))
+
+missing_if : (superuser : Bool) (s other : State) (role : List ℕ) (privilege : Privilege) (table : List ℕ) (columns : List (List ℕ))
+    → AgreesOn s other (if superuser then [] else (o.Grants table ∷ [])) → walked_by other role ≡ walked_by s role
+    → lacking superuser (walked_by other role) (grants_of other table) privilege table columns ≡ lacking superuser (walked_by s role) (grants_of s table) privilege table columns
+missing_if true s other role privilege table columns agrees walked = refl
+missing_if false s other role privilege table columns agrees walked = λ i. lacking false (walked i) (sym agrees.0 i) privilege table columns
+
+pub missing_frame : (s other : State) (role : List ℕ) (privilege : Privilege) (table : List ℕ) (columns : List (List ℕ))
+    → AgreesOn s other (holds_reads s role table) → missing other role privilege table columns ≡ missing s role privilege table columns
+missing_frame s other role privilege table columns agrees =
+    let parts = agrees-append s other (effective_roles_reads s role) (if (attributes_of s role).superuser then [] else (o.Grants table ∷ [])) agrees in
+    (λ i. lacking (attributes_frame s other role parts.0.0 i).superuser (walked_by other role) (grants_of other table) privilege table columns)
+    ∙ missing_if (attributes_of s role).superuser s other role privilege table columns parts.1 (walked_frame s other role parts.0)
 
 -- policies
 asked_frame : (s other : State) (table : List ℕ) (kind : Kind) (which : Side) → policies_of s table ≡ policies_of other table → asked_of other table kind which ≡ asked_of s table kind which

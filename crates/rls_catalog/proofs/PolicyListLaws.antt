@@ -1,14 +1,17 @@
 -- The policies of a table stay in byte order of their names.
-use Rattle.std.specs.Prelude.{◌≡◌, refl, ℕ, zero, suc, ◌+◌, List, [], ◌∷◌, ◌++◌, Bool, true, false, not, ◌||◌, cond, map, filter, take, drop, if◌then◌else◌}
-use Rattle.std.specs.List.{AllByRecursion, position_or_len}
+use Rattle.std.specs.Prelude.{◌≡◌, refl, ℕ, zero, suc, ◌+◌, List, [], ◌∷◌, ◌++◌, Bool, true, false, not, ◌||◌, cond, map, filter, take, drop, Option, Some, None, if◌then◌else◌}
+use Rattle.std.specs.List.{AllByRecursion, find, position_or_len}
 use Rattle.std.specs.List.Sorted.{IsStrictlySortedBy}
 use Rattle.std.specs.Ordering.{is_lt, is_eq, ordering_reverse}
 use Rattle.std.specs.Str.{bytes_eq}
+use Rattle.std.specs.BTreeMap.{is_at}
 use Rattle.std.specs.declared.cmp.Ordering.{Ordering}
 use Rattle.std.specs.declared.cmp.Ordering.TheVariants.{Less, Equal, Greater}
 use Rattle.std.proofs.Common.{ap, sym, subst, ◌∙◌}
 use Rattle.std.proofs.{Math.ListN.set, Math.Numerals.one-add, lemmas.Bool.true≢false, lemmas.Cmp.nat_list_cmp_total, lemmas.List.Kept.IsStrictlySortedBy-filter, lemmas.Map.Text.is_eq-slice_cmp, lemmas.Slice.Eq.bytes_eq-Decides}
 use Rattle.rls_expr.specs.declared.policy.Policy.{Policy}
+use Rattle.shared_map.specs.Lists.{item_at, with_item, without_item}
+use Rattle.shared_map.proofs.KeyOrder.{put_exchanges, put_inserts, removed_is_filtered}
 use Rattle.rls_catalog.specs.{State.name_order, PolicyLists.InNameOrder, PolicyLists.is_named, PolicyLists.has_policy, PolicyLists.is_after, PolicyLists.with_policy, PolicyLists.without_policy, PolicyLists.with_replaced}
 
 abbrev names : List Policy → List (List ℕ)
@@ -29,30 +32,6 @@ replaced_names (other ∷ policies) policy = λ i. replaced_name (is_named polic
 
 pub replaced_in_order : (policies : List Policy) (policy : Policy) → InNameOrder policies → InNameOrder (with_replaced policies policy)
 replaced_in_order policies policy order = subst (IsStrictlySortedBy name_order) (sym (replaced_names policies policy)) order
-
-other_name : (a b : List ℕ) → name_order a b ≡ Less → bytes_eq b a ≡ false
-other_name a b less = sym (is_eq-slice_cmp b a) ∙ ap is_eq (nat_list_cmp_total.antisymm b a ∙ ap ordering_reverse less)
-
-none_replaced : (policies : List Policy) (policy : Policy) → Below policy.name (names policies) → policies ≡ with_replaced policies policy
-none_replaced [] policy below = refl
-none_replaced (other ∷ policies) policy below =
-    λ i. (if sym (other_name policy.name other.name below.0) i then policy else other) ∷ none_replaced policies policy below.1 i
-
-replaced_first : (b : Bool) (policy other : Policy) (policies : List Policy) → is_named policy.name other ≡ b → InNameOrder (other ∷ policies)
-    → set policies (position_or_len (is_named policy.name) policies) policy ≡ with_replaced policies policy
-    → set (other ∷ policies) (cond (not b) (1 + position_or_len (is_named policy.name) policies) 0) policy ≡ (if b then policy else other) ∷ with_replaced policies policy
-unfolding IsStrictlySortedBy
-replaced_first true policy other policies is order further =
-    ap (λ rest. policy ∷ rest) (none_replaced policies policy (subst (λ name. Below name (names policies)) ((bytes_eq-Decides other.name policy.name).0 is) order.0))
-replaced_first false policy other policies is order further =
-    ap (λ n. set (other ∷ policies) n policy) (one-add (position_or_len (is_named policy.name) policies)) ∙ ap (λ rest. other ∷ rest) further
-
--- a policy is exchanged at the first place of its name
-pub replaced_at : (policies : List Policy) (policy : Policy) → InNameOrder policies
-    → set policies (position_or_len (is_named policy.name) policies) policy ≡ with_replaced policies policy
-unfolding IsStrictlySortedBy
-replaced_at [] policy order = refl
-replaced_at (other ∷ policies) policy order = replaced_first (is_named policy.name other) policy other policies refl order (replaced_at policies policy order.1)
 
 -- ---- without one
 
@@ -122,3 +101,54 @@ created_in_order (other ∷ policies) policy new order =
 pub none_in_order : (policies : List Policy) → policies ≡ [] → InNameOrder policies
 unfolding IsStrictlySortedBy
 none_in_order policies none = subst InNameOrder (sym none) tt
+
+-- ---- lists by their keys
+
+equal_turned : (o : Ordering) → is_eq (ordering_reverse o) ≡ is_eq o
+equal_turned Less = refl
+equal_turned Equal = refl
+equal_turned Greater = refl
+
+named : (name : List ℕ) (policy : Policy) → is_at (name_order name) policy.name ≡ is_named name policy
+named name policy = ap is_eq (nat_list_cmp_total.antisymm name policy.name) ∙ equal_turned (name_order policy.name name) ∙ is_eq-slice_cmp policy.name name
+
+abbrev found : List ℕ → List Policy → Option Policy
+found name policies = item_at (is_at (name_order name)) (λ policy. policy.name) policies
+
+pub named_at : (name : List ℕ) (policies : List Policy) → found name policies ≡ find (is_named name) policies
+named_at name [] = refl
+named_at name (policy ∷ policies) = λ i. cond (named name policy i) (Some policy) (named_at name policies i)
+
+none_named : (name : List ℕ) (policies : List Policy) → has_policy policies name ≡ false → found name policies ≡ None
+none_named name [] none = refl
+none_named name (policy ∷ policies) none =
+    let neither = either_none (is_named name policy) (has_policy policies name) none in
+    ap (λ b. cond b (Some policy) (found name policies)) (named name policy ∙ neither.0) ∙ none_named name policies neither.1
+
+-- a policy of a new name takes its place
+pub put_new : (policies : List Policy) (policy : Policy) → has_policy policies policy.name ≡ false → with_item name_order (λ p. p.name) policies policy ≡ with_policy policies policy
+put_new policies policy new = put_inserts nat_list_cmp_total (λ p. p.name) policy policies (none_named policy.name policies new)
+
+exchanged : (policies : List Policy) (policy : Policy) → map (λ p. cond (is_at (name_order policy.name) p.name) policy p) policies ≡ with_replaced policies policy
+exchanged [] policy = refl
+exchanged (other ∷ policies) policy = λ i. cond (named policy.name other i) policy other ∷ exchanged policies policy i
+
+-- a policy takes the place of the one of its name
+pub put_there : (policies : List Policy) (policy old : Policy) → InNameOrder policies → find (is_named policy.name) policies ≡ Some old → with_item name_order (λ p. p.name) policies policy ≡ with_replaced policies policy
+put_there policies policy old order there =
+    put_exchanges nat_list_cmp_total (λ p. p.name) (λ _. policy) policy old policies order (named_at policy.name policies ∙ there) refl ∙ exchanged policies policy
+
+-- where none has its name, none is exchanged
+pub put_nowhere : (policies : List Policy) (policy : Policy) → find (is_named policy.name) policies ≡ None → policies ≡ with_replaced policies policy
+put_nowhere [] policy none = refl
+put_nowhere (other ∷ policies) policy none =
+    (elim (is_named policy.name other) as (λ b. cond b (Some other) (find (is_named policy.name) policies) ≡ None → other ∷ policies ≡ (if b then policy else other) ∷ with_replaced policies policy)
+    [ true ↦ λ none. cc | false ↦ λ none. ap (λ l. other ∷ l) (put_nowhere policies policy none) ]) none
+
+left : (policies : List Policy) (name : List ℕ) → filter (λ p. not (is_at (name_order name) p.name)) policies ≡ without_policy policies name
+left [] name = refl
+left (policy ∷ policies) name = λ i. cond (not (named name policy i)) (policy ∷ left policies name i) (left policies name i)
+
+-- the policy of the name is taken away
+pub taken_away : (policies : List Policy) (name : List ℕ) → InNameOrder policies → without_item (is_at (name_order name)) (λ p. p.name) policies ≡ without_policy policies name
+taken_away policies name order = removed_is_filtered nat_list_cmp_total (λ p. p.name) name policies order ∙ left policies name

@@ -3,6 +3,7 @@ pub mod StateCode
 pub mod Changed
 pub mod InOrder
 pub mod PolicyLists
+pub mod GrantKeys
 pub mod KeyIndex
 pub mod Bases
 pub mod Writes

@@ -5,6 +5,7 @@ use Rattle.std.specs.List.Sorted.{IsStrictlySortedBy}
 use Rattle.std.specs.Ordering.{is_lt}
 use Rattle.std.specs.Str.{bytes_eq}
 use Rattle.rls_expr.specs.declared.policy.Policy.{Policy}
+use Rattle.shared_map.specs.Lists.{with_item}
 use Rattle.rls_catalog.specs.State.{name_order}
 
 -- their names ascend
@@ -37,3 +38,7 @@ replaced_if_named policy other = if is_named policy.name other then policy else 
 -- the policies with this one where that of its name stood
 abbrev pub with_replaced : List Policy → Policy → List Policy
 with_replaced policies policy = map (replaced_if_named policy) policies
+
+-- the policies with this one in its place, or where that of its name stood
+abbrev pub with_one : List Policy → Policy → List Policy
+with_one policies policy = with_item name_order (λ p. p.name) policies policy

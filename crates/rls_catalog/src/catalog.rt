@@ -6,12 +6,11 @@ ghost use Rattle.rls_catalog.specs.{State.role_of, State.members_of, State.table
 
 use crate::borrowed::BorrowedRow;
 use crate::change::{Change, Delta};
-use crate::grant::Grant;
-use crate::policy_list::PolicyList;
-use crate::role::{Membership, RoleDef};
+use crate::lists::{Grants, Memberships, NoItems, Policies};
+use crate::role::RoleDef;
 use crate::table_rows::Rows;
+use rls_expr::TableDef;
 use rls_expr::rls_value::{Items, Name, Row};
-use rls_expr::{Policy, TableDef};
 use shared_map::{Share, SharedMap};
 use std::alloc::{AllocError, Global};
 use std::marker::Model;
@@ -21,11 +20,13 @@ use std::marker::Model;
 #[derive(Drop)]
 pub struct Catalog {
     pub(crate) roles: SharedMap<Name, RoleDef>,
-    pub(crate) members: SharedMap<Name, Share<Items<Membership>>>,
+    pub(crate) members: SharedMap<Name, Memberships>,
     pub(crate) tables: SharedMap<Name, Share<TableDef>>,
-    pub(crate) grants: SharedMap<Name, Share<Items<Grant>>>,
-    pub(crate) policies: SharedMap<Name, Share<PolicyList>>,
+    pub(crate) grants: SharedMap<Name, Grants>,
+    pub(crate) policies: SharedMap<Name, Policies>,
     pub(crate) rows: SharedMap<Name, Rows>,
+    // Lent where a name has no list.
+    no_items: NoItems,
 }
 
 impl Model for Catalog {
@@ -51,6 +52,7 @@ impl Catalog {
             grants: SharedMap::new(),
             policies: SharedMap::new(),
             rows: SharedMap::new(),
+            no_items: NoItems::new(),
         })
     }
 
@@ -65,6 +67,7 @@ impl Catalog {
             grants: self.grants.copy()?,
             policies: self.policies.copy()?,
             rows: self.rows.copy()?,
+            no_items: NoItems::new(),
         })
     }
 
@@ -75,12 +78,12 @@ impl Catalog {
     }
 
     /// The memberships that the role has.
-    pub fn members(&self, member: &Name) -> &[Membership]
+    pub fn members(&self, member: &Name) -> &Memberships
         ensures { result.now ≡ members_of self.now member.now }
     {
         match self.members.get(member) {
-            Some(content) => content.get().as_slice(),
-            None => &[],
+            Some(content) => content,
+            None => self.no_items.members(),
         }
     }
 
@@ -94,24 +97,23 @@ impl Catalog {
     }
 
     /// The grants on the table.
-    pub fn grants(&self, table: &Name) -> &[Grant]
+    pub fn grants(&self, table: &Name) -> &Grants
         ensures { result.now ≡ grants_of self.now table.now }
     {
         match self.grants.get(table) {
-            Some(content) => content.get().as_slice(),
-            None => &[],
+            Some(content) => content,
+            None => self.no_items.grants(),
         }
     }
 
     /// The policies of the table, in byte order of their names.
-    #[tactic(auto, using(crate::proofs::PolicyListLaws::none_in_order))]
-    pub fn policies(&self, table: &Name) -> &[Policy]
+    pub fn policies(&self, table: &Name) -> &Policies
         ensures policies { result.now ≡ policies_of self.now table.now }
         ensures ordered { InNameOrder result.now }
     {
         match self.policies.get(table) {
-            Some(content) => content.get().as_slice(),
-            None => &[],
+            Some(content) => content.in_order(),
+            None => self.no_items.policies().in_order(),
         }
     }
 

@@ -2,12 +2,11 @@
 
 ghost use Rattle.std.specs.Prelude.{◌≡◌, [], ◌∷◌, ◌++◌, IfOk, OnOk, OnErr};
 
-use crate::grant::Grant;
-use crate::policy_list::PolicyList;
-use crate::role::{Membership, RoleDef};
+use crate::lists::{Grants, Memberships, Policies};
+use crate::role::RoleDef;
 use crate::stored::Keyed;
 use rls_expr::TableDef;
-use rls_expr::rls_value::{Items, Name, RowId};
+use rls_expr::rls_value::{Name, RowId};
 use std::alloc::{AllocError, Global};
 use std::marker::Model;
 
@@ -16,10 +15,10 @@ use std::marker::Model;
 pub enum Change {
     Role(Name, RoleDef),
     /// The memberships that the role has from now on.
-    Members(Name, Items<Membership>),
+    Members(Name, Memberships),
     Table(Name, TableDef),
-    Grants(Name, Items<Grant>),
-    Policies(Name, PolicyList),
+    Grants(Name, Grants),
+    Policies(Name, Policies),
     Row(RowChange),
 }
 
@@ -58,18 +57,10 @@ impl Change {
     {
         match self {
             Change::Role(name, def) => Ok(Change::Role(name.copy()?, *def)),
-            Change::Members(name, content) => Ok(Change::Members(
-                name.copy()?,
-                Membership::copy_all(alloc, content.as_slice())?,
-            )),
+            Change::Members(name, content) => Ok(Change::Members(name.copy()?, content.copy()?)),
             Change::Table(name, def) => Ok(Change::Table(name.copy()?, def.copy(alloc)?)),
-            Change::Grants(name, content) => Ok(Change::Grants(
-                name.copy()?,
-                Grant::copy_all(alloc, content.as_slice())?,
-            )),
-            Change::Policies(name, content) => {
-                Ok(Change::Policies(name.copy()?, content.copy(alloc)?))
-            }
+            Change::Grants(name, content) => Ok(Change::Grants(name.copy()?, content.copy()?)),
+            Change::Policies(name, content) => Ok(Change::Policies(name.copy()?, content.copy()?)),
             Change::Row(row) => Ok(Change::Row(row.copy(alloc)?)),
         }
     }

@@ -7,12 +7,11 @@ ghost use Rattle.rls_catalog.specs.State.{State, name_order};
 
 use crate::catalog::Catalog;
 use crate::change::{Change, RowChange};
-use crate::grant::Grant;
-use crate::policy_list::PolicyList;
-use crate::role::{Membership, RoleDef};
+use crate::lists::{Grants, Memberships, Policies};
+use crate::role::RoleDef;
 use crate::table_rows::Rows;
 use rls_expr::TableDef;
-use rls_expr::rls_value::{Items, Name};
+use rls_expr::rls_value::Name;
 use shared_map::{Share, Shared, SharedMap};
 use std::alloc::{AllocError, Global};
 
@@ -49,12 +48,11 @@ impl Catalog {
         &mut self,
         alloc: Global,
         name: &Name,
-        content: &Items<Membership>,
+        content: &Memberships,
     ) -> Result<(), AllocError>
         ensures { OnOk result (self.new ≡ changed self.old (Change.Members name.now content.now)) }
     {
-        let copies = Membership::copy_all(alloc, content.as_slice())?;
-        put_under(&mut self.members, alloc, name, Share::new(alloc, copies)?)
+        put_under(&mut self.members, alloc, name, content.copy()?)
     }
 
     fn put_table(&mut self, alloc: Global, name: &Name, def: &TableDef) -> Result<(), AllocError>
@@ -64,28 +62,21 @@ impl Catalog {
         put_under(&mut self.tables, alloc, name, Share::new(alloc, copied)?)
     }
 
-    fn put_grants(
-        &mut self,
-        alloc: Global,
-        name: &Name,
-        content: &Items<Grant>,
-    ) -> Result<(), AllocError>
+    fn put_grants(&mut self, alloc: Global, name: &Name, content: &Grants) -> Result<(), AllocError>
         ensures { OnOk result (self.new ≡ changed self.old (Change.Grants name.now content.now)) }
     {
-        let copies = Grant::copy_all(alloc, content.as_slice())?;
-        put_under(&mut self.grants, alloc, name, Share::new(alloc, copies)?)
+        put_under(&mut self.grants, alloc, name, content.copy()?)
     }
 
     fn put_policies(
         &mut self,
         alloc: Global,
         name: &Name,
-        content: &PolicyList,
+        content: &Policies,
     ) -> Result<(), AllocError>
         ensures { OnOk result (self.new ≡ changed self.old (Change.Policies name.now content.now)) }
     {
-        let copies = content.copy(alloc)?;
-        put_under(&mut self.policies, alloc, name, Share::new(alloc, copies)?)
+        put_under(&mut self.policies, alloc, name, content.copy()?)
     }
 
     /// Puts the change of a row on, and those of the same table's rows that stand next behind it: so the way to these rows is copied

@@ -4,9 +4,9 @@ ghost use Rattle.std.specs.Prelude.{◌≡◌, IfOk};
 ghost use Rattle.std.specs.Option.{option_copied};
 ghost use Rattle.rls_catalog.specs.Membership.{attributes_in};
 
-use rls_expr::rls_value::{Items, Name};
-use shared_map::Shared;
-use std::alloc::{AllocError, Global};
+use rls_expr::rls_value::Name;
+use shared_map::{HasKey, Shared};
+use std::alloc::AllocError;
 
 /// The attributes of a role (PostgreSQL manual, 22.2, "Role Attributes"). None of them is inherited.
 #[derive(Clone, Copy, PartialEq, Eq)]
@@ -59,18 +59,31 @@ impl Membership {
             set: self.set,
         })
     }
+}
 
-    /// A copy of the list.
-    pub fn copy_all(
-        alloc: Global,
-        memberships: &[Membership],
-    ) -> Result<Items<Membership>, AllocError>
-        ensures { IfOk result (λ copies. copies ≡ memberships.now) }
-    {
-        let mut copies = Vec::with_capacity(alloc, memberships.len())?;
-        for membership in memberships {
-            copies.push(membership.copy()?)?;
-        }
-        Ok(Items::from_vec(copies))
+impl Clone for Membership {
+    ghost use Rattle.std.specs.Prelude.{◌≡◌};
+
+    ghost is_clone = { λ x y. y ≡ x };
+
+    fn clone(&self) -> Result<Membership, AllocError> {
+        self.copy()
+    }
+}
+
+impl Shared for Membership {
+    ghost same = { λ x y h. h };
+}
+
+/// The memberships that a role has stand in byte order of the roles' names.
+impl HasKey<Name> for Membership {
+    ghost use Rattle.std.specs.FinMap.{nat_cmp-IsAntisymmetric, slice_cmp-IsAntisymmetric};
+
+    ghost key_of = { λ membership. membership.role };
+
+    ghost exact = { slice_cmp-IsAntisymmetric nat_cmp-IsAntisymmetric };
+
+    fn key(&self) -> Result<Name, AllocError> {
+        self.role.copy()
     }
 }

@@ -18,6 +18,7 @@ use rls_explain::rls_meaning::statement_means;
 use rls_explain::{Explanation, explain_row};
 use rls_statement::Statement;
 use rls_value::RowId;
+use rls_value::shared::Share;
 use std::alloc::{AllocError, Global};
 
 /// Why a statement did what it did.
@@ -26,7 +27,7 @@ pub struct Why {
     pub txn: u64,
     /// Counted from 1.
     pub number: u64,
-    pub statement: Statement,
+    pub statement: Share<Statement>,
     /// The row that was asked for.
     pub row: Option<RowId>,
     pub explanation: Explanation,
@@ -112,7 +113,7 @@ fn run_all(alloc: Global, alone: &mut Alone, answers: &[Answer]) -> Result<(), A
     ensures ctx { OnOk result (alone.new.ctx ≡ ctx_alone alone.old.ctx (asked_of answers.now) alone.old.state) }
 {
     for answer in answers {
-        let outcome = alone.run(alloc, &answer.statement)?;
+        let outcome = alone.run(alloc, answer.statement.get())?;
         alone.go_on(alloc, &outcome)?;
         drop(outcome);
     }
@@ -166,15 +167,15 @@ fn explain_at(
     transaction: &Transaction,
     behind: u64,
     row: Option<RowId>,
-) -> Result<(Statement, Explanation), AllocError>
+) -> Result<(Share<Statement>, Explanation), AllocError>
     requires { behind < length transaction.now.answers }
     ensures statement { IfOk result (λ both. slice_get (asked_of transaction.now.answers) behind ≡ Some both.0) }
     ensures explains { IfOk result (λ both. ExplainsBehind transaction.now state.now (asked_of (take behind transaction.now.answers)) both.0 row both.1) }
 {
     let answers = transaction.answers.as_slice();
     let alone = alone_behind(alloc, state, transaction, &answers[..behind as usize])?;
-    let statement = answer_at(answers, behind as usize).statement.copy(alloc)?;
-    match explain_next(alloc, &alone, &statement, row) {
+    let statement = answer_at(answers, behind as usize).statement.copy()?;
+    match explain_next(alloc, &alone, statement.get(), row) {
         Ok(explanation) => Ok((statement, explanation)),
         Err(refused) => {
             drop(statement);

@@ -15,6 +15,7 @@ use rls_audit::{Answered, Changed, Shown, TableShape};
 use rls_expr::{Column, Policy, TableDef};
 use rls_statement::Statement;
 use rls_text::parse;
+use rls_value::shared::Share;
 use rls_value::{Items, Name, Refusal, Text};
 use std::alloc::{AllocError, Global};
 
@@ -68,6 +69,7 @@ fn answer_of(alloc: Global, answered: Answered) -> Result<Answer, Refusal>
         text,
     } = answered;
     let statement = statement_of(alloc, &text)?;
+    let statement = Share::new(alloc, statement)?;
     Ok(Answer {
         statement,
         reply,

@@ -7,7 +7,7 @@ ghost use Rattle.rls_check.specs.Audited.{written_of};
 ghost use Rattle.rls_check.specs.Checking.{ArePuts, IsAnswer};
 
 use crate::transaction::{Answer, Put};
-use rls_agreement::rls_equality::{Same, are_same};
+use rls_agreement::rls_equality::{Same, are_items_of, are_policies_of};
 use rls_audit::rls_access::{Decision, Effect};
 use rls_catalog::{Change, Keyed};
 use rls_value::{Items, Row};
@@ -66,16 +66,16 @@ fn is_put(put: &Put, change: &Change) -> bool
             name.is_same(other) && def.is_same(made)
         }
         (Put::Members(member, content), Change::Members(other, made)) => {
-            member.is_same(other) && content.is_same(made)
+            member.is_same(other) && are_items_of(content.as_slice(), made)
         }
         (Put::Table(name, def), Change::Table(other, made)) => {
             name.is_same(other) && def.is_same(made)
         }
         (Put::Grants(table, content), Change::Grants(other, made)) => {
-            table.is_same(other) && content.is_same(made)
+            table.is_same(other) && are_items_of(content.as_slice(), made)
         }
         (Put::Policies(table, policies), Change::Policies(other, made)) => {
-            table.is_same(other) && are_same(policies.as_slice(), made.as_slice())
+            table.is_same(other) && are_policies_of(policies.as_slice(), made)
         }
         (Put::Row(table, id, values), Change::Row(row)) => {
             table.is_same(&row.table) && id.is_same(&row.id) && are_values(values, &row.after)

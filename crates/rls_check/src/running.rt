@@ -103,7 +103,7 @@ fn run_statements(
 {
     let mut number = 1;
     for answer in answers {
-        let outcome = alone.run(alloc, &answer.statement)?;
+        let outcome = alone.run(alloc, answer.statement.get())?;
         if !is_answer(answer, &outcome.effect) {
             drop(outcome);
             return Ok(Some(number));

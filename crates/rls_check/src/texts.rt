@@ -15,7 +15,7 @@ impl Why {
         push_reply(
             alloc,
             &mut lines,
-            self.statement.tag(),
+            self.statement.get().tag(),
             &self.explanation.effect,
         )?;
         if self.row.is_some() {
@@ -30,7 +30,7 @@ impl Why {
         let txn = self.txn;
         let number = self.number;
         let role = &self.explanation.role;
-        let printed = print(alloc, &self.statement)?;
+        let printed = print(alloc, self.statement.get())?;
         let head = format!(in alloc; "txn {txn} statement {number} role {role}: {printed}\n")?;
         lines.push_str(head.as_str())
     }

@@ -6,6 +6,7 @@ use rls_catalog::{Grant, Membership, RoleDef};
 use rls_expr::{Policy, TableDef};
 use rls_guard::{Decision, Reply};
 use rls_statement::Statement;
+use rls_value::shared::Share;
 use rls_value::{Items, Name, Row, RowId};
 
 /// An object that was changed, and what it has then.
@@ -24,7 +25,7 @@ pub enum Put {
 /// A statement, what it was answered, and what row security said of each row.
 #[derive(Drop)]
 pub struct Answer {
-    pub statement: Statement,
+    pub statement: Share<Statement>,
     pub reply: Result<Reply, Audited>,
     pub decisions: Items<Decision>,
 }

@@ -12,6 +12,7 @@ use crate::event::Event;
 use crate::machine::Core;
 use rls_statement::Statement;
 use rls_value::Refusal;
+use rls_value::shared::Share;
 use std::alloc::Global;
 
 impl Core {
@@ -27,7 +28,7 @@ impl Core {
                 Ok(begin) => begins(self, alloc, begin),
                 Err(_) => Err(Refusal::NoMemory),
             },
-            Event::Posts(txn, statement) => match statement.copy(alloc) {
+            Event::Posts(txn, statement) => match statement.copy() {
                 Ok(statement) => posts(self, alloc, *txn, statement),
                 Err(_) => Err(Refusal::NoMemory),
             },
@@ -51,7 +52,12 @@ fn begins(core: &mut Core, alloc: Global, begin: Begin) -> Result<(), Refusal>
     }
 }
 
-fn posts(core: &mut Core, alloc: Global, txn: u64, statement: Statement) -> Result<(), Refusal>
+fn posts(
+    core: &mut Core,
+    alloc: Global,
+    txn: u64,
+    statement: Share<Statement>,
+) -> Result<(), Refusal>
     ensures ok { OnOk result (Happens (Posts txn statement) core.old core.new) }
     ensures err { OnErr result (core.new ≡ core.old) }
     ensures why { IfErr result (λ why. IsStopped why) }

@@ -214,7 +214,12 @@ impl Core {
     }
 
     /// What the statement comes to on the transaction's own view.
-    pub fn work(&self, alloc: Global, txn: u64, statement: Statement) -> Result<Work, Refusal>
+    pub fn work(
+        &self,
+        alloc: Global,
+        txn: u64,
+        statement: Share<Statement>,
+    ) -> Result<Work, Refusal>
         ensures ok { IfOk result (λ work. IsWork self.now work) }
         ensures asked { IfOk result (λ work. (work.txn ≡ txn) × (work.statement ≡ statement)) }
         ensures err { IfErr result (λ why. NotWorked self.now txn why) }
@@ -274,7 +279,12 @@ impl Core {
     }
 
     /// Posts a statement.
-    pub fn post(&mut self, alloc: Global, txn: u64, statement: Statement) -> Result<(), Refusal>
+    pub fn post(
+        &mut self,
+        alloc: Global,
+        txn: u64,
+        statement: Share<Statement>,
+    ) -> Result<(), Refusal>
         ensures ok { OnOk result (Happens (Posts txn statement) self.old self.new) }
         ensures runs { OnOk result (is_some (runs_at self.new txn) ≡ true) }
         ensures err { IfErr result (λ why. NotPosted txn statement self.old self.new why) }

@@ -1,6 +1,6 @@
 //! A transaction that runs.
 
-ghost use Rattle.std.specs.Prelude.{◌≡◌, ◌≤◌, true, map, Some, IfOk, OnOk, IfErr, OnErr};
+ghost use Rattle.std.specs.Prelude.{◌≡◌, ◌≤◌, [], ◌∷◌, ◌++◌, true, map, Some, IfOk, OnOk, IfErr, OnErr};
 ghost use Rattle.std.specs.Option.{option_map};
 ghost use Rattle.rls_catalog.specs.Changed.{changed_all};
 ghost use Rattle.rls_guard.specs.Effects.{changes_of};
@@ -110,14 +110,14 @@ impl Open {
         &self,
         alloc: Global,
         txn: u64,
-        statement: Statement,
+        statement: Share<Statement>,
     ) -> Result<Work, AllocError>
         ensures asked { IfOk result (λ work. (work.txn ≡ txn) × (work.statement ≡ statement)) }
         ensures effect { IfOk result (λ work. work.outcome.effect ≡ effect_in self.now.view self.now.ctx statement) }
         ensures footprint { IfOk result (λ work. work.outcome.footprint ≡ footprint_of ((step self.now.ctx statement).in_state self.now.view).reads) }
         ensures role { IfOk result (λ work. work.outcome.role ≡ role_after self.now.ctx.role work.outcome.effect) }
     {
-        match came_to(alloc, &self.view, &self.ctx, &statement) {
+        match came_to(alloc, &self.view, &self.ctx, statement.get()) {
             Ok(outcome) => Ok(Work {
                 txn,
                 statement,
@@ -147,36 +147,57 @@ impl Open {
         ensures kept { OnErr result (conflicts.new ≡ conflicts.old) }
         ensures same { OnErr result (self.new ≡ self.old) }
     {
-        let Work {
-            txn,
-            statement,
-            outcome,
-        } = work;
-        let rows = outcome.new_rows();
-        let Outcome {
-            effect,
-            footprint,
-            role,
-        } = outcome;
-        let Ok(()) = self.posts.reserve(1) else {
+        let rows = work.outcome.new_rows();
+        let Ok(view) = state_after(alloc, &self.view, &work.outcome.effect) else {
             return Err(Refusal::NoMemory);
         };
-        let Ok(view) = state_after(alloc, &self.view, &effect) else {
-            return Err(Refusal::NoMemory);
-        };
-        let Ok(posted) = share(alloc, statement, effect) else {
-            return Err(Refusal::NoMemory);
-        };
-        match note(conflicts, alloc, txn, &footprint, posted.get()) {
-            Ok(()) => {
-                self.posts.push_reserved(posted);
-                self.ctx.role = role;
-                self.ctx.next = self.ctx.next + rows as u32;
-                self.view = view;
-                Ok(())
-            }
-            Err(refusal) => Err(refusal),
+        let role = put_post(&mut self.posts, conflicts, alloc, work)?;
+        self.ctx.role = role;
+        self.ctx.next = self.ctx.next + rows as u32;
+        self.view = view;
+        Ok(())
+    }
+}
+
+/// Puts the work behind the posts, and into the record of transactions; refuses it as `Conflicts::post` does. Gives the role that is
+/// current from then on.
+fn put_post(
+    posts: &mut Vec<Share<Posted>>,
+    conflicts: &mut Conflicts,
+    alloc: Global,
+    work: Work,
+) -> Result<Name, Refusal>
+    requires { is_running conflicts.old work.txn ≡ true }
+    ensures free { OnOk result (IsFree conflicts.old work.txn (changes_of work.outcome.effect)) }
+    ensures known { OnOk result (Becomes work.txn (option_map (posted 256 work.outcome.footprint (changes_of work.outcome.effect)) (running_of conflicts.old work.txn)) conflicts.old conflicts.new) }
+    ensures put { OnOk result (posts.new.items ≡ posts.old.items ++ record { statement = work.statement; effect = work.outcome.effect } ∷ []) }
+    ensures role { IfOk result (λ role. role ≡ work.outcome.role) }
+    ensures err { IfErr result (IsRefusedBy conflicts.old work.txn (changes_of work.outcome.effect)) }
+    ensures kept { OnErr result (conflicts.new ≡ conflicts.old) }
+    ensures same { OnErr result (posts.new.items ≡ posts.old.items) }
+{
+    let Work {
+        txn,
+        statement,
+        outcome,
+    } = work;
+    let Outcome {
+        effect,
+        footprint,
+        role,
+    } = outcome;
+    let Ok(()) = posts.reserve(1) else {
+        return Err(Refusal::NoMemory);
+    };
+    let Ok(posted) = share(alloc, statement, effect) else {
+        return Err(Refusal::NoMemory);
+    };
+    match note(conflicts, alloc, txn, &footprint, posted.get()) {
+        Ok(()) => {
+            posts.push_reserved(posted);
+            Ok(role)
         }
+        Err(refusal) => Err(refusal),
     }
 }
 
@@ -228,7 +249,11 @@ fn state_after(alloc: Global, state: &State, effect: &Effect) -> Result<State, A
 }
 
 /// The statement with what it came to, shared.
-fn share(alloc: Global, statement: Statement, effect: Effect) -> Result<Share<Posted>, AllocError>
+fn share(
+    alloc: Global,
+    statement: Share<Statement>,
+    effect: Effect,
+) -> Result<Share<Posted>, AllocError>
     ensures { IfOk result (λ posted. posted ≡ record { statement = statement; effect = effect }) }
 {
     match Posted::new(alloc, statement, effect) {

@@ -8,13 +8,14 @@ use crate::decisions::Decisions;
 use rls_guard::{Decision, Effect};
 use rls_statement::Statement;
 use rls_value::Items;
+use rls_value::shared::Share;
 use std::alloc::{AllocError, Global};
 use std::marker::Model;
 
 /// A statement that was posted, and what it came to: its decisions, and the effect without them.
 #[derive(Drop)]
 pub struct Posted {
-    statement: Statement,
+    statement: Share<Statement>,
     bare: Effect,
     decisions: Decisions,
 }
@@ -34,7 +35,11 @@ impl Model for Posted {
 
 impl Posted {
     /// The statement with what it came to.
-    pub fn new(alloc: Global, statement: Statement, effect: Effect) -> Result<Posted, AllocError>
+    pub fn new(
+        alloc: Global,
+        statement: Share<Statement>,
+        effect: Effect,
+    ) -> Result<Posted, AllocError>
         ensures { IfOk result (λ posted. posted ≡ record { statement = statement; effect = effect }) }
     {
         match Decisions::new(alloc, decisions_in(&effect)) {
@@ -54,7 +59,7 @@ impl Posted {
     pub fn statement(&self) -> &Statement
         ensures { result.now ≡ self.now.statement }
     {
-        &self.statement
+        self.statement.get()
     }
 
     /// What it came to, without its decisions.

@@ -2,11 +2,12 @@
 
 use rls_meaning::rls_access::Outcome;
 use rls_statement::Statement;
+use rls_value::shared::Share;
 
 /// A statement of a transaction, and what it comes to on the transaction's own view.
 #[derive(Drop)]
 pub struct Work {
     pub txn: u64,
-    pub statement: Statement,
+    pub statement: Share<Statement>,
     pub outcome: Outcome,
 }

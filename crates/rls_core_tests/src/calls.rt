@@ -1,15 +1,14 @@
 //! Calls that histories don't make.
 
-use crate::opening::begin_as;
+use crate::opening::{begin_as, shared};
 use rls_audit::rls_access::Mode;
 use rls_audit::rls_core::{Core, Event, run};
-use rls_text::parse;
 use rls_value::Refusal;
 use std::alloc::Global;
 
 /// A statement is worked out, then admitted.
 fn is_posted_in_parts(core: &mut Core, alloc: Global, txn: u64) -> Result<bool, Refusal> {
-    let statement = parse(alloc, "CREATE ROLE r")?;
+    let statement = shared(alloc, "CREATE ROLE r")?;
     let work = core.work(alloc, txn, statement)?;
     let nothing = core.posts(txn).is_empty();
     core.admit(alloc, work)?;
@@ -41,7 +40,7 @@ fn has_only(core: &Core, txn: u64) -> bool {
 fn two_transactions(alloc: Global) -> Result<[Event; 4], Refusal> {
     let one = begin_as(alloc, "postgres", Mode::Write)?;
     let other = begin_as(alloc, "postgres", Mode::Write)?;
-    match parse(alloc, "CREATE ROLE r") {
+    match shared(alloc, "CREATE ROLE r") {
         Ok(statement) => Ok([
             Event::Begins(one),
             Event::Posts(1, statement),

@@ -2,7 +2,9 @@
 
 use rls_audit::rls_access::Mode;
 use rls_audit::rls_core::{Begin, Core};
+use rls_statement::Statement;
 use rls_text::parse;
+use rls_value::shared::Share;
 use rls_value::{Name, Refusal};
 use std::alloc::Global;
 
@@ -45,8 +47,14 @@ fn run_alone(core: &mut Core, alloc: Global, statement: &str) -> Result<(), Refu
 
 /// The transaction posts the statement.
 pub fn post(core: &mut Core, alloc: Global, txn: u64, statement: &str) -> Result<(), Refusal> {
-    let statement = parse(alloc, statement)?;
+    let statement = shared(alloc, statement)?;
     core.post(alloc, txn, statement)
+}
+
+/// The statement of the text, shared.
+pub fn shared(alloc: Global, text: &str) -> Result<Share<Statement>, Refusal> {
+    let statement = parse(alloc, text)?;
+    Ok(Share::new(alloc, statement)?)
 }
 
 /// The manual's tables of users and of information that only groups may see (PostgreSQL manual, 5.8, "Row Security Policies").

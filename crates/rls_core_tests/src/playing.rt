@@ -7,6 +7,7 @@ use rls_audit::rls_core::Core;
 use rls_statement::{AccessMode, Command, Statement};
 use rls_text::parse_command;
 use rls_value::Refusal;
+use rls_value::shared::Share;
 use std::alloc::Global;
 use std::process::Abort;
 
@@ -58,7 +59,7 @@ fn answer(
         Command::Begin(AccessMode::ReadOnly) => begin(core, alloc, role, Mode::Read),
         Command::Commit => commit(core, alloc, txn),
         Command::Rollback => rollback(core, alloc, txn),
-        Command::Run(statement) => post(core, alloc, txn, statement),
+        Command::Run(statement) => post(core, alloc, txn, Share::new(alloc, statement)?),
     }
 }
 
@@ -70,7 +71,12 @@ fn begin(core: &mut Core, alloc: Global, role: &str, mode: Mode) -> Result<Strin
     }
 }
 
-fn post(core: &mut Core, alloc: Global, txn: u64, statement: Statement) -> Result<String, Refusal> {
+fn post(
+    core: &mut Core,
+    alloc: Global,
+    txn: u64,
+    statement: Share<Statement>,
+) -> Result<String, Refusal> {
     match core.post(alloc, txn, statement) {
         Ok(()) => Ok(last_answer(core, alloc, txn)?),
         Err(refusal) => refused(alloc, refusal),

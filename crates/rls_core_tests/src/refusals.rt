@@ -1,9 +1,8 @@
 //! What is refused, and with which text.
 
-use crate::opening::opened;
+use crate::opening::{opened, shared};
 use crate::playing::play;
 use rls_audit::rls_core::Core;
-use rls_text::parse;
 use rls_value::{Refusal, TxnState};
 use std::alloc::Global;
 
@@ -21,7 +20,7 @@ fn is_none_in_progress<T: Drop>(answer: Result<T, Refusal>) -> bool {
 
 /// Whether there is no work for a transaction that doesn't run, and nothing of it is ready.
 fn has_no_work(core: &Core, alloc: Global, txn: u64) -> bool {
-    match parse(alloc, "SELECT * FROM t") {
+    match shared(alloc, "SELECT * FROM t") {
         Ok(statement) => {
             is_none_in_progress(core.work(alloc, txn, statement))
                 && is_none_in_progress(core.ready(alloc, txn))

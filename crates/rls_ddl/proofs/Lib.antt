@@ -1,3 +1,4 @@
+pub mod FoundPolicies
 pub mod PolicyOrderLaws
 pub mod PrimaryKeyLaws
 pub mod RowsLeftLemmas

@@ -1,22 +1,22 @@
 //! ALTER POLICY.
 
-ghost use Rattle.std.specs.Prelude.{◌≡◌, [], ◌∷◌, Some, IfOk, unwrap_or};
-ghost use Rattle.std.specs.{List.find, Option.option_or};
+ghost use Rattle.std.specs.Prelude.{◌≡◌, [], ◌∷◌, IfOk, unwrap_or};
+ghost use Rattle.std.specs.Option.{option_or};
 ghost use Rattle.rls_value.specs.Giving.{Gives};
-ghost use Rattle.rls_catalog.specs.PolicyLists.{InNameOrder, is_named};
 ghost use Rattle.rls_source.specs.Answering.{Answers};
 ghost use Rattle.rls_guard.specs.{Effects.writes, Naming.names_over};
 ghost use Rattle.rls_ddl.specs.AlteringPolicies as spec;
 ghost use Rattle.rls_ddl.specs.AlteringPolicies.{alter_policy, alteration_on, alteration_of, alteration_over, alteration_made, conditions_or_refused, roles_or_undefined};
 
 use crate::conditions::{found_for, require_booleans, require_supported};
-use crate::named_policies::{find_policy, policy_named};
+use crate::named_policies::policy_named;
 use crate::policies_written::written;
-use rls_catalog::{Change, PolicyList};
-use rls_expr::{Expr, Grantee, NamedTable, Policy, TableDef};
+use rls_catalog::{Change, Policies, find_policy, with_replaced};
+use rls_expr::{Expr, Grantee, NamedTable, Policy, TableDef, copy_shared};
 use rls_guard::{Ctx, Effect, require_ownership};
 use rls_source::{Reads, RowSource, noted_policies, require_grantees, table_named};
 use rls_statement::AlterPolicy;
+use rls_value::shared::Share;
 use rls_value::{Items, Kind, Name, PolicyKind, Refusal};
 use std::alloc::{AllocError, Global};
 
@@ -61,11 +61,10 @@ fn alter_named<'c, S: RowSource<'c>>(
     read_set: &mut Reads,
     role: &Name,
     table: &'c TableDef,
-    policies: &[Policy],
+    policies: &Policies,
     policy: &Policy,
     alter: &AlterPolicy,
 ) -> Result<Effect, Refusal>
-    requires ordered { InNameOrder policies.now }
     ensures { Answers S.state S.after (alteration_of role.now table.now policies.now policy.now alter.now) source.old source.new read_set.old read_set.new result }
 {
     require_roles(alloc, source, read_set, &alter.to)?;
@@ -102,11 +101,10 @@ fn alter_over<'c, 'x, S: RowSource<'c>>(
     role: &Name,
     table: &'x TableDef,
     known: &'x [NamedTable<'x>],
-    policies: &[Policy],
+    policies: &Policies,
     policy: &Policy,
     alter: &AlterPolicy,
 ) -> Result<Effect, Refusal>
-    requires ordered { InNameOrder policies.now }
     ensures { Answers S.state S.after (alteration_over role.now table.now known.now policies.now policy.now alter.now) source.old source.new read_set.old read_set.new result }
 {
     require_conditions(alloc, table, known, policy.kind, alter)?;
@@ -121,10 +119,9 @@ fn make_alteration<'c, S: RowSource<'c>>(
     read_set: &mut Reads,
     role: &Name,
     table: &TableDef,
-    policies: &[Policy],
+    policies: &Policies,
     alter: &AlterPolicy,
 ) -> Result<Effect, Refusal>
-    requires ordered { InNameOrder policies.now }
     ensures { Answers S.state S.after (alteration_made role.now table.now policies.now alter.now) source.old source.new read_set.old read_set.new result }
 {
     require_ownership(alloc, source, read_set, role, &alter.table, table)?;
@@ -190,49 +187,26 @@ fn has_no_place_for(kind: PolicyKind, alter: &AlterPolicy) -> bool
 
 fn policies_changed(
     alloc: Global,
-    policies: &[Policy],
+    policies: &Policies,
     alter: &AlterPolicy,
 ) -> Result<Effect, AllocError>
-    requires ordered { InNameOrder policies.now }
     ensures { IfOk result (λ effect. effect ≡ writes (Change.Policies alter.now.table (spec.with_altered alter.now policies.now) ∷ [])) }
 {
     let policies = with_altered(alloc, policies, alter)?;
     written(alloc, &alter.table, policies)
 }
 
-#[tactic(auto, using(crate::proofs::PolicyOrderLaws::altered_none))]
+#[tactic(auto, using(crate::proofs::PolicyOrderLaws::altered_is_replaced, crate::proofs::PolicyOrderLaws::altered_none))]
 fn with_altered(
     alloc: Global,
-    policies: &[Policy],
+    policies: &Policies,
     alter: &AlterPolicy,
-) -> Result<PolicyList, AllocError>
-    requires ordered { InNameOrder policies.now }
+) -> Result<Policies, AllocError>
     ensures { IfOk result (λ all. all ≡ spec.with_altered alter.now policies.now) }
 {
     match find_policy(policies, &alter.name) {
-        Some(policy) => with_one_altered(alloc, policies, policy, alter),
-        None => PolicyList::copy_of(alloc, policies),
-    }
-}
-
-#[tactic(auto, using(crate::proofs::PolicyOrderLaws::altered_is_replaced))]
-fn with_one_altered(
-    alloc: Global,
-    policies: &[Policy],
-    policy: &Policy,
-    alter: &AlterPolicy,
-) -> Result<PolicyList, AllocError>
-    requires ordered { InNameOrder policies.now }
-    requires found { find (is_named alter.now.name) policies.now ≡ Some policy.now }
-    ensures { IfOk result (λ all. all ≡ spec.with_altered alter.now policies.now) }
-{
-    let policies = PolicyList::copy_of(alloc, policies)?;
-    match altered(alloc, policy, alter) {
-        Ok(policy) => Ok(policies.replaced(policy)),
-        Err(refused) => {
-            drop(policies);
-            Err(refused)
-        }
+        Some(policy) => with_replaced(alloc, policies, altered(alloc, policy, alter)?),
+        None => policies.copy(),
     }
 }
 
@@ -244,8 +218,8 @@ fn altered(alloc: Global, policy: &Policy, alter: &AlterPolicy) -> Result<Policy
         permissive: policy.permissive,
         kind: policy.kind,
         to: to_after(alloc, &alter.to, &policy.to)?,
-        using: condition_after(alloc, &alter.using, &policy.using)?,
-        check: condition_after(alloc, &alter.check, &policy.check)?,
+        using: condition_after(&alter.using, &policy.using)?,
+        check: condition_after(&alter.check, &policy.check)?,
     })
 }
 
@@ -263,17 +237,13 @@ fn to_after(
 }
 
 fn condition_after(
-    alloc: Global,
-    written: &Option<Expr>,
-    before: &Option<Expr>,
-) -> Result<Option<Expr>, AllocError>
+    written: &Option<Share<Expr>>,
+    before: &Option<Share<Expr>>,
+) -> Result<Option<Share<Expr>>, AllocError>
     ensures { IfOk result (λ after. after ≡ option_or written.now before.now) }
 {
-    match (written, before) {
-        (Some(condition), _) | (None, Some(condition)) => match condition.copy(alloc) {
-            Ok(condition) => Ok(Some(condition)),
-            Err(refused) => Err(refused),
-        },
-        (None, None) => Ok(None),
+    match written {
+        Some(_) => copy_shared(written),
+        None => copy_shared(before),
     }
 }

@@ -9,11 +9,12 @@ ghost use Rattle.rls_ddl.specs.Conditions as spec;
 ghost use Rattle.rls_ddl.specs.Conditions.{both_conditions, condition_fits, condition_names};
 
 use rls_expr::{
-    Expr, NameStep, NamedTable, Scope, TableDef, is_boolean, put_names_if, resolve_columns,
+    Expr, NameStep, NamedTable, Scope, TableDef, is_boolean, put_shared_names, resolve_columns,
     typing_of,
 };
 use rls_guard::{Found, is_unsupported, named_over};
 use rls_source::{Reads, RowSource};
+use rls_value::shared::Share;
 use rls_value::{Name, Refusal};
 use std::alloc::{AllocError, Global};
 
@@ -22,8 +23,8 @@ pub fn found_for<'c, S: RowSource<'c>>(
     alloc: Global,
     source: &mut S,
     read_set: &mut Reads,
-    using: &Option<Expr>,
-    check: &Option<Expr>,
+    using: &Option<Share<Expr>>,
+    check: &Option<Share<Expr>>,
     name: &Name,
     table: &'c TableDef,
 ) -> Result<Found<'c>, Refusal>
@@ -37,22 +38,22 @@ pub fn found_for<'c, S: RowSource<'c>>(
 
 fn names_of<'x>(
     alloc: Global,
-    using: &'x Option<Expr>,
-    check: &'x Option<Expr>,
+    using: &'x Option<Share<Expr>>,
+    check: &'x Option<Share<Expr>>,
 ) -> Result<Vec<NameStep<'x>>, AllocError>
     ensures { IfOk result (λ steps. map step_of steps.items ≡ condition_names «using».now check.now) }
 {
     let mut steps = Vec::new(alloc);
-    put_names_if(&mut steps, using)?;
-    put_names_if(&mut steps, check)?;
+    put_shared_names(&mut steps, using)?;
+    put_shared_names(&mut steps, check)?;
     Ok(steps)
 }
 
 /// USING and WITH CHECK have to be booleans.
 pub fn require_booleans<'x>(
     alloc: Global,
-    using: &Option<Expr>,
-    check: &Option<Expr>,
+    using: &Option<Share<Expr>>,
+    check: &Option<Share<Expr>>,
     name: &Name,
     table: &'x TableDef,
     known: &'x [NamedTable<'x>],
@@ -68,12 +69,16 @@ pub fn require_booleans<'x>(
     require_boolean(alloc, check, &scope)
 }
 
-fn require_boolean(alloc: Global, condition: &Option<Expr>, scope: &Scope) -> Result<(), Refusal>
+fn require_boolean(
+    alloc: Global,
+    condition: &Option<Share<Expr>>,
+    scope: &Scope,
+) -> Result<(), Refusal>
     ensures { Gives result (condition_fits (names_in scope.now) condition.now) }
 {
     match condition {
         None => Ok(()),
-        Some(expr) => require_boolean_expr(alloc, expr, scope),
+        Some(expr) => require_boolean_expr(alloc, expr.get(), scope),
     }
 }
 
@@ -93,8 +98,8 @@ fn require_boolean_expr(alloc: Global, expr: &Expr, scope: &Scope) -> Result<(),
 /// Nothing may stand in USING or in WITH CHECK that isn't supported.
 pub fn require_supported<'x>(
     alloc: Global,
-    using: &Option<Expr>,
-    check: &Option<Expr>,
+    using: &Option<Share<Expr>>,
+    check: &Option<Share<Expr>>,
     name: &Name,
     table: &'x TableDef,
     known: &'x [NamedTable<'x>],
@@ -112,14 +117,14 @@ pub fn require_supported<'x>(
 
 fn require_one_supported(
     alloc: Global,
-    condition: &Option<Expr>,
+    condition: &Option<Share<Expr>>,
     scope: &Scope,
 ) -> Result<(), Refusal>
     ensures { Gives result (spec.is_supported (names_in scope.now) condition.now) }
 {
     match condition {
         None => Ok(()),
-        Some(expr) => require_supported_expr(alloc, expr, scope),
+        Some(expr) => require_supported_expr(alloc, expr.get(), scope),
     }
 }
 

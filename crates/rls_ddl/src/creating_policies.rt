@@ -2,7 +2,8 @@
 
 ghost use Rattle.std.specs.Prelude.{◌≡◌, ◌∷◌, [], false, IfOk, OnOk};
 ghost use Rattle.rls_value.specs.Giving.{Gives};
-ghost use Rattle.rls_catalog.specs.PolicyLists.{InNameOrder, has_policy, with_policy};
+ghost use Rattle.rls_catalog.specs.PolicyLists as lists;
+ghost use Rattle.rls_catalog.specs.PolicyLists.{has_policy};
 ghost use Rattle.rls_source.specs.Answering.{Answers};
 ghost use Rattle.rls_guard.specs.{Effects.writes, Naming.names_over};
 ghost use Rattle.rls_ddl.specs.CreatingPolicies as spec;
@@ -11,7 +12,7 @@ ghost use Rattle.rls_ddl.specs.CreatingPolicies.{create_policy, policy_added, po
 use crate::conditions::{found_for, require_booleans, require_supported};
 use crate::named_policies::is_there;
 use crate::policies_written::written;
-use rls_catalog::{Change, PolicyList};
+use rls_catalog::{Change, Policies, with_policy};
 use rls_expr::{NamedTable, Policy, TableDef};
 use rls_guard::{Ctx, Effect, require_ownership};
 use rls_source::{Reads, RowSource, noted_policies, require_grantees, table_named};
@@ -109,10 +110,9 @@ fn make_policy<'c, S: RowSource<'c>>(
     role: &Name,
     name: &Name,
     table: &TableDef,
-    policies: &[Policy],
+    policies: &Policies,
     policy: &Policy,
 ) -> Result<Effect, Refusal>
-    requires ordered { InNameOrder policies.now }
     requires new { has_policy policies.now policy.now.name ≡ false }
     ensures { Answers S.state S.after (policy_made role.now name.now table.now policies.now policy.now) source.old source.new read_set.old read_set.new result }
 {
@@ -123,41 +123,20 @@ fn make_policy<'c, S: RowSource<'c>>(
 fn policies_changed(
     alloc: Global,
     table: &Name,
-    policies: &[Policy],
+    policies: &Policies,
     policy: &Policy,
 ) -> Result<Effect, AllocError>
-    requires ordered { InNameOrder policies.now }
     requires new { has_policy policies.now policy.now.name ≡ false }
-    ensures { IfOk result (λ effect. effect ≡ writes (Change.Policies table.now (with_policy policies.now policy.now) ∷ [])) }
+    ensures { IfOk result (λ effect. effect ≡ writes (Change.Policies table.now (lists.with_policy policies.now policy.now) ∷ [])) }
 {
-    let policies = policies_with(alloc, policies, policy)?;
-    written(alloc, table, policies)
-}
-
-/// The policies with one more, in its place.
-fn policies_with(
-    alloc: Global,
-    policies: &[Policy],
-    policy: &Policy,
-) -> Result<PolicyList, AllocError>
-    requires ordered { InNameOrder policies.now }
-    requires new { has_policy policies.now policy.now.name ≡ false }
-    ensures { IfOk result (λ all. all ≡ with_policy policies.now policy.now) }
-{
-    let policies = PolicyList::copy_of(alloc, policies)?;
-    match policy.copy(alloc) {
-        Ok(policy) => policies.with(policy),
-        Err(refused) => {
-            drop(policies);
-            Err(refused)
-        }
-    }
+    let all = with_policy(alloc, policies, policy.copy(alloc)?)?;
+    written(alloc, table, all)
 }
 
 /// The policy's name has to be new, its conditions to be booleans and supported, and there to be room for it.
 fn require_policy<'x>(
     alloc: Global,
-    policies: &[Policy],
+    policies: &Policies,
     name: &Name,
     table: &'x TableDef,
     known: &'x [NamedTable<'x>],

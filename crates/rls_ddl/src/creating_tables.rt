@@ -8,7 +8,7 @@ ghost use Rattle.rls_ddl.specs.CreatingTables.{table_with};
 ghost use Rattle.rls_guard.specs.rls_grant.specs.Granting.{own_grants, with_grants};
 
 use crate::primary_keys::{columns_of, key_places};
-use rls_catalog::{Change, Delta, Grant};
+use rls_catalog::{Change, Delta, Grants};
 use rls_expr::TableDef;
 use rls_guard::rls_grant::{own_grants, put_grants};
 use rls_guard::{Ctx, Effect};
@@ -70,7 +70,7 @@ fn made(
     owner: &Name,
     create: &CreateTable,
     key: &[usize],
-    grants: &[Grant],
+    grants: &Grants,
 ) -> Result<Effect, AllocError>
     ensures { IfOk result (λ effect. effect ≡ writes (Change.Table create.now.name (table_with owner.now create.now key.now) ∷ Change.Grants create.now.name (with_grants grants.now (own_grants owner.now)) ∷ [])) }
 {
@@ -99,7 +99,7 @@ fn grants_change(
     alloc: Global,
     owner: &Name,
     create: &CreateTable,
-    grants: &[Grant],
+    grants: &Grants,
 ) -> Result<Change, AllocError>
     ensures { IfOk result (λ change. change ≡ Change.Grants create.now.name (with_grants grants.now (own_grants owner.now))) }
 {
@@ -113,11 +113,11 @@ fn grants_change(
     }
 }
 
-fn with_own(alloc: Global, owner: &Name, grants: &[Grant]) -> Result<Items<Grant>, AllocError>
+fn with_own(alloc: Global, owner: &Name, grants: &Grants) -> Result<Grants, AllocError>
     ensures { IfOk result (λ all. all ≡ with_grants grants.now (own_grants owner.now)) }
 {
     let own = own_grants(alloc, owner)?;
-    match Grant::copy_all(alloc, grants) {
+    match grants.copy() {
         Ok(grants) => put_grants(alloc, grants, own),
         Err(refused) => {
             drop(own);

@@ -1,7 +1,7 @@
 //! DROP POLICY.
 
 ghost use Rattle.std.specs.Prelude.{◌≡◌, [], ◌∷◌, IfOk};
-ghost use Rattle.rls_catalog.specs.PolicyLists.{InNameOrder, without_policy};
+ghost use Rattle.rls_catalog.specs.PolicyLists as lists;
 ghost use Rattle.rls_source.specs.Answering.{Answers};
 ghost use Rattle.rls_guard.specs.Effects.{writes};
 ghost use Rattle.rls_ddl.specs.DroppingPolicies as spec;
@@ -9,8 +9,8 @@ ghost use Rattle.rls_ddl.specs.DroppingPolicies.{drop_policy, drop_on, policy_dr
 
 use crate::named_policies::policy_named;
 use crate::policies_written::written;
-use rls_catalog::{Change, PolicyList};
-use rls_expr::{Policy, TableDef};
+use rls_catalog::{Change, Policies, without_policy};
+use rls_expr::TableDef;
 use rls_guard::{Ctx, Effect, require_ownership};
 use rls_source::{Reads, RowSource, noted_policies, table_named};
 use rls_statement::DropPolicy;
@@ -56,10 +56,9 @@ fn drop_named<'c, S: RowSource<'c>>(
     read_set: &mut Reads,
     role: &Name,
     table: &TableDef,
-    policies: &[Policy],
+    policies: &Policies,
     drop: &DropPolicy,
 ) -> Result<Effect, Refusal>
-    requires ordered { InNameOrder policies.now }
     ensures { Answers S.state S.after (policy_dropped role.now table.now policies.now drop.now) source.old source.new read_set.old read_set.new result }
 {
     require_ownership(alloc, source, read_set, role, &drop.table, table)?;
@@ -68,14 +67,11 @@ fn drop_named<'c, S: RowSource<'c>>(
 
 fn policies_changed(
     alloc: Global,
-    policies: &[Policy],
+    policies: &Policies,
     dropped: &DropPolicy,
 ) -> Result<Effect, AllocError>
-    requires ordered { InNameOrder policies.now }
-    ensures { IfOk result (λ effect. effect ≡ writes (Change.Policies dropped.now.table (without_policy policies.now dropped.now.name) ∷ [])) }
+    ensures { IfOk result (λ effect. effect ≡ writes (Change.Policies dropped.now.table (lists.without_policy policies.now dropped.now.name) ∷ [])) }
 {
-    match PolicyList::copy_of(alloc, policies) {
-        Ok(policies) => written(alloc, &dropped.table, policies.without(&dropped.name)),
-        Err(refused) => Err(refused),
-    }
+    let left = without_policy(alloc, policies, &dropped.name)?;
+    written(alloc, &dropped.table, left)
 }

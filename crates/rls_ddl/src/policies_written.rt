@@ -3,13 +3,13 @@
 ghost use Rattle.std.specs.Prelude.{◌≡◌, [], ◌∷◌, IfOk};
 ghost use Rattle.rls_guard.specs.Effects.{writes};
 
-use rls_catalog::{Change, PolicyList};
+use rls_catalog::{Change, Policies};
 use rls_guard::Effect;
 use rls_value::Name;
 use std::alloc::{AllocError, Global};
 
 /// The table has these policies from now on.
-pub fn written(alloc: Global, table: &Name, policies: PolicyList) -> Result<Effect, AllocError>
+pub fn written(alloc: Global, table: &Name, policies: Policies) -> Result<Effect, AllocError>
     ensures { IfOk result (λ effect. effect ≡ writes (Change.Policies table.now policies ∷ [])) }
 {
     match table.copy() {

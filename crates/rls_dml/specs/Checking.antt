@@ -5,7 +5,7 @@ use Rattle.std.specs.List.{list_any, list_all}
 use Rattle.std.specs.Option.{option_map}
 use Rattle.rls_value.specs.{declared.refusal.Refusal.Refusal, declared.refusal.Refusal.TheVariants.TypeFault, declared.refusal.Refusal.TheVariants.Undefined, declared.refusal.Refusal.TheVariants.Unsupported}
 use Rattle.rls_value.specs.declared.refusal.NameKind.TheVariants as kind
-use Rattle.rls_expr.specs.{declared.table.Column.Column, declared.typing.Typing.Typing, Scopes.InScope, Tables.column_named, Parts.mentions}
+use Rattle.rls_expr.specs.{declared.table.Column.Column, declared.typing.Typing.Typing, Scopes.InScope, Tables.column_named, Parts.reads_target}
 use Rattle.rls_expr.specs.Terms.{Term, maybe_term, terms_of}
 use Rattle.rls_expr.specs.{Naming.Step, Naming.names_all, Resolving.Names, Resolving.resolved}
 use Rattle.rls_expr.specs.Typing.{type_of, is_typed, takes_boolean, goes_into}
@@ -125,12 +125,12 @@ supported_or_refused unsupported = if unsupported then Err Unsupported else Ok t
 -- the condition mentions a column
 abbrev pub where_reads : Option Term → Bool
 where_reads None = false
-where_reads (Some condition) = mentions 0 condition
+where_reads (Some condition) = reads_target condition
 
 -- so does what is selected: `*` stands for all columns
 abbrev pub selection_reads : Selected → Bool
 selection_reads selected.All = true
-selection_reads (selected.Items items) = list_any (mentions 0) items
+selection_reads (selected.Items items) = list_any reads_target items
 selection_reads selected.Count = false
 
 -- or RETURNING

@@ -3,7 +3,7 @@
 use Rattle.std.specs.Prelude.{ℕ, List, [], ◌∷◌, ◌++◌, Some, None, Bool, true, ◌&&◌, ◌||◌, Result, Ok, Err, length, map}
 use Rattle.std.specs.List.{list_any}
 use Rattle.rls_value.specs.{declared.refusal.Refusal.Refusal, declared.value.Value.Value, Giving.and_then, declared.verb.Privilege.Privilege, declared.verb.Kind.Kind}
-use Rattle.rls_expr.specs.{declared.table.Column.Column, declared.table.TableDef.TableDef, Parts.mentions, Scopes.InScope, Resolving.Names, Terms.Term, Naming.Step, Naming.Look, Naming.names_of}
+use Rattle.rls_expr.specs.{declared.table.Column.Column, declared.table.TableDef.TableDef, Parts.reads_target, Scopes.InScope, Resolving.Names, Terms.Term, Naming.Step, Naming.Look, Naming.names_of}
 use Rattle.rls_catalog.specs.{declared.change.Change.Change, declared.stored.Stored.Stored}
 use Rattle.rls_statement.specs.{declared.changing.Assignment.Assignment, declared.changing.Update.Update}
 use Rattle.rls_guard.specs.{declared.context.Ctx.Ctx, declared.role_privileges.RolePrivileges.RolePrivileges, declared.reply.Decision.Decision, declared.effect.Effect.Effect, Support.is_unsupported, RolePrivileges.role_privileges_of, Naming.named, Naming.names_over}
@@ -58,7 +58,7 @@ analysed_update_for update table = followed_by (named (analysed_update_names upd
 
 -- it reads the table where it mentions a column, to the right of SET's equal signs too
 abbrev pub analysed_update_reads : AnalysedUpdate → Bool
-analysed_update_reads analysed_update = list_any (λ assignment. mentions 0 assignment.1) analysed_update.assignments || (where_reads analysed_update.condition || returning_reads analysed_update.returning)
+analysed_update_reads analysed_update = list_any (λ assignment. reads_target assignment.1) analysed_update.assignments || (where_reads analysed_update.condition || returning_reads analysed_update.returning)
 
 -- ---- its rows
 

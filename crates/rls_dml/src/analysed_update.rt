@@ -3,7 +3,7 @@
 ghost use Rattle.std.specs.Prelude.{◌≡◌, [], ◌∷◌, ◌++◌, map, IfOk, OnOk};
 ghost use Rattle.std.specs.List.{list_any};
 ghost use Rattle.rls_value.specs.Giving.{Gives};
-ghost use Rattle.rls_expr.specs.{Parts.mentions, Naming.step_of, Resolving.names_in};
+ghost use Rattle.rls_expr.specs.{Parts.reads_target, Naming.step_of, Resolving.names_in};
 ghost use Rattle.rls_guard.specs.Naming.{named};
 ghost use Rattle.rls_source.specs.{Answering.Answers, Sequences.each_of};
 ghost use Rattle.rls_dml.specs.Updating as spec;
@@ -208,7 +208,7 @@ pub fn reads(analysed_update: &AnalysedUpdate) -> bool
 }
 
 fn assignments_read(assignments: &[(usize, Expr)]) -> bool
-    ensures { result ≡ list_any (λ assignment. mentions 0 assignment.1) assignments.now }
+    ensures { result ≡ list_any (λ assignment. reads_target assignment.1) assignments.now }
 {
     assignments
         .iter()

@@ -3,7 +3,7 @@
 ghost use Rattle.std.specs.Prelude.{◌≡◌, ◌++◌, map, slice_get, IfOk, OnOk};
 ghost use Rattle.std.specs.List.{list_any, list_all};
 ghost use Rattle.rls_value.specs.Giving.{Gives};
-ghost use Rattle.rls_expr.specs.{Parts.mentions, Naming.step_of, Resolving.names_in};
+ghost use Rattle.rls_expr.specs.{Parts.reads_target, Naming.step_of, Resolving.names_in};
 ghost use Rattle.rls_expansion.specs.Used.{tables_if};
 ghost use Rattle.rls_guard.specs.Checks.{is_unsupported_item as spec_unsupported_item};
 ghost use Rattle.rls_dml.specs.Checking as spec;
@@ -258,7 +258,7 @@ pub fn returning_reads(returning: &Option<Selected>) -> bool
 }
 
 fn mention_columns(exprs: &[Expr]) -> bool
-    ensures { result ≡ list_any (mentions 0) exprs.now }
+    ensures { result ≡ list_any reads_target exprs.now }
 {
     exprs.iter().any(|expr| reads_target(expr))
 }

@@ -16,7 +16,7 @@ use Rattle.rls_core.proofs.begin.Begin.TheSendSync as Begin
 use Rattle.rls_core.proofs.decisions.Decisions.TheSendSync as Decisions
 use Rattle.rls_core.specs.rls_siread.proofs.lock_table.LockTable.TheSendSync as LockTable
 use Rattle.rls_core.specs.rls_siread.proofs.sireads.Sireads.TheSendSync as Sireads
-use Rattle.shared_map.proofs.share.Share.TheSendSync as Share
+use Rattle.shared.proofs.share.Share.TheSendSync as Share
 use Rattle.rls_guard.specs.contracts.effect.Effect as Effect_
 use Rattle.rls_core.specs.rls_access.specs.contracts.outcome.Outcome as Outcome_
 use Rattle.rls_core.specs.contracts.work.Work as Work_
@@ -59,17 +59,17 @@ ruleset of_outcome_sync = (kept, Footprint.the_sync, Name.the_sync, effect_sync)
 pub outcome_sync : IsSync Outcome_.the_row
 outcome_sync = declared_sync Outcome_.the_type (search of_outcome_sync depth 16 fits 20000, (search of_outcome_sync depth 16 fits 20000, (search of_outcome_sync depth 16 fits 20000, tt)))
 
-ruleset of_work_send = (kept, statement_send, outcome_send)
+ruleset of_work_send = (kept, Share.the_send, statement_send, statement_sync, outcome_send)
 
 pub work_send : IsSend Work_.the_row
 work_send = declared_send Work_.the_type (search of_work_send depth 16 fits 20000, (search of_work_send depth 16 fits 20000, (search of_work_send depth 16 fits 20000, tt)))
 
-ruleset of_work_sync = (kept, statement_sync, outcome_sync)
+ruleset of_work_sync = (kept, Share.the_sync, statement_send, statement_sync, outcome_sync)
 
 pub work_sync : IsSync Work_.the_row
 work_sync = declared_sync Work_.the_type (search of_work_sync depth 16 fits 20000, (search of_work_sync depth 16 fits 20000, (search of_work_sync depth 16 fits 20000, tt)))
 
-ruleset of_posted_send = (kept, Decisions.the_send, statement_send, effect_send)
+ruleset of_posted_send = (kept, Decisions.the_send, Share.the_send, statement_send, statement_sync, effect_send)
 
 posted_inside_send : IsSend Posted_Inside.the_row
 posted_inside_send = declared_send Posted_Inside.the_type (search of_posted_send depth 16 fits 20000, (search of_posted_send depth 16 fits 20000, (search of_posted_send depth 16 fits 20000, tt)))
@@ -77,7 +77,7 @@ posted_inside_send = declared_send Posted_Inside.the_type (search of_posted_send
 pub posted_send : IsSend Posted_.the_row
 posted_send = search (sendable, posted_inside_send) depth 3
 
-ruleset of_posted_sync = (kept, Decisions.the_sync, statement_sync, effect_sync)
+ruleset of_posted_sync = (kept, Decisions.the_sync, Share.the_sync, statement_send, statement_sync, effect_sync)
 
 posted_inside_sync : IsSync Posted_Inside.the_row
 posted_inside_sync = declared_sync Posted_Inside.the_type (search of_posted_sync depth 16 fits 20000, (search of_posted_sync depth 16 fits 20000, (search of_posted_sync depth 16 fits 20000, tt)))

@@ -16,6 +16,7 @@ use Rattle.rls_engine.specs.declared.named.Named as named
 use Rattle.rls_value.proofs.name.Name.TheSendSync as Name
 use Rattle.rls_value.proofs.refusal.Refusal.TheSendSync as Refusal
 use Rattle.rls_guard.proofs.context.Ctx.TheSendSync as Ctx
+use Rattle.shared.proofs.share.Share.TheSendSync as Shared
 use Rattle.rls_engine.proofs.StatementsCross.{statement_send, statement_sync}
 use Rattle.rls_engine.proofs.CoreCrosses.{core_send, core_sync, record_send, record_sync, state_send, state_sync, work_send}
 use Rattle.rls_engine.specs.contracts.commit.Commit as Commit_
@@ -58,7 +59,7 @@ step_sync : IsSync Step_.the_row
 step_sync = search (sendable, step_inside_sync) depth 3
 
 pending_send : IsSend Pending_.the_row
-pending_send = declared_send Pending_.the_type (search (parts, statement_send) depth 12 fits 20000, (search (parts, work_send) depth 12 fits 20000, tt))
+pending_send = declared_send Pending_.the_type (search (parts, Shared.the_send, statement_send, statement_sync) depth 12 fits 20000, (search (parts, work_send) depth 12 fits 20000, tt))
 
 module _ (N : RattleType) (g : named.Ghosts N.Denot) (l : ledger.Ghosts N.Denot) (crosses : IsSend N) where
   place_inside_send : IsSend (Place_Inside.the_row N g l)

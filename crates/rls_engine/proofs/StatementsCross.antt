@@ -1,6 +1,6 @@
 -- Statements and states cross threads, part by part: what a search over a whole one gives up at.
 use denote.Param.Send.{IsSend, IsSync, sendable}
-use denote.Param.SendFields.{declared_send, declared_sync, variants_send, variants_sync, as_row_send, as_row_sync}
+use denote.Param.SendFields.{FieldsHave, declared_send, declared_sync, variants_send, variants_sync, as_row_send, as_row_sync}
 use Rattle.std.proofs.Crossing as crossing
 use Rattle.std.proofs.option.Option.TheSendSync as Option
 use Rattle.rls_value.proofs.value.Value.TheSendSync as Value
@@ -30,8 +30,9 @@ use Rattle.rls_catalog.proofs.grant.Grant.TheSendSync as Grant
 use Rattle.rls_catalog.proofs.role.Membership.TheSendSync as Membership
 use Rattle.rls_catalog.proofs.role.RoleDef.TheSendSync as RoleDef
 use Rattle.rls_catalog.proofs.table_rows.Rows.TheSendSync as Rows
-use Rattle.shared_map.proofs.share.Share.TheSendSync as Share
+use Rattle.shared.proofs.share.Share.TheSendSync as Share
 use Rattle.shared_map.proofs.map.SharedMap.TheSendSync as SharedMap
+use Rattle.shared_map.proofs.list.SharedList.TheSendSync as SharedList
 use Rattle.rls_expr.specs.contracts.expr.Expr as Expr_
 use Rattle.rls_expr.specs.contracts.policy.Policy as Policy_
 use Rattle.rls_statement.specs.contracts.statement.Selected as Selected_
@@ -43,7 +44,8 @@ use Rattle.rls_statement.specs.contracts.changing.Delete as Delete_
 use Rattle.rls_statement.specs.contracts.statement.CreatePolicy as CreatePolicy_
 use Rattle.rls_statement.specs.contracts.statement.AlterPolicy as AlterPolicy_
 use Rattle.rls_statement.specs.contracts.statement.Statement as Statement_
-use Rattle.rls_catalog.specs.contracts.policy_list.PolicyList as PolicyList_
+use Rattle.rls_catalog.specs.contracts.lists.NoItems as NoItems_
+use Rattle.rls_catalog.specs.contracts.lists.NoItems.TheInside as NoItems_Inside
 use Rattle.rls_catalog.specs.contracts.change.Change as Change_
 use Rattle.rls_catalog.specs.contracts.change.Delta as Delta_
 use Rattle.rls_catalog.specs.contracts.catalog.Catalog as Catalog_
@@ -61,10 +63,10 @@ pub expr_sync : IsSync Expr_.the_row
 expr_sync = search (kept, Value.the_field_sync, ColumnName.the_field_sync, Comparison.the_field_sync, FromItem.the_field_sync, Var.the_field_sync, Selects.the_field_sync, Sign.the_field_sync, knot.sync-Expr) depth 14 fits 20000
 
 pub policy_send : IsSend Policy_.the_row
-policy_send = search (kept, Name.the_send, PolicyKind.the_field_send, Items.the_send, Grantee.the_field_send, expr_send) depth 14 fits 20000
+policy_send = search (kept, Name.the_send, PolicyKind.the_field_send, Items.the_send, Grantee.the_field_send, Share.the_send, expr_send, expr_sync) depth 14 fits 20000
 
 pub policy_sync : IsSync Policy_.the_row
-policy_sync = search (kept, Name.the_sync, PolicyKind.the_field_sync, Items.the_sync, Grantee.the_field_sync, expr_sync) depth 14 fits 20000
+policy_sync = search (kept, Name.the_sync, PolicyKind.the_field_sync, Items.the_sync, Grantee.the_field_sync, Share.the_sync, expr_send, expr_sync) depth 14 fits 20000
 
 pub selected_send : IsSend Selected_.the_row
 selected_send = search (kept, Items.the_send, expr_send) depth 14 fits 20000
@@ -109,10 +111,10 @@ pub create_policy_sync : IsSync CreatePolicy_.the_row
 create_policy_sync = search (kept, Name.the_sync, policy_sync) depth 14 fits 20000
 
 pub alter_policy_send : IsSend AlterPolicy_.the_row
-alter_policy_send = search (kept, Name.the_send, Items.the_send, Grantee.the_field_send, expr_send) depth 14 fits 20000
+alter_policy_send = search (kept, Name.the_send, Items.the_send, Grantee.the_field_send, Share.the_send, expr_send, expr_sync) depth 14 fits 20000
 
 pub alter_policy_sync : IsSync AlterPolicy_.the_row
-alter_policy_sync = search (kept, Name.the_sync, Items.the_sync, Grantee.the_field_sync, expr_sync) depth 14 fits 20000
+alter_policy_sync = search (kept, Name.the_sync, Items.the_sync, Grantee.the_field_sync, Share.the_sync, expr_send, expr_sync) depth 14 fits 20000
 
 pub statement_send : IsSend Statement_.the_row
 statement_send = search (variants_send, as_row_send, AlterRole.the_field_send, AlterTable.the_field_send, CreateRole.the_field_send, CreateTable.the_field_send, DropPolicy.the_field_send, GrantPrivileges.the_field_send, GrantRoles.the_field_send, RevokePrivileges.the_field_send, RevokeRoles.the_field_send, SetRole.the_field_send, create_policy_send, alter_policy_send, insert_send, select_send, update_send, delete_send) depth 30 fits 20000
@@ -121,17 +123,33 @@ pub statement_sync : IsSync Statement_.the_row
 statement_sync = search (variants_sync, as_row_sync, AlterRole.the_field_sync, AlterTable.the_field_sync, CreateRole.the_field_sync, CreateTable.the_field_sync, DropPolicy.the_field_sync, GrantPrivileges.the_field_sync, GrantRoles.the_field_sync, RevokePrivileges.the_field_sync, RevokeRoles.the_field_sync, SetRole.the_field_sync, create_policy_sync, alter_policy_sync, insert_sync, select_sync, update_sync, delete_sync) depth 30 fits 20000
 
 -- ---- changes and states
-pub policy_list_send : IsSend PolicyList_.the_row
-policy_list_send = search (kept, policy_send) depth 14 fits 20000
+-- what lists hold, which their versions share
+ruleset listed = (kept, Name.the_send, Name.the_sync, Membership.the_field_send, Membership.the_field_sync, Grant.the_field_send, Grant.the_field_sync, Share.the_send, Share.the_sync, SharedList.the_send, SharedList.the_sync, policy_send, policy_sync)
 
-pub policy_list_sync : IsSync PolicyList_.the_row
-policy_list_sync = search (kept, policy_sync) depth 14 fits 20000
+-- what is lent where a name has no list: no memberships, grants and policies
+no_lists_send : FieldsHave IsSend NoItems_Inside.the_type.parts
+no_lists_send = (search listed depth 16 fits 20000, (search listed depth 16 fits 20000, (search listed depth 16 fits 20000, tt)))
+
+no_items_inside_send : IsSend NoItems_Inside.the_row
+no_items_inside_send = declared_send NoItems_Inside.the_type no_lists_send
+
+no_items_send : IsSend NoItems_.the_row
+no_items_send = search (sendable, no_items_inside_send) depth 3
+
+no_lists_sync : FieldsHave IsSync NoItems_Inside.the_type.parts
+no_lists_sync = (search listed depth 16 fits 20000, (search listed depth 16 fits 20000, (search listed depth 16 fits 20000, tt)))
+
+no_items_inside_sync : IsSync NoItems_Inside.the_row
+no_items_inside_sync = declared_sync NoItems_Inside.the_type no_lists_sync
+
+no_items_sync : IsSync NoItems_.the_row
+no_items_sync = search (sendable, no_items_inside_sync) depth 3
 
 pub change_send : IsSend Change_.the_row
-change_send = search (kept, Name.the_send, RoleDef.the_field_send, Items.the_send, Membership.the_field_send, TableDef.the_field_send, Grant.the_field_send, RowChange.the_field_send, policy_list_send) depth 18 fits 20000
+change_send = search (kept, Name.the_send, RoleDef.the_field_send, TableDef.the_field_send, RowChange.the_field_send, no_lists_send.0, no_lists_send.1.0, no_lists_send.1.1.0) depth 18 fits 20000
 
 pub change_sync : IsSync Change_.the_row
-change_sync = search (kept, Name.the_sync, RoleDef.the_field_sync, Items.the_sync, Membership.the_field_sync, TableDef.the_field_sync, Grant.the_field_sync, RowChange.the_field_sync, policy_list_sync) depth 18 fits 20000
+change_sync = search (kept, Name.the_sync, RoleDef.the_field_sync, TableDef.the_field_sync, RowChange.the_field_sync, no_lists_sync.0, no_lists_sync.1.0, no_lists_sync.1.1.0) depth 18 fits 20000
 
 pub delta_send : IsSend Delta_.the_row
 delta_send = search (kept, change_send) depth 14 fits 20000
@@ -140,16 +158,16 @@ pub delta_sync : IsSync Delta_.the_row
 delta_sync = search (kept, change_sync) depth 14 fits 20000
 
 -- what stands in the maps of a state, which their copies share
-ruleset mapped = (sendable, as_row_send, as_row_sync, Name.the_send, Name.the_sync, RoleDef.the_field_send, RoleDef.the_field_sync, Membership.the_field_send, Membership.the_field_sync, TableDef.the_field_send, TableDef.the_field_sync, Grant.the_field_send, Grant.the_field_sync, Rows.the_send, Rows.the_sync, Items.the_send, Items.the_sync, Share.the_send, Share.the_sync, SharedMap.the_send, SharedMap.the_sync, policy_list_send, policy_list_sync)
+ruleset mapped = (listed, RoleDef.the_field_send, RoleDef.the_field_sync, TableDef.the_field_send, TableDef.the_field_sync, Rows.the_send, Rows.the_sync, SharedMap.the_send, SharedMap.the_sync, no_items_send, no_items_sync)
 
 catalog_inside_send : IsSend Catalog_Inside.the_row
-catalog_inside_send = declared_send Catalog_Inside.the_type (search mapped depth 16 fits 20000, (search mapped depth 16 fits 20000, (search mapped depth 16 fits 20000, (search mapped depth 16 fits 20000, (search mapped depth 16 fits 20000, (search mapped depth 16 fits 20000, tt))))))
+catalog_inside_send = declared_send Catalog_Inside.the_type (search mapped depth 16 fits 20000, (search mapped depth 16 fits 20000, (search mapped depth 16 fits 20000, (search mapped depth 16 fits 20000, (search mapped depth 16 fits 20000, (search mapped depth 16 fits 20000, (search mapped depth 16 fits 20000, tt)))))))
 
 pub catalog_send : IsSend Catalog_.the_row
 catalog_send = search (sendable, catalog_inside_send) depth 3
 
 catalog_inside_sync : IsSync Catalog_Inside.the_row
-catalog_inside_sync = declared_sync Catalog_Inside.the_type (search mapped depth 16 fits 20000, (search mapped depth 16 fits 20000, (search mapped depth 16 fits 20000, (search mapped depth 16 fits 20000, (search mapped depth 16 fits 20000, (search mapped depth 16 fits 20000, tt))))))
+catalog_inside_sync = declared_sync Catalog_Inside.the_type (search mapped depth 16 fits 20000, (search mapped depth 16 fits 20000, (search mapped depth 16 fits 20000, (search mapped depth 16 fits 20000, (search mapped depth 16 fits 20000, (search mapped depth 16 fits 20000, (search mapped depth 16 fits 20000, tt)))))))
 
 pub catalog_sync : IsSync Catalog_.the_row
 catalog_sync = search (sendable, catalog_inside_sync) depth 3

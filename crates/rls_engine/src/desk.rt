@@ -208,7 +208,8 @@ impl<N: Named> Desk<N> {
             return Err(Refusal::Foreign);
         }
         let txn = held.txn;
-        let Ok(at) = steps.push_shown(rt, Step::posted(&self.core, txn, &work.statement)) else {
+        let Ok(at) = steps.push_shown(rt, Step::posted(&self.core, txn, work.statement.get()))
+        else {
             drop(work);
             return Err(Refusal::NoMemory);
         };

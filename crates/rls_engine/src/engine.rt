@@ -21,7 +21,8 @@ use crate::txn::Txn;
 use boxcar::Vec as Shared;
 use rls_core::{Begin, Core, Work};
 use rls_statement::Statement;
-use rls_value::{Name, Refusal};
+use rls_value::shared::Share;
+use rls_value::{Name, Refusal, or_drop};
 use std::alloc::{AllocError, Global};
 use std::hint::spin_loop;
 use std::marker::Model;
@@ -128,20 +129,19 @@ impl<N: Named> Engine<N> {
     }
 
     /// What the statement comes to on what is held, as it is pending.
-    pub(crate) fn run(&self, held: &Held<N>, statement: &Statement) -> Result<Pending, AllocError>
+    pub(crate) fn run(
+        &self,
+        held: &Held<N>,
+        statement: &Share<Statement>,
+    ) -> Result<Pending, AllocError>
         ensures { IfOk result (λ pending. (pending.statement ≡ statement.now) × IfSome pending.work (IsWorkOf held.now.txn held.now.stand statement.now)) }
     {
         let work = held.work(self.alloc, statement)?;
-        match statement.copy(self.alloc) {
-            Ok(statement) => Ok(Pending {
-                statement,
-                work: Some(work),
-            }),
-            Err(refused) => {
-                drop(work);
-                Err(refused)
-            }
-        }
+        let statement = or_drop!(statement.copy(), work);
+        Ok(Pending {
+            statement,
+            work: Some(work),
+        })
     }
 
     /// Posts what is pending, which is run again if what it came to isn't here any more.
@@ -172,7 +172,7 @@ impl<N: Named> Engine<N> {
         &self,
         rt: &R,
         held: &Held<N>,
-        statement: Statement,
+        statement: Share<Statement>,
         work: Work,
         next: Next,
     ) -> Posting

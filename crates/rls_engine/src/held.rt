@@ -17,7 +17,8 @@ use rls_core::Work;
 use rls_core::rls_access::{Ctx, Effect, Outcome, Reply, run_statement};
 use rls_core::rls_rows::State;
 use rls_statement::Statement;
-use rls_value::{Name, Refusal};
+use rls_value::shared::Share;
+use rls_value::{Name, Refusal, or_drop};
 use std::alloc::{AllocError, Global};
 use std::marker::Model;
 
@@ -59,23 +60,25 @@ pub(crate) struct Next {
 
 impl<N: Named> Held<N> {
     /// What the statement comes to.
-    pub(crate) fn work(&self, alloc: Global, statement: &Statement) -> Result<Work, AllocError>
+    pub(crate) fn work(
+        &self,
+        alloc: Global,
+        statement: &Share<Statement>,
+    ) -> Result<Work, AllocError>
         ensures work { IfOk result (IsWorkOn self.now.stand) }
         ensures asked { IfOk result (λ work. (work.txn ≡ self.now.txn) × (work.statement ≡ statement.now)) }
     {
-        let statement = statement.copy(alloc)?;
+        let statement = statement.copy()?;
         let mut source = self.view.view();
-        match run_statement(alloc, &mut source, &self.ctx, &statement) {
-            Ok(outcome) => Ok(Work {
-                txn: self.txn,
-                statement,
-                outcome,
-            }),
-            Err(refused) => {
-                drop(statement);
-                Err(refused)
-            }
-        }
+        let outcome = or_drop!(
+            run_statement(alloc, &mut source, &self.ctx, statement.get()),
+            statement
+        );
+        Ok(Work {
+            txn: self.txn,
+            statement,
+            outcome,
+        })
     }
 
     /// The role that its next statement is run in.

@@ -8,17 +8,18 @@ use boxcar::Pushed;
 use rls_core::Work;
 use rls_statement::Statement;
 use rls_value::Refusal;
+use rls_value::shared::Share;
 
 /// A statement that was run and isn't posted yet, with what it came to if that is still here.
 #[derive(Drop)]
 pub(crate) struct Pending {
-    pub(crate) statement: Statement,
+    pub(crate) statement: Share<Statement>,
     pub(crate) work: Option<Work>,
 }
 
 impl Pending {
     /// What it came to isn't here any more.
-    pub(crate) fn asked(statement: Statement) -> Pending
+    pub(crate) fn asked(statement: Share<Statement>) -> Pending
         ensures { result ≡ record { statement = statement; work = None } }
     {
         Pending {

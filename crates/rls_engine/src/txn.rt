@@ -16,6 +16,7 @@ use crate::receipt::Receipt;
 use crate::step::Step;
 use boxcar::Pushed;
 use rls_statement::Statement;
+use rls_value::shared::Share;
 use rls_value::{Name, Refusal};
 use std::alloc::AllocError;
 use std::marker::Model;
@@ -104,7 +105,7 @@ impl<'a, N: Named> Txn<'a, N> {
 
     /// Computes a statement on the snapshot under the transaction's own changes, and leaves it pending, in place of one that was
     /// pending before. It waits for nobody. Where the transaction is over it does nothing.
-    pub fn run(&mut self, statement: &Statement) -> Result<(), AllocError>
+    pub fn run(&mut self, statement: &Share<Statement>) -> Result<(), AllocError>
         requires { N.asks statement.now }
         ensures ok { OnOk result (self.old.over ≡ None → self.new ≡ with_pending self.old statement.now) }
         ensures over { is_some self.old.over ≡ true → self.new ≡ self.old }

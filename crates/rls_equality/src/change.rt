@@ -1,7 +1,7 @@
 //! Equality of changes, and of what row security says of a row.
 
 use crate::same::{Same, are_both_same, are_same};
-use rls_catalog::{Change, Delta, PolicyList, RowChange, Verdict};
+use rls_catalog::{Change, Delta, RowChange, Verdict};
 
 impl Same for Delta {
     fn is_same(&self, other: &Delta) -> bool {
@@ -39,12 +39,6 @@ impl Same for RowChange {
             && self.id.is_same(&other.id)
             && are_both_same(self.before.as_ref(), other.before.as_ref())
             && are_both_same(self.after.as_ref(), other.after.as_ref())
-    }
-}
-
-impl Same for PolicyList {
-    fn is_same(&self, other: &PolicyList) -> bool {
-        are_same(self.as_slice(), other.as_slice())
     }
 }
 

@@ -53,6 +53,8 @@ impl Same for Grant {
             && self.grantee.is_same(&other.grantee)
             && self.grantor.is_same(&other.grantor)
             && self.option == other.option
+            && are_both_same(self.column.as_ref(), other.column.as_ref())
+            && self.place == other.place
     }
 }
 

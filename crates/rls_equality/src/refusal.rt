@@ -42,6 +42,9 @@ impl Same for Why {
             (Why::Privilege(privilege, table), Why::Privilege(other, another)) => {
                 *privilege == *other && table.is_same(another)
             }
+            (Why::Column(privilege, table, column), Why::Column(other, another, last)) => {
+                *privilege == *other && table.is_same(another) && column.is_same(last)
+            }
             (Why::Owner(table), Why::Owner(other)) => table.is_same(other),
             (Why::Admin(role), Why::Admin(other)) => role.is_same(other),
             (Why::SetRole(role), Why::SetRole(other)) => role.is_same(other),

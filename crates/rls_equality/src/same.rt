@@ -4,6 +4,7 @@ ghost use Rattle.std.specs.Prelude.{◌≡◌, true, ◌↔◌};
 ghost use Rattle.std.specs.Option.{option_copied};
 
 use rls_catalog::rls_value::Items;
+use rls_catalog::shared_map::{HasKey, Share, Shared, SharedList, Values};
 
 /// Values that can be told apart.
 pub trait Same {
@@ -16,6 +17,38 @@ impl<T: Same> Same for Items<T> {
     fn is_same(&self, other: &Items<T>) -> bool {
         are_same(self.as_slice(), other.as_slice())
     }
+}
+
+impl<T: Same + Drop> Same for Share<T> {
+    fn is_same(&self, other: &Share<T>) -> bool {
+        self.get().is_same(other.get())
+    }
+}
+
+impl<K: Ord + Shared, T: HasKey<K> + Shared + Same> Same for SharedList<K, T> {
+    fn is_same(&self, other: &SharedList<K, T>) -> bool {
+        are_left_same(self.iter(), other.iter())
+    }
+}
+
+/// Whether the same items are left in both lists, in order.
+fn are_left_same<K: Ord + Shared, T: Shared + Same>(
+    mut left: Values<'_, K, T>,
+    mut right: Values<'_, K, T>,
+) -> bool
+    ensures { (result ≡ true) ↔ (left.entry ≡ right.entry) }
+{
+    while let Some(first) = left.next() {
+        match right.next() {
+            Some(other) => {
+                if !first.is_same(other) {
+                    return false;
+                }
+            }
+            None => return false,
+        }
+    }
+    right.next().is_none()
 }
 
 /// Whether the two lists have the same elements, in order.

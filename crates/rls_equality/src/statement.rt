@@ -3,8 +3,8 @@
 use crate::same::{Same, are_both_same};
 use rls_statement::{
     AlterPolicy, AlterRole, AlterTable, Assignment, CreatePolicy, CreateRole, CreateTable, Delete,
-    DropPolicy, GrantPrivileges, GrantRoles, Insert, MarkedColumn, Privileges, RevokePrivileges,
-    RevokeRoles, Select, Selected, SetRole, Statement, Update,
+    DropPolicy, Extent, GrantPrivileges, GrantRoles, Insert, MarkedColumn, Privileges,
+    RevokePrivileges, RevokeRoles, Select, Selected, SetRole, Statement, Update,
 };
 
 impl Same for Statement {
@@ -134,7 +134,16 @@ impl Same for SetRole {
 
 impl Same for Privileges {
     fn is_same(&self, other: &Privileges) -> bool {
-        *self == *other
+        self.select.is_same(&other.select)
+            && self.insert.is_same(&other.insert)
+            && self.update.is_same(&other.update)
+            && self.delete == other.delete
+    }
+}
+
+impl Same for Extent {
+    fn is_same(&self, other: &Extent) -> bool {
+        self.whole == other.whole && self.columns.is_same(&other.columns)
     }
 }
 

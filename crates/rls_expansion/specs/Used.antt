@@ -5,26 +5,11 @@ use Rattle.rls_value.specs.{declared.verb.Kind.Kind, declared.verb.PolicyKind.Po
 use Rattle.rls_value.specs.declared.verb.Kind.TheVariants as k
 use Rattle.rls_value.specs.declared.verb.PolicyKind.TheVariants as pk
 use Rattle.rls_expr.specs.{declared.policy.Policy.Policy, Parts.has_query, Terms.Term}
-use Rattle.rls_expr.specs.Naming.{Step, Look, Enter, Leave, names_of}
+pub use Rattle.rls_expr.specs.Naming.{entered, tables_of}
 use Rattle.rls_recursion.specs.rls_catalog.specs.{declared.verdict.Side.Side, Privileges.includes, Verdict.is_for_kind}
 use Rattle.rls_recursion.specs.rls_catalog.specs.declared.verdict.Side.TheVariants as side
 
 -- ---- the tables in an expression
-
--- the table of a step at which a subquery begins, in front of the others
-abbrev pub with_entered : Step → List (List ℕ) → List (List ℕ)
-with_entered (Look name) tables = tables
-with_entered (Enter from) tables = from.table ∷ tables
-with_entered Leave tables = tables
-
--- the tables of the subqueries that begin at the steps
-abbrev pub entered : List Step → List (List ℕ)
-entered [] = []
-entered (step ∷ steps) = with_entered step (entered steps)
-
--- the tables of an expression's subqueries, nested ones too, in text order
-abbrev pub tables_of : Term → List (List ℕ)
-tables_of term = entered (names_of term)
 
 -- those of an expression that may be left out
 abbrev pub tables_if : Option Term → List (List ℕ)

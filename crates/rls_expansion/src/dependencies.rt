@@ -15,7 +15,7 @@ use rls_guard::rls_policy::chosen;
 use rls_guard::rls_role::is_among;
 use rls_guard::rls_source::{Reads, RowSource, noted_table};
 use rls_recursion::PolicyDependency;
-use rls_recursion::rls_catalog::Side;
+use rls_recursion::rls_catalog::{Policies, Side};
 use rls_value::{Items, Kind, Name, Reference};
 use std::alloc::{AllocError, Global};
 
@@ -115,7 +115,7 @@ fn dependency_by<'c>(
     role_privileges: &RolePrivileges,
     name: &Name,
     table: &'c TableDef,
-    policies: Option<&'c [Policy]>,
+    policies: Option<&'c Policies>,
 ) -> Result<PolicyDependency<'c>, AllocError>
     ensures { IfOk result (λ dependency. dependency ≡ spec.dependency_by role_privileges.now name.now table.now (option_copied policies.entry)) }
 {
@@ -130,7 +130,7 @@ fn with_quals<'c>(
     role_privileges: &RolePrivileges,
     name: &Name,
     table: &'c TableDef,
-    policies: &'c [Policy],
+    policies: &'c Policies,
 ) -> Result<PolicyDependency<'c>, AllocError>
     ensures { IfOk result (λ dependency. dependency ≡ spec.with_quals role_privileges.now name.now table.now policies.now) }
 {

@@ -11,11 +11,11 @@ use crate::dependencies::dependencies_of;
 use crate::policies::policies_for;
 use crate::relations::{known_in, relations_of};
 use crate::used::tables_used;
-use rls_expr::{FromTable, NamedTable, Policy};
+use rls_expr::{FromTable, NamedTable};
 use rls_guard::rls_evaluation::SecuredRelation;
 use rls_guard::rls_source::{Reads, RowSource};
 use rls_guard::{PolicyScope, RolePrivileges, RowCheck, row_checks_by};
-use rls_recursion::rls_catalog::Side;
+use rls_recursion::rls_catalog::{Policies, Side};
 use rls_recursion::{PolicyDependency, Reached, search};
 use rls_value::{Items, Kind, Name, Refusal};
 use std::alloc::{AllocError, Global};
@@ -86,7 +86,7 @@ fn past_policies<'c, 'x, S: RowSource<'c>>(
     role_privileges: &RolePrivileges,
     from: FromTable<'x>,
     command: Command,
-    policies: Option<&'c [Policy]>,
+    policies: Option<&'c Policies>,
     queries: &[Name],
 ) -> Result<PolicyExpansion<'c>, Refusal>
     ensures { Answers S.state S.after (spec.past_policies role_privileges.now from.entry.name.now from.entry.table.now command.kind command.reads queries.now (option_copied policies.entry)) source.old source.new read_set.old read_set.new result }
@@ -116,7 +116,7 @@ fn tables_from(
     alloc: Global,
     role_privileges: &RolePrivileges,
     command: Command,
-    policies: Option<&[Policy]>,
+    policies: Option<&Policies>,
     queries: &[Name],
 ) -> Result<Items<Name>, AllocError>
     ensures { IfOk result (λ tables. tables ≡ spec.own_tables role_privileges.now command.kind command.reads (option_copied policies.entry) ++ queries.now) }
@@ -132,7 +132,7 @@ fn own_tables(
     alloc: Global,
     role_privileges: &RolePrivileges,
     command: Command,
-    policies: Option<&[Policy]>,
+    policies: Option<&Policies>,
 ) -> Result<Items<Name>, AllocError>
     ensures { IfOk result (λ tables. tables ≡ spec.own_tables role_privileges.now command.kind command.reads (option_copied policies.entry)) }
 {
@@ -195,7 +195,7 @@ fn expand<'c, 'x>(
     role_privileges: &RolePrivileges,
     from: FromTable<'x>,
     command: Command,
-    policies: Option<&'c [Policy]>,
+    policies: Option<&'c Policies>,
     queries: &[Name],
     dependencies: &[PolicyDependency<'c>],
 ) -> Result<PolicyExpansion<'c>, Refusal>
@@ -222,7 +222,7 @@ fn expanded_from<'c, 'x>(
     role_privileges: &RolePrivileges,
     from: FromTable<'x>,
     command: Command,
-    policies: Option<&'c [Policy]>,
+    policies: Option<&'c Policies>,
     dependencies: &[PolicyDependency<'c>],
     reached: Reached,
 ) -> Result<PolicyExpansion<'c>, AllocError>
@@ -265,7 +265,7 @@ fn both_sides<'c, 'x>(
     role_privileges: &RolePrivileges,
     from: FromTable<'x>,
     command: Command,
-    policies: Option<&'c [Policy]>,
+    policies: Option<&'c Policies>,
     found: &'x [NamedTable<'x>],
 ) -> Result<(Items<RowCheck<'c>>, Items<RowCheck<'c>>), AllocError>
     ensures old { IfOk result (λ both. both.0 ≡ spec.row_checks_if (spec.judges_old command.kind) role_privileges.now command.kind command.reads (in_scope from.entry) found.now (option_copied policies.entry) Side.Old) }
@@ -306,7 +306,7 @@ fn row_checks_if<'c, 'x>(
     role_privileges: &RolePrivileges,
     scope: PolicyScope<'x>,
     command: Command,
-    policies: Option<&'c [Policy]>,
+    policies: Option<&'c Policies>,
     side: Side,
 ) -> Result<Items<RowCheck<'c>>, AllocError>
     ensures { IfOk result (λ row_checks. row_checks ≡ spec.row_checks_if judges role_privileges.now command.kind command.reads (in_scope scope.entry.from) scope.entry.found.now (option_copied policies.entry) side) }

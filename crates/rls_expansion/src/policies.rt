@@ -4,9 +4,10 @@ ghost use Rattle.rls_guard.specs.rls_source.specs.Answering.{Tells};
 ghost use Rattle.rls_expansion.specs.Policies as spec;
 ghost use Rattle.rls_expansion.specs.Policies.{policies_borrowed};
 
-use rls_expr::{Policy, TableDef};
+use rls_expr::TableDef;
 use rls_guard::RolePrivileges;
 use rls_guard::rls_source::{Reads, RowSource, noted_policies};
+use rls_recursion::rls_catalog::Policies;
 use rls_value::Name;
 use std::alloc::{AllocError, Global};
 
@@ -20,7 +21,7 @@ pub fn policies_for<'c, S: RowSource<'c>>(
     role_privileges: &RolePrivileges,
     name: &Name,
     table: &TableDef,
-) -> Result<Option<&'c [Policy]>, AllocError>
+) -> Result<Option<&'c Policies>, AllocError>
     ensures { Tells S.state S.after (spec.policies_for role_privileges.now name.now table.now) source.old source.new read_set.old read_set.new (policies_borrowed result) }
 {
     if role_privileges.is_exempt(table) {

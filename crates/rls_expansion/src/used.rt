@@ -9,7 +9,8 @@ ghost use Rattle.rls_expansion.specs.Used as spec;
 
 use rls_expr::{Expr, NameStep, Policy, has_query, put_names};
 use rls_guard::rls_role::EffectiveRoles;
-use rls_recursion::rls_catalog::Side;
+use rls_recursion::rls_catalog::{Policies, Side};
+use rls_value::shared::Share;
 use rls_value::{Items, Kind, Name, PolicyKind};
 use std::alloc::{AllocError, Global};
 
@@ -17,15 +18,15 @@ use std::alloc::{AllocError, Global};
 /// in their order, first those in USING, then those in WITH CHECK, in text order.
 pub fn tables_used(
     alloc: Global,
-    policies: &[Policy],
+    policies: &Policies,
     effective_roles: &EffectiveRoles,
     asks: &[(Kind, Side)],
 ) -> Result<Items<Name>, AllocError>
     ensures { IfOk result (λ tables. tables ≡ spec.tables_used effective_roles.now.superuser effective_roles.now.names asks.now policies.now) }
 {
     let mut tables = Items::new(alloc);
-    for policy in policies {
-        put_used(alloc, &mut tables, policy, effective_roles, asks)?;
+    for policy in policies.iter() {
+        put_used(alloc, &mut tables, policy.get(), effective_roles, asks)?;
     }
     Ok(tables)
 }
@@ -75,14 +76,14 @@ fn put_tables_where(
     alloc: Global,
     tables: &mut Items<Name>,
     asked: bool,
-    expr: &Option<Expr>,
+    expr: &Option<Share<Expr>>,
 ) -> Result<(), AllocError>
     ensures { OnOk result (tables.new ≡ tables.old ++ spec.tables_where asked expr.now) }
 {
     match expr {
         Some(expr) => {
             if asked {
-                put_tables(alloc, tables, expr)
+                put_tables(alloc, tables, expr.get())
             } else {
                 Ok(())
             }
@@ -225,11 +226,11 @@ pub fn holds_subquery(policy: &Policy) -> bool
     has_query_if(&policy.using) || has_query_if(&policy.check)
 }
 
-fn has_query_if(expr: &Option<Expr>) -> bool
+fn has_query_if(expr: &Option<Share<Expr>>) -> bool
     ensures { result ≡ spec.has_query_if expr.now }
 {
     match expr {
-        Some(expr) => has_query(expr),
+        Some(expr) => has_query(expr.get()),
         None => false,
     }
 }

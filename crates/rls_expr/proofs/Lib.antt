@@ -1,3 +1,4 @@
 pub mod ResolvingLemmas
 pub mod TypingLemmas
 pub mod TermSizes
+pub mod SelectingLaws

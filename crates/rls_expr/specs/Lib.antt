@@ -8,4 +8,5 @@ pub mod Naming
 pub mod Typing
 pub mod Resolving
 pub mod Parts
+pub mod Selecting
 pub use Rattle.rls_value

@@ -1,5 +1,5 @@
 -- The names in an expression, in text order.
-use Rattle.std.specs.Prelude.{List, [], ◌∷◌, ◌++◌, None}
+use Rattle.std.specs.Prelude.{ℕ, List, [], ◌∷◌, ◌++◌, None}
 use Rattle.rls_expr.specs.declared.column_name.ColumnName.{ColumnName}
 use Rattle.rls_expr.specs.declared.expr.FromItem.{FromItem}
 use Rattle.rls_expr.specs.declared.names.NameStep.{NameStep}
@@ -41,6 +41,25 @@ abbrev mutual
   pub names_all : Terms → List Step
   names_all End = []
   names_all (More t ts) = names_of t ++ names_all ts
+
+-- ---- the tables in an expression
+
+-- the table of a step at which a subquery begins, in front of the others
+abbrev pub with_entered : Step → List (List ℕ) → List (List ℕ)
+with_entered (Look name) tables = tables
+with_entered (Enter from) tables = from.table ∷ tables
+with_entered Leave tables = tables
+
+-- the tables of the subqueries that begin at the steps
+abbrev pub entered : List Step → List (List ℕ)
+entered [] = []
+entered (step ∷ steps) = with_entered step (entered steps)
+
+-- the tables of an expression's subqueries, nested ones too, in text order
+abbrev pub tables_of : Term → List (List ℕ)
+tables_of term = entered (names_of term)
+
+-- ---- steps in code
 
 -- a step as the code has it; a column of the target has no qualifier
 abbrev pub step_of : NameStep → Step

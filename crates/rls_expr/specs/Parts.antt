@@ -1,5 +1,7 @@
 -- What stands in an expression: a sum, a subquery, or a column of one of the tables in scope.
-use Rattle.std.specs.Prelude.{ℕ, zero, suc, nat_eq, Bool, true, false, ◌||◌}
+use Rattle.std.specs.Prelude.{ℕ, zero, suc, nat_eq, Bool, true, false, ◌&&◌, ◌||◌}
+use Rattle.rls_expr.specs.declared.parts.Wanted.{Wanted}
+use Rattle.rls_expr.specs.declared.parts.Wanted.TheVariants as w
 use Rattle.rls_expr.specs.declared.parts.Nesting.{Nesting, Innermost, Inside'}
 use Rattle.rls_expr.specs.Terms.{Term, Terms, Query, Literal, Column, Var, CurrentUser, Compare, And, Or, Not, IsNull, IsNotNull, InList, NotInList, Exists, InSubquery, NotInSubquery, Scalar, Sum, End, More, Select}
 
@@ -55,37 +57,46 @@ abbrev mutual
   have_query End = false
   have_query (More t ts) = has_query t || have_query ts
 
+-- which columns are wanted: any, or the one at a place
+abbrev pub is_wanted : Wanted → ℕ → Bool
+is_wanted w.Any = λ _. true
+is_wanted (w.At place) = nat_eq place
+
 -- how many levels up
 abbrev pub nesting_of : Nesting → ℕ
 nesting_of Innermost = zero
 nesting_of (Inside' p outer) = suc (nesting_of outer)
 
 abbrev mutual
-  -- a column of the table so many levels up stands in it; inside a subquery it is one level further up
-  pub mentions : ℕ → Term → Bool
-  mentions table (Literal v) = false
-  mentions table (Column name) = false
-  mentions table (Var at) = nat_eq at.level table
-  mentions table CurrentUser = false
-  mentions table (Compare how a b) = mentions table a || mentions table b
-  mentions table (And ts) = some_mentions table ts
-  mentions table (Or ts) = some_mentions table ts
-  mentions table (Not t) = mentions table t
-  mentions table (IsNull t) = mentions table t
-  mentions table (IsNotNull t) = mentions table t
-  mentions table (InList t ts) = mentions table t || some_mentions table ts
-  mentions table (NotInList t ts) = mentions table t || some_mentions table ts
-  mentions table (Exists q) = query_mentions table q
-  mentions table (InSubquery t q) = mentions table t || query_mentions table q
-  mentions table (NotInSubquery t q) = mentions table t || query_mentions table q
-  mentions table (Scalar q) = query_mentions table q
-  mentions table (Sum signs ts) = some_mentions table ts
+  -- a column that is wanted, of the table so many levels up, stands in it; inside a subquery that is one level further up
+  pub mentions : (ℕ → Bool) → ℕ → Term → Bool
+  mentions is_wanted table (Literal v) = false
+  mentions is_wanted table (Column name) = false
+  mentions is_wanted table (Var at) = nat_eq at.level table && is_wanted at.column
+  mentions is_wanted table CurrentUser = false
+  mentions is_wanted table (Compare how a b) = mentions is_wanted table a || mentions is_wanted table b
+  mentions is_wanted table (And ts) = some_mentions is_wanted table ts
+  mentions is_wanted table (Or ts) = some_mentions is_wanted table ts
+  mentions is_wanted table (Not t) = mentions is_wanted table t
+  mentions is_wanted table (IsNull t) = mentions is_wanted table t
+  mentions is_wanted table (IsNotNull t) = mentions is_wanted table t
+  mentions is_wanted table (InList t ts) = mentions is_wanted table t || some_mentions is_wanted table ts
+  mentions is_wanted table (NotInList t ts) = mentions is_wanted table t || some_mentions is_wanted table ts
+  mentions is_wanted table (Exists q) = query_mentions is_wanted table q
+  mentions is_wanted table (InSubquery t q) = mentions is_wanted table t || query_mentions is_wanted table q
+  mentions is_wanted table (NotInSubquery t q) = mentions is_wanted table t || query_mentions is_wanted table q
+  mentions is_wanted table (Scalar q) = query_mentions is_wanted table q
+  mentions is_wanted table (Sum signs ts) = some_mentions is_wanted table ts
 
   -- in the items, or in WHERE
-  pub query_mentions : ℕ → Query → Bool
-  query_mentions table (Select from key selects items condition) = some_mentions (suc table) items || some_mentions (suc table) condition
+  pub query_mentions : (ℕ → Bool) → ℕ → Query → Bool
+  query_mentions is_wanted table (Select from key selects items condition) = some_mentions is_wanted (suc table) items || some_mentions is_wanted (suc table) condition
 
   -- in one of them
-  pub some_mentions : ℕ → Terms → Bool
-  some_mentions table End = false
-  some_mentions table (More t ts) = mentions table t || some_mentions table ts
+  pub some_mentions : (ℕ → Bool) → ℕ → Terms → Bool
+  some_mentions is_wanted table End = false
+  some_mentions is_wanted table (More t ts) = mentions is_wanted table t || some_mentions is_wanted table ts
+
+-- a column of the target stands in it
+abbrev pub reads_target : Term → Bool
+reads_target = mentions (λ _. true) 0

@@ -2,7 +2,7 @@
 
 ghost use Rattle.std.specs.Prelude.{◌≡◌, IfOk};
 
-use rls_value::Name;
+use rls_value::{Name, or_drop};
 use std::alloc::AllocError;
 
 /// The name of a column, with what qualifies it where that is written: `t.a`, or `a`.
@@ -27,13 +27,8 @@ impl ColumnName {
         ensures { IfOk result (λ column. column ≡ self.now) }
     {
         let qualifier = copy_qualifier(&self.qualifier)?;
-        match self.name.copy() {
-            Ok(name) => Ok(ColumnName { qualifier, name }),
-            Err(refused) => {
-                drop(qualifier);
-                Err(refused)
-            }
-        }
+        let name = or_drop!(self.name.copy(), qualifier);
+        Ok(ColumnName { qualifier, name })
     }
 }
 
@@ -41,10 +36,7 @@ fn copy_qualifier(qualifier: &Option<Name>) -> Result<Option<Name>, AllocError>
     ensures { IfOk result (λ copied. copied ≡ qualifier.now) }
 {
     match qualifier {
-        Some(name) => match name.copy() {
-            Ok(name) => Ok(Some(name)),
-            Err(refused) => Err(refused),
-        },
+        Some(name) => Ok(Some(name.copy()?)),
         None => Ok(None),
     }
 }

@@ -5,7 +5,7 @@ ghost use Rattle.rls_expr.specs.ExprTerms.{term_of, query_of};
 ghost use Rattle.rls_expr.specs.Terms.{qualifier_of};
 
 use crate::column_name::ColumnName;
-use rls_value::{Name, Value};
+use rls_value::{Name, Value, or_drop};
 use std::alloc::{AllocError, Global};
 use std::marker::Model;
 
@@ -109,13 +109,8 @@ impl FromItem {
         ensures { IfOk result (λ from. from ≡ self.now) }
     {
         let alias = copy_name(&self.alias)?;
-        match self.table.copy() {
-            Ok(table) => Ok(FromItem { table, alias }),
-            Err(refused) => {
-                drop(alias);
-                Err(refused)
-            }
-        }
+        let table = or_drop!(self.table.copy(), alias);
+        Ok(FromItem { table, alias })
     }
 }
 
@@ -257,10 +252,7 @@ fn copy_condition(alloc: Global, condition: &Option<Expr>) -> Result<Option<Expr
 {
     match condition {
         None => Ok(None),
-        Some(condition) => match condition.copy(alloc) {
-            Ok(condition) => Ok(Some(condition)),
-            Err(refused) => Err(refused),
-        },
+        Some(condition) => Ok(Some(condition.copy(alloc)?)),
     }
 }
 
@@ -286,10 +278,7 @@ fn copy_name(name: &Option<Name>) -> Result<Option<Name>, AllocError>
     ensures { IfOk result (λ copied. copied ≡ name.now) }
 {
     match name {
-        Some(name) => match name.copy() {
-            Ok(name) => Ok(Some(name)),
-            Err(refused) => Err(refused),
-        },
+        Some(name) => Ok(Some(name.copy()?)),
         None => Ok(None),
     }
 }

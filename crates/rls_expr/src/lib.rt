@@ -2,7 +2,9 @@
 #![tactic(auto)]
 
 mod column_name;
+mod columns;
 mod expr;
+mod laws;
 mod names;
 mod parts;
 mod policy;
@@ -12,12 +14,14 @@ mod table;
 mod typing;
 
 pub use column_name::ColumnName;
+pub use columns::{SelectedTable, columns_of};
 pub use expr::{
     Category, Comparison, Expr, FromItem, Node, Selects, Sign, Subquery, Var, boxed, boxed_query,
 };
-pub use names::{NameStep, put_all_names, put_names, put_names_if, put_step};
-pub use parts::{has_query, has_sum, reads_target};
-pub use policy::{Grantee, Policy};
+pub use laws::selected_tables_are_named;
+pub use names::{NameStep, put_all_names, put_names, put_names_if, put_shared_names, put_step};
+pub use parts::{has_query, has_sum, reads_column, reads_target};
+pub use policy::{Grantee, Policy, copy_shared, shared_expr};
 pub use resolving::{Scope, resolve_columns};
 pub use rls_value;
 pub use scope::{FromTable, NamedTable, inside, known_table, unqualified, var_of};

@@ -9,6 +9,7 @@ ghost use Rattle.rls_expr.specs.Terms.{maybe_term, terms_of};
 use crate::column_name::ColumnName;
 use crate::expr::{Expr, FromItem, Node, Subquery};
 use rls_value::Name;
+use rls_value::shared::Share;
 use std::alloc::AllocError;
 
 /// A step through the names of an expression, or of a statement.
@@ -74,6 +75,19 @@ pub fn put_names_if<'x>(
     match condition {
         None => Ok(()),
         Some(condition) => put_names(steps, condition),
+    }
+}
+
+/// Those of a condition that is shared, if there is one.
+pub fn put_shared_names<'x>(
+    steps: &mut Vec<NameStep<'x>>,
+    condition: &'x Option<Share<Expr>>,
+) -> Result<(), AllocError>
+    ensures { OnOk result (map step_of steps.new.items ≡ map step_of steps.old.items ++ names_all (maybe_term condition.now)) }
+{
+    match condition {
+        None => Ok(()),
+        Some(condition) => put_names(steps, condition.get()),
     }
 }
 

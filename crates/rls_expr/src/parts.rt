@@ -3,7 +3,7 @@
 ghost use Rattle.std.specs.Prelude.{◌≡◌, nat_eq};
 ghost use Rattle.rls_expr.specs.ExprTerms.{query_of};
 ghost use Rattle.rls_expr.specs.Parts as spec;
-ghost use Rattle.rls_expr.specs.Parts.{has_query, have_query, has_sum, have_sum, nesting_of, mentions, some_mentions};
+ghost use Rattle.rls_expr.specs.Parts.{has_query, have_query, has_sum, have_sum, is_wanted, nesting_of, mentions, some_mentions};
 ghost use Rattle.rls_expr.specs.Terms.{maybe_term, terms_of};
 
 use crate::expr::{Expr, Node, Subquery};
@@ -80,65 +80,94 @@ enum Nesting<'a> {
     Inside(&'a Nesting<'a>),
 }
 
+/// Which columns of a table are wanted.
+#[derive(Clone, Copy)]
+enum Wanted {
+    Any,
+    /// The one at the place.
+    At(usize),
+}
+
 /// Whether a column of the target stands in a resolved expression, also inside a subquery; a column of another use of the
 /// same table there doesn't count.
 pub fn reads_target(expr: &Expr) -> bool
-    ensures { result ≡ mentions 0 expr.now }
+    ensures { result ≡ spec.reads_target expr.now }
 {
-    is_mentioned(expr, &Nesting::Innermost)
+    is_mentioned(expr, Wanted::Any, &Nesting::Innermost)
+}
+
+/// Whether the target's column at the place stands in a resolved expression, also inside a subquery.
+pub fn reads_column(expr: &Expr, place: usize) -> bool
+    ensures { result ≡ mentions (nat_eq place) 0 expr.now }
+{
+    is_mentioned(expr, Wanted::At(place), &Nesting::Innermost)
 }
 
 #[cycle(mentions)]
-fn is_mentioned(expr: &Expr, table: &Nesting) -> bool
-    ensures { result ≡ mentions (nesting_of table.now) expr.now }
+fn is_mentioned(expr: &Expr, wanted: Wanted, table: &Nesting) -> bool
+    ensures { result ≡ mentions (is_wanted wanted) (nesting_of table.now) expr.now }
 {
     match expr.node() {
         Node::Literal(_) | Node::Column(_) | Node::CurrentUser => false,
-        Node::Var(var) => is_level(var.level, table),
-        Node::Compare(_, left, right) => is_mentioned(left, table) || is_mentioned(right, table),
-        Node::And(parts) | Node::Or(parts) | Node::Sum(_, parts) => some_mentions(parts, table),
+        Node::Var(var) => is_level(var.level, table) && is_column(var.column, wanted),
+        Node::Compare(_, left, right) => is_mentioned(left, wanted, table)
+            || is_mentioned(right, wanted, table),
+        Node::And(parts) | Node::Or(parts) | Node::Sum(_, parts) => some_mentions(
+            parts, wanted, table,
+        ),
         Node::Not(operand) | Node::IsNull(operand) | Node::IsNotNull(operand) => {
-            is_mentioned(operand, table)
+            is_mentioned(operand, wanted, table)
         }
         Node::InList(left, list) | Node::NotInList(left, list) => {
-            is_mentioned(left, table) || some_mentions(list, table)
+            is_mentioned(left, wanted, table) || some_mentions(list, wanted, table)
         }
-        Node::Exists(query) | Node::Scalar(query) => query_mentions(query, table),
+        Node::Exists(query) | Node::Scalar(query) => query_mentions(query, wanted, table),
         Node::InSubquery(left, query) | Node::NotInSubquery(left, query) => {
-            is_mentioned(left, table) || query_mentions(query, table)
+            is_mentioned(left, wanted, table) || query_mentions(query, wanted, table)
         }
     }
 }
 
 /// Inside the subquery the table is one level further up.
 #[cycle(mentions)]
-fn query_mentions(query: &Subquery, table: &Nesting) -> bool
-    ensures { result ≡ spec.query_mentions (nesting_of table.now) (query_of query.now) }
+fn query_mentions(query: &Subquery, wanted: Wanted, table: &Nesting) -> bool
+    ensures { result ≡ spec.query_mentions (is_wanted wanted) (nesting_of table.now) (query_of query.now) }
 {
     let inside = Nesting::Inside(&*table);
-    some_mentions(&query.items, &inside) || condition_mentions(&query.condition, &inside)
+    some_mentions(&query.items, wanted, &inside)
+        || condition_mentions(&query.condition, wanted, &inside)
 }
 
 #[cycle(mentions)]
-fn condition_mentions(condition: &Option<Expr>, table: &Nesting) -> bool
-    ensures { result ≡ some_mentions (nesting_of table.now) (maybe_term condition.now) }
+fn condition_mentions(condition: &Option<Expr>, wanted: Wanted, table: &Nesting) -> bool
+    ensures { result ≡ some_mentions (is_wanted wanted) (nesting_of table.now) (maybe_term condition.now) }
 {
     match condition {
         None => false,
-        Some(condition) => is_mentioned(condition, table),
+        Some(condition) => is_mentioned(condition, wanted, table),
     }
 }
 
 #[cycle(mentions)]
-fn some_mentions(parts: &[Expr], table: &Nesting) -> bool
-    ensures { result ≡ some_mentions (nesting_of table.now) (terms_of parts.now) }
+fn some_mentions(parts: &[Expr], wanted: Wanted, table: &Nesting) -> bool
+    ensures { result ≡ some_mentions (is_wanted wanted) (nesting_of table.now) (terms_of parts.now) }
 {
     for part in parts {
-        if is_mentioned(part, table) {
+        if is_mentioned(part, wanted, table) {
             return true;
         }
     }
     false
+}
+
+/// Whether the column at the place is wanted.
+fn is_column(place: usize, wanted: Wanted) -> bool
+    ensures { result ≡ is_wanted wanted place }
+{
+    match wanted {
+        Wanted::Any => true,
+        Wanted::At(other) => other == place,
+    }
 }
 
 /// Whether so many levels up is that nesting.

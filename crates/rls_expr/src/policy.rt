@@ -1,9 +1,11 @@
 //! Definitions of policies, and whom they are for.
 
 ghost use Rattle.std.specs.Prelude.{◌≡◌, IfOk};
+ghost use Rattle.std.specs.Option.{option_copied};
 
 use crate::expr::Expr;
-use rls_value::{Items, Name, PolicyKind};
+use rls_value::shared::{HasKey, Share};
+use rls_value::{Items, Name, PolicyKind, or_drop};
 use std::alloc::{AllocError, Global};
 
 /// Whom a grant or a policy is for.
@@ -22,8 +24,8 @@ pub struct Policy {
     pub permissive: bool,
     pub kind: PolicyKind,
     pub to: Items<Grantee>,
-    pub using: Option<Expr>,
-    pub check: Option<Expr>,
+    pub using: Option<Share<Expr>>,
+    pub check: Option<Share<Expr>>,
 }
 
 impl Grantee {
@@ -48,81 +50,55 @@ impl Grantee {
     }
 }
 
+/// The policies of a table stand in byte order of their names.
+impl HasKey<Name> for Policy {
+    ghost use Rattle.std.specs.FinMap.{nat_cmp-IsAntisymmetric, slice_cmp-IsAntisymmetric};
+
+    ghost key_of = { λ policy. policy.name };
+
+    ghost exact = { slice_cmp-IsAntisymmetric nat_cmp-IsAntisymmetric };
+
+    fn key(&self) -> Result<Name, AllocError> {
+        self.name.copy()
+    }
+}
+
 impl Policy {
+    /// A copy, which shares its expressions.
     pub fn copy(&self, alloc: Global) -> Result<Policy, AllocError>
         ensures { IfOk result (λ policy. policy ≡ self.now) }
     {
-        let (name, to) = copy_head(alloc, self)?;
-        match copy_conditions(alloc, self) {
-            Ok((using, check)) => Ok(Policy {
-                name,
-                permissive: self.permissive,
-                kind: self.kind,
-                to,
-                using,
-                check,
-            }),
-            Err(refused) => {
-                drop(to);
-                drop(name);
-                Err(refused)
-            }
-        }
-    }
-
-    /// A copy of the list.
-    pub fn copy_all(alloc: Global, policies: &[Policy]) -> Result<Items<Policy>, AllocError>
-        ensures { IfOk result (λ copies. copies ≡ policies.now) }
-    {
-        let mut copies = Vec::with_capacity(alloc, policies.len())?;
-        for policy in policies {
-            copies.push(policy.copy(alloc)?)?;
-        }
-        Ok(Items::from_vec(copies))
+        let name = self.name.copy()?;
+        let to = or_drop!(Grantee::copy_all(alloc, self.to.as_slice()), name);
+        let using = or_drop!(copy_shared(&self.using), name, to);
+        let check = or_drop!(copy_shared(&self.check), name, to, using);
+        Ok(Policy {
+            name,
+            permissive: self.permissive,
+            kind: self.kind,
+            to,
+            using,
+            check,
+        })
     }
 }
 
-/// A copy of the policy's name, and of whom it is for.
-fn copy_head(alloc: Global, policy: &Policy) -> Result<(Name, Items<Grantee>), AllocError>
-    ensures name { IfOk result (λ head. head.0 ≡ policy.now.name) }
-    ensures to { IfOk result (λ head. head.1 ≡ policy.now.to) }
+/// The expression that is shared, if there is one.
+pub fn shared_expr(expr: &Option<Share<Expr>>) -> Option<&Expr>
+    ensures { option_copied result ≡ expr.now }
 {
-    let name = policy.name.copy()?;
-    match Grantee::copy_all(alloc, policy.to.as_slice()) {
-        Ok(to) => Ok((name, to)),
-        Err(refused) => {
-            drop(name);
-            Err(refused)
-        }
+    match expr {
+        Some(expr) => Some(expr.get()),
+        None => None,
     }
 }
 
-/// A copy of USING, and of WITH CHECK.
-fn copy_conditions(
-    alloc: Global,
-    policy: &Policy,
-) -> Result<(Option<Expr>, Option<Expr>), AllocError>
-    ensures using { IfOk result (λ both. both.0 ≡ policy.now.using) }
-    ensures check { IfOk result (λ both. both.1 ≡ policy.now.check) }
+/// The same expression, shared, if there is one.
+pub fn copy_shared(expr: &Option<Share<Expr>>) -> Result<Option<Share<Expr>>, AllocError>
+    ensures { IfOk result (λ copy. copy ≡ expr.now) }
 {
-    let using = copy_condition(alloc, &policy.using)?;
-    match copy_condition(alloc, &policy.check) {
-        Ok(check) => Ok((using, check)),
-        Err(refused) => {
-            drop(using);
-            Err(refused)
-        }
-    }
-}
-
-fn copy_condition(alloc: Global, condition: &Option<Expr>) -> Result<Option<Expr>, AllocError>
-    ensures { IfOk result (λ copied. copied ≡ condition.now) }
-{
-    match condition {
-        Some(expr) => match expr.copy(alloc) {
-            Ok(expr) => Ok(Some(expr)),
-            Err(refused) => Err(refused),
-        },
+    match expr {
+        Some(expr) => Ok(Some(expr.copy()?)),
         None => Ok(None),
     }
 }

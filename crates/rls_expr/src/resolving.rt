@@ -13,7 +13,7 @@ use crate::expr::{
 };
 use crate::scope::{NamedTable, inside, known_table, var_of};
 use crate::table::{Column, TableDef, category_of};
-use rls_value::{Items, Value};
+use rls_value::{Items, Value, or_drop};
 use std::alloc::{AllocError, Global};
 
 /// What names in an expression may mean.
@@ -40,30 +40,24 @@ pub fn resolve_columns(alloc: Global, expr: &Expr, scope: &Scope) -> Result<Expr
         Node::Compare(how, left, right) => resolve_compare(alloc, *how, left, right, scope),
         Node::And(parts) => resolve_and(alloc, parts, scope),
         Node::Or(parts) => resolve_or(alloc, parts, scope),
-        Node::Not(operand) => match resolve_boxed(alloc, operand, scope) {
-            Ok(operand) => Ok(Expr::new(Node::Not(operand))),
-            Err(refused) => Err(refused),
-        },
-        Node::IsNull(operand) => match resolve_boxed(alloc, operand, scope) {
-            Ok(operand) => Ok(Expr::new(Node::IsNull(operand))),
-            Err(refused) => Err(refused),
-        },
-        Node::IsNotNull(operand) => match resolve_boxed(alloc, operand, scope) {
-            Ok(operand) => Ok(Expr::new(Node::IsNotNull(operand))),
-            Err(refused) => Err(refused),
-        },
+        Node::Not(operand) => {
+            let operand = resolve_boxed(alloc, operand, scope)?;
+            Ok(Expr::new(Node::Not(operand)))
+        }
+        Node::IsNull(operand) => {
+            let operand = resolve_boxed(alloc, operand, scope)?;
+            Ok(Expr::new(Node::IsNull(operand)))
+        }
+        Node::IsNotNull(operand) => {
+            let operand = resolve_boxed(alloc, operand, scope)?;
+            Ok(Expr::new(Node::IsNotNull(operand)))
+        }
         Node::InList(left, list) => resolve_in_list(alloc, left, list, scope),
         Node::NotInList(left, list) => resolve_not_in_list(alloc, left, list, scope),
-        Node::Exists(query) => match resolve_query(alloc, query, scope) {
-            Ok(query) => Ok(Expr::new(Node::Exists(query))),
-            Err(refused) => Err(refused),
-        },
+        Node::Exists(query) => Ok(Expr::new(Node::Exists(resolve_query(alloc, query, scope)?))),
         Node::InSubquery(left, query) => resolve_in_subquery(alloc, left, query, scope),
         Node::NotInSubquery(left, query) => resolve_not_in_subquery(alloc, left, query, scope),
-        Node::Scalar(query) => match resolve_query(alloc, query, scope) {
-            Ok(query) => Ok(Expr::new(Node::Scalar(query))),
-            Err(refused) => Err(refused),
-        },
+        Node::Scalar(query) => Ok(Expr::new(Node::Scalar(resolve_query(alloc, query, scope)?))),
         Node::Sum(signs, parts) => resolve_sum(alloc, signs.as_slice(), parts, scope),
     }
 }
@@ -72,20 +66,16 @@ pub fn resolve_columns(alloc: Global, expr: &Expr, scope: &Scope) -> Result<Expr
 fn literal_copy(value: &Value) -> Result<Expr, AllocError>
     ensures { IfOk result (λ expr. expr ≡ Literal value.now) }
 {
-    match value.copy() {
-        Ok(value) => Ok(Expr::new(Node::Literal(value))),
-        Err(refused) => Err(refused),
-    }
+    let value = value.copy()?;
+    Ok(Expr::new(Node::Literal(value)))
 }
 
 /// The resolved column, or the name where that means none.
 fn resolve_column(name: &ColumnName, scope: &Scope) -> Result<Expr, AllocError>
     ensures { IfOk result (λ expr. expr ≡ column_resolved name.now (var_in (names_in scope.now).tables name.now)) }
 {
-    match column_node(name, scope) {
-        Ok(node) => Ok(Expr::new(node)),
-        Err(refused) => Err(refused),
-    }
+    let node = column_node(name, scope)?;
+    Ok(Expr::new(node))
 }
 
 /// The comparison of both sides.
@@ -100,13 +90,8 @@ fn resolve_compare(
     ensures { IfOk result (λ expr. expr ≡ resolved (Compare how left.now right.now) (names_in scope.now)) }
 {
     let left = resolve_boxed(alloc, left, scope)?;
-    match resolve_boxed(alloc, right, scope) {
-        Ok(right) => Ok(Expr::new(Node::Compare(how, left, right))),
-        Err(refused) => {
-            drop(left);
-            Err(refused)
-        }
-    }
+    let right = or_drop!(resolve_boxed(alloc, right, scope), left);
+    Ok(Expr::new(Node::Compare(how, left, right)))
 }
 
 /// AND of the parts.
@@ -114,10 +99,8 @@ fn resolve_compare(
 fn resolve_and(alloc: Global, parts: &[Expr], scope: &Scope) -> Result<Expr, AllocError>
     ensures { IfOk result (λ expr. expr ≡ resolved (And (terms_of parts.now)) (names_in scope.now)) }
 {
-    match resolve_all(alloc, parts, scope) {
-        Ok(parts) => Ok(Expr::new(Node::And(parts.into_vec()))),
-        Err(refused) => Err(refused),
-    }
+    let parts = resolve_all(alloc, parts, scope)?;
+    Ok(Expr::new(Node::And(parts.into_vec())))
 }
 
 /// OR of the parts.
@@ -125,10 +108,8 @@ fn resolve_and(alloc: Global, parts: &[Expr], scope: &Scope) -> Result<Expr, All
 fn resolve_or(alloc: Global, parts: &[Expr], scope: &Scope) -> Result<Expr, AllocError>
     ensures { IfOk result (λ expr. expr ≡ resolved (Or (terms_of parts.now)) (names_in scope.now)) }
 {
-    match resolve_all(alloc, parts, scope) {
-        Ok(parts) => Ok(Expr::new(Node::Or(parts.into_vec()))),
-        Err(refused) => Err(refused),
-    }
+    let parts = resolve_all(alloc, parts, scope)?;
+    Ok(Expr::new(Node::Or(parts.into_vec())))
 }
 
 /// IN with the list.
@@ -142,13 +123,8 @@ fn resolve_in_list(
     ensures { IfOk result (λ expr. expr ≡ resolved (InList left.now (terms_of list.now)) (names_in scope.now)) }
 {
     let left = resolve_boxed(alloc, left, scope)?;
-    match resolve_all(alloc, list, scope) {
-        Ok(list) => Ok(Expr::new(Node::InList(left, list.into_vec()))),
-        Err(refused) => {
-            drop(left);
-            Err(refused)
-        }
-    }
+    let list = or_drop!(resolve_all(alloc, list, scope), left);
+    Ok(Expr::new(Node::InList(left, list.into_vec())))
 }
 
 /// NOT IN with the list.
@@ -162,13 +138,8 @@ fn resolve_not_in_list(
     ensures { IfOk result (λ expr. expr ≡ resolved (NotInList left.now (terms_of list.now)) (names_in scope.now)) }
 {
     let left = resolve_boxed(alloc, left, scope)?;
-    match resolve_all(alloc, list, scope) {
-        Ok(list) => Ok(Expr::new(Node::NotInList(left, list.into_vec()))),
-        Err(refused) => {
-            drop(left);
-            Err(refused)
-        }
-    }
+    let list = or_drop!(resolve_all(alloc, list, scope), left);
+    Ok(Expr::new(Node::NotInList(left, list.into_vec())))
 }
 
 /// IN with the subquery.
@@ -182,13 +153,8 @@ fn resolve_in_subquery(
     ensures { IfOk result (λ expr. expr ≡ resolved (InSubquery left.now (query_of query.now)) (names_in scope.now)) }
 {
     let left = resolve_boxed(alloc, left, scope)?;
-    match resolve_query(alloc, query, scope) {
-        Ok(query) => Ok(Expr::new(Node::InSubquery(left, query))),
-        Err(refused) => {
-            drop(left);
-            Err(refused)
-        }
-    }
+    let query = or_drop!(resolve_query(alloc, query, scope), left);
+    Ok(Expr::new(Node::InSubquery(left, query)))
 }
 
 /// NOT IN with the subquery.
@@ -202,13 +168,8 @@ fn resolve_not_in_subquery(
     ensures { IfOk result (λ expr. expr ≡ resolved (NotInSubquery left.now (query_of query.now)) (names_in scope.now)) }
 {
     let left = resolve_boxed(alloc, left, scope)?;
-    match resolve_query(alloc, query, scope) {
-        Ok(query) => Ok(Expr::new(Node::NotInSubquery(left, query))),
-        Err(refused) => {
-            drop(left);
-            Err(refused)
-        }
-    }
+    let query = or_drop!(resolve_query(alloc, query, scope), left);
+    Ok(Expr::new(Node::NotInSubquery(left, query)))
 }
 
 /// The sum of the parts.
@@ -222,13 +183,8 @@ fn resolve_sum(
     ensures { IfOk result (λ expr. expr ≡ resolved (Sum signs.now (terms_of parts.now)) (names_in scope.now)) }
 {
     let parts = resolve_all(alloc, parts, scope)?;
-    match signs.to_vec(alloc) {
-        Ok(signs) => Ok(Expr::new(Node::Sum(signs, parts.into_vec()))),
-        Err(refused) => {
-            drop(parts);
-            Err(refused)
-        }
-    }
+    let signs = or_drop!(signs.to_vec(alloc), parts);
+    Ok(Expr::new(Node::Sum(signs, parts.into_vec())))
 }
 
 /// The expression on the heap.
@@ -236,10 +192,8 @@ fn resolve_sum(
 fn resolve_boxed(alloc: Global, expr: &Expr, scope: &Scope) -> Result<Box<Expr>, AllocError>
     ensures { IfOk result (λ boxed. boxed.value ≡ resolved expr.now (names_in scope.now)) }
 {
-    match resolve_columns(alloc, expr, scope) {
-        Ok(expr) => boxed(alloc, expr),
-        Err(refused) => Err(refused),
-    }
+    let expr = resolve_columns(alloc, expr, scope)?;
+    boxed(alloc, expr)
 }
 
 fn column_node(name: &ColumnName, scope: &Scope) -> Result<Node, AllocError>
@@ -247,10 +201,7 @@ fn column_node(name: &ColumnName, scope: &Scope) -> Result<Node, AllocError>
 {
     match var_of(scope.tables, name) {
         Ok(var) => Ok(Node::Var(var)),
-        Err(_) => match name.copy() {
-            Ok(name) => Ok(Node::Column(name)),
-            Err(refused) => Err(refused),
-        },
+        Err(_) => Ok(Node::Column(name.copy()?)),
     }
 }
 
@@ -299,23 +250,17 @@ fn query_with(
 ) -> Result<Box<Subquery>, AllocError>
     ensures { IfOk result (λ boxed. query_of boxed.value ≡ spec.query_with (query_of query.now) table.now.key (terms_of items) (maybe_term condition)) }
 {
-    match head_of(alloc, query, table) {
-        Ok((from, key)) => boxed_query(
-            alloc,
-            Subquery {
-                from,
-                key,
-                selects: query.selects,
-                items: items.into_vec(),
-                condition,
-            },
-        ),
-        Err(refused) => {
-            drop(condition);
-            drop(items);
-            Err(refused)
-        }
-    }
+    let (from, key) = or_drop!(head_of(alloc, query, table), condition, items);
+    boxed_query(
+        alloc,
+        Subquery {
+            from,
+            key,
+            selects: query.selects,
+            items: items.into_vec(),
+            condition,
+        },
+    )
 }
 
 /// What the subquery is over, and the table's key.
@@ -328,13 +273,8 @@ fn head_of(
     ensures key { IfOk result (λ head. head.1.items ≡ table.now.key) }
 {
     let from = query.from.copy()?;
-    match table.key.as_slice().to_vec(alloc) {
-        Ok(key) => Ok((from, key)),
-        Err(refused) => {
-            drop(from);
-            Err(refused)
-        }
-    }
+    let key = or_drop!(table.key.as_slice().to_vec(alloc), from);
+    Ok((from, key))
 }
 
 /// The items, each column where all are selected.
@@ -379,10 +319,7 @@ fn resolve_condition(
 {
     match condition {
         None => Ok(None),
-        Some(condition) => match resolve_columns(alloc, condition, scope) {
-            Ok(condition) => Ok(Some(condition)),
-            Err(refused) => Err(refused),
-        },
+        Some(condition) => Ok(Some(resolve_columns(alloc, condition, scope)?)),
     }
 }
 

@@ -42,10 +42,8 @@ impl<'c> NamedTable<'c> {
     pub fn new(name: &Name, table: &'c TableDef) -> Result<NamedTable<'c>, AllocError>
         ensures { IfOk result (λ named. named ≡ (name.now, table.now)) }
     {
-        match name.copy() {
-            Ok(name) => Ok(NamedTable { name, table }),
-            Err(refused) => Err(refused),
-        }
+        let name = name.copy()?;
+        Ok(NamedTable { name, table })
     }
 
     pub fn copy(&self) -> Result<NamedTable<'c>, AllocError>

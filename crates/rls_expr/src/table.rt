@@ -4,7 +4,7 @@ ghost use Rattle.std.specs.Prelude.{◌≡◌, ◌<◌, length, IfOk, IfSome};
 ghost use Rattle.rls_expr.specs.Tables.{category_of, column_named, typed_column};
 
 use crate::expr::Category;
-use rls_value::{ColType, Items, Name};
+use rls_value::{ColType, Items, Name, or_drop};
 use std::alloc::{AllocError, Global};
 
 /// A column of a table.
@@ -70,19 +70,14 @@ impl TableDef {
         ensures { IfOk result (λ table. table ≡ self.now) }
     {
         let owner = self.owner.copy()?;
-        match copy_shape(alloc, self) {
-            Ok((columns, key)) => Ok(TableDef {
-                owner,
-                enabled: self.enabled,
-                forced: self.forced,
-                columns,
-                key: Items::from_vec(key),
-            }),
-            Err(refused) => {
-                drop(owner);
-                Err(refused)
-            }
-        }
+        let (columns, key) = or_drop!(copy_shape(alloc, self), owner);
+        Ok(TableDef {
+            owner,
+            enabled: self.enabled,
+            forced: self.forced,
+            columns,
+            key: Items::from_vec(key),
+        })
     }
 }
 
@@ -92,13 +87,8 @@ fn copy_shape(alloc: Global, table: &TableDef) -> Result<(Items<Column>, Vec<usi
     ensures key { IfOk result (λ shape. shape.1.items ≡ table.now.key) }
 {
     let columns = Column::copy_all(alloc, table.columns.as_slice())?;
-    match table.key.as_slice().to_vec(alloc) {
-        Ok(key) => Ok((columns, key)),
-        Err(refused) => {
-            drop(columns);
-            Err(refused)
-        }
-    }
+    let key = or_drop!(table.key.as_slice().to_vec(alloc), columns);
+    Ok((columns, key))
 }
 
 fn var_of(columns: &[Column], name: &Name) -> Option<usize>

@@ -3,6 +3,7 @@ pub mod GrantOptions
 pub mod HandedLemmas
 pub mod HolderLemmas
 pub mod GrantLaws
+pub mod GrantPlaces
 pub mod GrantorLaws
 pub mod ConsideredLaws
 pub mod HolderLaws

@@ -1,5 +1,5 @@
 -- GRANT of privileges on a table (PostgreSQL manual, GRANT): each privilege to each grantee, in one place each.
-use Rattle.std.specs.Prelude.{ℕ, List, [], ◌∷◌, Bool, false, ◌||◌, not, Result, Ok, Err, if◌then◌else◌, map}
+use Rattle.std.specs.Prelude.{ℕ, List, [], ◌∷◌, None, Bool, false, ◌||◌, not, Result, Ok, Err, if◌then◌else◌, map}
 use Rattle.std.specs.List.{flat_map, list_any}
 use Rattle.std.specs.Ordering.{nat_cmp, ordering_then, is_eq, is_lt}
 use Rattle.std.specs.declared.cmp.Ordering.{Ordering}
@@ -28,11 +28,12 @@ grantee_order Grantee.Public (Grantee.Role name) = Less
 grantee_order (Grantee.Role name) Grantee.Public = Greater
 grantee_order (Grantee.Role name) (Grantee.Role other) = name_order name other
 
--- by privilege, then by grantee, then by grantor
+-- by privilege, then by grantee, then by grantor, then by the column's place; the whole table comes first
 abbrev pub grant_order : Grant → Grant → Ordering
 grant_order grant other =
     ordering_then (nat_cmp (place_of grant.privilege) (place_of other.privilege))
-    (ordering_then (grantee_order grant.grantee other.grantee) (name_order grant.grantor other.grantor))
+    (ordering_then (grantee_order grant.grantee other.grantee)
+    (ordering_then (name_order grant.grantor other.grantor) (nat_cmp grant.place other.place)))
 
 -- it is the same grant, its grant option aside
 abbrev pub is_there : List Grant → Grant → Bool
@@ -54,9 +55,9 @@ with_grants grants (grant ∷ more) = with_grants (with_grant grants grant) more
 
 -- ---- what is granted
 
--- a grant of the privilege
+-- a grant of the privilege on the whole table
 abbrev pub new_grant : Bool → Privilege → Grantee → List ℕ → Grant
-new_grant option privilege grantee grantor = record { privilege = privilege; grantee = grantee; grantor = grantor; option = option }
+new_grant option privilege grantee grantor = record { privilege = privilege; grantee = grantee; grantor = grantor; option = option; column = None; place = 0 }
 
 -- the owner's own grants, which a table has from the start
 abbrev pub own_grant : List ℕ → Privilege → Grant

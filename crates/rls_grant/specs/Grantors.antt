@@ -5,20 +5,13 @@ use Rattle.rls_value.specs.declared.verb.Privilege.TheVariants as p
 use Rattle.rls_verdict.specs.rls_expr.specs.declared.table.TableDef.{TableDef}
 use Rattle.rls_verdict.specs.rls_catalog.specs.{declared.grant.Grant.Grant, Verdict.least}
 use Rattle.rls_role.specs.rls_source.specs.Sequences.{each_of}
-use Rattle.rls_role.specs.rls_statement.specs.declared.statement.Privileges.{Privileges}
+use Rattle.rls_role.specs.rls_statement.specs.{declared.privileges.Privileges.Privileges, Extents.is_named}
 use Rattle.rls_role.specs.declared.effective_roles.EffectiveRoles.{EffectiveRoles}
 use Rattle.rls_grant.specs.{declared.grantors.Grantor.Grantor, Holders.holders_of}
 
 -- in this order they are granted, revoked and refused
 abbrev pub all_privileges : List Privilege
 all_privileges = p.Select ∷ p.Insert ∷ p.Update ∷ p.Delete ∷ []
-
--- whether the privilege is named
-abbrev pub is_named : Privileges → Privilege → Bool
-is_named named p.Select = named.select
-is_named named p.Insert = named.insert
-is_named named p.Update = named.update
-is_named named p.Delete = named.delete
 
 -- the owner, where the role has its privileges; else the role itself, where it holds the grant option; else the
 -- byte-least role whose privileges it has and that holds it; the test tells who holds it

@@ -4,6 +4,7 @@ pub mod Seen
 pub mod Considered
 pub mod Handed
 pub mod Optioned
+pub mod Placing
 pub mod Grantors
 pub mod Granting
 pub mod Revoking

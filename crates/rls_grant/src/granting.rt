@@ -15,7 +15,7 @@ use rls_role::rls_source::{Reads, RowSource, noted_grants, require_grantees, tab
 use rls_role::rls_statement::GrantPrivileges;
 use rls_role::{EffectiveRoles, noted_effective_roles};
 use rls_value::{GrantFault, Items, Name, Privilege, Refusal};
-use rls_verdict::rls_catalog::{Change, Delta, Grant};
+use rls_verdict::rls_catalog::{Change, Delta, Grant, Grants};
 use rls_verdict::rls_expr::{Grantee, TableDef};
 use std::alloc::{AllocError, Global};
 
@@ -63,7 +63,7 @@ fn make_grants(
     effective_roles: &EffectiveRoles,
     role: &Name,
     table: &TableDef,
-    grants: &[Grant],
+    grants: &Grants,
     grant: &GrantPrivileges,
 ) -> Result<Delta, Refusal>
     ensures { Gives result (grants_made effective_roles.now role.now table.now grants.now grant.now) }
@@ -87,7 +87,7 @@ fn make_grants(
 fn grant_by(
     alloc: Global,
     table: &TableDef,
-    grants: &[Grant],
+    grants: &Grants,
     grantors: &[Grantor],
     grant: &GrantPrivileges,
 ) -> Result<Delta, Refusal>
@@ -102,7 +102,7 @@ fn require_options(
     alloc: Global,
     with_option: bool,
     owner: &Name,
-    grants: &[Grant],
+    grants: &Grants,
     grantors: &[Grantor],
     grantees: &[Grantee],
 ) -> Result<(), Refusal>
@@ -118,7 +118,7 @@ fn require_options(
 fn require_each(
     alloc: Global,
     owner: &Name,
-    grants: &[Grant],
+    grants: &Grants,
     grantors: &[Grantor],
     grantees: &[Grantee],
 ) -> Result<(), Refusal>
@@ -133,7 +133,7 @@ fn require_each(
 fn require_option(
     alloc: Global,
     owner: &Name,
-    grants: &[Grant],
+    grants: &Grants,
     grantors: &[Grantor],
     grantee: &Grantee,
 ) -> Result<(), Refusal>
@@ -149,7 +149,7 @@ fn require_option(
 fn require_forth(
     alloc: Global,
     owner: &Name,
-    grants: &[Grant],
+    grants: &Grants,
     grantors: &[Grantor],
     grantee: &Name,
 ) -> Result<(), Refusal>
@@ -164,7 +164,7 @@ fn require_forth(
 fn require_one_forth(
     alloc: Global,
     owner: &Name,
-    grants: &[Grant],
+    grants: &Grants,
     grantor: &Grantor,
     grantee: &Name,
 ) -> Result<(), Refusal>
@@ -180,7 +180,7 @@ fn require_one_forth(
 fn is_back(
     alloc: Global,
     owner: &Name,
-    grants: &[Grant],
+    grants: &Grants,
     grantor: &Grantor,
     grantee: &Name,
 ) -> Result<bool, AllocError>
@@ -194,7 +194,7 @@ fn is_back(
 
 fn written(
     alloc: Global,
-    grants: &[Grant],
+    grants: &Grants,
     grantors: &[Grantor],
     grant: &GrantPrivileges,
 ) -> Result<Delta, AllocError>
@@ -205,10 +205,10 @@ fn written(
     write_grants(alloc, &grant.table, all)
 }
 
-fn with_new(alloc: Global, grants: &[Grant], new: Items<Grant>) -> Result<Items<Grant>, AllocError>
+fn with_new(alloc: Global, grants: &Grants, new: Items<Grant>) -> Result<Grants, AllocError>
     ensures { IfOk result (λ all. all ≡ spec.with_grants grants.now new) }
 {
-    match Grant::copy_all(alloc, grants) {
+    match grants.copy() {
         Ok(grants) => put_grants(alloc, grants, new),
         Err(refused) => {
             drop(new);
@@ -218,11 +218,7 @@ fn with_new(alloc: Global, grants: &[Grant], new: Items<Grant>) -> Result<Items<
 }
 
 /// All grants on the table, as they are from now on.
-pub(crate) fn write_grants(
-    alloc: Global,
-    table: &Name,
-    grants: Items<Grant>,
-) -> Result<Delta, AllocError>
+pub(crate) fn write_grants(alloc: Global, table: &Name, grants: Grants) -> Result<Delta, AllocError>
     ensures { IfOk result (λ delta. delta ≡ spec.grants_written table.now grants) }
 {
     match table.copy() {
@@ -285,6 +281,8 @@ fn new_grant(
         grantee,
         grantor: grantor.copy()?,
         option,
+        column: None,
+        place: 0,
     })
 }
 

@@ -5,6 +5,7 @@ ghost use Rattle.std.specs.{BTreeSet.contains, Option.option_copied};
 ghost use Rattle.rls_value.specs.{Giving.Gives, Names.one_of};
 ghost use Rattle.rls_verdict.specs.rls_catalog.specs.{State.name_order, Verdict.least};
 ghost use Rattle.rls_role.specs.rls_source.specs.Sequences.{each_of};
+ghost use Rattle.rls_role.specs.rls_statement.specs.Extents.{is_named};
 ghost use Rattle.rls_grant.specs.Grantors as spec;
 ghost use Rattle.rls_grant.specs.{Grantors.grantor_by, Holders.holders_of};
 
@@ -13,7 +14,7 @@ use rls_role::EffectiveRoles;
 use rls_role::rls_statement::Privileges;
 use rls_value::{Items, Name, Privilege, Refusal, Why};
 use rls_verdict::lesser_name;
-use rls_verdict::rls_catalog::Grant;
+use rls_verdict::rls_catalog::Grants;
 use rls_verdict::rls_expr::TableDef;
 use std::alloc::{AllocError, Global};
 use std::collections::BTreeSet;
@@ -33,7 +34,7 @@ pub(crate) fn grantors_of(
     role: &Name,
     name: &Name,
     table: &TableDef,
-    grants: &[Grant],
+    grants: &Grants,
     named: &Privileges,
 ) -> Result<Items<Grantor>, Refusal>
     ensures { Gives result (spec.grantors effective_roles.now role.now name.now table.now grants.now named.now) }
@@ -46,19 +47,19 @@ pub(crate) fn grantors_of(
 
 /// The privileges that are named, in the order in which they are granted.
 fn named_privileges(alloc: Global, named: &Privileges) -> Result<Vec<Privilege>, AllocError>
-    ensures { IfOk result (λ privileges. privileges.items ≡ filter (spec.is_named named.now) spec.all_privileges) }
+    ensures { IfOk result (λ privileges. privileges.items ≡ filter (is_named named.now) spec.all_privileges) }
 {
     let mut privileges = Vec::new(alloc);
-    if named.select {
+    if named.is_named(Privilege::Select) {
         privileges.push(Privilege::Select)?;
     }
-    if named.insert {
+    if named.is_named(Privilege::Insert) {
         privileges.push(Privilege::Insert)?;
     }
-    if named.update {
+    if named.is_named(Privilege::Update) {
         privileges.push(Privilege::Update)?;
     }
-    if named.delete {
+    if named.is_named(Privilege::Delete) {
         privileges.push(Privilege::Delete)?;
     }
     Ok(privileges)
@@ -70,7 +71,7 @@ fn grantor_of_each(
     role: &Name,
     name: &Name,
     table: &TableDef,
-    grants: &[Grant],
+    grants: &Grants,
     privileges: &[Privilege],
 ) -> Result<Items<Grantor>, Refusal>
     ensures { Gives result (each_of (spec.granted_by effective_roles.now role.now name.now table.now grants.now) privileges.now) }
@@ -89,7 +90,7 @@ fn grantor_of(
     role: &Name,
     name: &Name,
     table: &TableDef,
-    grants: &[Grant],
+    grants: &Grants,
     privilege: &Privilege,
 ) -> Result<Grantor, Refusal>
     ensures { Gives result (spec.granted_by effective_roles.now role.now name.now table.now grants.now privilege.now) }
@@ -109,14 +110,31 @@ fn grantor_of(
 }
 
 /// The owner, where the role has its privileges; else the role itself, where it holds the grant option; else the
-/// byte-least role whose privileges it has and that holds it.
-#[tactic(auto, using(crate::proofs::HolderLemmas::grantor_same))]
+/// byte-least role whose privileges it has and that holds it. Who holds it is found out only where the owner isn't the one.
 fn grantor_name(
     alloc: Global,
     effective_roles: &EffectiveRoles,
     role: &Name,
     owner: &Name,
-    grants: &[Grant],
+    grants: &Grants,
+    privilege: Privilege,
+) -> Result<Option<Name>, AllocError>
+    ensures { IfOk result (λ name. name ≡ grantor_by effective_roles.now role.now owner.now (one_of (holders_of owner.now grants.now privilege))) }
+{
+    if effective_roles.has(owner) {
+        return Ok(Some(owner.copy()?));
+    }
+    holding_grantor(alloc, effective_roles, role, owner, grants, privilege)
+}
+
+/// The same, from who holds the grant option.
+#[tactic(auto, using(crate::proofs::HolderLemmas::grantor_same))]
+fn holding_grantor(
+    alloc: Global,
+    effective_roles: &EffectiveRoles,
+    role: &Name,
+    owner: &Name,
+    grants: &Grants,
     privilege: Privilege,
 ) -> Result<Option<Name>, AllocError>
     ensures { IfOk result (λ name. name ≡ grantor_by effective_roles.now role.now owner.now (one_of (holders_of owner.now grants.now privilege))) }

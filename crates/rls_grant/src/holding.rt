@@ -9,11 +9,11 @@ ghost use Rattle.rls_verdict.specs.rls_catalog.specs.State.{State, AgreesOn};
 use rls_role::rls_source::RowSource;
 use rls_role::{EffectiveRoles, effective_roles_of};
 use rls_value::{Name, Privilege};
-use rls_verdict::rls_catalog::Grant;
+use rls_verdict::rls_catalog::Grants;
 use std::alloc::{AllocError, Global};
 
-/// Whether the role holds the privilege on the table: it is a superuser, or there is a grant of it to PUBLIC or to a
-/// role whose privileges it has. It reads the role and, unless that is a superuser, each role that it reaches, and the
+/// Whether the role holds the privilege on the table: it is a superuser, or there is a grant of it on the whole table to
+/// PUBLIC or to a role whose privileges it has. It reads the role and, unless that is a superuser, each role that it reaches, and the
 /// grants on the table; in every state that agrees on them the answer is the same.
 #[tactic(auto, using(crate::proofs::PassedOn::holds_frame))]
 pub fn holds<'c, S: RowSource<'c>>(
@@ -36,12 +36,14 @@ pub fn holds<'c, S: RowSource<'c>>(
     Ok(is_granted(grants, privilege, &effective_roles))
 }
 
-/// Whether some of the grants is of the privilege and for the role.
-pub fn is_granted(grants: &[Grant], privilege: Privilege, effective_roles: &EffectiveRoles) -> bool
-    ensures { result ≡ list_any (λ grant. spec.is_same_privilege grant.privilege privilege && spec.includes effective_roles.now.superuser effective_roles.now.names grant.grantee) grants.now }
+/// Whether some of the grants is of the privilege on the whole table and for the role.
+pub fn is_granted(grants: &Grants, privilege: Privilege, effective_roles: &EffectiveRoles) -> bool
+    ensures { result ≡ list_any (λ grant. spec.is_whole grant && (spec.is_same_privilege grant.privilege privilege && spec.includes effective_roles.now.superuser effective_roles.now.names grant.grantee)) grants.now }
 {
     grants.iter().any(|grant| {
-        is_same_privilege(grant.privilege, privilege) && effective_roles.includes(&grant.grantee)
+        grant.is_whole()
+            && (is_same_privilege(grant.privilege, privilege)
+                && effective_roles.includes(&grant.grantee))
     })
 }
 

@@ -13,7 +13,7 @@ ghost use Rattle.rls_grant.specs.Handed as handed;
 use crate::holding::is_same_privilege;
 use rls_role::rls_source::RowSource;
 use rls_value::{Items, Name, Privilege};
-use rls_verdict::rls_catalog::Grant;
+use rls_verdict::rls_catalog::{Grant, Grants};
 use rls_verdict::rls_expr::{Grantee, TableDef};
 use std::alloc::{AllocError, Global};
 use std::collections::{BTreeMap, BTreeSet};
@@ -42,7 +42,7 @@ pub fn option<'c, S: RowSource<'c>>(
 fn holders_on(
     alloc: Global,
     table: Option<&TableDef>,
-    grants: &[Grant],
+    grants: &Grants,
     privilege: Privilege,
 ) -> Result<BTreeSet<Name>, AllocError>
     ensures { IfOk result (λ holders. (role : List ℕ) → (contains name_order holders role ≡ true) ↔ HoldsOn (option_copied table.entry) grants.now privilege role) }
@@ -58,7 +58,7 @@ fn holders_on(
 pub fn options(
     alloc: Global,
     owner: &Name,
-    grants: &[Grant],
+    grants: &Grants,
     privilege: Privilege,
 ) -> Result<BTreeSet<Name>, AllocError>
     ensures { IfOk result (λ holders. AreHolders owner.now grants.now privilege holders) }
@@ -72,7 +72,7 @@ pub fn options(
 pub(crate) fn options_without(
     alloc: Global,
     owner: &Name,
-    grants: &[Grant],
+    grants: &Grants,
     privilege: Privilege,
     grantee: &Name,
 ) -> Result<BTreeSet<Name>, AllocError>
@@ -86,7 +86,7 @@ pub(crate) fn options_without(
 fn options_seen(
     alloc: Global,
     owner: &Name,
-    grants: &[Grant],
+    grants: &Grants,
     privilege: Privilege,
     without: Option<&Name>,
 ) -> Result<BTreeSet<Name>, AllocError>
@@ -101,14 +101,14 @@ fn options_seen(
 /// Those to whom each grantor handed the option on.
 fn index_of(
     alloc: Global,
-    grants: &[Grant],
+    grants: &Grants,
     privilege: Privilege,
     without: Option<&Name>,
 ) -> Result<BTreeMap<Name, Items<Name>>, AllocError>
     ensures { IfOk result (λ index. HandsOn index.entries (considered (option_copied without.entry) grants.now) privilege) }
 {
     let mut index = BTreeMap::new(alloc);
-    for grant in grants {
+    for grant in grants.iter() {
         if let Some(grantee) = handed_to(grant, privilege, without) {
             add(&mut index, alloc, &grant.grantor, grantee)?;
         }

@@ -1,25 +1,19 @@
-//! Where a grant stands among the others.
+//! Grants in their places: put into a list, and taken from it.
 
-ghost use Rattle.std.specs.Prelude.{◌≡◌, ◌≤◌, length, map, IfOk};
-ghost use Rattle.std.specs.List.{position_or_len};
-ghost use Rattle.std.specs.Ordering.{is_lt};
-ghost use Rattle.rls_role.specs.rls_source.specs.Sequences.{put_before};
+ghost use Rattle.std.specs.Prelude.{◌≡◌, IfOk, OnOk};
+ghost use Rattle.rls_verdict.specs.rls_catalog.specs.GrantOptions.{not_grantable};
 ghost use Rattle.rls_grant.specs.Granting as spec;
 ghost use Rattle.rls_grant.specs.Granting.{with_grants};
+ghost use Rattle.rls_grant.specs.Placing as placed;
 
-use rls_value::{Items, Privilege};
-use rls_verdict::rls_catalog::Grant;
-use rls_verdict::rls_expr::Grantee;
+use rls_value::Items;
+use rls_verdict::rls_catalog::shared_map::HasKey;
+use rls_verdict::rls_catalog::{Grant, Grants};
 use std::alloc::{AllocError, Global};
-use std::cmp::Ordering;
 
 /// The grants with new ones put into their places; where one is there already, its grant option stays, and that of the new one is
 /// added.
-pub fn put_grants(
-    alloc: Global,
-    grants: Items<Grant>,
-    new: Items<Grant>,
-) -> Result<Items<Grant>, AllocError>
+pub fn put_grants(alloc: Global, grants: Grants, new: Items<Grant>) -> Result<Grants, AllocError>
     ensures { IfOk result (λ all. all ≡ with_grants grants new) }
 {
     let mut grants = grants;
@@ -29,111 +23,57 @@ pub fn put_grants(
     Ok(grants)
 }
 
-fn put_grant(alloc: Global, grants: Items<Grant>, grant: Grant) -> Result<Items<Grant>, AllocError>
+#[tactic(auto, using(crate::proofs::GrantPlaces::grant_put))]
+fn put_grant(alloc: Global, grants: Grants, grant: Grant) -> Result<Grants, AllocError>
     ensures { IfOk result (λ all. all ≡ spec.with_grant grants grant) }
 {
-    if is_there(grants.as_slice(), &grant) {
-        let all = with_grant_options(alloc, grants, &grant);
-        drop(grant);
-        return all;
-    }
-    put_new(grants, grant)
+    let mut grants = grants;
+    let grant = with_option_there(grants.in_order(), grant)?;
+    grants.put(alloc, grant)?;
+    Ok(grants)
 }
 
-/// The grants, of which the one that is the same has the grant option of this one too.
-fn with_grant_options(
+/// The same grant where it is there, with the grant option of this one too, or else this one.
+fn with_option_there(grants: &Grants, grant: Grant) -> Result<Grant, AllocError>
+    ensures { IfOk result (λ both. both ≡ placed.with_option_there grants.now grant) }
+{
+    let key = grant.key()?;
+    match grants.get(&key) {
+        Some(other) => with_option(other, grant.option),
+        None => Ok(grant),
+    }
+}
+
+/// A copy of the grant, with that grant option too.
+fn with_option(grant: &Grant, option: bool) -> Result<Grant, AllocError>
+    ensures { IfOk result (λ both. both ≡ placed.optioned option grant.now) }
+{
+    let mut both = grant.copy()?;
+    both.option = both.option || option;
+    Ok(both)
+}
+
+/// Takes the grant away.
+pub(crate) fn remove_grant(
     alloc: Global,
-    grants: Items<Grant>,
+    grants: &mut Grants,
     grant: &Grant,
-) -> Result<Items<Grant>, AllocError>
-    ensures { IfOk result (λ all. all ≡ map (spec.with_grant_option grant.now) grants) }
+) -> Result<(), AllocError>
+    ensures { OnOk result (grants.new ≡ placed.without_grant grants.old grant.now) }
 {
-    let mut all = Items::new(alloc);
-    for other in grants.into_vec() {
-        all.push(with_grant_option(grant, other))?;
-    }
-    Ok(all)
+    let key = grant.key()?;
+    grants.remove(alloc, &key)
 }
 
-fn with_grant_option(grant: &Grant, other: Grant) -> Grant
-    ensures { result ≡ spec.with_grant_option grant.now other }
+/// Puts the grant without its grant option in its place.
+pub(crate) fn revoke_option(
+    alloc: Global,
+    grants: &mut Grants,
+    grant: &Grant,
+) -> Result<(), AllocError>
+    ensures { OnOk result (grants.new ≡ placed.with_put grants.old (not_grantable grant.now)) }
 {
-    if cmp_grants(&other, grant) != Ordering::Equal {
-        return other;
-    }
-    let mut other = other;
-    other.option = other.option || grant.option;
-    other
-}
-
-fn put_new(grants: Items<Grant>, grant: Grant) -> Result<Items<Grant>, AllocError>
-    ensures { IfOk result (λ all. all ≡ put_before (λ other. is_lt (spec.grant_order grant other)) grant grants) }
-{
-    let mut grants = grants.into_vec();
-    let place = first_after(&grants, &grant);
-    grants.insert(place, grant)?;
-    Ok(Items::from_vec(grants))
-}
-
-fn is_there(grants: &[Grant], grant: &Grant) -> bool
-    ensures { result ≡ spec.is_there grants.now grant.now }
-{
-    grants
-        .iter()
-        .any(|other| cmp_grants(other, grant) == Ordering::Equal)
-}
-
-fn first_after(grants: &[Grant], grant: &Grant) -> usize
-    ensures place { result ≡ position_or_len (λ other. is_lt (spec.grant_order grant.now other)) grants.now }
-    ensures within { result ≤ length grants.now }
-{
-    let mut place = 0;
-    let mut rest = grants;
-    while let [other, others @ ..] = rest {
-        if is_before(grant, other) {
-            break;
-        }
-        place += 1;
-        rest = others;
-    }
-    place
-}
-
-fn is_before(left: &Grant, right: &Grant) -> bool
-    ensures { result ≡ is_lt (spec.grant_order left.now right.now) }
-{
-    cmp_grants(left, right) == Ordering::Less
-}
-
-/// By privilege, then by grantee, then by grantor.
-fn cmp_grants(left: &Grant, right: &Grant) -> Ordering
-    ensures { result ≡ spec.grant_order left.now right.now }
-{
-    place_of(left.privilege)
-        .cmp(&place_of(right.privilege))
-        .then(cmp_grantees(&left.grantee, &right.grantee))
-        .then(left.grantor.cmp(&right.grantor))
-}
-
-fn place_of(privilege: Privilege) -> u8
-    ensures { result ≡ spec.place_of privilege }
-{
-    match privilege {
-        Privilege::Select => 0,
-        Privilege::Insert => 1,
-        Privilege::Update => 2,
-        Privilege::Delete => 3,
-    }
-}
-
-/// PUBLIC stands before every name, as its bytes do.
-fn cmp_grantees(left: &Grantee, right: &Grantee) -> Ordering
-    ensures { result ≡ spec.grantee_order left.now right.now }
-{
-    match (left, right) {
-        (Grantee::Public, Grantee::Public) => Ordering::Equal,
-        (Grantee::Public, Grantee::Role(_)) => Ordering::Less,
-        (Grantee::Role(_), Grantee::Public) => Ordering::Greater,
-        (Grantee::Role(left), Grantee::Role(right)) => left.cmp(right),
-    }
+    let mut rest = grant.copy()?;
+    rest.option = false;
+    grants.put(alloc, rest)
 }

@@ -12,11 +12,12 @@ use crate::granting::write_grants;
 use crate::grantors::{Grantor, grantors_of};
 use crate::holding::is_same_privilege;
 use crate::optioning::{is_same_grantee, options};
+use crate::placing::{remove_grant, revoke_option};
 use rls_role::rls_source::{Reads, RowSource, noted_grants, require_grantees, table_named};
 use rls_role::rls_statement::RevokePrivileges;
 use rls_role::{EffectiveRoles, noted_effective_roles};
-use rls_value::{Items, Name, Privilege, Refusal};
-use rls_verdict::rls_catalog::{Delta, Grant};
+use rls_value::{Name, Privilege, Refusal};
+use rls_verdict::rls_catalog::{Delta, Grant, Grants};
 use rls_verdict::rls_expr::{Grantee, TableDef};
 use std::alloc::{AllocError, Global};
 use std::collections::BTreeSet;
@@ -66,7 +67,7 @@ fn leave_grants(
     effective_roles: &EffectiveRoles,
     role: &Name,
     table: &TableDef,
-    grants: &[Grant],
+    grants: &Grants,
     revoke: &RevokePrivileges,
 ) -> Result<Delta, Refusal>
     ensures { Gives result (grants_revoked effective_roles.now role.now table.now grants.now revoke.now) }
@@ -90,7 +91,7 @@ fn leave_grants(
 fn revoke_by(
     alloc: Global,
     table: &TableDef,
-    grants: &[Grant],
+    grants: &Grants,
     grantors: &[Grantor],
     revoke: &RevokePrivileges,
 ) -> Result<Delta, Refusal>
@@ -108,8 +109,8 @@ fn rest_of(
     option_only: bool,
     grantors: &[Grantor],
     grantees: &[Grantee],
-    grants: &[Grant],
-) -> Result<Items<Grant>, AllocError>
+    grants: &Grants,
+) -> Result<Grants, AllocError>
     ensures { IfOk result (λ rest. rest ≡ without_taken option_only grantors.now grantees.now grants.now) }
 {
     if option_only {
@@ -123,27 +124,15 @@ fn revoke_options(
     alloc: Global,
     grantors: &[Grantor],
     grantees: &[Grantee],
-    grants: &[Grant],
-) -> Result<Items<Grant>, AllocError>
+    grants: &Grants,
+) -> Result<Grants, AllocError>
     ensures { IfOk result (λ rest. rest ≡ map (without_grant_option grantors.now grantees.now) grants.now) }
 {
-    let mut rest = Items::new(alloc);
-    for grant in grants {
-        rest.push(revoke_option(grantors, grantees, grant)?)?;
-    }
-    Ok(rest)
-}
-
-fn revoke_option(
-    grantors: &[Grantor],
-    grantees: &[Grantee],
-    grant: &Grant,
-) -> Result<Grant, AllocError>
-    ensures { IfOk result (λ rest. rest ≡ without_grant_option grantors.now grantees.now grant.now) }
-{
-    let mut rest = grant.copy()?;
-    if takes(grantors, grantees, grant) {
-        rest.option = false;
+    let mut rest = grants.copy()?;
+    for grant in grants.iter() {
+        if takes(grantors, grantees, grant) {
+            revoke_option(alloc, &mut rest, grant)?;
+        }
     }
     Ok(rest)
 }
@@ -152,14 +141,14 @@ fn drop_taken(
     alloc: Global,
     grantors: &[Grantor],
     grantees: &[Grantee],
-    grants: &[Grant],
-) -> Result<Items<Grant>, AllocError>
+    grants: &Grants,
+) -> Result<Grants, AllocError>
     ensures { IfOk result (λ rest. rest ≡ filter (λ grant. not (is_taken grantors.now grantees.now grant)) grants.now) }
 {
-    let mut rest = Items::new(alloc);
-    for grant in grants {
-        if !takes(grantors, grantees, grant) {
-            rest.push(grant.copy()?)?;
+    let mut rest = grants.copy()?;
+    for grant in grants.iter() {
+        if takes(grantors, grantees, grant) {
+            remove_grant(alloc, &mut rest, grant)?;
         }
     }
     Ok(rest)
@@ -197,8 +186,8 @@ fn leave_after(
     table: &Name,
     owner: &Name,
     grantors: &[Grantor],
-    grants: Items<Grant>,
-) -> Result<Items<Grant>, Refusal>
+    grants: Grants,
+) -> Result<Grants, Refusal>
     ensures { Gives result (left_after cascade table.now owner.now grantors.now grants) }
 {
     let mut left = grants;
@@ -215,11 +204,11 @@ fn leave(
     table: &Name,
     owner: &Name,
     privilege: Privilege,
-    grants: Items<Grant>,
-) -> Result<Items<Grant>, Refusal>
+    grants: Grants,
+) -> Result<Grants, Refusal>
     ensures { Gives result (left_or_refused cascade table.now privilege (one_of (holders_of owner.now grants privilege)) grants) }
 {
-    match options(alloc, owner, grants.as_slice(), privilege) {
+    match options(alloc, owner, &grants, privilege) {
         Ok(holders) => {
             let left = leave_by(alloc, cascade, table, privilege, &holders, grants);
             drop(holders);
@@ -238,14 +227,14 @@ fn leave_by(
     table: &Name,
     privilege: Privilege,
     holders: &BTreeSet<Name>,
-    grants: Items<Grant>,
-) -> Result<Items<Grant>, Refusal>
+    grants: Grants,
+) -> Result<Grants, Refusal>
     ensures { Gives result (left_or_refused cascade table.now privilege (contains name_order holders.now) grants) }
 {
     if cascade {
         return Ok(keep_held(alloc, privilege, holders, grants)?);
     }
-    if has_loose(privilege, holders, grants.as_slice()) {
+    if has_loose(privilege, holders, &grants) {
         drop(grants);
         return Err(Refusal::Dependent(table.copy()?));
     }
@@ -256,20 +245,20 @@ fn keep_held(
     alloc: Global,
     privilege: Privilege,
     holders: &BTreeSet<Name>,
-    grants: Items<Grant>,
-) -> Result<Items<Grant>, AllocError>
+    grants: Grants,
+) -> Result<Grants, AllocError>
     ensures { IfOk result (λ left. left ≡ filter (spec.stays (contains name_order holders.now) privilege) grants) }
 {
-    let mut left = Items::new(alloc);
-    for grant in grants.into_vec() {
-        if stays(privilege, holders, &grant) {
-            left.push(grant)?;
+    let mut left = grants.copy()?;
+    for grant in grants.iter() {
+        if !stays(privilege, holders, grant) {
+            remove_grant(alloc, &mut left, grant)?;
         }
     }
     Ok(left)
 }
 
-fn has_loose(privilege: Privilege, holders: &BTreeSet<Name>, grants: &[Grant]) -> bool
+fn has_loose(privilege: Privilege, holders: &BTreeSet<Name>, grants: &Grants) -> bool
     ensures { result ≡ list_any (λ grant. not (spec.stays (contains name_order holders.now) privilege grant)) grants.now }
 {
     grants.iter().any(|grant| !stays(privilege, holders, grant))

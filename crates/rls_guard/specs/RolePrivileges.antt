@@ -5,7 +5,7 @@ use Rattle.rls_expr.specs.rls_value.specs.{Names.one_of, declared.object.Object.
 use Rattle.rls_expr.specs.rls_value.specs.declared.object.Object.TheVariants as o
 use Rattle.rls_expr.specs.rls_value.specs.declared.refusal.Why.TheVariants as why
 use Rattle.rls_expr.specs.declared.table.TableDef.{TableDef}
-use Rattle.rls_evaluation.specs.rls_catalog.specs.{declared.grant.Grant.Grant, State.State, Privileges.includes, Privileges.is_same_privilege}
+use Rattle.rls_evaluation.specs.rls_catalog.specs.{declared.grant.Grant.Grant, State.State, Privileges.includes, Privileges.is_same_privilege, Privileges.is_whole}
 use Rattle.rls_evaluation.specs.rls_catalog.specs.Membership.{attributes_of, walked_by, effective_roles_reads}
 use Rattle.rls_evaluation.specs.rls_catalog.proofs.Frames.{attributes_frame, walked_frame, effective_roles_reads_frame}
 use Rattle.rls_guard.specs.declared.role_privileges.RolePrivileges.{RolePrivileges}
@@ -38,9 +38,9 @@ role_privileges_of role = record { in_state = λ s. record { gives = Ok (role_pr
 abbrev pub has_owner : RolePrivileges → TableDef → Bool
 has_owner role_privileges table = role_privileges.effective_roles.superuser || one_of role_privileges.effective_roles.names table.owner
 
--- some of the grants is of the privilege, and to PUBLIC or a role whose privileges the role has
+-- some of the grants is of the privilege on the whole table, and to PUBLIC or a role whose privileges the role has
 abbrev pub is_granted : RolePrivileges → Privilege → List Grant → Bool
-is_granted role_privileges privilege grants = list_any (λ grant. is_same_privilege grant.privilege privilege && includes role_privileges.effective_roles.superuser role_privileges.effective_roles.names grant.grantee) grants
+is_granted role_privileges privilege grants = list_any (λ grant. is_whole grant && (is_same_privilege grant.privilege privilege && includes role_privileges.effective_roles.superuser role_privileges.effective_roles.names grant.grantee)) grants
 
 -- the privilege has to be held: a superuser holds each, another role what is granted to it
 abbrev pub privilege_or_denied : RolePrivileges → Privilege → List ℕ → Asking (Unit {0})

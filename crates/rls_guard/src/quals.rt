@@ -8,7 +8,7 @@ ghost use Rattle.rls_guard.specs.SecurityQuals as spec;
 
 use crate::role_privileges::RolePrivileges;
 use rls_evaluation::SecurityQuals;
-use rls_evaluation::rls_catalog::Side;
+use rls_evaluation::rls_catalog::{Policies, Side};
 use rls_expr::rls_value::{Items, Kind, Reference};
 use rls_expr::{Expr, FromTable, NamedTable, Policy, Scope, resolve_columns};
 use rls_policy::{chosen, expression_of};
@@ -31,7 +31,7 @@ pub fn row_checks_by<'c, 'x>(
     kind: Kind,
     reads: bool,
     side: Side,
-    policies: Option<&'c [Policy]>,
+    policies: Option<&'c Policies>,
 ) -> Result<Items<RowCheck<'c>>, AllocError>
     ensures { IfOk result (λ row_checks. row_checks ≡ spec.row_checks_by role_privileges.now kind reads (in_scope scope.entry.from) scope.entry.found.now (option_copied policies.entry) side) }
 {
@@ -63,7 +63,7 @@ fn row_check_by<'c, 'x>(
     scope: PolicyScope<'x>,
     kind: Kind,
     side: Side,
-    policies: Option<&'c [Policy]>,
+    policies: Option<&'c Policies>,
 ) -> Result<RowCheck<'c>, AllocError>
     ensures { IfOk result (λ row_check. row_check ≡ spec.row_check_by role_privileges.now kind side (in_scope scope.entry.from) scope.entry.found.now (option_copied policies.entry)) }
 {
@@ -80,7 +80,7 @@ fn quals_by<'c, 'x>(
     scope: PolicyScope<'x>,
     kind: Kind,
     side: Side,
-    policies: &'c [Policy],
+    policies: &'c Policies,
 ) -> Result<SecurityQuals<'c>, AllocError>
     ensures { IfOk result (λ quals. quals ≡ spec.quals_by role_privileges.now kind side (in_scope scope.entry.from) scope.entry.found.now policies.now) }
 {

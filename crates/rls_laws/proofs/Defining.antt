@@ -101,7 +101,7 @@ pub create_table_gives : (Known : Type 0) (s : State) (role : List ℕ) (asked :
 create_table_gives Known s role asked =
     let names : List (List ℕ) = unwrap_or asked.key (map (λ marked. marked.column.name) (filter (λ marked. marked.is_key) asked.columns)) in
     let columns : List Column = map (λ marked. record marked.column { not_null = marked.column.not_null || one_of names marked.column.name }) asked.columns in
-    let own : List Grant = map (λ privilege. record { privilege = privilege; grantee = Role role; grantor = role; option = false }) all_privileges in
+    let own : List Grant = map (λ privilege. record { privilege = privilege; grantee = Role role; grantor = role; option = false; column = None; place = 0 }) all_privileges in
     after (each_gives_all (λ place. place < length columns) (place_in columns) (place_gives columns) names) (λ key there.
     after (provided_gives (not (is_some (table_of s asked.name))) (r.Duplicate defined.Relation asked.name) tt) (λ _ _.
     let table : TableDef = record { owner = role; enabled = false; forced = false; columns = columns; key = key } in

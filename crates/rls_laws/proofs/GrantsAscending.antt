@@ -38,7 +38,8 @@ grantee_total : IsTotalOrder grantee_order
 grantee_total = record { antisymm = grantee_turned; trans = grantee_further; congr = grantee_alike }
 
 grant_total : IsTotalOrder grant_order
-grant_total = then_total (on_total (λ g. place_of g.privilege) nat_cmp_total) (then_total (on_total (λ g. g.grantee) grantee_total) (on_total (λ g. g.grantor) nat_list_cmp_total))
+grant_total = then_total (on_total (λ g. place_of g.privilege) nat_cmp_total) (then_total (on_total (λ g. g.grantee) grantee_total)
+    (then_total (on_total (λ g. g.grantor) nat_list_cmp_total) (on_total (λ g. g.place) nat_cmp_total)))
 
 -- ---- grant options
 

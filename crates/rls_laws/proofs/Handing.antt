@@ -1,5 +1,5 @@
 -- What GRANT and REVOKE come to, of privileges and of roles.
-use Rattle.std.specs.Prelude.{ℕ, List, [], ◌∷◌, Bool, true, false, not, ◌||◌, Result, Ok, filter, fold, if◌then◌else◌, map}
+use Rattle.std.specs.Prelude.{ℕ, List, [], ◌∷◌, None, Bool, true, false, not, ◌||◌, Result, Ok, filter, fold, if◌then◌else◌, map}
 use Rattle.std.specs.List.{AllByRecursion, flat_map, list_all}
 use Rattle.std.proofs.lemmas.List.Kept.{IsStrictlySortedBy-filter}
 use Rattle.rls_value.specs.{Names.one_of, declared.refusal.Refusal.Refusal, declared.verb.Privilege.Privilege}
@@ -10,8 +10,8 @@ use Rattle.rls_expr.specs.{declared.policy.Grantee.Grantee, declared.table.Table
 use Rattle.rls_catalog.specs.{Changed.changed, GrantOptions.grantor_of, GrantOptions.not_grantable, Membership.fresh, Paths.closes_circle, Paths.may_grant, State.State, State.grants_of, State.members_of, declared.change.Change.Change, declared.grant.Grant.Grant}
 use Rattle.rls_catalog.specs.declared.change.Change.TheVariants as c
 use Rattle.rls_source.specs.Sequences.{each_or_refused}
-use Rattle.rls_statement.specs.{declared.statement.GrantPrivileges.GrantPrivileges, declared.statement.GrantRoles.GrantRoles, declared.statement.MembershipOptions.MembershipOptions, declared.statement.Privileges.Privileges, declared.statement.RevokePrivileges.RevokePrivileges, declared.statement.RevokeRoles.RevokeRoles}
-use Rattle.rls_guard.specs.rls_grant.specs.{declared.grantors.Grantor.Grantor, Granting.goes_back, Granting.grant_order, Grantors.all_privileges, Grantors.is_named, Holders.holders_of, Revoking.stays}
+use Rattle.rls_statement.specs.{declared.statement.GrantPrivileges.GrantPrivileges, declared.statement.GrantRoles.GrantRoles, declared.statement.MembershipOptions.MembershipOptions, declared.privileges.Privileges.Privileges, Extents.is_named, declared.statement.RevokePrivileges.RevokePrivileges, declared.statement.RevokeRoles.RevokeRoles}
+use Rattle.rls_guard.specs.rls_grant.specs.{declared.grantors.Grantor.Grantor, Granting.goes_back, Granting.grant_order, Grantors.all_privileges, Holders.holders_of, Revoking.stays}
 use Rattle.rls_guard.specs.Effects.{writes}
 use Rattle.rls_check.specs.rls_meaning.specs.{Grants.is_taken, Grants.left_in, Grants.option_in, Grants.put_grant, Meaning.written, Memberships.grant_roles_in, Memberships.in_turn, Memberships.joined_in, Memberships.managed_in, Memberships.memberships_left, Memberships.put_membership, Memberships.revoke_roles_in, Naming.provided, Privileges.grant_in, Privileges.grantor_in, Privileges.grantors_in, Privileges.revoke_in}
 use Rattle.rls_laws.specs.InOrder.{GrantsAscend, IsInOrder}
@@ -47,7 +47,7 @@ grant_gives Known s role asked =
     after (grantees_give s asked.to) (λ _ _.
     after (grantors_give s role asked.table table asked.privileges) (λ by _.
     after (options_give asked.with_option table.owner (grants_of s asked.table) by asked.to) (λ _ _.
-    let new : List Grant = flat_map (λ grantor. map (λ grantee. record { privilege = grantor.privilege; grantee = grantee; grantor = grantor.name; option = asked.with_option }) asked.to) by in
+    let new : List Grant = flat_map (λ grantor. map (λ grantee. record { privilege = grantor.privilege; grantee = grantee; grantor = grantor.name; option = asked.with_option; column = None; place = 0 }) asked.to) by in
     gives (AllByRecursion (Fits s Known)) (c.Grants asked.table (fold put_grant (grants_of s asked.table) new) ∷ [])
     (record { ordered = λ is. put_grants_ascend (grants_of s asked.table) new (is.grants asked.table); told = λ _. tt; spelled = λ _ _ _. tt }, tt)))))
 

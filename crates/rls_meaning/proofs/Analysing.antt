@@ -176,21 +176,21 @@ inserts_then (Ok _) (Ok _) room done = refl
 
 -- ---- reading
 
-mentioned : (terms : List Term) → list_any (machine.mentions 0) terms ≡ list_any (mentions 0) terms
-mentioned terms = λ i. list_any (λ term. mentions_told 0 term i) terms
+mentioned : (terms : List Term) → list_any machine.reads_target terms ≡ list_any (mentions (λ _. true) 0) terms
+mentioned terms = λ i. list_any (λ term. mentions_told (λ _. true) 0 term i) terms
 
-both_mentioned : (terms items : List Term) → (list_any (machine.mentions 0) terms || list_any (machine.mentions 0) items) ≡ list_any (mentions 0) (terms ++ items)
-both_mentioned terms items = sym (list_any-append (machine.mentions 0) terms items) ∙ mentioned (terms ++ items)
+both_mentioned : (terms items : List Term) → (list_any machine.reads_target terms || list_any machine.reads_target items) ≡ list_any (mentions (λ _. true) 0) (terms ++ items)
+both_mentioned terms items = sym (list_any-append machine.reads_target terms items) ∙ mentioned (terms ++ items)
 
-reads_told : (terms : List Term) (returning : Option Selected) → (list_any (machine.mentions 0) terms || returning_reads returning) ≡ reads_in terms returning
+reads_told : (terms : List Term) (returning : Option Selected) → (list_any machine.reads_target terms || returning_reads returning) ≡ reads_in terms returning
 reads_told terms None = both_mentioned terms []
-reads_told terms (Some selected.All) = or_true (list_any (machine.mentions 0) terms)
+reads_told terms (Some selected.All) = or_true (list_any machine.reads_target terms)
 reads_told terms (Some (selected.Items items)) = both_mentioned terms items
 reads_told terms (Some selected.Count) = both_mentioned terms []
 
-where_read : (condition : Option Term) → where_reads condition ≡ list_any (machine.mentions 0) (option_to_list condition)
+where_read : (condition : Option Term) → where_reads condition ≡ list_any machine.reads_target (option_to_list condition)
 where_read None = refl
-where_read (Some term) = sym (or_false (machine.mentions 0 term))
+where_read (Some term) = sym (or_false (machine.reads_target term))
 
 -- ---- SELECT
 
@@ -354,9 +354,9 @@ update_analysed s asked table =
 pub update_reads : (parts : AnalysedUpdate) → analysed_update_reads parts ≡ reads_in (set_and_where parts) parts.returning
 update_reads parts =
     let values : List Term = map (λ assignment. assignment.1) parts.assignments in
-    (λ i. sym (any_map (machine.mentions 0) (λ assignment. assignment.1) parts.assignments) i || (where_read parts.condition i || returning_reads parts.returning))
-    ∙ or_assoc (list_any (machine.mentions 0) values) (list_any (machine.mentions 0) (option_to_list parts.condition)) (returning_reads parts.returning)
-    ∙ ap (λ b. b || returning_reads parts.returning) (sym (list_any-append (machine.mentions 0) values (option_to_list parts.condition)))
+    (λ i. sym (any_map machine.reads_target (λ assignment. assignment.1) parts.assignments) i || (where_read parts.condition i || returning_reads parts.returning))
+    ∙ or_assoc (list_any machine.reads_target values) (list_any machine.reads_target (option_to_list parts.condition)) (returning_reads parts.returning)
+    ∙ ap (λ b. b || returning_reads parts.returning) (sym (list_any-append machine.reads_target values (option_to_list parts.condition)))
     ∙ reads_told (set_and_where parts) parts.returning
 
 pub update_tables : (parts : AnalysedUpdate) → analysed_update_tables parts ≡ flat_map tables_of (set_and_where parts)

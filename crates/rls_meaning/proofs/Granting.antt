@@ -8,9 +8,9 @@ use Rattle.rls_expr.specs.{declared.policy.Grantee.Grantee, declared.policy.Gran
 use Rattle.rls_catalog.specs.declared.change.Change.TheVariants as change
 use Rattle.rls_catalog.specs.{declared.grant.Grant.Grant, GrantOptions.grantor_of, State.State, State.grants_of}
 use Rattle.rls_source.specs.{Asked.grants_at, Named.found_or, Sequences.each_of, Sequences.each_or_refused}
-use Rattle.rls_statement.specs.{declared.statement.GrantPrivileges.GrantPrivileges, declared.statement.Privileges.Privileges, declared.statement.RevokePrivileges.RevokePrivileges}
+use Rattle.rls_statement.specs.{declared.statement.GrantPrivileges.GrantPrivileges, declared.privileges.Privileges.Privileges, declared.statement.RevokePrivileges.RevokePrivileges, Extents.is_named}
 use Rattle.rls_guard.specs.rls_role.specs.Reaching.{effective_roles_in}
-use Rattle.rls_guard.specs.rls_grant.specs.{declared.grantors.Grantor.Grantor, Granting.goes_back, Granting.grant, Granting.grant_on, Granting.granted, Granting.grants_by, Granting.grants_made, Granting.optioned_or_refused, Granting.options_or_refused, Granting.with_grants, Grantors.all_privileges, Grantors.granted_by, Grantors.grantor_by, Grantors.grantor_or_denied, Grantors.grantors, Grantors.is_named, Holders.holders_of, Revoking.grants_revoked, Revoking.left_after, Revoking.revoke, Revoking.revoke_on, Revoking.revoked, Revoking.stays, Revoking.without_taken}
+use Rattle.rls_guard.specs.rls_grant.specs.{declared.grantors.Grantor.Grantor, Granting.goes_back, Granting.grant, Granting.grant_on, Granting.granted, Granting.grants_by, Granting.grants_made, Granting.optioned_or_refused, Granting.options_or_refused, Granting.with_grants, Grantors.all_privileges, Grantors.granted_by, Grantors.grantor_by, Grantors.grantor_or_denied, Grantors.grantors, Holders.holders_of, Revoking.grants_revoked, Revoking.left_after, Revoking.revoke, Revoking.revoke_on, Revoking.revoked, Revoking.stays, Revoking.without_taken}
 use Rattle.rls_meaning.specs.{Grants.left_in, Grants.option_in, Grants.put_grant, Naming.provided, Privileges.grant_in, Privileges.grantor_in, Privileges.grantors_in, Privileges.revoke_in}
 use Rattle.rls_meaning.proofs.Naming.{grantees_told, table_told}
 

@@ -57,8 +57,8 @@ now = record {
   roles = (codes "postgres", record { superuser = true; login = true; bypass_rls = true }) ∷ (codes "olga", nobody) ∷ (codes "alice", nobody) ∷ (codes "bob", nobody) ∷ (codes "crew", nobody) ∷ [];
   members = (codes "alice", record { role = codes "crew"; admin = false; inherit = true; set = true } ∷ []) ∷ [];
   tables = (codes "papers", table_of_two (codes "team") ColType.BigInt) ∷ (codes "teams", table_of_two (codes "lead") ColType.Text) ∷ (codes "here", table_of_two (codes "n") ColType.BigInt) ∷ (codes "there", table_of_two (codes "n") ColType.BigInt) ∷ [];
-  grants = (codes "papers", record { privilege = Privilege.Select; grantee = g.Public; grantor = codes "olga"; option = false } ∷ [])
-      ∷ (codes "teams", record { privilege = Privilege.Select; grantee = g.Role (codes "crew"); grantor = codes "olga"; option = false } ∷ [])
+  grants = (codes "papers", record { privilege = Privilege.Select; grantee = g.Public; grantor = codes "olga"; option = false; column = None; place = 0 } ∷ [])
+      ∷ (codes "teams", record { privilege = Privilege.Select; grantee = g.Role (codes "crew"); grantor = codes "olga"; option = false; column = None; place = 0 } ∷ [])
       ∷ [];
   policies = (codes "papers", of_team ∷ []) ∷ (codes "teams", own ∷ []) ∷ (codes "here", some_of (codes "there") ∷ []) ∷ (codes "there", some_of (codes "here") ∷ []) ∷ [];
   rows = (codes "papers", (record { txn = 1; n = 1 }, record { key = []; row = Int (pos 1) ∷ Int (pos 10) ∷ [] }) ∷ (record { txn = 1; n = 2 }, record { key = []; row = Int (pos 2) ∷ Int (pos 20) ∷ [] }) ∷ [])

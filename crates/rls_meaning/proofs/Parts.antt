@@ -1,5 +1,5 @@
 -- What stands in an expression, by its parts.
-use Rattle.std.specs.Prelude.{◌≡◌, refl, ℕ, suc, ◌+◌, List, [], ◌∷◌, ◌++◌, Option, Some, None, Bool, true, false, not, ◌||◌, nat_eq, length}
+use Rattle.std.specs.Prelude.{◌≡◌, refl, ℕ, suc, ◌+◌, List, [], ◌∷◌, ◌++◌, Option, Some, None, Bool, true, false, not, ◌&&◌, ◌||◌, nat_eq, length}
 use Rattle.std.specs.List.{flat_map, list_any}
 use Rattle.std.specs.Option.{option_to_list}
 use Rattle.std.proofs.Common.{add-suc, add-zero, ap, append-nil, sym, ◌∙◌}
@@ -36,36 +36,36 @@ deeper : (table : ℕ) (around : List FromItem) (from : FromItem) → suc (table
 deeper table around from = sym (add-suc table (length around))
 
 mutual
-  mentioned : (table : ℕ) (around : List FromItem) (t : Term) → machine.mentions (table + length around) t ≡ list_any (is_column_of table) (parts around t)
-  mentioned table around (Literal v) = refl
-  mentioned table around (Column name) = refl
-  mentioned table around (Var at) = or_false (nat_eq at.level (table + length around))
-  mentioned table around CurrentUser = refl
-  mentioned table around (Compare how a b) = joined (is_column_of table) (parts around a) (parts around b) (mentioned table around a) (mentioned table around b)
-  mentioned table around (And ts) = some_mentioned table around ts
-  mentioned table around (Or ts) = some_mentioned table around ts
-  mentioned table around (Not t) = mentioned table around t
-  mentioned table around (IsNull t) = mentioned table around t
-  mentioned table around (IsNotNull t) = mentioned table around t
-  mentioned table around (InList t ts) = joined (is_column_of table) (parts around t) (parts_all around ts) (mentioned table around t) (some_mentioned table around ts)
-  mentioned table around (NotInList t ts) = joined (is_column_of table) (parts around t) (parts_all around ts) (mentioned table around t) (some_mentioned table around ts)
-  mentioned table around (Exists q) = query_mentioned table around q
-  mentioned table around (InSubquery t q) = joined (is_column_of table) (parts around t) (query_parts around q) (mentioned table around t) (query_mentioned table around q)
-  mentioned table around (NotInSubquery t q) = joined (is_column_of table) (parts around t) (query_parts around q) (mentioned table around t) (query_mentioned table around q)
-  mentioned table around (Scalar q) = query_mentioned table around q
-  mentioned table around (Sum signs ts) = some_mentioned table around ts
+  mentioned : (is_wanted : ℕ → Bool) (table : ℕ) (around : List FromItem) (t : Term) → machine.mentions is_wanted (table + length around) t ≡ list_any (is_column_of is_wanted table) (parts around t)
+  mentioned is_wanted table around (Literal v) = refl
+  mentioned is_wanted table around (Column name) = refl
+  mentioned is_wanted table around (Var at) = or_false (nat_eq at.level (table + length around) && is_wanted at.column)
+  mentioned is_wanted table around CurrentUser = refl
+  mentioned is_wanted table around (Compare how a b) = joined (is_column_of is_wanted table) (parts around a) (parts around b) (mentioned is_wanted table around a) (mentioned is_wanted table around b)
+  mentioned is_wanted table around (And ts) = some_mentioned is_wanted table around ts
+  mentioned is_wanted table around (Or ts) = some_mentioned is_wanted table around ts
+  mentioned is_wanted table around (Not t) = mentioned is_wanted table around t
+  mentioned is_wanted table around (IsNull t) = mentioned is_wanted table around t
+  mentioned is_wanted table around (IsNotNull t) = mentioned is_wanted table around t
+  mentioned is_wanted table around (InList t ts) = joined (is_column_of is_wanted table) (parts around t) (parts_all around ts) (mentioned is_wanted table around t) (some_mentioned is_wanted table around ts)
+  mentioned is_wanted table around (NotInList t ts) = joined (is_column_of is_wanted table) (parts around t) (parts_all around ts) (mentioned is_wanted table around t) (some_mentioned is_wanted table around ts)
+  mentioned is_wanted table around (Exists q) = query_mentioned is_wanted table around q
+  mentioned is_wanted table around (InSubquery t q) = joined (is_column_of is_wanted table) (parts around t) (query_parts around q) (mentioned is_wanted table around t) (query_mentioned is_wanted table around q)
+  mentioned is_wanted table around (NotInSubquery t q) = joined (is_column_of is_wanted table) (parts around t) (query_parts around q) (mentioned is_wanted table around t) (query_mentioned is_wanted table around q)
+  mentioned is_wanted table around (Scalar q) = query_mentioned is_wanted table around q
+  mentioned is_wanted table around (Sum signs ts) = some_mentioned is_wanted table around ts
 
-  query_mentioned : (table : ℕ) (around : List FromItem) (q : Query) → machine.query_mentions (table + length around) q ≡ list_any (is_column_of table) (query_parts around q)
-  query_mentioned table around (Select from key selects items condition) =
-      (λ i. machine.some_mentions (deeper table around from i) items || machine.some_mentions (deeper table around from i) condition)
-      ∙ joined (is_column_of table) (parts_all (from ∷ around) items) (parts_all (from ∷ around) condition) (some_mentioned table (from ∷ around) items) (some_mentioned table (from ∷ around) condition)
+  query_mentioned : (is_wanted : ℕ → Bool) (table : ℕ) (around : List FromItem) (q : Query) → machine.query_mentions is_wanted (table + length around) q ≡ list_any (is_column_of is_wanted table) (query_parts around q)
+  query_mentioned is_wanted table around (Select from key selects items condition) =
+      (λ i. machine.some_mentions is_wanted (deeper table around from i) items || machine.some_mentions is_wanted (deeper table around from i) condition)
+      ∙ joined (is_column_of is_wanted table) (parts_all (from ∷ around) items) (parts_all (from ∷ around) condition) (some_mentioned is_wanted table (from ∷ around) items) (some_mentioned is_wanted table (from ∷ around) condition)
 
-  some_mentioned : (table : ℕ) (around : List FromItem) (ts : Terms) → machine.some_mentions (table + length around) ts ≡ list_any (is_column_of table) (parts_all around ts)
-  some_mentioned table around End = refl
-  some_mentioned table around (More t ts) = joined (is_column_of table) (parts around t) (parts_all around ts) (mentioned table around t) (some_mentioned table around ts)
+  some_mentioned : (is_wanted : ℕ → Bool) (table : ℕ) (around : List FromItem) (ts : Terms) → machine.some_mentions is_wanted (table + length around) ts ≡ list_any (is_column_of is_wanted table) (parts_all around ts)
+  some_mentioned is_wanted table around End = refl
+  some_mentioned is_wanted table around (More t ts) = joined (is_column_of is_wanted table) (parts around t) (parts_all around ts) (mentioned is_wanted table around t) (some_mentioned is_wanted table around ts)
 
-pub mentions_told : (table : ℕ) (t : Term) → machine.mentions table t ≡ mentions table t
-mentions_told table t = (λ i. machine.mentions (sym (add-zero table) i) t) ∙ mentioned table [] t
+pub mentions_told : (is_wanted : ℕ → Bool) (table : ℕ) (t : Term) → machine.mentions is_wanted table t ≡ mentions is_wanted table t
+mentions_told is_wanted table t = (λ i. machine.mentions is_wanted (sym (add-zero table) i) t) ∙ mentioned is_wanted table [] t
 
 -- ---- what isn't supported
 

@@ -32,7 +32,7 @@ items_resolved s tables other = other
 
 -- the table is read: `*` is returned, or one of these expressions or an item mentions a column
 abbrev pub reads_in : List Term → Option Selected → Bool
-reads_in terms returning = is_all returning || list_any (mentions 0) (terms ++ items_of returning)
+reads_in terms returning = is_all returning || list_any (mentions (λ _. true) 0) (terms ++ items_of returning)
 
 -- ---- columns that are written
 

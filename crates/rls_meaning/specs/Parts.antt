@@ -1,5 +1,5 @@
 -- What stands in an expression: its columns, sums and subqueries, in the order of the text; and what is asked of them.
-use Rattle.std.specs.Prelude.{ℕ, ◌+◌, List, [], ◌∷◌, ◌++◌, Bool, true, false, not, nat_eq, length, Result, Ok}
+use Rattle.std.specs.Prelude.{ℕ, ◌+◌, List, [], ◌∷◌, ◌++◌, Bool, true, false, ◌&&◌, not, nat_eq, length, Result, Ok}
 use Rattle.std.specs.List.{filter_map, flat_map, list_any}
 use Rattle.std.specs.Option.{option_map}
 use Rattle.rls_value.specs.{declared.refusal.Refusal.Refusal, Giving.and_then}
@@ -61,14 +61,14 @@ tables_of t = flat_map table_of_part (parts [] t)
 abbrev pub has_query : Term → Bool
 has_query t = list_any (λ _. true) (tables_of t)
 
--- a column of the table so many levels up from the expression; in a subquery it is one level further up
-abbrev pub is_column_of : ℕ → Part → Bool
-is_column_of table (Expression around (Var at)) = nat_eq at.level (table + length around)
-is_column_of table _ = false
+-- a column that is wanted, of the table so many levels up from the expression; in a subquery that is one level further up
+abbrev pub is_column_of : (ℕ → Bool) → ℕ → Part → Bool
+is_column_of is_wanted table (Expression around (Var at)) = nat_eq at.level (table + length around) && is_wanted at.column
+is_column_of is_wanted table _ = false
 
 -- such a column stands in it
-abbrev pub mentions : ℕ → Term → Bool
-mentions table t = list_any (is_column_of table) (parts [] t)
+abbrev pub mentions : (ℕ → Bool) → ℕ → Term → Bool
+mentions is_wanted table t = list_any (is_column_of is_wanted table) (parts [] t)
 
 -- ---- what isn't supported
 

@@ -1,14 +1,14 @@
 -- GRANT and REVOKE of privileges (PostgreSQL manual, GRANT and REVOKE): the table and the grantees have to be there; then each
 -- privilege has to have a grantor.
-use Rattle.std.specs.Prelude.{ℕ, List, [], ◌∷◌, not, Result, Ok, filter, fold, map, if◌then◌else◌}
+use Rattle.std.specs.Prelude.{ℕ, List, [], ◌∷◌, None, not, Result, Ok, filter, fold, map, if◌then◌else◌}
 use Rattle.std.specs.List.{flat_map}
 use Rattle.rls_value.specs.{declared.refusal.Refusal.Refusal, declared.refusal.Refusal.TheVariants.Denied, declared.refusal.Why.TheVariants.GrantOption, declared.verb.Privilege.Privilege, Giving.and_then}
 use Rattle.rls_expr.specs.declared.table.TableDef.{TableDef}
 use Rattle.rls_catalog.specs.declared.change.Change.TheVariants as change
 use Rattle.rls_catalog.specs.{declared.change.Change.Change, declared.grant.Grant.Grant, GrantOptions.grantor_of, GrantOptions.not_grantable, State.State, State.grants_of}
 use Rattle.rls_source.specs.{Named.found_or, Sequences.each_of, Sequences.each_or_refused}
-use Rattle.rls_statement.specs.{declared.statement.GrantPrivileges.GrantPrivileges, declared.statement.Privileges.Privileges, declared.statement.RevokePrivileges.RevokePrivileges}
-use Rattle.rls_guard.specs.rls_grant.specs.{declared.grantors.Grantor.Grantor, Grantors.all_privileges, Grantors.is_named, Holders.holders_of}
+use Rattle.rls_statement.specs.{declared.statement.GrantPrivileges.GrantPrivileges, declared.privileges.Privileges.Privileges, declared.statement.RevokePrivileges.RevokePrivileges, Extents.is_named}
+use Rattle.rls_guard.specs.rls_grant.specs.{declared.grantors.Grantor.Grantor, Grantors.all_privileges, Holders.holders_of}
 use Rattle.rls_meaning.specs.{Grants.is_taken, Grants.left_in, Grants.option_in, Grants.put_grant, Naming.grantees_in, Naming.table_in}
 
 -- who grants a privilege: the owner, where the role has its privileges; else the role itself, where it holds the grant
@@ -29,7 +29,7 @@ grant_in s role asked =
     and_then (grantees_in s asked.to) (λ _.
     and_then (grantors_in s role asked.table table asked.privileges) (λ by.
     and_then (if asked.with_option then each_or_refused (option_in table.owner (grants_of s asked.table) by) asked.to else Ok tt) (λ _.
-    let new : List Grant = flat_map (λ grantor. map (λ grantee. record { privilege = grantor.privilege; grantee = grantee; grantor = grantor.name; option = asked.with_option }) asked.to) by in
+    let new : List Grant = flat_map (λ grantor. map (λ grantee. record { privilege = grantor.privilege; grantee = grantee; grantor = grantor.name; option = asked.with_option; column = None; place = 0 }) asked.to) by in
     Ok (change.Grants asked.table (fold put_grant (grants_of s asked.table) new) ∷ [])))))
 
 -- REVOKE: the grants of these privileges by their grantors to these grantees go, or lose the option; a grant whose grantor then

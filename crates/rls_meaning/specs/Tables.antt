@@ -1,5 +1,5 @@
 -- CREATE TABLE and ALTER TABLE .. ROW LEVEL SECURITY (PostgreSQL manual, CREATE TABLE, ALTER TABLE, and 5.7 for who owns).
-use Rattle.std.specs.Prelude.{ℕ, List, [], ◌∷◌, false, not, ◌||◌, Result, Ok, filter, fold, is_some, map, unwrap_or}
+use Rattle.std.specs.Prelude.{ℕ, List, [], ◌∷◌, None, false, not, ◌||◌, Result, Ok, filter, fold, is_some, map, unwrap_or}
 use Rattle.rls_value.specs.{declared.refusal.Refusal.Refusal, declared.refusal.Refusal.TheVariants.Denied, declared.refusal.Refusal.TheVariants.Duplicate, Giving.and_then, Names.one_of}
 use Rattle.rls_value.specs.declared.refusal.DefinedKind.TheVariants as kind
 use Rattle.rls_value.specs.declared.refusal.Why.TheVariants as why
@@ -22,7 +22,7 @@ create_table_in s role asked =
     let columns : List Column = map (λ marked. record marked.column { not_null = marked.column.not_null || one_of names marked.column.name }) asked.columns in
     and_then (each_of (place_in columns) names) (λ key.
     and_then (provided (not (is_some (table_of s asked.name))) (Duplicate kind.Relation asked.name)) (λ _.
-    let own : List Grant = map (λ privilege. record { privilege = privilege; grantee = Role role; grantor = role; option = false }) all_privileges in
+    let own : List Grant = map (λ privilege. record { privilege = privilege; grantee = Role role; grantor = role; option = false; column = None; place = 0 }) all_privileges in
     Ok (writes (change.Table asked.name (record { owner = role; enabled = false; forced = false; columns = columns; key = key })
     ∷ change.Grants asked.name (fold put_grant (grants_of s asked.name) own) ∷ []))))
 

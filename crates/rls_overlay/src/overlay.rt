@@ -3,8 +3,8 @@
 ghost use Rattle.std.specs.Prelude.{◌≡◌, IfOk};
 
 use crate::own_changes::OwnChanges;
-use rls_catalog::{BorrowedRow, Change, Grant, Membership, RoleDef};
-use rls_expr::{Policy, TableDef};
+use rls_catalog::{BorrowedRow, Change, Grants, Memberships, Policies, RoleDef};
+use rls_expr::TableDef;
 use rls_source::{Footprint, RowSource, StatementSource};
 use rls_value::{Items, Name, Object, Row};
 use std::alloc::{AllocError, Global};
@@ -49,7 +49,7 @@ impl<'c, S: RowSource<'c>> RowSource<'c> for Overlay<'c, S> {
     }
 
     #[tactic(auto, using(crate::proofs::Laws::members_behind))]
-    fn members(&mut self, alloc: Global, member: &Name) -> Result<&'c [Membership], AllocError> {
+    fn members(&mut self, alloc: Global, member: &Name) -> Result<&'c Memberships, AllocError> {
         let found = self.source.members(alloc, member)?;
         Ok(self.changes.members_over(found, member))
     }
@@ -61,13 +61,13 @@ impl<'c, S: RowSource<'c>> RowSource<'c> for Overlay<'c, S> {
     }
 
     #[tactic(auto, using(crate::proofs::Laws::grants_behind))]
-    fn grants(&mut self, alloc: Global, table: &Name) -> Result<&'c [Grant], AllocError> {
+    fn grants(&mut self, alloc: Global, table: &Name) -> Result<&'c Grants, AllocError> {
         let found = self.source.grants(alloc, table)?;
         Ok(self.changes.grants_over(found, table))
     }
 
     #[tactic(auto, using(crate::proofs::Laws::policies_behind))]
-    fn policies(&mut self, alloc: Global, table: &Name) -> Result<&'c [Policy], AllocError> {
+    fn policies(&mut self, alloc: Global, table: &Name) -> Result<&'c Policies, AllocError> {
         let found = self.source.policies(alloc, table)?;
         Ok(self.changes.policies_over(found, table))
     }

@@ -8,8 +8,8 @@ ghost use Rattle.rls_overlay.specs.Merged.{merged};
 ghost use Rattle.rls_overlay.specs.Written.{written as what_they_wrote, rows_written, over, list_over};
 
 use crate::written::Written;
-use rls_catalog::{BorrowedRow, Change, Grant, Membership, RoleDef};
-use rls_expr::{Policy, TableDef};
+use rls_catalog::{BorrowedRow, Change, Grants, Memberships, Policies, RoleDef};
+use rls_expr::TableDef;
 use rls_value::{Items, Name, Row};
 use std::alloc::{AllocError, Global};
 use std::marker::Model;
@@ -66,7 +66,7 @@ impl<'c> OwnChanges<'c> {
         self.written.role_over(found, name)
     }
 
-    pub(crate) fn members_over(&self, found: &'c [Membership], member: &Name) -> &'c [Membership]
+    pub(crate) fn members_over(&self, found: &'c Memberships, member: &Name) -> &'c Memberships
         ensures { result.now ≡ list_over (at member.now (what_they_wrote self.now).members) found.now }
     {
         self.written.members_over(found, member)
@@ -82,13 +82,13 @@ impl<'c> OwnChanges<'c> {
         self.written.table_over(found, name)
     }
 
-    pub(crate) fn grants_over(&self, found: &'c [Grant], table: &Name) -> &'c [Grant]
+    pub(crate) fn grants_over(&self, found: &'c Grants, table: &Name) -> &'c Grants
         ensures { result.now ≡ list_over (at table.now (what_they_wrote self.now).grants) found.now }
     {
         self.written.grants_over(found, table)
     }
 
-    pub(crate) fn policies_over(&self, found: &'c [Policy], table: &Name) -> &'c [Policy]
+    pub(crate) fn policies_over(&self, found: &'c Policies, table: &Name) -> &'c Policies
         ensures policies { result.now ≡ list_over (at table.now (what_they_wrote self.now).policies) found.now }
         ensures ordered { InNameOrder found.now → InNameOrder result.now }
     {

@@ -7,8 +7,8 @@ ghost use Rattle.rls_catalog.specs.{State.at, State.name_order, State.or_none, P
 ghost use Rattle.rls_overlay.specs.{Indexed.own_with_key, Indexed.not_written, Merged.merged, Written.with_change, Written.with_changes, Written.with_own_row, Written.unwritten, Written.over, Written.list_over};
 
 use crate::own_rows::OwnRows;
-use rls_catalog::{BorrowedRow, Change, Grant, Membership, PolicyList, RoleDef, RowChange};
-use rls_expr::{Policy, TableDef};
+use rls_catalog::{BorrowedRow, Change, Grants, Memberships, Policies, RoleDef, RowChange};
+use rls_expr::TableDef;
 use rls_value::{Items, Name, Reference, Row};
 use std::alloc::{AllocError, Global};
 use std::collections::BTreeMap;
@@ -18,10 +18,10 @@ use std::marker::Model;
 #[derive(Drop)]
 pub(crate) struct Written<'c> {
     roles: BTreeMap<Name, Reference<'c, RoleDef>>,
-    members: BTreeMap<Name, Reference<'c, Items<Membership>>>,
+    members: BTreeMap<Name, Reference<'c, Memberships>>,
     tables: BTreeMap<Name, Reference<'c, TableDef>>,
-    grants: BTreeMap<Name, Reference<'c, Items<Grant>>>,
-    policies: BTreeMap<Name, Reference<'c, PolicyList>>,
+    grants: BTreeMap<Name, Reference<'c, Grants>>,
+    policies: BTreeMap<Name, Reference<'c, Policies>>,
     rows: BTreeMap<Name, OwnRows<'c>>,
 }
 
@@ -111,11 +111,11 @@ impl<'c> Written<'c> {
         }
     }
 
-    pub(crate) fn members_over(&self, found: &'c [Membership], member: &Name) -> &'c [Membership]
+    pub(crate) fn members_over(&self, found: &'c Memberships, member: &Name) -> &'c Memberships
         ensures { result.now ≡ list_over (at member.now self.now.members) found.now }
     {
         match self.members.get(member) {
-            Some(content) => content.get().as_slice(),
+            Some(content) => content.get(),
             None => found,
         }
     }
@@ -133,21 +133,21 @@ impl<'c> Written<'c> {
         }
     }
 
-    pub(crate) fn grants_over(&self, found: &'c [Grant], table: &Name) -> &'c [Grant]
+    pub(crate) fn grants_over(&self, found: &'c Grants, table: &Name) -> &'c Grants
         ensures { result.now ≡ list_over (at table.now self.now.grants) found.now }
     {
         match self.grants.get(table) {
-            Some(content) => content.get().as_slice(),
+            Some(content) => content.get(),
             None => found,
         }
     }
 
-    pub(crate) fn policies_over(&self, found: &'c [Policy], table: &Name) -> &'c [Policy]
+    pub(crate) fn policies_over(&self, found: &'c Policies, table: &Name) -> &'c Policies
         ensures policies { result.now ≡ list_over (at table.now self.now.policies) found.now }
         ensures ordered { InNameOrder found.now → InNameOrder result.now }
     {
         match self.policies.get(table) {
-            Some(content) => content.get().as_slice(),
+            Some(content) => content.get().in_order(),
             None => found,
         }
     }

@@ -9,8 +9,8 @@ ghost use Rattle.rls_verdict.specs.rls_catalog.specs.Verdict as spec;
 use crate::exemption::is_exempt;
 use rls_role::rls_source::RowSource;
 use rls_role::{EffectiveRoles, effective_roles_of};
-use rls_verdict::rls_catalog::Side;
-use rls_verdict::rls_expr::{Expr, Grantee, Policy, TableDef};
+use rls_verdict::rls_catalog::{Policies, Side};
+use rls_verdict::rls_expr::{Expr, Grantee, Policy, TableDef, shared_expr};
 use rls_verdict::rls_value::{Items, Kind, Name, PolicyKind, Reference};
 use std::alloc::{AllocError, Global};
 
@@ -20,7 +20,9 @@ pub fn expression_of(policy: &Policy, kind: Kind, side: Side) -> Option<&Expr>
     ensures { option_copied result ≡ spec.expression_of policy.now kind side }
 {
     match (kind, side) {
-        (Kind::Select, _) | (Kind::Delete, _) | (Kind::Update, Side::Old) => policy.using.as_ref(),
+        (Kind::Select, _) | (Kind::Delete, _) | (Kind::Update, Side::Old) => {
+            shared_expr(&policy.using)
+        }
         (Kind::Insert, _) | (Kind::Update, Side::New) => check_or_using(policy),
     }
 }
@@ -29,8 +31,10 @@ fn check_or_using(policy: &Policy) -> Option<&Expr>
     ensures { option_copied result ≡ spec.check_or_using policy.now.kind policy.now.check policy.now.using }
 {
     match (&policy.check, policy.kind) {
-        (Some(check), _) => Some(check),
-        (None, PolicyKind::All) | (None, PolicyKind::Only(Kind::Update)) => policy.using.as_ref(),
+        (Some(check), _) => Some(check.get()),
+        (None, PolicyKind::All) | (None, PolicyKind::Only(Kind::Update)) => {
+            shared_expr(&policy.using)
+        }
         (None, _) => None,
     }
 }
@@ -152,7 +156,7 @@ fn applying_unless_exempt<'c, S: RowSource<'c>>(
 /// Of the policies of a table those that apply to a role that isn't exempt, by whose privileges the role has.
 pub fn chosen<'c>(
     alloc: Global,
-    policies: &'c [Policy],
+    policies: &'c Policies,
     effective_roles: &EffectiveRoles,
     kind: Kind,
     side: Side,
@@ -165,14 +169,15 @@ pub fn chosen<'c>(
 
 fn asked<'c>(
     alloc: Global,
-    policies: &'c [Policy],
+    policies: &'c Policies,
     kind: Kind,
     side: Side,
 ) -> Result<Items<Reference<'c, Policy>>, AllocError>
     ensures { IfOk result (λ asked. asked ≡ filter (spec.is_asked kind side) policies.now) }
 {
     let mut kept = Vec::new(alloc);
-    for policy in policies {
+    for policy in policies.iter() {
+        let policy = policy.get();
         if is_asked(policy, kind, side) {
             kept.push(Reference::new(policy))?;
         }

@@ -4,7 +4,7 @@ use Rattle.std.specs.Prelude.{codes, is_some, max, ℤ, pos, negsuc, suc, ◌^�
 use Rattle.std.specs.Char.{to_ascii_lowercase}
 use Rattle.rls_value.specs.{Names.folded, Names.is_name_text, Names.is_word, declared.refusal.Limit.Limit, declared.refusal.Refusal.Refusal, declared.value.ColType.ColType, declared.value.Value.Value, declared.verb.PolicyKind.PolicyKind, declared.verb.Kind.Kind}
 use Rattle.rls_expr.specs.{Terms.Term, Terms.Terms, Terms.Query, Terms.Literal, Terms.Column, Terms.Var, Terms.CurrentUser, Terms.Compare, Terms.And, Terms.Or, Terms.Not, Terms.IsNull, Terms.IsNotNull, Terms.InList, Terms.NotInList, Terms.Exists, Terms.InSubquery, Terms.NotInSubquery, Terms.Scalar, Terms.Sum, Terms.End, Terms.More, Terms.Select, Terms.terms_of, Terms.maybe_term, declared.expr.Comparison.Comparison, declared.expr.Selects.Selects, declared.expr.Sign.Sign, declared.policy.Grantee.Grantee, declared.policy.Policy.Policy}
-use Rattle.rls_statement.specs.{declared.changing.Assignment.Assignment, declared.statement.Attributes.Attributes, declared.statement.MarkedColumn.MarkedColumn, declared.statement.MembershipOption.MembershipOption, declared.statement.MembershipOptions.MembershipOptions, declared.statement.Privileges.Privileges, declared.statement.RowSecurity.RowSecurity, declared.statement.Selected.Selected, declared.statement.SetRole.SetRole, declared.statement.Statement.Statement}
+use Rattle.rls_statement.specs.{declared.changing.Assignment.Assignment, declared.statement.Attributes.Attributes, declared.statement.MarkedColumn.MarkedColumn, declared.statement.MembershipOption.MembershipOption, declared.statement.MembershipOptions.MembershipOptions, declared.privileges.Privileges.Privileges, declared.statement.RowSecurity.RowSecurity, declared.statement.Selected.Selected, declared.statement.SetRole.SetRole, declared.statement.Statement.Statement}
 use Rattle.rls_text.specs.{declared.token.Symbol.Symbol, declared.token.Token.Token, Grammar.Spells, Nested.subqueries_of, Writes.joined, Writes.some_is, ParseResults.limit_from, ParseResults.first_limit, ParseResults.or_next, ParseResults.limited, ParseResults.columns_of, Heights.height, Heights.heights, Heights.query_height, Heights.height_if, Heights.highest, Heights.set_values, Heights.height_of}
 use Rattle.rls_printing.specs.{declared.buffer.Mark.Mark, Outputs.is_fit, Outputs.are_fit, OutputTokens.OutputToken, OutputTokens.Word, OutputTokens.Qualified, OutputTokens.Number, OutputTokens.Text, OutputTokens.Marked, OutputTokens.Count, OutputTokens.tokens_read_of, OutputTokens.tokens_of, OutputTokens.word_token}
 use Rattle.rls_printing.specs.ExprForms as expr_form
@@ -493,13 +493,13 @@ privilege_low room false before w = none_low room
 
 some_privileges_low : (room : ℕ) (x : Privileges) → StaysLow room (form.some_privileges x)
 some_privileges_low room x =
-    both_low room (form.privilege_if x.select false (codes "SELECT"))
-    (form.privilege_if x.insert x.select (codes "INSERT") ++ (form.privilege_if x.update (x.select || x.insert) (codes "UPDATE") ++ form.privilege_if x.delete (x.select || (x.insert || x.update)) (codes "DELETE")))
-    (privilege_low room x.select false (codes "SELECT"))
-    (both_low room (form.privilege_if x.insert x.select (codes "INSERT")) (form.privilege_if x.update (x.select || x.insert) (codes "UPDATE") ++ form.privilege_if x.delete (x.select || (x.insert || x.update)) (codes "DELETE"))
-    (privilege_low room x.insert x.select (codes "INSERT"))
-    (both_low room (form.privilege_if x.update (x.select || x.insert) (codes "UPDATE")) (form.privilege_if x.delete (x.select || (x.insert || x.update)) (codes "DELETE"))
-    (privilege_low room x.update (x.select || x.insert) (codes "UPDATE")) (privilege_low room x.delete (x.select || (x.insert || x.update)) (codes "DELETE"))))
+    both_low room (form.privilege_if x.select.whole false (codes "SELECT"))
+    (form.privilege_if x.insert.whole x.select.whole (codes "INSERT") ++ (form.privilege_if x.update.whole (x.select.whole || x.insert.whole) (codes "UPDATE") ++ form.privilege_if x.delete (x.select.whole || (x.insert.whole || x.update.whole)) (codes "DELETE")))
+    (privilege_low room x.select.whole false (codes "SELECT"))
+    (both_low room (form.privilege_if x.insert.whole x.select.whole (codes "INSERT")) (form.privilege_if x.update.whole (x.select.whole || x.insert.whole) (codes "UPDATE") ++ form.privilege_if x.delete (x.select.whole || (x.insert.whole || x.update.whole)) (codes "DELETE"))
+    (privilege_low room x.insert.whole x.select.whole (codes "INSERT"))
+    (both_low room (form.privilege_if x.update.whole (x.select.whole || x.insert.whole) (codes "UPDATE")) (form.privilege_if x.delete (x.select.whole || (x.insert.whole || x.update.whole)) (codes "DELETE"))
+    (privilege_low room x.update.whole (x.select.whole || x.insert.whole) (codes "UPDATE")) (privilege_low room x.delete (x.select.whole || (x.insert.whole || x.update.whole)) (codes "DELETE"))))
 
 -- one of two, by a test
 if_low : (room : ℕ) (b : Bool) (ps qs : List OutputToken) → StaysLow room ps → StaysLow room qs → StaysLow room (if b then ps else qs)

@@ -3,8 +3,8 @@ use Rattle.std.proofs.Common.{◌≡◌, ℕ, Bool, true, false, ◌||◌, if◌
 use Rattle.std.specs.Prelude.{codes, is_some}
 use Rattle.rls_value.specs.{declared.value.ColType.ColType, declared.verb.PolicyKind.PolicyKind, declared.verb.Privilege.Privilege, declared.verb.Kind.Kind}
 use Rattle.rls_expr.specs.declared.policy.Grantee.{Grantee}
-use Rattle.rls_statement.specs.{declared.statement.Attributes.Attributes, declared.statement.MarkedColumn.MarkedColumn, declared.statement.MembershipOption.MembershipOption, declared.statement.MembershipOptions.MembershipOptions, declared.statement.Privileges.Privileges, declared.statement.RowSecurity.RowSecurity, declared.statement.SetRole.SetRole, declared.statement.Statement.Statement}
-use Rattle.rls_text.specs.{declared.attributes.RoleAttribute.RoleAttribute, declared.tables.TableElement.TableElement, declared.tables.TableElements.TableElements, declared.token.Token.Token, Elements.key_if, Lang.only, Lang.Perhaps, Lang.After, Lang.Before, Lang.put_in, Rule.with_comma, Rule.in_parentheses, Writes.joined, Writes.many_writes, declared.token.Symbol.Symbol}
+use Rattle.rls_statement.specs.{declared.statement.Attributes.Attributes, declared.statement.MarkedColumn.MarkedColumn, declared.statement.MembershipOption.MembershipOption, declared.statement.MembershipOptions.MembershipOptions, declared.statement.RowSecurity.RowSecurity, declared.statement.SetRole.SetRole, declared.statement.Statement.Statement}
+use Rattle.rls_text.specs.{declared.attributes.RoleAttribute.RoleAttribute, declared.granting.TablePrivileges.TablePrivileges, declared.tables.TableElement.TableElement, declared.tables.TableElements.TableElements, declared.token.Token.Token, Elements.key_if, Lang.only, Lang.Perhaps, Lang.After, Lang.Before, Lang.put_in, Rule.with_comma, Rule.in_parentheses, Writes.joined, Writes.many_writes, declared.token.Symbol.Symbol}
 use Rattle.rls_text.specs.declared.token.Token.TheVariants as t
 use Rattle.rls_text.specs.Grammar as g
 use Rattle.rls_text.specs.Values as values
@@ -289,22 +289,22 @@ dropped_full = mapped_full values.dropping_policy_of tables.as_dropping_policy _
 -- ---- privileges
 
 -- there is one at least
-abbrev has_privilege : Privileges → Bool
+abbrev has_privilege : TablePrivileges → Bool
 has_privilege b = b.select || (b.insert || (b.update || b.delete))
 
-has_it : (b : Privileges) (x : Privilege) → has_privilege (values.with_privilege b x) ≡ true
+has_it : (b : TablePrivileges) (x : Privilege) → has_privilege (values.with_privilege b x) ≡ true
 unfolding values.with_privilege
 has_it b Privilege.Select = refl
 has_it b Privilege.Insert = or_true b.select true refl
 has_it b Privilege.Update = or_true b.select (b.insert || true) (or_true b.insert true refl)
 has_it b Privilege.Delete = or_true b.select (b.insert || (b.update || true)) (or_true b.insert (b.update || true) (or_true b.update true refl))
 
-still_has_it : (b : Privileges) (xs : List Privilege) → has_privilege b ≡ true → has_privilege (put_in values.with_privilege b xs) ≡ true
+still_has_it : (b : TablePrivileges) (xs : List Privilege) → has_privilege b ≡ true → has_privilege (put_in values.with_privilege b xs) ≡ true
 still_has_it b [] h = h
 still_has_it b (x ∷ xs) h = still_has_it (values.with_privilege b x) xs (has_it b x)
 
-privileges_there : (s i u d : Bool) → has_privilege record { select = s; insert = i; update = u; delete = d } ≡ true → There (g.privileges.prints.writes record { select = s; insert = i; update = u; delete = d })
-unfolding g.privileges g.named_privileges g.privilege with_comma
+privileges_there : (s i u d : Bool) → has_privilege record { select = s; insert = i; update = u; delete = d } ≡ true → There (g.table_privileges.prints.writes record { select = s; insert = i; update = u; delete = d })
+unfolding g.table_privileges g.named_privileges g.privilege with_comma
 privileges_there true true true true h = tt
 privileges_there true true true false h = tt
 privileges_there true true false true h = tt
@@ -322,9 +322,9 @@ privileges_there false false true false h = tt
 privileges_there false false false true h = tt
 privileges_there false false false false h = cc
 
-privileges_full : Full g.privileges.spells g.privileges.prints.writes
-unfolding g.privileges g.named_privileges
-privileges_full = record {
+table_privileges_full : Full g.table_privileges.spells g.table_privileges.prints.writes
+unfolding g.table_privileges g.named_privileges
+table_privileges_full = record {
   written = λ ts x h.
       let some : has_privilege x ≡ true = elim h [
         | inl y ↦ rw (y.value) refl
@@ -332,6 +332,10 @@ privileges_full = record {
       ] in
       privileges_there x.select x.insert x.update x.delete some;
 }
+
+privileges_full : Full g.privileges.spells g.privileges.prints.writes
+unfolding g.privileges
+privileges_full = mapped_full values.whole_privileges back.as_table_privileges _ _ (λ r. refl) table_privileges_full
 
 table_name_full : Full g.table_name.spells g.table_name.prints.writes
 unfolding g.table_name

@@ -1,13 +1,14 @@
 -- What the grammar writes for a statement are the tokens of the words of which it is printed.
-use Rattle.std.{proofs.Common.◌≡◌, proofs.Common.ℕ, proofs.Common.Bool, proofs.Common.true, proofs.Common.false, proofs.Common.List, proofs.Common.[], proofs.Common.◌∷◌, proofs.Common.◌++◌, proofs.Common.map, proofs.Common.Option, proofs.Common.Some, proofs.Common.None, proofs.Common.refl, proofs.Common.ap, proofs.Common.sym, proofs.Common.◌∙◌, proofs.Common.append_assoc, proofs.Common.append-nil, proofs.Common.subst, specs.Prelude.codes, specs.Prelude.is_some}
+use Rattle.std.{proofs.Common.◌≡◌, proofs.Common.ℕ, proofs.Common.Bool, proofs.Common.true, proofs.Common.false, proofs.Common.List, proofs.Common.[], proofs.Common.◌∷◌, proofs.Common.◌++◌, proofs.Common.map, proofs.Common.Option, proofs.Common.Some, proofs.Common.None, proofs.Common.refl, proofs.Common.ap, proofs.Common.sym, proofs.Common.◌∙◌, proofs.Common.append_assoc, proofs.Common.append-nil, proofs.Common.subst, specs.Prelude.codes, specs.Prelude.is_some, specs.Prelude.not}
 use Rattle.rls_value.specs.{declared.value.ColType.ColType, declared.verb.PolicyKind.PolicyKind, declared.verb.Kind.Kind}
 use Rattle.rls_expr.specs.{Terms.Term, Terms.terms_of, Terms.maybe_term, declared.policy.Grantee.Grantee}
-use Rattle.rls_statement.specs.{declared.changing.Assignment.Assignment, declared.statement.AlterPolicy.AlterPolicy, declared.statement.AlterRole.AlterRole, declared.statement.AlterTable.AlterTable, declared.statement.CreatePolicy.CreatePolicy, declared.statement.CreateRole.CreateRole, declared.statement.CreateTable.CreateTable, declared.statement.DropPolicy.DropPolicy, declared.statement.GrantPrivileges.GrantPrivileges, declared.statement.GrantRoles.GrantRoles, declared.statement.Insert.Insert, declared.changing.Update.Update, declared.changing.Delete.Delete, declared.statement.MarkedColumn.MarkedColumn, declared.statement.MembershipOption.MembershipOption, declared.statement.Privileges.Privileges, declared.statement.RevokePrivileges.RevokePrivileges, declared.statement.RevokeRoles.RevokeRoles, declared.statement.RowSecurity.RowSecurity, declared.statement.Select.Select, declared.statement.Selected.Selected, declared.statement.SetRole.SetRole, declared.statement.Statement.Statement}
-use Rattle.rls_text.specs.{declared.token.Symbol.Symbol, declared.token.Token.Token, Cut.Cut, Cutting.tree_of, Elements.key_if, Printing.IsWritten, Rule.with_comma, FirstSets.expr_heads, FirstSets.expr_more, Writes.Writer, Writes.joined, Writes.or_else, Writes.many_writes, declared.tables.TableElement.TableElement, WaysBack.list_of as way_back_of_list}
+use Rattle.rls_statement.specs.{declared.changing.Assignment.Assignment, declared.statement.AlterPolicy.AlterPolicy, declared.statement.AlterRole.AlterRole, declared.statement.AlterTable.AlterTable, declared.statement.CreatePolicy.CreatePolicy, declared.statement.CreateRole.CreateRole, declared.statement.CreateTable.CreateTable, declared.statement.DropPolicy.DropPolicy, declared.statement.GrantPrivileges.GrantPrivileges, declared.statement.GrantRoles.GrantRoles, declared.statement.Insert.Insert, declared.changing.Update.Update, declared.changing.Delete.Delete, declared.statement.MarkedColumn.MarkedColumn, declared.statement.MembershipOption.MembershipOption, declared.privileges.Privileges.Privileges, Extents.has_columns, declared.statement.RevokePrivileges.RevokePrivileges, declared.statement.RevokeRoles.RevokeRoles, declared.statement.RowSecurity.RowSecurity, declared.statement.Select.Select, declared.statement.Selected.Selected, declared.statement.SetRole.SetRole, declared.statement.Statement.Statement}
+use Rattle.rls_text.specs.{declared.granting.TablePrivileges.TablePrivileges, declared.token.Symbol.Symbol, declared.token.Token.Token, Cut.Cut, Cutting.tree_of, Elements.key_if, Printing.IsWritten, Rule.with_comma, Rule.given_if, FirstSets.expr_heads, FirstSets.expr_more, Writes.Writer, Writes.joined, Writes.or_else, Writes.many_writes, Writes.written_if, declared.tables.TableElement.TableElement, WaysBack.list_of as way_back_of_list}
 use Rattle.rls_text.specs.Cut as cut
 use Rattle.rls_text.specs.Grammar as g
 use Rattle.rls_text.specs.Values as values
 use Rattle.rls_text.specs.TablesBack as tables
+use Rattle.rls_text.specs.WaysBack as back
 use Rattle.rls_printing.{specs.declared.buffer.Mark.Mark, specs.OutputTokens.OutputToken, specs.OutputTokens.Word, specs.OutputTokens.Marked, specs.OutputTokens.tokens_of, proofs.Writing.HasTokens, proofs.Writing.none_tells, proofs.Writing.both_tell, proofs.Writing.either_tells, proofs.Writing.if_tells, proofs.Writing.enclosed_tells, proofs.Writing.parens, proofs.Writing.name_tells, proofs.Writing.item_list_tells, proofs.Writing.condition_tells, proofs.Writing.select_tells, proofs.Writing.tuple_tells, proofs.Writing.parenthesized_tells, proofs.Writing.expr_tells}
 use Rattle.rls_printing.specs.ExprForms as expr_form
 use Rattle.rls_printing.specs.StatementForms as form
@@ -433,29 +434,39 @@ module _ (inner : Cut tree_of expr_heads expr_more false) (ih : (x : Term) → H
 
 -- ---- GRANT and REVOKE
 
-privileges_tell : (x y z u : Bool) → HasTokens (g.privileges.prints.writes record { select = x; insert = y; update = z; delete = u }) (form.privileges record { select = x; insert = y; update = z; delete = u })
-unfolding g.privileges g.named_privileges g.privilege with_comma
-privileges_tell true true true true = λ ts e. e
-privileges_tell true true true false = λ ts e. e
-privileges_tell true true false true = λ ts e. e
-privileges_tell true true false false = λ ts e. e
-privileges_tell true false true true = λ ts e. e
-privileges_tell true false true false = λ ts e. e
-privileges_tell true false false true = λ ts e. e
-privileges_tell true false false false = λ ts e. e
-privileges_tell false true true true = λ ts e. e
-privileges_tell false true true false = λ ts e. e
-privileges_tell false true false true = λ ts e. e
-privileges_tell false true false false = λ ts e. e
-privileges_tell false false true true = λ ts e. e
-privileges_tell false false true false = λ ts e. e
-privileges_tell false false false true = λ ts e. e
-privileges_tell false false false false = λ ts e. cc
+table_privileges_tell : (x y z u : Bool) → HasTokens (g.table_privileges.prints.writes record { select = x; insert = y; update = z; delete = u }) (form.privileges (values.whole_privileges record { select = x; insert = y; update = z; delete = u }))
+unfolding g.table_privileges g.named_privileges g.privilege with_comma
+table_privileges_tell true true true true = λ ts e. e
+table_privileges_tell true true true false = λ ts e. e
+table_privileges_tell true true false true = λ ts e. e
+table_privileges_tell true true false false = λ ts e. e
+table_privileges_tell true false true true = λ ts e. e
+table_privileges_tell true false true false = λ ts e. e
+table_privileges_tell true false false true = λ ts e. e
+table_privileges_tell true false false false = λ ts e. e
+table_privileges_tell false true true true = λ ts e. e
+table_privileges_tell false true true false = λ ts e. e
+table_privileges_tell false true false true = λ ts e. e
+table_privileges_tell false true false false = λ ts e. e
+table_privileges_tell false false true true = λ ts e. e
+table_privileges_tell false false true false = λ ts e. e
+table_privileges_tell false false false true = λ ts e. e
+table_privileges_tell false false false false = λ ts e. cc
+
+-- what is written where a test says so
+given_tells : (b : Bool) (named : TablePrivileges) (writes : TablePrivileges → Option (List Token)) (ps : List OutputToken) → HasTokens (writes named) ps → HasTokens (written_if writes (given_if b named)) ps
+given_tells true named writes ps h = h
+given_tells false named writes ps h = none_tells ps
+
+-- a statement with a list of columns is spelled by no text; without one each privilege is on the whole table
+privileges_tell : (p : Privileges) → HasTokens (g.privileges.prints.writes p) (form.privileges p)
+unfolding g.privileges
+privileges_tell p = given_tells (not (has_columns p)) (back.are_named p) g.table_privileges.prints.writes (form.privileges p) (table_privileges_tell p.select.whole p.insert.whole p.update.whole p.delete)
 
 privileges_on_tell : (p : Privileges) (table : List ℕ) → HasTokens (g.privileges_on.prints.writes (p, table)) (form.privileges p ++ Word (codes "ON") ∷ Word table ∷ [])
 unfolding g.privileges_on g.table_name
 privileges_on_tell p table =
-    both_tell (g.privileges.prints.writes p) (joined (Some (Token.Word (codes "on") ∷ [])) (joined (Some []) (g.name.prints.writes table))) (form.privileges p) (Word (codes "ON") ∷ Word table ∷ []) (privileges_tell p.select p.insert p.update p.delete)
+    both_tell (g.privileges.prints.writes p) (joined (Some (Token.Word (codes "on") ∷ [])) (joined (Some []) (g.name.prints.writes table))) (form.privileges p) (Word (codes "ON") ∷ Word table ∷ []) (privileges_tell p)
     (both_tell (Some (Token.Word (codes "on") ∷ [])) (joined (Some []) (g.name.prints.writes table)) (Word (codes "ON") ∷ []) (Word table ∷ []) (λ ts e. e) (before_none (g.name.prints.writes table) (Word table ∷ []) (name_tells table)))
 
 with_tells : (x : Bool) → HasTokens (g.with_option.prints.writes x) (form.with_option x)

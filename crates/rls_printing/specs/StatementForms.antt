@@ -3,7 +3,7 @@ use Rattle.std.specs.Prelude.{ℕ, Bool, true, false, ◌&&◌, ◌||◌, if◌t
 use Rattle.rls_value.specs.{declared.value.ColType.ColType, declared.verb.PolicyKind.PolicyKind, declared.verb.Kind.Kind}
 use Rattle.rls_expr.specs.{Terms.Term, Terms.terms_of, Terms.maybe_term, declared.policy.Grantee.Grantee, declared.policy.Policy.Policy}
 use Rattle.rls_expr.specs.declared.policy.Grantee.TheVariants as to
-use Rattle.rls_statement.specs.{declared.changing.Assignment.Assignment, declared.statement.Attributes.Attributes, declared.statement.MarkedColumn.MarkedColumn, declared.statement.MembershipOption.MembershipOption, declared.statement.MembershipOptions.MembershipOptions, declared.statement.Privileges.Privileges, declared.statement.RowSecurity.RowSecurity, declared.statement.Selected.Selected, declared.statement.SetRole.SetRole, declared.statement.Statement.Statement}
+use Rattle.rls_statement.specs.{declared.changing.Assignment.Assignment, declared.statement.Attributes.Attributes, declared.statement.MarkedColumn.MarkedColumn, declared.statement.MembershipOption.MembershipOption, declared.statement.MembershipOptions.MembershipOptions, declared.privileges.Privileges.Privileges, declared.statement.RowSecurity.RowSecurity, declared.statement.Selected.Selected, declared.statement.SetRole.SetRole, declared.statement.Statement.Statement}
 use Rattle.rls_statement.specs.declared.statement.MembershipOption.TheVariants as o
 use Rattle.rls_statement.specs.declared.statement.RowSecurity.TheVariants as change
 use Rattle.rls_statement.specs.declared.statement.Selected.TheVariants as selected
@@ -163,13 +163,13 @@ privilege_if false before word = []
 
 -- the four
 abbrev pub are_all : Privileges → Bool
-are_all x = x.select && (x.insert && (x.update && x.delete))
+are_all x = x.select.whole && (x.insert.whole && (x.update.whole && x.delete))
 
 -- those that are there
 abbrev pub some_privileges : Privileges → List OutputToken
 some_privileges x =
-    privilege_if x.select false (codes "SELECT") ++ (privilege_if x.insert x.select (codes "INSERT")
-    ++ (privilege_if x.update (x.select || x.insert) (codes "UPDATE") ++ privilege_if x.delete (x.select || (x.insert || x.update)) (codes "DELETE")))
+    privilege_if x.select.whole false (codes "SELECT") ++ (privilege_if x.insert.whole x.select.whole (codes "INSERT")
+    ++ (privilege_if x.update.whole (x.select.whole || x.insert.whole) (codes "UPDATE") ++ privilege_if x.delete (x.select.whole || (x.insert.whole || x.update.whole)) (codes "DELETE")))
 
 -- privileges
 abbrev pub privileges : Privileges → List OutputToken

@@ -16,6 +16,7 @@ use rls_expr::{Expr, Grantee, Policy};
 use rls_statement::{
     AlterPolicy, DropPolicy, GrantPrivileges, GrantRoles, RevokePrivileges, RevokeRoles,
 };
+use rls_value::shared::Share;
 use rls_value::{Items, Name};
 use std::alloc::AllocError;
 
@@ -54,19 +55,19 @@ fn put_description(buffer: &mut OutputBuffer, policy: &Policy) -> Result<(), All
     put_check(buffer, &policy.check)
 }
 
-fn put_using(buffer: &mut OutputBuffer, using: &Option<Expr>) -> Result<(), AllocError>
+fn put_using(buffer: &mut OutputBuffer, using: &Option<Share<Expr>>) -> Result<(), AllocError>
     ensures { OnOk result (put_all (Some (output_of buffer.old)) (form.using_ using.now) ≡ Some (output_of buffer.new)) }
 {
     match using {
         None => Ok(()),
         Some(expr) => {
             buffer.word("USING")?;
-            put_enclosed(buffer, expr)
+            put_enclosed(buffer, expr.get())
         }
     }
 }
 
-fn put_check(buffer: &mut OutputBuffer, check: &Option<Expr>) -> Result<(), AllocError>
+fn put_check(buffer: &mut OutputBuffer, check: &Option<Share<Expr>>) -> Result<(), AllocError>
     ensures { OnOk result (put_all (Some (output_of buffer.old)) (form.check_ check.now) ≡ Some (output_of buffer.new)) }
 {
     match check {
@@ -74,7 +75,7 @@ fn put_check(buffer: &mut OutputBuffer, check: &Option<Expr>) -> Result<(), Allo
         Some(expr) => {
             buffer.word("WITH")?;
             buffer.word("CHECK")?;
-            put_enclosed(buffer, expr)
+            put_enclosed(buffer, expr.get())
         }
     }
 }
@@ -117,7 +118,7 @@ pub fn put_grant(buffer: &mut OutputBuffer, statement: &GrantPrivileges) -> Resu
     ensures { OnOk result (put_all (Some (output_of buffer.old)) (form.statement (st.Grant statement.now)) ≡ Some (output_of buffer.new)) }
 {
     buffer.word("GRANT")?;
-    put_privileges(buffer, statement.privileges)?;
+    put_privileges(buffer, &statement.privileges)?;
     buffer.word("ON")?;
     buffer.word(statement.table.as_str())?;
     buffer.word("TO")?;
@@ -130,7 +131,7 @@ pub fn put_revoke(buffer: &mut OutputBuffer, statement: &RevokePrivileges) -> Re
 {
     buffer.word("REVOKE")?;
     put_option_only(buffer, statement.option_only)?;
-    put_privileges(buffer, statement.privileges)?;
+    put_privileges(buffer, &statement.privileges)?;
     buffer.word("ON")?;
     buffer.word(statement.table.as_str())?;
     buffer.word("FROM")?;

@@ -138,8 +138,8 @@ fn put_privilege_if(
     }
 }
 
-pub fn put_privileges(buffer: &mut OutputBuffer, privileges: Privileges) -> Result<(), AllocError>
-    ensures { OnOk result (put_all (Some (output_of buffer.old)) (form.privileges privileges) ≡ Some (output_of buffer.new)) }
+pub fn put_privileges(buffer: &mut OutputBuffer, privileges: &Privileges) -> Result<(), AllocError>
+    ensures { OnOk result (put_all (Some (output_of buffer.old)) (form.privileges privileges.now) ≡ Some (output_of buffer.new)) }
 {
     if are_all(privileges) {
         buffer.word("ALL")
@@ -148,10 +148,13 @@ pub fn put_privileges(buffer: &mut OutputBuffer, privileges: Privileges) -> Resu
     }
 }
 
-fn are_all(privileges: Privileges) -> bool
-    ensures { result ≡ form.are_all privileges }
+fn are_all(privileges: &Privileges) -> bool
+    ensures { result ≡ form.are_all privileges.now }
 {
-    privileges.select && privileges.insert && privileges.update && privileges.delete
+    privileges.select.whole
+        && privileges.insert.whole
+        && privileges.update.whole
+        && privileges.delete
 }
 
 fn either(left: bool, right: bool) -> bool
@@ -160,15 +163,18 @@ fn either(left: bool, right: bool) -> bool
     left || right
 }
 
-fn put_some_privileges(buffer: &mut OutputBuffer, privileges: Privileges) -> Result<(), AllocError>
-    ensures { OnOk result (put_all (Some (output_of buffer.old)) (form.some_privileges privileges) ≡ Some (output_of buffer.new)) }
+fn put_some_privileges(buffer: &mut OutputBuffer, privileges: &Privileges) -> Result<(), AllocError>
+    ensures { OnOk result (put_all (Some (output_of buffer.old)) (form.some_privileges privileges.now) ≡ Some (output_of buffer.new)) }
 {
-    let before_update = either(privileges.select, privileges.insert);
-    let more = either(privileges.insert, privileges.update);
-    let before_delete = either(privileges.select, more);
-    put_privilege_if(buffer, privileges.select, false, "SELECT")?;
-    put_privilege_if(buffer, privileges.insert, privileges.select, "INSERT")?;
-    put_privilege_if(buffer, privileges.update, before_update, "UPDATE")?;
+    let select = privileges.select.whole;
+    let insert = privileges.insert.whole;
+    let update = privileges.update.whole;
+    let before_update = either(select, insert);
+    let more = either(insert, update);
+    let before_delete = either(select, more);
+    put_privilege_if(buffer, select, false, "SELECT")?;
+    put_privilege_if(buffer, insert, select, "INSERT")?;
+    put_privilege_if(buffer, update, before_update, "UPDATE")?;
     put_privilege_if(buffer, privileges.delete, before_delete, "DELETE")
 }
 

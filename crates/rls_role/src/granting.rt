@@ -1,10 +1,8 @@
 //! GRANT of roles.
 
-ghost use Rattle.std.specs.Prelude.{◌≡◌, ◌≤◌, length, map, IfOk};
-ghost use Rattle.std.specs.{List.position_or_len, Ordering.is_lt};
+ghost use Rattle.std.specs.Prelude.{◌≡◌, IfOk};
 ghost use Rattle.rls_source.specs.rls_value.specs.Giving.{Gives};
-ghost use Rattle.rls_source.specs.rls_catalog.specs.State.{name_order};
-ghost use Rattle.rls_source.specs.{Answering.Answers, Answering.Tells, Sequences.put_before};
+ghost use Rattle.rls_source.specs.Answering.{Answers, Tells};
 ghost use Rattle.rls_role.specs.Granting as spec;
 ghost use Rattle.rls_role.specs.Granting.{asked_path, each_granted, memberships_granted, pair_granted, pair_or_refused, role_granted, roles_granted};
 
@@ -14,7 +12,7 @@ use crate::managing::require_managed;
 use crate::names::is_among;
 use crate::noting::note_walk;
 use crate::walking::{Step, reached};
-use rls_source::rls_catalog::{Delta, Membership};
+use rls_source::rls_catalog::{Delta, Membership, Memberships};
 use rls_source::rls_value::{GrantFault, Items, Name, Refusal};
 use rls_source::{Reads, RowSource, require_roles};
 use rls_statement::{GrantRoles, MembershipOptions};
@@ -213,56 +211,33 @@ fn joined_in(
 }
 
 /// The memberships with one of the role: its options that are written change, others stay.
+#[tactic(auto, using(crate::proofs::MembershipLists::granted_put))]
 fn granted_to(
     alloc: Global,
     written: MembershipOptions,
     role: &Name,
-    memberships: Items<Membership>,
-) -> Result<Items<Membership>, AllocError>
+    memberships: Memberships,
+) -> Result<Memberships, AllocError>
     ensures { IfOk result (λ all. all ≡ spec.granted_to written role.now memberships) }
 {
-    if has_role(memberships.as_slice(), role) {
-        return changed(alloc, written, role, memberships);
-    }
-    match new_membership(written, role) {
-        Ok(membership) => put(memberships, membership),
-        Err(refused) => {
-            drop(memberships);
-            Err(refused)
-        }
-    }
+    let mut memberships = memberships;
+    let membership = membership_in(written, role, memberships.in_order())?;
+    memberships.put(alloc, membership)?;
+    Ok(memberships)
 }
 
-fn has_role(memberships: &[Membership], role: &Name) -> bool
-    ensures { result ≡ spec.has_role memberships.now role.now }
-{
-    memberships
-        .iter()
-        .any(|membership| membership.role.is(role))
-}
-
-fn changed(
-    alloc: Global,
+/// The role's membership with the options that are written, or a new one.
+#[tactic(auto, using(crate::proofs::MembershipLists::found_at))]
+fn membership_in(
     written: MembershipOptions,
     role: &Name,
-    memberships: Items<Membership>,
-) -> Result<Items<Membership>, AllocError>
-    ensures { IfOk result (λ all. all ≡ map (spec.with_options written role.now) memberships) }
+    memberships: &Memberships,
+) -> Result<Membership, AllocError>
+    ensures { IfOk result (λ membership. membership ≡ spec.membership_in written role.now memberships.now) }
 {
-    let mut all = Items::new(alloc);
-    for membership in memberships.into_vec() {
-        all.push(with_options(written, role, membership))?;
-    }
-    Ok(all)
-}
-
-fn with_options(written: MembershipOptions, role: &Name, membership: Membership) -> Membership
-    ensures { result ≡ spec.with_options written role.now membership }
-{
-    if membership.role.is(role) {
-        membership_with(written, membership)
-    } else {
-        membership
+    match memberships.get(role) {
+        Some(membership) => Ok(membership_with(written, membership.copy()?)),
+        None => new_membership(written, role),
     }
 }
 
@@ -293,33 +268,4 @@ fn new_membership(written: MembershipOptions, role: &Name) -> Result<Membership,
         inherit: written.inherit.unwrap_or(true),
         set: written.set.unwrap_or(true),
     })
-}
-
-fn put(
-    memberships: Items<Membership>,
-    membership: Membership,
-) -> Result<Items<Membership>, AllocError>
-    ensures { IfOk result (λ all. all ≡ put_before (λ m. is_lt (name_order membership.role m.role)) membership memberships) }
-{
-    let mut memberships = memberships.into_vec();
-    let place = first_after(&memberships, &membership.role);
-    memberships.insert(place, membership)?;
-    Ok(Items::from_vec(memberships))
-}
-
-/// The place of the first membership of a role whose name is greater, or behind the last.
-fn first_after(memberships: &[Membership], role: &Name) -> usize
-    ensures place { result ≡ position_or_len (λ m. is_lt (name_order role.now m.role)) memberships.now }
-    ensures within { result ≤ length memberships.now }
-{
-    let mut place = 0;
-    let mut rest = memberships;
-    while let [membership, others @ ..] = rest {
-        if *role < membership.role {
-            break;
-        }
-        place += 1;
-        rest = others;
-    }
-    place
 }

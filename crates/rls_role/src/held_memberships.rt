@@ -7,7 +7,7 @@ ghost use Rattle.rls_role.specs.Granting.{asked_held, held_one, members_written}
 
 use crate::holding::HeldMembership;
 use crate::names::is_among;
-use rls_source::rls_catalog::{Change, Delta, Membership};
+use rls_source::rls_catalog::{Change, Delta};
 use rls_source::rls_value::{Items, Name, Object};
 use rls_source::{Reads, RowSource, noted_members};
 use std::alloc::{AllocError, Global};
@@ -68,8 +68,7 @@ fn held_by<'c, S: RowSource<'c>>(
     ensures noted { OnOk result (read_set.new ≡ read_set.old ++ Object.Members member.now ∷ []) }
     ensures state { S.state source.new ≡ S.state source.old }
 {
-    let memberships = noted_members(alloc, source, read_set, member)?;
-    let memberships = Membership::copy_all(alloc, memberships)?;
+    let memberships = noted_members(alloc, source, read_set, member)?.copy()?;
     match member.copy() {
         Ok(member) => Ok(HeldMembership {
             member,

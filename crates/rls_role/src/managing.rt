@@ -9,7 +9,7 @@ ghost use Rattle.rls_role.specs.{Granting.asked_managed, Granting.each_managed, 
 use crate::effective_roles::EffectiveRoles;
 use crate::names::is_among;
 use crate::noting::{note_walk, noted_effective_roles};
-use rls_source::rls_catalog::Membership;
+use rls_source::rls_catalog::Memberships;
 use rls_source::rls_value::{Items, Name, Refusal, Why};
 use rls_source::{Reads, RowSource};
 use std::alloc::{AllocError, Global};
@@ -115,10 +115,10 @@ fn add_managed<'c, S: RowSource<'c>>(
     Ok(())
 }
 
-fn add_administered(names: &mut Items<Name>, memberships: &[Membership]) -> Result<(), AllocError>
+fn add_administered(names: &mut Items<Name>, memberships: &Memberships) -> Result<(), AllocError>
     ensures { OnOk result (names.new ≡ names.old ++ granted_where has_admin memberships.now) }
 {
-    for membership in memberships {
+    for membership in memberships.iter() {
         if membership.admin {
             names.push(membership.role.copy()?)?;
         }

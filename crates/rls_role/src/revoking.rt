@@ -1,6 +1,6 @@
 //! REVOKE of roles.
 
-ghost use Rattle.std.specs.Prelude.{◌≡◌, map, filter, not, IfOk};
+ghost use Rattle.std.specs.Prelude.{◌≡◌, map, filter, not, IfOk, OnOk};
 ghost use Rattle.rls_source.specs.rls_value.specs.Names.{one_of};
 ghost use Rattle.rls_source.specs.Answering.{Answers};
 ghost use Rattle.rls_role.specs.{Granting.members_written, Revoking.memberships_revoked, Revoking.roles_revoked, Revoking.taken_in};
@@ -9,8 +9,7 @@ ghost use Rattle.rls_role.specs.Revoking as spec;
 use crate::held_memberships::{held_of, write_held};
 use crate::holding::HeldMembership;
 use crate::managing::require_managed;
-use crate::names::is_among;
-use rls_source::rls_catalog::{Delta, Membership};
+use rls_source::rls_catalog::{Delta, Membership, Memberships};
 use rls_source::rls_value::{Items, Name, Refusal};
 use rls_source::{Reads, RowSource, require_roles};
 use rls_statement::{MembershipOption, RevokeRoles};
@@ -115,8 +114,8 @@ fn taken_from(
     alloc: Global,
     option: Option<MembershipOption>,
     roles: &[Name],
-    memberships: Items<Membership>,
-) -> Result<Items<Membership>, AllocError>
+    memberships: Memberships,
+) -> Result<Memberships, AllocError>
     ensures { IfOk result (λ left. left ≡ spec.taken_from option roles.now memberships) }
 {
     match option {
@@ -125,29 +124,37 @@ fn taken_from(
     }
 }
 
+#[tactic(auto, using(crate::proofs::MembershipLists::each_lessened))]
 fn lessened(
     alloc: Global,
     option: MembershipOption,
     roles: &[Name],
-    memberships: Items<Membership>,
-) -> Result<Items<Membership>, AllocError>
+    memberships: Memberships,
+) -> Result<Memberships, AllocError>
     ensures { IfOk result (λ all. all ≡ map (spec.without_option option roles.now) memberships) }
 {
-    let mut all = Items::new(alloc);
-    for membership in memberships.into_vec() {
-        all.push(without_option(option, roles, membership))?;
+    let mut all = memberships;
+    for role in roles {
+        lessen(alloc, option, &mut all, role)?;
     }
     Ok(all)
 }
 
-fn without_option(option: MembershipOption, roles: &[Name], membership: Membership) -> Membership
-    ensures { result ≡ spec.without_option option roles.now membership }
+/// Takes the option from the role's membership, if there is one.
+#[tactic(auto, using(crate::proofs::MembershipLists::lessened_put, crate::proofs::MembershipLists::none_lessened))]
+fn lessen(
+    alloc: Global,
+    option: MembershipOption,
+    memberships: &mut Memberships,
+    role: &Name,
+) -> Result<(), AllocError>
+    ensures { OnOk result (memberships.new ≡ spec.lessened_at option memberships.old role.now) }
 {
-    if is_among(roles, &membership.role) {
-        without(option, membership)
-    } else {
-        membership
-    }
+    let membership = match memberships.get(role) {
+        Some(membership) => membership.copy()?,
+        None => return Ok(()),
+    };
+    memberships.put(alloc, without(option, membership))
 }
 
 fn without(option: MembershipOption, membership: Membership) -> Membership
@@ -162,20 +169,24 @@ fn without(option: MembershipOption, membership: Membership) -> Membership
     membership
 }
 
-fn left(
-    alloc: Global,
-    roles: &[Name],
-    memberships: Items<Membership>,
-) -> Result<Items<Membership>, AllocError>
+#[tactic(auto, using(crate::proofs::MembershipLists::each_left))]
+fn left(alloc: Global, roles: &[Name], memberships: Memberships) -> Result<Memberships, AllocError>
     ensures { IfOk result (λ left. left ≡ filter (λ m. not (one_of roles.now m.role)) memberships) }
 {
-    let mut left = Items::new(alloc);
-    for membership in memberships.into_vec() {
-        if is_among(roles, &membership.role) {
-            drop(membership);
-        } else {
-            left.push(membership)?;
-        }
+    let mut left = memberships;
+    for role in roles {
+        leave(alloc, &mut left, role)?;
     }
     Ok(left)
+}
+
+/// Takes the role's membership away, if there is one.
+#[tactic(auto, using(crate::proofs::MembershipLists::left_without, crate::proofs::MembershipLists::none_left))]
+fn leave(alloc: Global, memberships: &mut Memberships, role: &Name) -> Result<(), AllocError>
+    ensures { OnOk result (memberships.new ≡ spec.left_at memberships.old role.now) }
+{
+    if memberships.get(role).is_some() {
+        memberships.remove(alloc, role)?;
+    }
+    Ok(())
 }

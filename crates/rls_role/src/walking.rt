@@ -9,7 +9,7 @@ ghost use Rattle.rls_role.specs.{Holdings.with_held, Steps.takes};
 use crate::holding::HeldMembership;
 use crate::name_set::NameSet;
 use rls_source::RowSource;
-use rls_source::rls_catalog::Membership;
+use rls_source::rls_catalog::{Membership, Memberships};
 use rls_source::rls_value::{Items, Name};
 use std::alloc::{AllocError, Global};
 
@@ -87,15 +87,15 @@ fn visit<'c, S: RowSource<'c>>(
         return Ok(());
     }
     match HeldMembership::find(held, name) {
-        Some(held) => add_fresh(names, held.memberships.as_slice(), step),
+        Some(held) => add_fresh(names, &held.memberships, step),
         None => add_fresh(names, memberships, step),
     }
 }
 
-fn add_fresh(names: &mut NameSet, memberships: &[Membership], step: Step) -> Result<(), AllocError>
+fn add_fresh(names: &mut NameSet, memberships: &Memberships, step: Step) -> Result<(), AllocError>
     ensures { OnOk result (names.new ≡ names.old ++ fresh names.old (granted_where (takes step) memberships.now)) }
 {
-    for membership in memberships {
+    for membership in memberships.iter() {
         if step.takes(membership) {
             names.add(&membership.role)?;
         }

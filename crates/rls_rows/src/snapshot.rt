@@ -2,8 +2,8 @@
 
 ghost use Rattle.std.specs.Prelude.{◌≡◌, refl};
 
-use rls_catalog::rls_expr::{Policy, TableDef};
-use rls_catalog::{BorrowedRow, Catalog, Grant, Membership, RoleDef};
+use rls_catalog::rls_expr::TableDef;
+use rls_catalog::{BorrowedRow, Catalog, Grants, Memberships, Policies, RoleDef};
 use rls_source::rls_value::{Items, Name, Object, Row};
 use rls_source::{Footprint, RowSource, StatementSource};
 use std::alloc::{AllocError, Global};
@@ -43,7 +43,7 @@ impl<'c> RowSource<'c> for Snapshot<'c> {
         Ok(self.catalog.role(name))
     }
 
-    fn members(&mut self, _: Global, member: &Name) -> Result<&'c [Membership], AllocError> {
+    fn members(&mut self, _: Global, member: &Name) -> Result<&'c Memberships, AllocError> {
         Ok(self.catalog.members(member))
     }
 
@@ -51,11 +51,11 @@ impl<'c> RowSource<'c> for Snapshot<'c> {
         Ok(self.catalog.table(name))
     }
 
-    fn grants(&mut self, _: Global, table: &Name) -> Result<&'c [Grant], AllocError> {
+    fn grants(&mut self, _: Global, table: &Name) -> Result<&'c Grants, AllocError> {
         Ok(self.catalog.grants(table))
     }
 
-    fn policies(&mut self, _: Global, table: &Name) -> Result<&'c [Policy], AllocError> {
+    fn policies(&mut self, _: Global, table: &Name) -> Result<&'c Policies, AllocError> {
         Ok(self.catalog.policies(table))
     }
 

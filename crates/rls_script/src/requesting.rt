@@ -11,6 +11,7 @@ use crate::connect::{behind_connect, role_in};
 use rls_guard::Mode;
 use rls_statement::{AccessMode, Command, Statement};
 use rls_text::parse_command;
+use rls_value::shared::Share;
 use rls_value::{Limit, Name, Refusal, TxnState};
 use std::alloc::{AllocError, Global};
 
@@ -32,9 +33,9 @@ pub enum Ask {
     /// A transaction, for a block.
     Begin(Mode),
     /// The statement, in the transaction of the open block.
-    Post(Statement),
+    Post(Share<Statement>),
     /// The statement, in a transaction of its own: a begin, a post and a commit.
-    Run(Statement),
+    Run(Share<Statement>),
     Commit,
     /// The end of a block, open or over.
     Rollback,
@@ -103,7 +104,6 @@ fn ask_as(alloc: Global, status: Status, command: &str) -> Result<Result<Ask, Re
 }
 
 /// What a command that is no `\connect` asks of a session that stands so, or why it is refused at once.
-#[tactic(auto, using(crate::proofs::SpelledLaws::asked_spelled))]
 pub fn ask_of(
     alloc: Global,
     status: Status,
@@ -112,10 +112,9 @@ pub fn ask_of(
     ensures asks { IfOk result (AsksOf status command.now) }
     ensures spelled { IfOk result (λ given. IfOk given (IfAsked IsSpellable)) }
 {
-    match read(alloc, command) {
-        Ok(read) => Ok(asked(status, read)),
-        Err(refused) => Err(refused),
-    }
+    let read = read(alloc, command)?;
+    let asked = asked(alloc, status, read)?;
+    Ok(asked)
 }
 
 /// What the command is read as. Want of memory ends the run, and is no answer.
@@ -135,49 +134,54 @@ fn read(alloc: Global, command: &str) -> Result<Result<Command, Refusal>, AllocE
 }
 
 // A block that is over is told before what the command is.
-fn asked(status: Status, read: Result<Command, Refusal>) -> Result<Ask, Refusal>
-    ensures { result ≡ spec.asked status read }
+fn asked(
+    alloc: Global,
+    status: Status,
+    read: Result<Command, Refusal>,
+) -> Result<Result<Ask, Refusal>, AllocError>
+    ensures { IfOk result (λ given. given ≡ spec.asked status read) }
 {
     match status {
         Status::Nobody => {
             drop(read);
-            Err(Refusal::NoLogin(None))
+            Ok(Err(Refusal::NoLogin(None)))
         }
         Status::Over => {
             let ask = asked_over(&read);
             drop(read);
-            ask
+            Ok(ask)
         }
         Status::Outside => match read {
-            Ok(command) => asked_outside(command),
-            Err(refusal) => Err(refusal),
+            Ok(command) => asked_outside(alloc, command),
+            Err(refusal) => Ok(Err(refusal)),
         },
         Status::Open => match read {
-            Ok(command) => asked_inside(command),
-            Err(refusal) => Err(refusal),
+            Ok(command) => asked_inside(alloc, command),
+            Err(refusal) => Ok(Err(refusal)),
         },
     }
 }
 
-fn asked_outside(command: Command) -> Result<Ask, Refusal>
-    ensures { result ≡ spec.asked_outside command }
+fn asked_outside(alloc: Global, command: Command) -> Result<Result<Ask, Refusal>, AllocError>
+    ensures { IfOk result (λ given. given ≡ spec.asked_outside command) }
 {
     match command {
-        Command::Begin(mode) => Ok(Ask::Begin(mode_of(mode))),
-        Command::Commit => Err(Refusal::TxnState(TxnState::NoneInProgress)),
-        Command::Rollback => Err(Refusal::TxnState(TxnState::NoneInProgress)),
-        Command::Run(statement) => Ok(Ask::Run(statement)),
+        Command::Begin(mode) => Ok(Ok(Ask::Begin(mode_of(mode)))),
+        Command::Commit | Command::Rollback => {
+            Ok(Err(Refusal::TxnState(TxnState::NoneInProgress)))
+        }
+        Command::Run(statement) => Ok(Ok(Ask::Run(Share::new(alloc, statement)?))),
     }
 }
 
-fn asked_inside(command: Command) -> Result<Ask, Refusal>
-    ensures { result ≡ spec.asked_inside command }
+fn asked_inside(alloc: Global, command: Command) -> Result<Result<Ask, Refusal>, AllocError>
+    ensures { IfOk result (λ given. given ≡ spec.asked_inside command) }
 {
     match command {
-        Command::Begin(_) => Err(Refusal::TxnState(TxnState::AlreadyInProgress)),
-        Command::Commit => Ok(Ask::Commit),
-        Command::Rollback => Ok(Ask::Rollback),
-        Command::Run(statement) => Ok(Ask::Post(statement)),
+        Command::Begin(_) => Ok(Err(Refusal::TxnState(TxnState::AlreadyInProgress))),
+        Command::Commit => Ok(Ok(Ask::Commit)),
+        Command::Rollback => Ok(Ok(Ask::Rollback)),
+        Command::Run(statement) => Ok(Ok(Ask::Post(Share::new(alloc, statement)?))),
     }
 }
 

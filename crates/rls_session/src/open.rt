@@ -11,6 +11,7 @@ use rls_engine::rls_access::Reply;
 use rls_engine::rls_core::Begin;
 use rls_engine::{Book, Engine, Named, Place, PostFault, Seen, Txn};
 use rls_statement::Statement;
+use rls_value::shared::Share;
 use rls_value::{Cause, Refusal};
 use std::marker::Model;
 use std::sync::Wait;
@@ -99,7 +100,7 @@ impl<'a, N: Named> Open<'a, N> {
         self,
         rt: &R,
         at: &At<'_, G>,
-        asked: &Statement,
+        asked: &Share<Statement>,
     ) -> Result<(Open<'a, N>, Result<Reply, Refusal>), Stopped<'a, N>>
         requires { N.asks asked.now }
         ensures ok { IfOk result (λ done. HasPosted self.entry asked.now done.0 done.1) }

@@ -2,6 +2,7 @@
 
 ghost use Rattle.std.specs.Prelude.{◌≡◌, true, Some, None, IfOk, IfErr, IfSome, IfNone, OnErr};
 ghost use Rattle.rls_value.specs.declared.refusal.Refusal.TheVariants.{NoMemory};
+ghost use Rattle.rls_statement.specs.Tags.{tag_of};
 ghost use Rattle.rls_script.specs.rls_guard.specs.declared.context.Mode.TheVariants.{Write};
 ghost use Rattle.rls_script.specs.Spelled.{AsksTexts, IfAsked};
 ghost use Rattle.rls_script.specs.declared.requesting.Ask.TheVariants as a;
@@ -19,6 +20,7 @@ use rls_engine::rls_core::Begin;
 use rls_engine::{Engine, Named, Seen};
 use rls_script::{Answer, Ask, Status, ask_of};
 use rls_statement::Statement;
+use rls_value::shared::Share;
 use rls_value::{Name, Refusal, Tag, TxnState};
 use std::alloc::{AllocError, Global};
 use std::marker::Model;
@@ -214,7 +216,7 @@ impl<'a, N: Named> Session<'a, N> {
         rt: &R,
         at: &At<'_, G>,
         notes: &Notes<N>,
-        asked: Statement,
+        asked: Share<Statement>,
     ) -> Result<Answer, Refusal>
         requires known { N.asks asked }
         ensures ok { IfOk result (λ answer. Carries notes.now (Some self.old) (q.Ask (a.Post asked)) answer notes.now (Some self.new)) }
@@ -228,7 +230,7 @@ impl<'a, N: Named> Session<'a, N> {
         match open.post(rt, at, &asked) {
             Ok((open, told)) => {
                 self.put(rt, open);
-                Ok(answer_of(asked.tag(), told))
+                Ok(answer_of(tag(&asked), told))
             }
             Err(Stopped::Over(why)) => {
                 self.over = true;
@@ -285,7 +287,7 @@ impl<'a, N: Named> Session<'a, N> {
         rt: &R,
         at: &At<'_, G>,
         notes: &mut Notes<N>,
-        asked: Statement,
+        asked: Share<Statement>,
     ) -> Result<Answer, Refusal>
         requires wide { N.parts ≡ 18446744073709551615 }
         requires known { N.asks asked }
@@ -313,7 +315,7 @@ impl<'a, N: Named> Session<'a, N> {
         at: &At<'_, G>,
         notes: &mut Notes<N>,
         open: Open<'a, N>,
-        asked: Statement,
+        asked: Share<Statement>,
     ) -> Result<Answer, Refusal>
         requires wide { N.parts ≡ 18446744073709551615 }
         requires known { N.asks asked }
@@ -324,7 +326,7 @@ impl<'a, N: Named> Session<'a, N> {
     {
         match open.post(rt, at, &asked) {
             Ok((open, told)) => {
-                let answer = answer_of(asked.tag(), told);
+                let answer = answer_of(tag(&asked), told);
                 self.commit_alone(rt, notes, open, answer)
             }
             Err(stopped) => {
@@ -387,6 +389,13 @@ impl<'a, N: Named> Session<'a, N> {
         self.over = false;
         spend(rt, mem::replace(&mut self.block, Some(open)));
     }
+}
+
+/// What a statement is answered with.
+fn tag(asked: &Share<Statement>) -> Tag
+    ensures { result ≡ tag_of asked.now }
+{
+    asked.get().tag()
 }
 
 /// Rolls back what is open.

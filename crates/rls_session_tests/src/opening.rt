@@ -6,6 +6,7 @@ use rls_session::rls_access::{Mode, Reply};
 use rls_session::rls_core::Begin;
 use rls_session::rls_engine::{CommitFault, Engine, Named, PostFault, Receipt, Seen, Txn};
 use rls_session::rls_text::parse;
+use rls_value::shared::Share;
 use rls_value::{Name, Refusal};
 use std::alloc::Global;
 use std::sync::Wait;
@@ -30,7 +31,7 @@ pub fn post_text<N: Named, R: Wait>(
 ) -> Result<Reply, Refusal>
     requires asks { AsksNothing N.asks }
 {
-    let statement = parse(alloc, text)?;
+    let statement = Share::new(alloc, parse(alloc, text)?)?;
     let ran = txn.run(&statement);
     drop(statement);
     ran?;

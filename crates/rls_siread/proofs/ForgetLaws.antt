@@ -5,7 +5,8 @@ use Rattle.std.proofs.Common.{ap, sym, ◌∙◌}
 use Rattle.std.proofs.lemmas.Bool.{true≢false, or_left, or_right}
 use Rattle.rls_value.specs.declared.object.Object.{Object}
 use Rattle.rls_source.specs.Footprints.{is_among}
-use Rattle.rls_siread.specs.Locks.{Notes, Locks, is_number_in, without, held_by, objects_in, commit_in, notes_at, noted_by, has_notes, commit_of, is_committed_by, HasForgotten}
+use Rattle.rls_siread.specs.Locks.{Notes, Locks, is_number_in, without, held_by, objects_in, commit_in, notes_at, noted_by, has_notes, commit_of, is_committed_by, is_left, HasForgotten}
+use Rattle.rls_siread.specs.Index.{HolderList, held_at, IsIndexed, locks_of}
 use Rattle.rls_siread.proofs.LocksLaws.{same_number, number_itself}
 
 -- it committed by that number
@@ -95,3 +96,39 @@ left_all last old now so_far indexed none = record {
       ∙ ap not (none txn)))
       ∙ so_far.holders object;
 }
+
+-- ---- all at once
+
+all_gone_if : (gone : Bool) (notes : Notes) → not gone ≡ false → None ≡ (if gone then None else Some notes)
+all_gone_if true notes is = refl
+all_gone_if false notes is = absurd (true≢false is)
+
+all_gone_case : (last : ℕ) (found : Option Notes) → is_left last found ≡ false → None ≡ (if is_committed_by last (commit_in found) then None else found)
+all_gone_case last None is = refl
+all_gone_case last (Some notes) is = all_gone_if (is_committed_by last notes.commit) notes is
+
+holder_gone : (last : ℕ) (found : Option Notes) (object : Object) → is_among (objects_in found) object ≡ true → is_left last found ≡ false → not (is_committed_by last (commit_in found)) ≡ false
+holder_gone last None object among is = absurd (true≢false (sym among))
+holder_gone last (Some notes) object among is = is
+
+filter_none : (p : ℕ → Bool) (txns : List ℕ) → ((txn : ℕ) → is_number_in txns txn ≡ true → p txn ≡ false) → filter p txns ≡ []
+filter_none p [] all = refl
+filter_none p (x ∷ txns) all =
+    ap (λ b. cond b (x ∷ filter p txns) (filter p txns)) (all x (or_left (nat_eq x x) (is_number_in txns x) (number_itself x)))
+    ∙ filter_none p txns (λ txn there. all txn (or_right (nat_eq txn x) (is_number_in txns txn) there))
+
+-- where none is left, all are forgotten
+pub all_gone : (last : ℕ) (entries none_held : List (Object × HolderList)) (old none_noted : List (ℕ × Notes)) → IsIndexed entries old → ((txn : ℕ) → is_left last (notes_at old txn) ≡ false) → none_held ≡ [] → none_noted ≡ []
+    → HasForgotten (λ txn. is_committed_by last (commit_in (notes_at old txn))) (locks_of entries old) (locks_of none_held none_noted)
+all_gone last entries none_held old none_noted indexed left no_holder no_notes = record {
+  notes = λ txn. ap (λ list. notes_at list txn) no_notes ∙ all_gone_case last (notes_at old txn) (left txn);
+  holders = λ object.
+      ap (λ list. held_at list object) no_holder
+      ∙ sym (filter_none (λ txn. not (is_committed_by last (commit_in (notes_at old txn)))) (held_at entries object) (λ txn there.
+      holder_gone last (notes_at old txn) object (sym (indexed object txn) ∙ there) (left txn)));
+}
+
+-- and nobody holds anything
+pub none_indexed : (none_held : List (Object × HolderList)) (none_noted : List (ℕ × Notes)) → none_held ≡ [] → none_noted ≡ [] → IsIndexed none_held none_noted
+none_indexed none_held none_noted no_holder no_notes object txn =
+    ap (λ list. is_number_in (held_at list object) txn) no_holder ∙ ap (λ list. is_among (objects_in (notes_at list txn)) object) (sym no_notes)

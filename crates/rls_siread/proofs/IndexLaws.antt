@@ -1,15 +1,16 @@
 -- What is seen of the index of holders, and what its calls leave.
-use Rattle.std.specs.Prelude.{◌≡◌, refl, ℕ, List, [], ◌∷◌, Bool, true, false, ◌||◌, ◌<◌, ◌≤◌, nat_lt, cond, if◌then◌else◌, Option, Some, None}
+use Rattle.std.specs.Prelude.{◌≡◌, refl, ℕ, List, [], ◌∷◌, ◌++◌, Bool, true, false, ◌||◌, ◌<◌, ◌≤◌, nat_lt, cond, if◌then◌else◌, Option, Some, None}
 use Rattle.std.specs.BTreeMap.{is_at, insert_entry}
 use Rattle.std.specs.List.{AllByRecursion}
 use Rattle.std.specs.List.Sorted.{IsStrictlySortedBy}
-use Rattle.std.specs.Map.{lookup, keys_of, set_value}
+use Rattle.std.specs.Map.{lookup, keys_of, set_value, update_all}
 use Rattle.std.specs.Option.{is_some}
-use Rattle.std.specs.Ordering.{is_eq, match_ordering}
+use Rattle.std.specs.Ordering.{eq_by_cmp, is_eq, match_ordering}
 use Rattle.std.specs.declared.cmp.Ordering.{Ordering}
 use Rattle.std.specs.declared.cmp.Ordering.TheVariants.{Less, Equal, Greater}
 use Rattle.std.proofs.Common.{ap, sym, ◌∙◌, inl, inr, arith}
 use Rattle.std.proofs.lemmas.Bool.{true≢false, or_cases, or_left, or_right}
+use Rattle.std.proofs.lemmas.Map.{update_all_push}
 use Rattle.rls_value.specs.declared.object.Object.{Object}
 use Rattle.rls_value.specs.Objects.{object_order}
 use Rattle.rls_source.specs.Footprints.{is_object, is_among}
@@ -193,3 +194,30 @@ pub each_next : (f : List ℕ → List ℕ) (old new : List (Object × HolderLis
 each_next f old new x rest twice changes object =
     ap (λ held. if is_among rest object then f held else held) (changes object)
     ∙ each_case f (is_object object x) (is_among rest object) (held_at old object) twice
+
+-- ---- places that are put one after another
+
+-- what the last place under the object has, if there is one
+abbrev pub found_in : List (Object × HolderList) → Object → Option HolderList
+found_in places object = update_all (eq_by_cmp object_order) (λ _. None) places object
+
+next_case : (first rest : Bool) (place : HolderList) (found : Option HolderList) (txn : ℕ) → place.txns ≡ txn ∷ []
+    → (if rest then txn ∷ [] else txns_in (cond first (Some place) found)) ≡ (if first || rest then txn ∷ [] else txns_in found)
+next_case true true place found txn is = refl
+next_case true false place found txn is = is
+next_case false true place found txn is = refl
+next_case false false place found txn is = refl
+
+-- one place more of one who holds alone
+pub alone_next : (places : List (Object × HolderList)) (place : Object × HolderList) (x : Object) (rest : List Object) (txn : ℕ) → place.0 ≡ x → place.1.txns ≡ txn ∷ []
+    → (object : Object) → (if is_among rest object then txn ∷ [] else txns_in (found_in (places ++ place ∷ []) object)) ≡ (if is_among (x ∷ rest) object then txn ∷ [] else txns_in (found_in places object))
+alone_next places place x rest txn same held object =
+    ap (λ (found : Option HolderList). if is_among rest object then txn ∷ [] else txns_in found)
+    (sym (update_all_push (eq_by_cmp object_order) (λ _. None) (found_in places) places place object refl))
+    ∙ next_case (eq_by_cmp object_order place.0 object) (is_among rest object) place.1 (found_in places object) txn held
+    ∙ ap (λ b. if b || is_among rest object then txn ∷ [] else txns_in (found_in places object)) (object_turned place.0 object ∙ ap (is_object object) same)
+
+-- a map of such places shows them
+pub alone_found : (places es : List (Object × HolderList)) → IsStrictlySortedBy object_order (keys_of es) → ((object : Object) → entry_at es object ≡ found_in places object)
+    → (object : Object) → held_at es object ≡ txns_in (found_in places object)
+alone_found places es in_order found object = seen es object in_order ∙ ap txns_in (found object)

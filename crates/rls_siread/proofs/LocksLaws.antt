@@ -167,7 +167,8 @@ renoted_held old noted new notes txn objects fresh dropped indexed news drops ho
     ∙ (λ i. if drops object i then without (held i) txn else held i)
     ∙ renoted_case (is_among objects object) (is_among (objects_in (notes_at notes txn)) object) txn (held_at old object) (indexed object txn)
 
-forgotten_case : (was : Bool) (txn : ℕ) (held : List ℕ) → is_number_in held txn ≡ was → (if was then without held txn else held) ≡ without held txn
+-- whether or not the transaction held it, it holds it no longer
+pub forgotten_case : (was : Bool) (txn : ℕ) (held : List ℕ) → is_number_in held txn ≡ was → (if was then without held txn else held) ≡ without held txn
 forgotten_case true txn held is = refl
 forgotten_case false txn held is = sym (without_absent held txn is)
 
@@ -177,6 +178,29 @@ pub forgotten_held : (old new : List (Object × HolderList)) (notes : List (ℕ 
     → (object : Object) → held_at new object ≡ without (held_at old object) txn
 forgotten_held old new notes txn indexed releases object =
     releases object ∙ forgotten_case (is_among (objects_in (notes_at notes txn)) object) txn (held_at old object) (indexed object txn)
+
+-- ---- the last who has notes is forgotten
+
+last_case : (same : Bool) (new old : Option Notes) (object : Object) → new ≡ (if same then None else old) → new ≡ None → is_among (objects_in old) object ≡ true → same ≡ true
+last_case true new old object is none among = refl
+last_case false new old object is none among = absurd (true≢false (sym among ∙ ap (λ found. is_among (objects_in found) object) (sym is ∙ none)))
+
+without_all : (txn : ℕ) (txns : List ℕ) → ((t : ℕ) → is_number_in txns t ≡ true → nat_eq txn t ≡ true) → without txns txn ≡ []
+without_all txn [] all = refl
+without_all txn (x ∷ txns) all =
+    ap (λ b. if not b then x ∷ without txns txn else without txns txn) (all x (ap (λ b. b || is_number_in txns x) (number_itself x)))
+    ∙ without_all txn txns (λ t there. all t (or_second (nat_eq t x) (is_number_in txns t) there))
+  where
+    or_second : (a b : Bool) → b ≡ true → (a || b) ≡ true
+    or_second true b is = refl
+    or_second false b is = is
+
+-- where no other has notes, nobody holds anything without the transaction
+pub last_held : (entries : List (Object × HolderList)) (old new : List (ℕ × Notes)) (txn : ℕ) → IsIndexed entries old → ((t : ℕ) → notes_at new t ≡ (if nat_eq txn t then None else notes_at old t)) → new ≡ []
+    → (object : Object) → without (held_at entries object) txn ≡ []
+last_held entries old new txn indexed gone none object =
+    without_all txn (held_at entries object) (λ t there.
+    last_case (nat_eq txn t) (notes_at new t) (notes_at old t) object (gone t) (ap (λ list. notes_at list t) none) (sym (indexed object t) ∙ there))
 
 -- ---- what is noted
 

@@ -132,6 +132,11 @@ abbrev pub is_committed_by : ℕ → Option ℕ → Bool
 is_committed_by last (Some commit) = nat_le commit last
 is_committed_by last None = false
 
+-- the transaction has notes, which stay once those are gone that committed at that number or before
+abbrev pub is_left : ℕ → Option Notes → Bool
+is_left last (Some notes) = not (is_committed_by last notes.commit)
+is_left last None = false
+
 -- the transactions and their notes are gone; all else is as it was
 pub record HasForgotten (gone : ℕ → Bool) (old new : Locks) : Type 0 where
   pub notes : (txn : ℕ) → notes_at new.notes txn ≡ (if gone txn then None else notes_at old.notes txn)

@@ -34,6 +34,11 @@ abbrev pub is_rows : Object → Bool
 is_rows (Rows table) = true
 is_rows _ = false
 
--- there are so few objects that no table is crowded: no more than the limit, and none is all rows of a table
+-- the object is a key of a table
+abbrev pub is_key : Object → Bool
+is_key (Key table key) = true
+is_key _ = false
+
+-- no table is crowded for whose keys its rows would stand: there is no key; or no more keys than the limit, and no rows of a table
 abbrev pub is_plain : ℕ → List Object → Bool
-is_plain limit objects = nat_le (length objects) limit && not (list_any is_rows objects)
+is_plain limit objects = not (list_any is_key objects) || (nat_le (length (filter is_key objects)) limit && not (list_any is_rows objects))

@@ -1,20 +1,30 @@
 //! The holders of one object.
 
-ghost use Rattle.std.specs.Prelude.{◌≡◌, true, [], ◌<◌, ◌≤◌, ◌||◌, nat_lt, IsTrue, ◌↔◌, IfOk, OnOk, OnErr};
+ghost use Rattle.std.specs.Prelude.{◌≡◌, true, [], ◌∷◌, ◌<◌, ◌≤◌, ◌||◌, nat_lt, IsTrue, ◌↔◌, IfOk, OnOk, OnErr};
+ghost use Rattle.indexmap.specs.IndexSet.{spare};
 ghost use Rattle.rls_siread.specs.Locks.{is_number_in, arrived, all_arrived, without};
 
 use indexmap::IndexSet;
 use std::alloc::{AllocError, Global};
 use std::marker::Model;
+use std::{mem, slice};
 
 /// The transactions that hold an object, each once, in the order of their first notes of it.
 #[derive(Drop)]
 pub(crate) struct Holders {
-    txns: IndexSet<u64>,
+    txns: Txns,
+}
+
+// Mostly one transaction alone holds an object: it takes no memory of its own.
+#[derive(Drop)]
+enum Txns {
+    Nobody,
+    One(u64),
+    More(IndexSet<u64>),
 }
 
 impl Model for Holders {
-    ghost use Rattle.indexmap.specs.IndexSet.{spare};
+    ghost use Rattle.rls_siread.specs.Holders.{holder_list_of};
     ghost use Rattle.rls_siread.specs.Index.{HolderList};
     ghost use Rattle.rls_siread.specs.LocksCode.{held_code};
 
@@ -22,51 +32,76 @@ impl Model for Holders {
 
     ghost coded = { held_code };
 
-    ghost view = { λ it. record { txns = it.txns.keys; room = spare it.txns } };
+    ghost view = { λ it. holder_list_of it.txns };
 }
 
 impl Holders {
-    pub(crate) fn new(alloc: Global) -> Holders
-        ensures { result.txns ≡ [] }
+    /// Nobody, with room for one.
+    pub(crate) fn new() -> Holders
+        ensures nobody { result.txns ≡ [] }
+        ensures room { 0 < result.room }
+    {
+        Holders { txns: Txns::Nobody }
+    }
+
+    /// The transaction alone.
+    pub(crate) fn alone(txn: u64) -> Holders
+        ensures { result.txns ≡ txn ∷ [] }
     {
         Holders {
-            txns: IndexSet::new(alloc),
+            txns: Txns::One(txn),
         }
     }
 
-    /// Nobody, with room for one.
-    pub(crate) fn with_room(alloc: Global) -> Result<Holders, AllocError>
-        ensures nobody { IfOk result (λ held. held.txns ≡ []) }
-        ensures room { IfOk result (λ held. 0 < held.room) }
-    {
-        Ok(Holders {
-            txns: IndexSet::with_capacity(alloc, 1)?,
-        })
-    }
-
     /// Makes room for one more.
-    pub(crate) fn make_room(&mut self) -> Result<(), AllocError>
+    pub(crate) fn make_room(&mut self, alloc: Global) -> Result<(), AllocError>
         ensures txns { self.new.txns ≡ self.old.txns }
         ensures ok { OnOk result (0 < self.new.room) }
         ensures kept { self.old.room ≤ self.new.room }
     {
-        self.txns.reserve(1)
+        match mem::replace(&mut self.txns, Txns::Nobody) {
+            Txns::Nobody => Ok(()),
+            Txns::One(only) => self.make_more(alloc, only),
+            Txns::More(mut set) => {
+                let made = set.reserve(1);
+                self.txns = Txns::More(set);
+                made
+            }
+        }
+    }
+
+    /// Is the transaction alone, with room for one more.
+    fn make_more(&mut self, alloc: Global, only: u64) -> Result<(), AllocError>
+        ensures txns { self.new.txns ≡ only ∷ [] }
+        ensures ok { OnOk result (0 < self.new.room) }
+    {
+        match set_of(alloc, only) {
+            Ok(set) => {
+                self.txns = Txns::More(set);
+                Ok(())
+            }
+            Err(refused) => {
+                self.txns = Txns::One(only);
+                Err(refused)
+            }
+        }
     }
 
     /// Puts the transaction behind the others, unless it is there.
-    pub(crate) fn add(&mut self, txn: u64) -> Result<(), AllocError>
+    pub(crate) fn add(&mut self, alloc: Global, txn: u64) -> Result<(), AllocError>
         ensures ok { OnOk result (self.new.txns ≡ arrived self.old.txns txn) }
     {
-        self.txns.insert(txn)?;
+        self.make_room(alloc)?;
+        self.hold(txn);
         Ok(())
     }
 
     /// Puts the others behind them, each unless it is there.
-    pub(crate) fn add_all(&mut self, others: &Holders) -> Result<(), AllocError>
-        ensures { OnOk result (self.new.txns ≡ all_arrived self.old.txns others.now.txns) }
+    pub(crate) fn add_all(&mut self, alloc: Global, others: &[u64]) -> Result<(), AllocError>
+        ensures { OnOk result (self.new.txns ≡ all_arrived self.old.txns others.now) }
     {
-        for txn in others.as_slice() {
-            self.add(*txn)?;
+        for txn in others {
+            self.add(alloc, *txn)?;
         }
         Ok(())
     }
@@ -76,8 +111,16 @@ impl Holders {
         requires { (is_number_in self.old.txns txn || nat_lt 0 self.old.room) ≡ true }
         ensures { self.new.txns ≡ arrived self.old.txns txn }
     {
-        let held = self.txns.insert(txn);
-        prove!(held.is_ok());
+        match mem::replace(&mut self.txns, Txns::Nobody) {
+            Txns::Nobody => self.txns = Txns::One(txn),
+            // The transaction is the one.
+            Txns::One(only) => self.txns = Txns::One(only),
+            Txns::More(mut set) => {
+                let held = set.insert(txn);
+                prove!(held.is_ok());
+                self.txns = Txns::More(set);
+            }
+        }
     }
 
     /// Takes the transaction out; whether nobody is left.
@@ -85,24 +128,78 @@ impl Holders {
         ensures txns { self.new.txns ≡ without self.old.txns txn }
         ensures nobody { IsTrue result ↔ (self.new.txns ≡ []) }
     {
-        let _distinct = self.txns.len();
-        self.txns.shift_remove(&txn);
-        self.txns.is_empty()
+        match mem::replace(&mut self.txns, Txns::Nobody) {
+            Txns::Nobody => true,
+            Txns::One(only) => self.keep_other(only, txn),
+            Txns::More(mut set) => {
+                let nobody_left = take_out(&mut set, txn);
+                self.txns = Txns::More(set);
+                nobody_left
+            }
+        }
+    }
+
+    /// Is the one alone, unless it is the transaction; whether nobody is left.
+    fn keep_other(&mut self, only: u64, txn: u64) -> bool
+        requires { self.old.txns ≡ [] }
+        ensures txns { self.new.txns ≡ without (only ∷ []) txn }
+        ensures nobody { IsTrue result ↔ (self.new.txns ≡ []) }
+    {
+        if txn == only {
+            return true;
+        }
+        self.txns = Txns::One(only);
+        false
     }
 
     pub(crate) fn copy(&self, alloc: Global) -> Result<Holders, AllocError>
         ensures { IfOk result (λ copied. copied.txns ≡ self.now.txns) }
     {
-        let _distinct = self.txns.len();
-        let mut copied = Holders::new(alloc);
-        copied.add_all(self)?;
-        Ok(copied)
+        match &self.txns {
+            Txns::Nobody => Ok(Holders::new()),
+            Txns::One(only) => Ok(Holders::alone(*only)),
+            Txns::More(set) => copy_of(alloc, set),
+        }
     }
 
     /// The transactions, in that order.
     pub(crate) fn as_slice(&self) -> &[u64]
         ensures { result.now ≡ self.now.txns }
     {
-        self.txns.as_slice()
+        match &self.txns {
+            Txns::Nobody => &[],
+            Txns::One(only) => slice::from_ref(only),
+            Txns::More(set) => set.as_slice(),
+        }
     }
+}
+
+/// The transaction alone, with room for one more.
+fn set_of(alloc: Global, only: u64) -> Result<IndexSet<u64>, AllocError>
+    ensures txns { IfOk result (λ set. set.keys ≡ only ∷ []) }
+    ensures room { IfOk result (λ set. 0 < spare set) }
+{
+    let mut set = IndexSet::with_capacity(alloc, 2)?;
+    let put = set.insert(only);
+    prove!(put.is_ok());
+    Ok(set)
+}
+
+/// Takes the transaction out; whether nobody is left.
+fn take_out(set: &mut IndexSet<u64>, txn: u64) -> bool
+    ensures txns { set.new.keys ≡ without set.old.keys txn }
+    ensures nobody { IsTrue result ↔ (set.new.keys ≡ []) }
+{
+    let _distinct = set.len();
+    set.shift_remove(&txn);
+    set.is_empty()
+}
+
+fn copy_of(alloc: Global, set: &IndexSet<u64>) -> Result<Holders, AllocError>
+    ensures { IfOk result (λ copied. copied.txns ≡ set.now.keys) }
+{
+    let _distinct = set.len();
+    let mut copied = Holders::new();
+    copied.add_all(alloc, set.as_slice())?;
+    Ok(copied)
 }

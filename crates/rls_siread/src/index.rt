@@ -1,6 +1,6 @@
 //! The index of holders by object.
 
-ghost use Rattle.std.specs.Prelude.{◌≡◌, true, [], None, if◌then◌else◌, IfOk, OnOk};
+ghost use Rattle.std.specs.Prelude.{◌≡◌, true, [], ◌∷◌, None, if◌then◌else◌, IfOk, OnOk};
 ghost use Rattle.std.specs.BTreeMap.{is_at};
 ghost use Rattle.std.specs.Map.{lookup};
 ghost use Rattle.rls_value.specs.declared.object.Object.{Object as Read};
@@ -28,6 +28,33 @@ impl Index {
         Index {
             holders: BTreeMap::new(alloc),
         }
+    }
+
+    /// One in which the transaction alone holds the objects. Where these come in order, in time linear in their number.
+    pub(crate) fn alone(alloc: Global, txn: u64, objects: &Footprint) -> Result<Index, AllocError>
+        ensures { IfOk result (λ index. (object : Read) → held_at index.holders.entries object ≡ (if is_among objects.now object then txn ∷ [] else [])) }
+    {
+        let mut places = Vec::with_capacity(alloc, objects.len())?;
+        for object in objects.iter() {
+            places.push(place_of(alloc, txn, object)?)?;
+        }
+        Ok(Index {
+            holders: BTreeMap::from_iter(alloc, places)?,
+        })
+    }
+
+    /// Whether there is no place.
+    pub(crate) fn is_empty(&self) -> bool
+        ensures { result ≡ true → self.now.holders.entries ≡ [] }
+    {
+        self.holders.is_empty()
+    }
+
+    /// Nobody holds anything.
+    pub(crate) fn clear(&mut self)
+        ensures { self.new.holders.entries ≡ [] }
+    {
+        self.holders.clear();
     }
 
     /// A copy, in which the same hold the same.
@@ -60,7 +87,7 @@ impl Index {
         let _in_order = self.holders.len();
         match self.holders.get(object) {
             Some(held) => held.copy(alloc),
-            None => Ok(Holders::new(alloc)),
+            None => Ok(Holders::new()),
         }
     }
 
@@ -77,20 +104,20 @@ impl Index {
     pub(crate) fn find_all(&self, alloc: Global, objects: &Footprint) -> Result<Holders, AllocError>
         ensures { IfOk result (λ found. found.txns ≡ with_holders (shown self.now.holders.entries) [] objects.now) }
     {
-        let mut found = Holders::new(alloc);
+        let mut found = Holders::new();
         for object in objects.iter() {
-            self.find(object, &mut found)?;
+            self.find(alloc, object, &mut found)?;
         }
         Ok(found)
     }
 
     /// Puts the holders of the object behind those found.
-    fn find(&self, object: &Object, found: &mut Holders) -> Result<(), AllocError>
+    fn find(&self, alloc: Global, object: &Object, found: &mut Holders) -> Result<(), AllocError>
         ensures { OnOk result (found.new.txns ≡ all_arrived found.old.txns (held_at self.now.holders.entries object.now)) }
     {
         let _in_order = self.holders.len();
         match self.holders.get(object) {
-            Some(held) => found.add_all(held),
+            Some(held) => found.add_all(alloc, held.as_slice()),
             None => Ok(()),
         }
     }
@@ -117,7 +144,7 @@ impl Index {
         ensures kept { (other : Read) → KeepsReady self.old.holders.entries self.new.holders.entries txn other }
     {
         match self.holders.get_mut(object) {
-            Some(held) => match held.make_room() {
+            Some(held) => match held.make_room(alloc) {
                 Ok(()) => Ok(()),
                 Err(refused) => Err(refused),
             },
@@ -131,8 +158,7 @@ impl Index {
         ensures ready { OnOk result (is_ready self.new.holders.entries txn object.now ≡ true) }
         ensures kept { (other : Read) → KeepsReady self.old.holders.entries self.new.holders.entries txn other }
     {
-        let nobody = Holders::with_room(alloc)?;
-        self.holders.insert(object.copy(alloc)?, nobody)?;
+        self.holders.insert(object.copy(alloc)?, Holders::new())?;
         Ok(())
     }
 
@@ -193,4 +219,12 @@ impl Index {
             None => false,
         }
     }
+}
+
+/// A copy of the object, which the transaction alone holds.
+fn place_of(alloc: Global, txn: u64, object: &Object) -> Result<(Object, Holders), AllocError>
+    ensures object { IfOk result (λ place. place.0 ≡ object.now) }
+    ensures held { IfOk result (λ place. place.1.txns ≡ txn ∷ []) }
+{
+    Ok((object.copy(alloc)?, Holders::alone(txn)))
 }

@@ -4,7 +4,7 @@ ghost use Rattle.std.specs.Prelude.{◌≡◌, ◌≤◌, ◌&&◌, ◌++◌, tr
 ghost use Rattle.std.specs.List.{list_any};
 ghost use Rattle.rls_value.specs.declared.object.Object.{Object as Read};
 ghost use Rattle.rls_source.specs.Footprints.{with_object, with_reads, is_among, IsInOrder};
-ghost use Rattle.rls_siread.specs.Promotion.{is_key_of, is_rows, is_plain, is_crowded, stands_for, promoted, noted_with};
+ghost use Rattle.rls_siread.specs.Promotion.{is_key, is_key_of, is_rows, is_plain, is_crowded, stands_for, promoted, noted_with};
 
 use rls_source::{Footprint, Reads};
 use rls_value::{Name, Object, Row};
@@ -78,26 +78,65 @@ fn promoted_more(
     })
 }
 
-/// Whether no table is crowded for sure: there are no more objects than the limit, and none is all rows of a table.
+/// Whether nothing is promoted for sure: there is no key, or there are no more keys than the limit, and none of the objects is
+/// all rows of a table.
 pub(crate) fn is_plain(objects: &Footprint, limit: usize) -> bool
     ensures { result ≡ true → is_plain limit objects.now ≡ true }
 {
-    objects.len() <= limit && !has_rows(objects)
+    if !has_keys(objects) {
+        return true;
+    }
+    are_few(objects, limit) && !has_rows(objects)
 }
 
-/// Whether the fresh objects are one at most, and no table is crowded for sure where they are put among the others.
-#[tactic(auto, using(crate::proofs::PlainLaws::plain_with_few))]
+/// Whether the fresh objects are one at most, and nothing is promoted for sure where they are put among the others.
+#[tactic(auto, using(crate::proofs::PlainLaws::plain_with_few, crate::proofs::PlainLaws::plain_without_keys))]
 pub(crate) fn stay_plain(objects: &Footprint, fresh: &Footprint, limit: usize) -> bool
     ensures few { result ≡ true → length fresh.now ≤ 1 }
     ensures plain { result ≡ true → is_plain limit (with_reads objects.now fresh.now) ≡ true }
 {
-    if fresh.len() > 1 || objects.len() >= limit {
+    if fresh.len() > 1 {
         return false;
     }
-    if has_rows(objects) {
+    if !has_keys(objects) && !has_keys(fresh) {
+        return true;
+    }
+    if limit == 0 || has_rows(objects) || has_rows(fresh) {
         return false;
     }
-    !has_rows(fresh)
+    are_few(objects, limit - 1)
+}
+
+/// Whether one of them is a key.
+fn has_keys(objects: &Footprint) -> bool
+    ensures { result ≡ list_any is_key objects.now }
+{
+    objects.iter().any(|object| is_key(object))
+}
+
+/// Whether there are no more keys than so many.
+fn are_few(objects: &Footprint, most: usize) -> bool
+    ensures { result ≡ true → length (filter is_key objects.now) ≤ most }
+{
+    let mut left = most;
+    for object in objects.iter() {
+        if is_key(object) {
+            if left == 0 {
+                return false;
+            }
+            left -= 1;
+        }
+    }
+    true
+}
+
+fn is_key(object: &Object) -> bool
+    ensures { result ≡ is_key object.now }
+{
+    match object {
+        Object::Key(_, _) => true,
+        _ => false,
+    }
 }
 
 /// Whether one of them is all rows of a table.
@@ -236,11 +275,11 @@ fn keys_noted(objects: &Footprint, table: &Name) -> usize
 {
     objects
         .iter()
-        .filter(|object| is_key(object, table))
+        .filter(|object| is_key_of(object, table))
         .count()
 }
 
-fn is_key(object: &Object, table: &Name) -> bool
+fn is_key_of(object: &Object, table: &Name) -> bool
     ensures { result ≡ is_key_of table.now object.now }
 {
     match object {

@@ -4,9 +4,9 @@ ghost use Rattle.std.specs.Prelude.{◌≡◌, ◌<◌, ◌≤◌, ℕ, [], true
 ghost use Rattle.rls_value.specs.declared.object.Object.{Object as Read};
 ghost use Rattle.std.specs.Option.{option_map};
 ghost use Rattle.rls_source.specs.Footprints.{with_reads, is_among, IsInOrder};
-ghost use Rattle.rls_siread.specs.Index.{IsIndexed, locks_of};
+ghost use Rattle.rls_siread.specs.Index.{IsIndexed, held_at, locks_of, shown};
 ghost use Rattle.rls_siread.specs.Promotion.{noted_with};
-ghost use Rattle.rls_siread.specs.Locks.{no_locks, held_by, noted_by, notes_at, objects_in, commit_in, commit_of, marked, noting, is_number_in, is_reader, is_committed_by, holders_of, HasNoted, HasCommitted, HasForgotten, HasPromoted};
+ghost use Rattle.rls_siread.specs.Locks.{no_locks, held_by, noted_by, notes_at, objects_in, commit_in, commit_of, marked, noting, arrived, without, is_number_in, is_reader, is_committed_by, is_left, holders_of, HasNoted, HasCommitted, HasForgotten, HasPromoted};
 
 use crate::covering::covered_by_one;
 use crate::index::Index;
@@ -231,9 +231,28 @@ fn put_first(
 {
     let _in_order = footprint.iter();
     let objects = footprint.copy(alloc)?;
-    index.make_room(alloc, txn, footprint)?;
+    hold_first(alloc, index, txn, footprint)?;
     put_at(notes, txn, objects);
-    index.hold_all(txn, footprint);
+    Ok(())
+}
+
+/// The transaction holds the objects, of which it held none before.
+fn hold_first(
+    alloc: Global,
+    index: &mut Index,
+    txn: u64,
+    objects: &Footprint,
+) -> Result<(), AllocError>
+    ensures ok { OnOk result ((object : Read) → held_at index.new.holders.entries object ≡ (if is_among objects.now object then arrived (held_at index.old.holders.entries object) txn else held_at index.old.holders.entries object)) }
+    ensures err { OnErr result (shown index.new.holders.entries ≡ shown index.old.holders.entries) }
+{
+    // Mostly nobody else has noted anything.
+    if index.is_empty() {
+        *index = Index::alone(alloc, txn, objects)?;
+        return Ok(());
+    }
+    index.make_room(alloc, txn, objects)?;
+    index.hold_all(txn, objects);
     Ok(())
 }
 
@@ -457,12 +476,64 @@ fn drop_notes(index: &mut Index, notes: &mut BTreeMap<u64, Noted>, txn: u64)
     ensures fewer { is_some (notes_at notes.old.entries txn) ≡ true → length notes.new.entries < length notes.old.entries }
 {
     if let Some(noted) = notes.remove(&txn) {
-        index.release_all(txn, noted.objects());
+        give_back(index, txn, noted.objects(), notes);
     }
+}
+
+/// The transaction, which has no notes any longer, holds none of the objects that it noted.
+fn give_back(index: &mut Index, txn: u64, objects: &Footprint, others: &BTreeMap<u64, Noted>)
+    requires noted { (object : Read) → is_number_in (held_at index.old.holders.entries object) txn ≡ is_among objects.now object }
+    requires alone { others.now.entries ≡ [] → (object : Read) → without (held_at index.old.holders.entries object) txn ≡ [] }
+    ensures { (object : Read) → held_at index.new.holders.entries object ≡ without (held_at index.old.holders.entries object) txn }
+{
+    // Mostly nobody else has noted anything.
+    if others.is_empty() {
+        index.clear();
+        return;
+    }
+    index.release_all(txn, objects);
 }
 
 /// Drops the notes of those that committed at that number or before.
 fn drop_committed(index: &mut Index, notes: &mut BTreeMap<u64, Noted>, last: u64)
+    requires { IsIndexed index.old.holders.entries notes.old.entries }
+    ensures indexed { IsIndexed index.new.holders.entries notes.new.entries }
+    ensures gone { HasForgotten (λ txn. is_committed_by last (commit_in (notes_at notes.old.entries txn))) (locks_of index.old.holders.entries notes.old.entries) (locks_of index.new.holders.entries notes.new.entries) }
+{
+    match first_left(notes, last) {
+        Some(_) => drop_each(index, notes, last),
+        // Nobody holds anything then.
+        None => {
+            index.clear();
+            notes.clear();
+        }
+    }
+}
+
+/// The first transaction that stays once those are dropped that committed at that number or before.
+fn first_left(notes: &BTreeMap<u64, Noted>, last: u64) -> Option<u64>
+    ensures { MatchOption result ((txn : ℕ) → is_left last (notes_at notes.now.entries txn) ≡ false) (λ txn. is_left last (notes_at notes.now.entries txn) ≡ true) }
+{
+    for txn in notes.keys() {
+        if is_left(notes, *txn, last) {
+            return Some(*txn);
+        }
+    }
+    None
+}
+
+/// Whether the transaction stays.
+fn is_left(notes: &BTreeMap<u64, Noted>, txn: u64, last: u64) -> bool
+    ensures { result ≡ is_left last (notes_at notes.now.entries txn) }
+{
+    match notes.get(&txn) {
+        Some(noted) => !is_by(noted.commit(), last),
+        None => false,
+    }
+}
+
+/// Drops the notes of those that committed at that number or before, one after another.
+fn drop_each(index: &mut Index, notes: &mut BTreeMap<u64, Noted>, last: u64)
     requires { IsIndexed index.old.holders.entries notes.old.entries }
     ensures indexed { IsIndexed index.new.holders.entries notes.new.entries }
     ensures gone { HasForgotten (λ txn. is_committed_by last (commit_in (notes_at notes.old.entries txn))) (locks_of index.old.holders.entries notes.old.entries) (locks_of index.new.holders.entries notes.new.entries) }

@@ -8,9 +8,9 @@ ghost use Rattle.rls_source.specs.Asked.{role_at, members_at, table_at, grants_a
 
 use crate::reads::Reads;
 use crate::source::RowSource;
-use rls_catalog::rls_expr::{Policy, TableDef};
+use rls_catalog::rls_expr::TableDef;
 use rls_catalog::rls_value::{Items, Name, Object, Row};
-use rls_catalog::{BorrowedRow, Grant, Membership, RoleDef};
+use rls_catalog::{BorrowedRow, Grants, Memberships, Policies, RoleDef};
 use std::alloc::{AllocError, Global};
 
 /// The role's attributes, none where it isn't there, with a note of the role.
@@ -37,7 +37,7 @@ pub fn noted_members<'c, S: RowSource<'c>>(
     source: &mut S,
     read_set: &mut Reads,
     member: &Name,
-) -> Result<&'c [Membership], AllocError>
+) -> Result<&'c Memberships, AllocError>
     ensures found { IfOk result (λ found. found.now ≡ members_at (S.state source.old) member.now) }
     ensures read { OnOk result (source.new ≡ S.after source.old (Object.Members member.now ∷ [])) }
     ensures noted { OnOk result (read_set.new ≡ read_set.old ++ Object.Members member.now ∷ []) }
@@ -71,7 +71,7 @@ pub fn noted_grants<'c, S: RowSource<'c>>(
     source: &mut S,
     read_set: &mut Reads,
     table: &Name,
-) -> Result<&'c [Grant], AllocError>
+) -> Result<&'c Grants, AllocError>
     ensures found { IfOk result (λ found. found.now ≡ grants_at (S.state source.old) table.now) }
     ensures read { OnOk result (source.new ≡ S.after source.old (Object.Grants table.now ∷ [])) }
     ensures noted { OnOk result (read_set.new ≡ read_set.old ++ Object.Grants table.now ∷ []) }
@@ -88,7 +88,7 @@ pub fn noted_policies<'c, S: RowSource<'c>>(
     source: &mut S,
     read_set: &mut Reads,
     table: &Name,
-) -> Result<&'c [Policy], AllocError>
+) -> Result<&'c Policies, AllocError>
     ensures found { IfOk result (λ found. found.now ≡ policies_at (S.state source.old) table.now) }
     ensures ordered { IfOk result (λ found. InNameOrder found.now) }
     ensures read { OnOk result (source.new ≡ S.after source.old (Object.Policies table.now ∷ [])) }

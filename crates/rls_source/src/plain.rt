@@ -5,9 +5,9 @@ ghost use Rattle.std.specs.Prelude.{◌≡◌, refl};
 use crate::footprint::Footprint;
 use crate::source::RowSource;
 use crate::statement_source::StatementSource;
-use rls_catalog::rls_expr::{Policy, TableDef};
+use rls_catalog::rls_expr::TableDef;
 use rls_catalog::rls_value::{Items, Name, Object, Row};
-use rls_catalog::{BorrowedRow, Catalog, Grant, Membership, RoleDef};
+use rls_catalog::{BorrowedRow, Catalog, Grants, Memberships, Policies, RoleDef};
 use std::alloc::{AllocError, Global};
 
 /// A borrowed catalogue, as a source that keeps no note of what is read.
@@ -33,7 +33,7 @@ impl<'c> RowSource<'c> for Plain<'c> {
         Ok(self.catalog.role(name))
     }
 
-    fn members(&mut self, _: Global, member: &Name) -> Result<&'c [Membership], AllocError> {
+    fn members(&mut self, _: Global, member: &Name) -> Result<&'c Memberships, AllocError> {
         Ok(self.catalog.members(member))
     }
 
@@ -41,11 +41,11 @@ impl<'c> RowSource<'c> for Plain<'c> {
         Ok(self.catalog.table(name))
     }
 
-    fn grants(&mut self, _: Global, table: &Name) -> Result<&'c [Grant], AllocError> {
+    fn grants(&mut self, _: Global, table: &Name) -> Result<&'c Grants, AllocError> {
         Ok(self.catalog.grants(table))
     }
 
-    fn policies(&mut self, _: Global, table: &Name) -> Result<&'c [Policy], AllocError> {
+    fn policies(&mut self, _: Global, table: &Name) -> Result<&'c Policies, AllocError> {
         Ok(self.catalog.policies(table))
     }
 

@@ -8,9 +8,9 @@ ghost use Rattle.rls_source.specs.FootprintSets.{with_footprint};
 use crate::footprint::Footprint;
 use crate::source::RowSource;
 use crate::statement_source::StatementSource;
-use rls_catalog::rls_expr::{Policy, TableDef};
+use rls_catalog::rls_expr::TableDef;
 use rls_catalog::rls_value::{Items, Name, Object, Row};
-use rls_catalog::{BorrowedRow, Grant, Membership, RoleDef};
+use rls_catalog::{BorrowedRow, Grants, Memberships, Policies, RoleDef};
 use std::alloc::{AllocError, Global};
 
 /// A source, and what was read from it.
@@ -44,7 +44,7 @@ impl<'c, S: RowSource<'c>> RowSource<'c> for Recording<S> {
         Ok(found)
     }
 
-    fn members(&mut self, alloc: Global, member: &Name) -> Result<&'c [Membership], AllocError> {
+    fn members(&mut self, alloc: Global, member: &Name) -> Result<&'c Memberships, AllocError> {
         let object = Object::Members(member.copy()?);
         let found = self.source.members(alloc, member)?;
         self.footprint.note(object)?;
@@ -58,14 +58,14 @@ impl<'c, S: RowSource<'c>> RowSource<'c> for Recording<S> {
         Ok(found)
     }
 
-    fn grants(&mut self, alloc: Global, table: &Name) -> Result<&'c [Grant], AllocError> {
+    fn grants(&mut self, alloc: Global, table: &Name) -> Result<&'c Grants, AllocError> {
         let object = Object::Grants(table.copy()?);
         let found = self.source.grants(alloc, table)?;
         self.footprint.note(object)?;
         Ok(found)
     }
 
-    fn policies(&mut self, alloc: Global, table: &Name) -> Result<&'c [Policy], AllocError> {
+    fn policies(&mut self, alloc: Global, table: &Name) -> Result<&'c Policies, AllocError> {
         let object = Object::Policies(table.copy()?);
         let found = self.source.policies(alloc, table)?;
         self.footprint.note(object)?;

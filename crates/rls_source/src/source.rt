@@ -7,9 +7,9 @@ ghost use Rattle.rls_catalog.specs.PolicyLists.{InNameOrder};
 ghost use Rattle.rls_catalog.specs.State.{State, role_of, members_of, table_of, grants_of, policies_of, rows_of, rows_with_key};
 ghost use Rattle.rls_catalog.specs.rls_value.specs.declared.object.Object.{Object as Read};
 
-use rls_catalog::rls_expr::{Policy, TableDef};
+use rls_catalog::rls_expr::TableDef;
 use rls_catalog::rls_value::{Items, Name, Object, Row};
-use rls_catalog::{BorrowedRow, Grant, Membership, RoleDef};
+use rls_catalog::{BorrowedRow, Grants, Memberships, Policies, RoleDef};
 use std::alloc::{AllocError, Global};
 
 /// Stands for one state, which no read changes. What is found is borrowed for the lifetime `'c`. Each look-up is a read of one object; after
@@ -28,7 +28,7 @@ pub trait RowSource<'c> {
         ensures err { OnErr result (state self.new ≡ state self.old) };
 
     /// The memberships that the role has.
-    fn members(&mut self, alloc: Global, member: &Name) -> Result<&'c [Membership], AllocError>
+    fn members(&mut self, alloc: Global, member: &Name) -> Result<&'c Memberships, AllocError>
         ensures found { IfOk result (λ found. found.now ≡ members_of (state self.old) member.now) }
         ensures read { OnOk result (self.new ≡ after self.old (Object.Members member.now ∷ [])) }
         ensures err { OnErr result (state self.new ≡ state self.old) };
@@ -40,13 +40,13 @@ pub trait RowSource<'c> {
         ensures err { OnErr result (state self.new ≡ state self.old) };
 
     /// The grants on the table.
-    fn grants(&mut self, alloc: Global, table: &Name) -> Result<&'c [Grant], AllocError>
+    fn grants(&mut self, alloc: Global, table: &Name) -> Result<&'c Grants, AllocError>
         ensures found { IfOk result (λ found. found.now ≡ grants_of (state self.old) table.now) }
         ensures read { OnOk result (self.new ≡ after self.old (Object.Grants table.now ∷ [])) }
         ensures err { OnErr result (state self.new ≡ state self.old) };
 
     /// The policies of the table, in byte order of their names, each name once.
-    fn policies(&mut self, alloc: Global, table: &Name) -> Result<&'c [Policy], AllocError>
+    fn policies(&mut self, alloc: Global, table: &Name) -> Result<&'c Policies, AllocError>
         ensures found { IfOk result (λ found. found.now ≡ policies_of (state self.old) table.now) }
         ensures ordered { IfOk result (λ found. InNameOrder found.now) }
         ensures read { OnOk result (self.new ≡ after self.old (Object.Policies table.now ∷ [])) }

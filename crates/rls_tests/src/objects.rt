@@ -2,7 +2,8 @@
 
 use rls_catalog::{Change, Delta, Keyed, RowChange};
 use rls_source::Footprint;
-use rls_value::{Items, Name, Object, Refusal, Row, RowId, Text, Value};
+use rls_value::{Name, Object, Refusal, Row, RowId, Text, Value};
+use shared_map::SharedList;
 use std::alloc::{AllocError, Global};
 
 /// The key of a row.
@@ -162,7 +163,7 @@ fn inserted(alloc: Global, table: &str, id: RowId, key: Key) -> Result<Change, R
 
 fn members_changed(alloc: Global, role: &str) -> Result<Change, Refusal> {
     match Name::new(alloc, role) {
-        Ok(role) => Ok(Change::Members(role, Items::new(alloc))),
+        Ok(role) => Ok(Change::Members(role, SharedList::new())),
         Err(refusal) => Err(refusal),
     }
 }

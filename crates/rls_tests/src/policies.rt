@@ -1,11 +1,12 @@
 //! Row security by worked examples (PostgreSQL manual, 5.8 and CREATE POLICY).
 
 use crate::states::{Stands, put_all, says, state_with};
-use rls_catalog::{Catalog, PolicyList, Verdict};
+use rls_catalog::{Catalog, Policies, Verdict, with_policy, with_replaced, without_policy};
 use rls_expr::{Policy, TableDef};
 use rls_policy::{Judgement, combine, is_exempt};
 use rls_source::Plain;
 use rls_value::{Items, Name, PolicyKind, Reference, Refusal, Truth};
+use shared_map::SharedList;
 use std::alloc::{AllocError, Global};
 
 fn policy(alloc: Global, name: &str, permissive: bool) -> Result<Policy, Refusal> {
@@ -98,43 +99,29 @@ fn restrictive_policy_alone_denies(rt: HostRuntime) {
 }
 
 /// A list of one policy.
-fn one_policy(alloc: Global, name: &str) -> Result<PolicyList, Refusal> {
+fn one_policy(alloc: Global, name: &str) -> Result<Policies, Refusal> {
     let only = policy(alloc, name, true)?;
-    Ok(PolicyList::new(alloc).with(only)?)
+    Ok(with_policy(alloc, &SharedList::new(), only)?)
 }
 
-fn left_without(alloc: Global, list: PolicyList, name: &str) -> Result<usize, Refusal> {
-    match Name::new(alloc, name) {
-        Ok(name) => {
-            let left = list.without(&name);
-            drop(name);
-            let count = left.as_slice().len();
-            drop(left);
-            Ok(count)
-        }
-        Err(refusal) => {
-            drop(list);
-            Err(refusal)
-        }
-    }
+fn left_without(alloc: Global, list: &Policies, name: &str) -> Result<usize, Refusal> {
+    let name = Name::new(alloc, name)?;
+    let left = without_policy(alloc, list, &name)?;
+    Ok(left.len())
 }
 
 /// How many policies are left after one is exchanged and one taken away.
-fn left_after(alloc: Global, list: PolicyList, name: &str) -> Result<usize, Refusal> {
-    match policy(alloc, name, false) {
-        Ok(other) => left_without(alloc, list.replaced(other), name),
-        Err(refusal) => {
-            drop(list);
-            Err(refusal)
-        }
-    }
+fn left_after(alloc: Global, list: &Policies, name: &str) -> Result<usize, Refusal> {
+    let other = policy(alloc, name, false)?;
+    let exchanged = with_replaced(alloc, list, other)?;
+    left_without(alloc, &exchanged, name)
 }
 
 /// Whether a list has one policy, and none once that is exchanged and taken away.
 fn is_put_and_taken(alloc: Global, name: &str) -> Result<bool, Refusal> {
     let list = one_policy(alloc, name)?;
-    let has_one = list.as_slice().len() == 1;
-    let left = left_after(alloc, list, name)?;
+    let has_one = list.len() == 1;
+    let left = left_after(alloc, &list, name)?;
     Ok(has_one && left == 0)
 }
 

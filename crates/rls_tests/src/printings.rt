@@ -4,6 +4,7 @@ use rls_expr::Expr;
 use rls_printing::{print, print_expr, print_policy};
 use rls_statement::{CreatePolicy, Statement};
 use rls_text::parse;
+use rls_value::shared::Share;
 use std::alloc::Global;
 
 /// Statements without an expression, and how they are printed.
@@ -190,9 +191,9 @@ fn gives_policy(alloc: Global, create: &CreatePolicy, want: &str) -> bool {
     }
 }
 
-fn gives_using(alloc: Global, using: &Option<Expr>, want: &str) -> bool {
+fn gives_using(alloc: Global, using: &Option<Share<Expr>>, want: &str) -> bool {
     match using {
-        Some(expr) => match print_expr(alloc, expr) {
+        Some(expr) => match print_expr(alloc, expr.get()) {
             Ok(printed) => printed.as_str() == want,
             Err(_) => false,
         },

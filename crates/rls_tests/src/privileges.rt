@@ -1,9 +1,10 @@
 //! Grant options by a worked example (PostgreSQL manual, REVOKE).
 
-use rls_catalog::Grant;
+use rls_catalog::{Grant, Grants};
 use rls_expr::Grantee;
 use rls_grant::options;
-use rls_value::{Items, Name, Privilege, Refusal};
+use rls_value::{Name, Privilege, Refusal};
+use shared_map::SharedList;
 use std::alloc::Global;
 
 /// A grant of SELECT with its option.
@@ -15,6 +16,8 @@ fn granted(alloc: Global, grantor: &str, grantee: &str) -> Result<Grant, Refusal
             grantee: Grantee::Role(grantee),
             grantor,
             option: true,
+            column: None,
+            place: 0,
         }),
         Err(refusal) => {
             drop(grantee);
@@ -24,21 +27,17 @@ fn granted(alloc: Global, grantor: &str, grantee: &str) -> Result<Grant, Refusal
 }
 
 fn add_grant(
-    grants: &mut Items<Grant>,
+    grants: &mut Grants,
     alloc: Global,
     grantor: &str,
     grantee: &str,
 ) -> Result<(), Refusal> {
     let grant = granted(alloc, grantor, grantee)?;
-    grants.push(grant)?;
+    grants.put(alloc, grant)?;
     Ok(())
 }
 
-fn add_grants(
-    grants: &mut Items<Grant>,
-    alloc: Global,
-    pairs: &[(&str, &str)],
-) -> Result<(), Refusal> {
+fn add_grants(grants: &mut Grants, alloc: Global, pairs: &[(&str, &str)]) -> Result<(), Refusal> {
     for (grantor, grantee) in pairs {
         add_grant(grants, alloc, grantor, grantee)?;
     }
@@ -46,7 +45,7 @@ fn add_grants(
 }
 
 /// How many hold the option on a table of `o`.
-fn count_holders(alloc: Global, grants: &[Grant]) -> Result<usize, Refusal> {
+fn count_holders(alloc: Global, grants: &Grants) -> Result<usize, Refusal> {
     let owner = Name::new(alloc, "o")?;
     let held = options(alloc, &owner, grants, Privilege::Select);
     drop(owner);
@@ -54,18 +53,14 @@ fn count_holders(alloc: Global, grants: &[Grant]) -> Result<usize, Refusal> {
     Ok(held.len())
 }
 
-fn count_of(
-    grants: &mut Items<Grant>,
-    alloc: Global,
-    pairs: &[(&str, &str)],
-) -> Result<usize, Refusal> {
+fn count_of(grants: &mut Grants, alloc: Global, pairs: &[(&str, &str)]) -> Result<usize, Refusal> {
     add_grants(grants, alloc, pairs)?;
-    count_holders(alloc, grants.as_slice())
+    count_holders(alloc, grants)
 }
 
 /// How many hold the option on a table of `o`, by grantor and grantee of each grant.
 fn holders(alloc: Global, pairs: &[(&str, &str)]) -> Result<usize, Refusal> {
-    let mut grants = Items::new(alloc);
+    let mut grants = SharedList::new();
     let held = count_of(&mut grants, alloc, pairs);
     drop(grants);
     held

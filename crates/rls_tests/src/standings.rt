@@ -1,12 +1,13 @@
 //! What a role may do by the contents of a state: privileges, grant options, policies that apply (PostgreSQL manual, 5.7, 5.8).
 
 use crate::states::{Stands, put, put_all};
-use rls_catalog::{Catalog, Change, Grant, PolicyList};
+use rls_catalog::{Catalog, Change, Grant, Grants, with_policy};
 use rls_expr::{Expr, Grantee, Node, Policy, TableDef};
 use rls_grant::{holds, option};
 use rls_policy::{Side, applying};
 use rls_source::Plain;
-use rls_value::{Items, Kind, Name, PolicyKind, Privilege, Refusal};
+use rls_value::{Items, Kind, Name, PolicyKind, Privilege, Refusal, or_drop};
+use shared_map::{Share, SharedList};
 use std::alloc::Global;
 
 /// A table of `c` with row security.
@@ -40,6 +41,8 @@ fn select_for_b(alloc: Global) -> Result<Grant, Refusal> {
             grantee: Grantee::Role(grantee),
             grantor,
             option: true,
+            column: None,
+            place: 0,
         }),
         Err(refusal) => {
             drop(grantee);
@@ -49,8 +52,8 @@ fn select_for_b(alloc: Global) -> Result<Grant, Refusal> {
 }
 
 fn put_grant(catalog: &mut Catalog, alloc: Global) -> Result<(), Refusal> {
-    let mut grants = Items::new(alloc);
-    grants.push(select_for_b(alloc)?)?;
+    let mut grants: Grants = SharedList::new();
+    grants.put(alloc, select_for_b(alloc)?)?;
     match Name::new(alloc, "t") {
         Ok(name) => put(catalog, alloc, Change::Grants(name, grants)),
         Err(refusal) => {
@@ -64,29 +67,21 @@ fn put_grant(catalog: &mut Catalog, alloc: Global) -> Result<(), Refusal> {
 fn policy(alloc: Global) -> Result<Policy, Refusal> {
     let mut to = Items::new(alloc);
     to.push(Grantee::Public)?;
-    match Name::new(alloc, "p") {
-        Ok(name) => Ok(policy_to(name, to)),
-        Err(refusal) => {
-            drop(to);
-            Err(refusal)
-        }
-    }
-}
-
-fn policy_to(name: Name, to: Items<Grantee>) -> Policy {
-    Policy {
+    let using = or_drop!(Share::new(alloc, Expr::new(Node::CurrentUser)), to);
+    let name = or_drop!(Name::new(alloc, "p"), to, using);
+    Ok(Policy {
         name,
         permissive: true,
         kind: PolicyKind::Only(Kind::Select),
         to,
-        using: Some(Expr::new(Node::CurrentUser)),
+        using: Some(using),
         check: None,
-    }
+    })
 }
 
 fn put_policy(catalog: &mut Catalog, alloc: Global) -> Result<(), Refusal> {
     let only = policy(alloc)?;
-    let list = PolicyList::new(alloc).with(only)?;
+    let list = with_policy(alloc, &SharedList::new(), only)?;
     match Name::new(alloc, "t") {
         Ok(name) => put(catalog, alloc, Change::Policies(name, list)),
         Err(refusal) => {

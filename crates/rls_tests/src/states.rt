@@ -1,7 +1,8 @@
 //! States that tests are made on, and what tests look for.
 
-use rls_catalog::{Catalog, Change, Delta, Membership, RoleDef};
-use rls_value::{Items, Name, Refusal};
+use rls_catalog::{Catalog, Change, Delta, Membership, Memberships, RoleDef};
+use rls_value::{Name, Refusal};
+use shared_map::SharedList;
 use std::alloc::Global;
 
 /// What stands in a state, as plain data.
@@ -91,8 +92,8 @@ fn put_members(
 fn memberships_of(
     alloc: Global,
     memberships: &[(&str, bool, bool)],
-) -> Result<Items<Membership>, Refusal> {
-    let mut content = Items::new(alloc);
+) -> Result<Memberships, Refusal> {
+    let mut content = SharedList::new();
     match add_memberships(&mut content, alloc, memberships) {
         Ok(()) => Ok(content),
         Err(refusal) => {
@@ -103,12 +104,12 @@ fn memberships_of(
 }
 
 fn add_memberships(
-    content: &mut Items<Membership>,
+    content: &mut Memberships,
     alloc: Global,
     memberships: &[(&str, bool, bool)],
 ) -> Result<(), Refusal> {
     for (role, inherit, set) in memberships {
-        content.push(membership(alloc, role, *inherit, *set)?)?;
+        content.put(alloc, membership(alloc, role, *inherit, *set)?)?;
     }
     Ok(())
 }

@@ -1,5 +1,6 @@
 pub mod CuttingLaws
 pub mod Loops
+pub mod Lists
 pub mod Rooms
 pub mod Wording
 pub mod Laws

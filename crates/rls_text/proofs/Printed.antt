@@ -263,27 +263,27 @@ unfolding reserved g.statement g.body g.select g.insert g.update g.delete g.crea
 dropped_policy_written = refl
 
 -- GRANT INSERT, DELETE ON t TO r, PUBLIC
-grant_written : (g.statement 1).rule.prints.writes (st.Grant record { privileges = record { select = false; insert = true; update = false; delete = true }; table = codes "t"; to = Grantee.Role (codes "r") ∷ Grantee.Public ∷ []; with_option = false }) ≡ Some
+grant_written : (g.statement 1).rule.prints.writes (st.Grant record { privileges = record { select = record { whole = false; columns = [] }; insert = record { whole = true; columns = [] }; update = record { whole = false; columns = [] }; delete = true }; table = codes "t"; to = Grantee.Role (codes "r") ∷ Grantee.Public ∷ []; with_option = false }) ≡ Some
     (Word (codes "grant") ∷ Word (codes "insert") ∷ t.Symbol s.Comma ∷ Word (codes "delete") ∷ Word (codes "on") ∷ Word (codes "t") ∷ Word (codes "to") ∷ Word (codes "r") ∷ t.Symbol s.Comma ∷ Word (codes "public") ∷ [])
-unfolding reserved g.statement g.body g.select g.insert g.update g.delete g.create g.role g.table g.policy g.alter g.altered_role g.altered_table g.altered_policy g.flat_body g.dropped_policy g.grant g.granted_privileges g.privileges_on g.privileges g.named_privileges g.privilege g.table_name g.granted_to g.to_grantees g.grantees g.grantee g.with_option with_comma g.name
+unfolding reserved g.statement g.body g.select g.insert g.update g.delete g.create g.role g.table g.policy g.alter g.altered_role g.altered_table g.altered_policy g.flat_body g.dropped_policy g.grant g.granted_privileges g.privileges_on g.privileges g.table_privileges g.named_privileges g.privilege g.table_name g.granted_to g.to_grantees g.grantees g.grantee g.with_option with_comma g.name
 grant_written = refl
 
 -- GRANT ALL ON t TO r WITH GRANT OPTION
-grant_option_written : (g.statement 1).rule.prints.writes (st.Grant record { privileges = record { select = true; insert = true; update = true; delete = true }; table = codes "t"; to = Grantee.Role (codes "r") ∷ []; with_option = true }) ≡ Some
+grant_option_written : (g.statement 1).rule.prints.writes (st.Grant record { privileges = record { select = record { whole = true; columns = [] }; insert = record { whole = true; columns = [] }; update = record { whole = true; columns = [] }; delete = true }; table = codes "t"; to = Grantee.Role (codes "r") ∷ []; with_option = true }) ≡ Some
     (Word (codes "grant") ∷ Word (codes "all") ∷ Word (codes "on") ∷ Word (codes "t") ∷ Word (codes "to") ∷ Word (codes "r") ∷ Word (codes "with") ∷ Word (codes "grant") ∷ Word (codes "option") ∷ [])
-unfolding reserved g.statement g.body g.select g.insert g.update g.delete g.create g.role g.table g.policy g.alter g.altered_role g.altered_table g.altered_policy g.flat_body g.dropped_policy g.grant g.granted_privileges g.privileges_on g.privileges g.named_privileges g.privilege g.table_name g.granted_to g.to_grantees g.grantees g.grantee g.with_option with_comma g.name
+unfolding reserved g.statement g.body g.select g.insert g.update g.delete g.create g.role g.table g.policy g.alter g.altered_role g.altered_table g.altered_policy g.flat_body g.dropped_policy g.grant g.granted_privileges g.privileges_on g.privileges g.table_privileges g.named_privileges g.privilege g.table_name g.granted_to g.to_grantees g.grantees g.grantee g.with_option with_comma g.name
 grant_option_written = refl
 
 -- REVOKE SELECT ON t FROM r; RESTRICT isn't written
-revoke_written : (g.statement 1).rule.prints.writes (st.Revoke record { option_only = false; privileges = record { select = true; insert = false; update = false; delete = false }; table = codes "t"; from = Grantee.Role (codes "r") ∷ []; cascade = false }) ≡ Some
+revoke_written : (g.statement 1).rule.prints.writes (st.Revoke record { option_only = false; privileges = record { select = record { whole = true; columns = [] }; insert = record { whole = false; columns = [] }; update = record { whole = false; columns = [] }; delete = false }; table = codes "t"; from = Grantee.Role (codes "r") ∷ []; cascade = false }) ≡ Some
     (Word (codes "revoke") ∷ Word (codes "select") ∷ Word (codes "on") ∷ Word (codes "t") ∷ Word (codes "from") ∷ Word (codes "r") ∷ [])
-unfolding reserved g.statement g.body g.select g.insert g.update g.delete g.create g.role g.table g.policy g.alter g.altered_role g.altered_table g.altered_policy g.flat_body g.dropped_policy g.grant g.granted_privileges g.granted_roles g.revoke g.revoked_privileges g.option_only g.privileges_on g.privileges g.named_privileges g.privilege g.table_name g.revoked_from g.grantees g.grantee g.cascade with_comma g.name
+unfolding reserved g.statement g.body g.select g.insert g.update g.delete g.create g.role g.table g.policy g.alter g.altered_role g.altered_table g.altered_policy g.flat_body g.dropped_policy g.grant g.granted_privileges g.granted_roles g.revoke g.revoked_privileges g.option_only g.privileges_on g.privileges g.table_privileges g.named_privileges g.privilege g.table_name g.revoked_from g.grantees g.grantee g.cascade with_comma g.name
 revoke_written = refl
 
 -- REVOKE GRANT OPTION FOR UPDATE ON t FROM PUBLIC CASCADE
-revoke_option_written : (g.statement 1).rule.prints.writes (st.Revoke record { option_only = true; privileges = record { select = false; insert = false; update = true; delete = false }; table = codes "t"; from = Grantee.Public ∷ []; cascade = true }) ≡ Some
+revoke_option_written : (g.statement 1).rule.prints.writes (st.Revoke record { option_only = true; privileges = record { select = record { whole = false; columns = [] }; insert = record { whole = false; columns = [] }; update = record { whole = true; columns = [] }; delete = false }; table = codes "t"; from = Grantee.Public ∷ []; cascade = true }) ≡ Some
     (Word (codes "revoke") ∷ Word (codes "grant") ∷ Word (codes "option") ∷ Word (codes "for") ∷ Word (codes "update") ∷ Word (codes "on") ∷ Word (codes "t") ∷ Word (codes "from") ∷ Word (codes "public") ∷ Word (codes "cascade") ∷ [])
-unfolding reserved g.statement g.body g.select g.insert g.update g.delete g.create g.role g.table g.policy g.alter g.altered_role g.altered_table g.altered_policy g.flat_body g.dropped_policy g.grant g.granted_privileges g.granted_roles g.revoke g.revoked_privileges g.option_only g.privileges_on g.privileges g.named_privileges g.privilege g.table_name g.revoked_from g.grantees g.grantee g.cascade with_comma g.name
+unfolding reserved g.statement g.body g.select g.insert g.update g.delete g.create g.role g.table g.policy g.alter g.altered_role g.altered_table g.altered_policy g.flat_body g.dropped_policy g.grant g.granted_privileges g.granted_roles g.revoke g.revoked_privileges g.option_only g.privileges_on g.privileges g.table_privileges g.named_privileges g.privilege g.table_name g.revoked_from g.grantees g.grantee g.cascade with_comma g.name
 revoke_option_written = refl
 
 -- ALTER ROLE x LOGIN NOBYPASSRLS
@@ -333,8 +333,8 @@ select_is_no_role = refl
 
 -- REVOKE DELETE ON TABLE t FROM restrict RESTRICT is from a role called restrict, without CASCADE.
 restrict_is_a_role : g.revoke.parses.read (Word (codes "revoke") ∷ Word (codes "delete") ∷ Word (codes "on") ∷ Word (codes "table") ∷ Word (codes "t") ∷ Word (codes "from") ∷ Word (codes "restrict") ∷ Word (codes "restrict") ∷ []) ≡ Some
-    (st.Revoke record { option_only = false; privileges = record { select = false; insert = false; update = false; delete = true }; table = codes "t"; from = Grantee.Role (codes "restrict") ∷ []; cascade = false }, [])
-unfolding reserved read_many g.revoke g.revoked_privileges g.option_only g.privileges_on g.privileges g.named_privileges g.privilege g.table_name g.revoked_from g.grantees g.grantee g.cascade with_privilege with_comma g.name
+    (st.Revoke record { option_only = false; privileges = record { select = record { whole = false; columns = [] }; insert = record { whole = false; columns = [] }; update = record { whole = false; columns = [] }; delete = true }; table = codes "t"; from = Grantee.Role (codes "restrict") ∷ []; cascade = false }, [])
+unfolding reserved read_many g.revoke g.revoked_privileges g.option_only g.privileges_on g.privileges g.table_privileges g.named_privileges g.privilege g.table_name g.revoked_from g.grantees g.grantee g.cascade with_privilege with_comma g.name
 restrict_is_a_role = refl
 
 -- SELECT count selects a column of that name, and COUNT (a) is nothing.

@@ -6,8 +6,8 @@ use Rattle.std.{specs.Prelude.◌≡◌, specs.Prelude.ℕ, specs.Prelude.zero, 
 use Rattle.rls_value.specs.{declared.value.Value.Value, declared.value.ColType.ColType, declared.verb.Kind.Kind, declared.verb.PolicyKind.PolicyKind, declared.verb.Privilege.Privilege}
 use Rattle.rls_expr.specs.{Terms.Term, Terms.terms_of, declared.column_name.ColumnName.ColumnName, declared.expr.Comparison.Comparison, declared.expr.Sign.Sign as PartSign, declared.policy.Grantee.Grantee}
 use Rattle.rls_expr.specs.Terms as e
-use Rattle.rls_statement.specs.{declared.statement.Attributes.Attributes, declared.statement.MarkedColumn.MarkedColumn, declared.statement.MembershipOption.MembershipOption, declared.statement.MembershipOptions.MembershipOptions, declared.statement.Privileges.Privileges, declared.statement.RowSecurity.RowSecurity, declared.statement.Selected.Selected, declared.statement.SetRole.SetRole, declared.statement.Statement.Statement}
-use Rattle.rls_text.specs.{declared.token.Symbol.Symbol, declared.token.Token.Token, declared.token.Token.TheVariants.Word, declared.attributes.RoleAttribute.RoleAttribute, declared.columns.ColumnMark.ColumnMark, declared.tables.TableElement.TableElement, declared.tables.TableElements.TableElements, Elements.elements_of, Parses.unseen_parts, declared.tree.Choices.TheVariants.Listed, declared.tree.Choices.TheVariants.Queried, Heights.height, Heights.heights, Cut.Cut, Cut.of_some, Heads.Names, Heads.Numbers, Heads.Texts, Heads.Keyword, Heads.Sign, Heads.begins, Heads.sees, Lang.only, Lang.Both, Lang.Mapped, Lang.Perhaps, Lang.Many, Lang.put_in, Writes.through, Writes.without_second, Writes.without_first, FirstSets.constant_heads, FirstSets.literal_heads, FirstSets.item_heads, FirstSets.item_more, FirstSets.items_more, FirstSets.prim_heads, FirstSets.sign_heads, FirstSets.sum_more, FirstSets.in_heads, FirstSets.memb_more, FirstSets.comparison_heads, FirstSets.cmp_more, FirstSets.is_more, FirstSets.expr_heads, FirstSets.expr_more, FirstSets.alias_heads, FirstSets.condition_more, FirstSets.select_more, FirstSets.inserted_more, FirstSets.changed_more, FirstSets.attribute_heads, FirstSets.role_more, FirstSets.mark_heads, FirstSets.change_more, FirstSets.policy_more, FirstSets.create_more, FirstSets.alter_more, FirstSets.privilege_heads, FirstSets.privileges_heads, FirstSets.option_heads, FirstSets.granted_more, FirstSets.revoked_more, FirstSets.flat_heads, FirstSets.flat_more, FirstSets.body_heads, FirstSets.body_more, FirstSets.literal_apart, FirstSets.name_apart, FirstSets.exists_apart, FirstSets.select_apart, FirstSets.not_apart, FirstSets.as_apart, FirstSets.alias_apart, FirstSets.public_apart, FirstSets.primary_apart, FirstSets.table_apart, FirstSets.none_apart, FirstSets.on_apart, FirstSets.to_apart, Ahead.on_comes_first, Ahead.second_is, Ahead.Skips, Ahead.both_skips, Ahead.mapped_skips, Ahead.either_skips, Ahead.perhaps_skips, Ahead.many_skips, Ahead.token_skips, Ahead.one_skips, Ahead.decided_at, Ahead.decided_before, Ahead.decided_behind, Ahead.Begins, Ahead.only_begins, Ahead.one_begins, Ahead.mapped_begins, Ahead.checked_begins, Ahead.either_begins, Ahead.both_begins, Ahead.perhaps_begins, Ahead.no_second, Ahead.Alone, Ahead.only_alone, Ahead.mapped_alone, Ahead.either_alone, Rule.Rule, Rule.word, Rule.sign, Rule.one, Rule.both, Rule.mapped, Rule.after_as, Rule.after, Rule.before, Rule.in_parentheses, Rule.either, Rule.either_by, Rule.perhaps, Rule.many, Rule.checked, Rule.widened, Rule.with_comma, Rule.as_list, Rule.list_law, Rule.listed, Rule.spelled_as, Rule.standing_for, Rule.word_for, Rule.sign_for, Cutting.tree_of, Cutting.selected_kept, Cutting.select_kept, Cutting.choices_kept, Cutting.in_kept, Cutting.exists_kept, Cutting.scalar_kept, Cutting.tuple_kept, Cutting.tuples_kept, Cutting.rows_kept, Cutting.set_column_kept, Cutting.set_columns_kept, Cutting.ending_kept, Cutting.tree_with_depth_of, Cutting.signed_kept, Cutting.sum_kept, Cutting.among_kept, Cutting.compared_kept, Cutting.tested_kept, Cutting.negated_kept, Cutting.and_kept, Cutting.or_kept, Cutting.tuple_is_kept, Cutting.tuples_are_kept, Cutting.set_columns_are_kept, Cutting.even_kept, Cutting.long_kept, Cutting.distinct_kept, Cutting.conditions_kept, Cutting.description_kept, Cutting.change_kept, Cutting.is_policy_kept, Cutting.is_change_kept}
+use Rattle.rls_statement.specs.{declared.statement.Attributes.Attributes, declared.statement.MarkedColumn.MarkedColumn, declared.statement.MembershipOption.MembershipOption, declared.statement.MembershipOptions.MembershipOptions, declared.privileges.Privileges.Privileges, declared.statement.RowSecurity.RowSecurity, declared.statement.Selected.Selected, declared.statement.SetRole.SetRole, declared.statement.Statement.Statement}
+use Rattle.rls_text.specs.{declared.token.Symbol.Symbol, declared.token.Token.Token, declared.token.Token.TheVariants.Word, declared.attributes.RoleAttribute.RoleAttribute, declared.columns.ColumnMark.ColumnMark, declared.granting.TablePrivileges.TablePrivileges, declared.tables.TableElement.TableElement, declared.tables.TableElements.TableElements, Elements.elements_of, Parses.unseen_parts, declared.tree.Choices.TheVariants.Listed, declared.tree.Choices.TheVariants.Queried, Heights.height, Heights.heights, Cut.Cut, Cut.of_some, Heads.Names, Heads.Numbers, Heads.Texts, Heads.Keyword, Heads.Sign, Heads.begins, Heads.sees, Lang.only, Lang.Both, Lang.Mapped, Lang.Perhaps, Lang.Many, Lang.put_in, Writes.through, Writes.without_second, Writes.without_first, FirstSets.constant_heads, FirstSets.literal_heads, FirstSets.item_heads, FirstSets.item_more, FirstSets.items_more, FirstSets.prim_heads, FirstSets.sign_heads, FirstSets.sum_more, FirstSets.in_heads, FirstSets.memb_more, FirstSets.comparison_heads, FirstSets.cmp_more, FirstSets.is_more, FirstSets.expr_heads, FirstSets.expr_more, FirstSets.alias_heads, FirstSets.condition_more, FirstSets.select_more, FirstSets.inserted_more, FirstSets.changed_more, FirstSets.attribute_heads, FirstSets.role_more, FirstSets.mark_heads, FirstSets.change_more, FirstSets.policy_more, FirstSets.create_more, FirstSets.alter_more, FirstSets.privilege_heads, FirstSets.privileges_heads, FirstSets.option_heads, FirstSets.granted_more, FirstSets.revoked_more, FirstSets.flat_heads, FirstSets.flat_more, FirstSets.body_heads, FirstSets.body_more, FirstSets.literal_apart, FirstSets.name_apart, FirstSets.exists_apart, FirstSets.select_apart, FirstSets.not_apart, FirstSets.as_apart, FirstSets.alias_apart, FirstSets.public_apart, FirstSets.primary_apart, FirstSets.table_apart, FirstSets.none_apart, FirstSets.on_apart, FirstSets.to_apart, Ahead.on_comes_first, Ahead.second_is, Ahead.Skips, Ahead.both_skips, Ahead.mapped_skips, Ahead.either_skips, Ahead.perhaps_skips, Ahead.many_skips, Ahead.token_skips, Ahead.one_skips, Ahead.decided_at, Ahead.decided_before, Ahead.decided_behind, Ahead.Begins, Ahead.only_begins, Ahead.one_begins, Ahead.mapped_begins, Ahead.checked_begins, Ahead.either_begins, Ahead.both_begins, Ahead.perhaps_begins, Ahead.no_second, Ahead.Alone, Ahead.only_alone, Ahead.mapped_alone, Ahead.either_alone, Rule.Rule, Rule.word, Rule.sign, Rule.one, Rule.both, Rule.mapped, Rule.after_as, Rule.after, Rule.before, Rule.in_parentheses, Rule.either, Rule.either_by, Rule.perhaps, Rule.many, Rule.checked, Rule.widened, Rule.with_comma, Rule.as_list, Rule.list_law, Rule.listed, Rule.spelled_as, Rule.standing_for, Rule.word_for, Rule.sign_for, Cutting.tree_of, Cutting.selected_kept, Cutting.select_kept, Cutting.choices_kept, Cutting.in_kept, Cutting.exists_kept, Cutting.scalar_kept, Cutting.tuple_kept, Cutting.tuples_kept, Cutting.rows_kept, Cutting.set_column_kept, Cutting.set_columns_kept, Cutting.ending_kept, Cutting.tree_with_depth_of, Cutting.signed_kept, Cutting.sum_kept, Cutting.among_kept, Cutting.compared_kept, Cutting.tested_kept, Cutting.negated_kept, Cutting.and_kept, Cutting.or_kept, Cutting.tuple_is_kept, Cutting.tuples_are_kept, Cutting.set_columns_are_kept, Cutting.even_kept, Cutting.long_kept, Cutting.distinct_kept, Cutting.conditions_kept, Cutting.description_kept, Cutting.change_kept, Cutting.is_policy_kept, Cutting.is_change_kept}
 use Rattle.rls_text.specs.Elements as elements
 use Rattle.rls_text.specs.Trees as t
 use Rattle.rls_text.specs.Cut as cut
@@ -607,12 +607,16 @@ privilege = either (word_for back.privilege_names Privilege.Select (codes "selec
     (either (word_for back.privilege_names Privilege.Update (codes "update")) (word_for back.privilege_names Privilege.Delete (codes "delete")) refl) refl) refl
 
 -- privilege {"," privilege}
-unfoldable pub named_privileges : Rule Privileges privilege_heads (Sign Symbol.Comma ∷ []) false
+unfoldable pub named_privileges : Rule TablePrivileges privilege_heads (Sign Symbol.Comma ∷ []) false
 named_privileges = mapped g.privileges_of back.as_privileges back.privileges_law (both privilege (many (with_comma privilege) refl) refl)
 
 -- ALL [PRIVILEGES] | privilege {"," privilege}; PRIVILEGES isn't written
+unfoldable pub table_privileges : Rule TablePrivileges privileges_heads (Keyword (codes "privileges") ∷ Sign Symbol.Comma ∷ []) false
+table_privileges = either (mapped (λ _. g.all_privileges) back.as_all_privileges back.all_privileges_law (both (word (codes "all")) (perhaps (word (codes "privileges"))) refl)) named_privileges refl
+
+-- the same, each on the whole table
 unfoldable pub privileges : Rule Privileges privileges_heads (Keyword (codes "privileges") ∷ Sign Symbol.Comma ∷ []) false
-privileges = either (mapped (λ _. g.all_privileges) back.as_all_privileges back.all_privileges_law (both (word (codes "all")) (perhaps (word (codes "privileges"))) refl)) named_privileges refl
+privileges = mapped g.whole_privileges back.as_table_privileges back.table_privileges_law table_privileges
 
 -- [TABLE] name; TABLE isn't written
 unfoldable pub table_name : Rule (List ℕ) (Keyword (codes "table") ∷ Names ∷ []) [] false
@@ -698,9 +702,9 @@ privilege_skips = either_skips _ _ _ (mapped_skips _ _ _ (word_skips (codes "sel
 
 -- in looking for ON, TO and FROM privileges are passed over
 privileges_skip : Skips on_comes_first privileges.spells
-unfolding privileges named_privileges with_comma
-privileges_skip = either_skips _ _ _ (mapped_skips _ _ _ (both_skips _ _ _ (word_skips (codes "all") refl refl) (perhaps_skips _ _ (word_skips (codes "privileges") refl refl))))
-    (mapped_skips _ _ _ (both_skips _ _ _ privilege_skips (many_skips _ _ (mapped_skips _ _ _ (both_skips _ _ _ comma_skips privilege_skips)))))
+unfolding privileges table_privileges named_privileges with_comma
+privileges_skip = mapped_skips _ _ _ (either_skips _ _ _ (mapped_skips _ _ _ (both_skips _ _ _ (word_skips (codes "all") refl refl) (perhaps_skips _ _ (word_skips (codes "privileges") refl refl))))
+    (mapped_skips _ _ _ (both_skips _ _ _ privilege_skips (many_skips _ _ (mapped_skips _ _ _ (both_skips _ _ _ comma_skips privilege_skips))))))
 
 name_skips : Skips on_comes_first name.spells
 unfolding name

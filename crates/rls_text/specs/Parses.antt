@@ -7,6 +7,7 @@ use Rattle.std.proofs.lemmas.Slice.Eq.{bytes_eq-Decides}
 use Rattle.rls_text.specs.declared.token.Token.{Token}
 use Rattle.rls_text.specs.declared.token.Token.TheVariants.{Word, Number, Text, Bad}
 use Rattle.rls_text.specs.declared.token.Token.TheVariants as t
+use Rattle.rls_text.specs.declared.token.Symbol.TheVariants as s
 use Rattle.rls_text.specs.Heads.{Head, Exact, Names, Numbers, Texts, same, fits, begins, sees, clash, clash_any, apart, same_head, has_head, within}
 use Rattle.rls_text.specs.Lang.{only, Both, Mapped, Either, Perhaps, Many, Checked, Never, One, After, Before}
 
@@ -442,6 +443,16 @@ module _ {A : Type 0} (p : List Token → A → Type 0) (hp mp : List Head) (P :
 
   abbrev pub many_of : apart mp hp ≡ true → Parses (Many p) hp (mp ++ hp) true
   many_of e = record { read = λ ts. read_many hp P.read (length ts) ts; sound = λ ts. many_sound (length ts) ts; complete = all_complete e; starts = many_starts }
+
+-- ---- lists with commas
+
+-- "," and what p reads
+unfoldable pub behind_comma : {A : Type 0} → (List Token → Outcome A) → List Token → Outcome A
+behind_comma p ts = read_mapped (λ r. r.1) (read_both (read_token (t.Symbol s.Comma)) p) ts
+
+-- what p reads, and more of it, each behind a comma
+unfoldable pub read_listed : {A : Type 0} → (List Token → Outcome A) → List Token → Outcome (List A)
+read_listed p ts = read_mapped (λ r. r.0 ∷ r.1) (read_both p (λ rest. read_many (Exact (t.Symbol s.Comma) ∷ []) (behind_comma p) (length rest) rest)) ts
 
 -- ---- a token that has a value
 

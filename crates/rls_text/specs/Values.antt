@@ -6,10 +6,10 @@ use denote.Enum.Bare.{sameb}
 use Rattle.rls_value.specs.{Names.reserved, Names.spells_name, Names.folded, declared.value.Value.Value, declared.value.ColType.ColType, declared.verb.Privilege.Privilege, declared.verb.PolicyKind.PolicyKind, declared.verb.Kind.Kind}
 use Rattle.rls_expr.specs.{Terms.Term, Terms.Query, Terms.terms_of, Terms.maybe_term, declared.column_name.ColumnName.ColumnName, declared.expr.Comparison.Comparison, declared.expr.Selects.Selects, declared.expr.Sign.Sign, declared.policy.Grantee.Grantee}
 use Rattle.rls_expr.specs.Terms as e
-use Rattle.rls_text.specs.{declared.token.Token.Token, declared.attributes.RoleAttribute.RoleAttribute, declared.columns.ColumnMark.ColumnMark, declared.tables.TableElements.TableElements, Lang.put_in, declared.token.Token.TheVariants.Word, declared.token.Token.TheVariants.Number, declared.token.Token.TheVariants.Text}
+use Rattle.rls_text.specs.{declared.token.Token.Token, declared.attributes.RoleAttribute.RoleAttribute, declared.columns.ColumnMark.ColumnMark, declared.granting.TablePrivileges.TablePrivileges, declared.tables.TableElements.TableElements, Lang.put_in, declared.token.Token.TheVariants.Word, declared.token.Token.TheVariants.Number, declared.token.Token.TheVariants.Text}
 use Rattle.rls_text.specs.contracts.columns.ColumnMark as column_mark
 use Rattle.rls_statement.specs.declared.changing.Assignment as changing
-use Rattle.rls_statement.specs.{declared.statement.Attributes.Attributes, declared.statement.MembershipOption.MembershipOption, declared.statement.MarkedColumn.MarkedColumn, declared.statement.MembershipOptions.MembershipOptions, declared.statement.Privileges.Privileges, declared.statement.RowSecurity.RowSecurity, declared.statement.Selected.Selected, declared.statement.Statement.Statement}
+use Rattle.rls_statement.specs.{declared.statement.Attributes.Attributes, declared.statement.MembershipOption.MembershipOption, declared.statement.MarkedColumn.MarkedColumn, declared.statement.MembershipOptions.MembershipOptions, declared.privileges.Privileges.Privileges, declared.privileges.Extent.Extent, declared.statement.RowSecurity.RowSecurity, declared.statement.Selected.Selected, declared.statement.Statement.Statement}
 use Rattle.rls_statement.specs.contracts.statement.MembershipOption as option
 
 -- ---- tokens
@@ -343,23 +343,31 @@ dropping_policy_of r = Statement.DropPolicy record { name = r.0; table = r.1 }
 -- ---- GRANT and REVOKE of privileges
 
 -- none of the four
-abbrev pub no_privileges : Privileges
+abbrev pub no_privileges : TablePrivileges
 no_privileges = record { select = false; insert = false; update = false; delete = false }
 
 -- the four
-abbrev pub all_privileges : Privileges
+abbrev pub all_privileges : TablePrivileges
 all_privileges = record { select = true; insert = true; update = true; delete = true }
 
 -- with this one too
-unfoldable pub with_privilege : Privileges → Privilege → Privileges
+unfoldable pub with_privilege : TablePrivileges → Privilege → TablePrivileges
 with_privilege all Privilege.Select = record all { select = true }
 with_privilege all Privilege.Insert = record all { insert = true }
 with_privilege all Privilege.Update = record all { update = true }
 with_privilege all Privilege.Delete = record all { delete = true }
 
 -- those that are named; one may be named twice
-abbrev pub privileges_of : Privilege × List Privilege → Privileges
+abbrev pub privileges_of : Privilege × List Privilege → TablePrivileges
 privileges_of r = put_in with_privilege (with_privilege no_privileges r.0) r.1
+
+-- a privilege on the whole table, or on nothing
+abbrev pub whole_if : Bool → Extent
+whole_if whole = record { whole = whole; columns = [] }
+
+-- privileges on the whole table; no list of columns is written
+abbrev pub whole_privileges : TablePrivileges → Privileges
+whole_privileges named = record { select = whole_if named.select; insert = whole_if named.insert; update = whole_if named.update; delete = named.delete }
 
 -- whether words that may be left out are there
 abbrev pub are_written : Option (Unit {0}) → Bool

@@ -6,8 +6,8 @@ use Rattle.rls_value.specs.{Names.reserved, declared.value.Value.Value, declared
 use Rattle.rls_expr.specs.{Terms.Term, Terms.Terms, Terms.Query, Terms.terms_of, Terms.maybe_term, declared.column_name.ColumnName.ColumnName, declared.expr.Comparison.Comparison, declared.expr.FromItem.FromItem, declared.expr.Sign.Sign, declared.policy.Grantee.Grantee, declared.expr.Selects.Selects, contracts.expr.Comparison.the_type as comparison_type, contracts.expr.Sign.the_type as sign_type}
 use Rattle.rls_expr.specs.Terms as e
 use Rattle.rls_statement.specs.declared.changing.Assignment as changing
-use Rattle.rls_statement.specs.{declared.statement.Attributes.Attributes, declared.statement.MembershipOption.MembershipOption, declared.statement.MembershipOptions.MembershipOptions, declared.statement.Privileges.Privileges, declared.statement.Selected.Selected, declared.statement.SetRole.SetRole, declared.statement.Statement.Statement, contracts.statement.MembershipOption.the_type as option_type}
-use Rattle.rls_text.specs.{declared.token.Token.Token, declared.attributes.RoleAttribute.RoleAttribute, Lang.put_in, Writes.some_is, declared.token.Token.TheVariants.Word, declared.token.Token.TheVariants.Number, declared.token.Token.TheVariants.Text, Heads.Names, Heads.Numbers, Heads.Texts, Heads.begins, Rule.Telling, Rule.given_if, Rule.given_was, Rule.as_list}
+use Rattle.rls_statement.specs.{declared.statement.Attributes.Attributes, declared.statement.MembershipOption.MembershipOption, declared.statement.MembershipOptions.MembershipOptions, declared.privileges.Extent.Extent, declared.privileges.Privileges.Privileges, Extents.has_list, Extents.has_columns, declared.statement.Selected.Selected, declared.statement.SetRole.SetRole, declared.statement.Statement.Statement, contracts.statement.MembershipOption.the_type as option_type}
+use Rattle.rls_text.specs.{declared.token.Token.Token, declared.attributes.RoleAttribute.RoleAttribute, declared.granting.TablePrivileges.TablePrivileges, Lang.put_in, Writes.some_is, declared.token.Token.TheVariants.Word, declared.token.Token.TheVariants.Number, declared.token.Token.TheVariants.Text, Heads.Names, Heads.Numbers, Heads.Texts, Heads.begins, Rule.Telling, Rule.given_if, Rule.given_was, Rule.as_list}
 use Rattle.rls_text.specs.Values as g
 
 pub both_true : (a b : Bool) → (a && b) ≡ true → (a ≡ true) × (b ≡ true)
@@ -551,11 +551,11 @@ abbrev pub privilege_names : Telling Privilege
 privilege_names = record { are_same = sameb privilege_type; same_is = same_true privilege_type tt }
 
 -- the four
-abbrev pub are_all : Privileges → Bool
+abbrev pub are_all : TablePrivileges → Bool
 are_all b = b.select && (b.insert && (b.update && b.delete))
 
 -- all four, without PRIVILEGES
-abbrev pub as_all_privileges : Privileges → Option (Unit {0} × Option (Unit {0}))
+abbrev pub as_all_privileges : TablePrivileges → Option (Unit {0} × Option (Unit {0}))
 as_all_privileges b = given_if (are_all b) (tt, None)
 
 all_back : (s i u d : Bool) → are_all record { select = s; insert = i; update = u; delete = d } ≡ true → record { select = s; insert = i; update = u; delete = d } ≡ g.all_privileges
@@ -565,7 +565,7 @@ all_back true false u d h = cc
 all_back true true false d h = cc
 all_back true true true false h = cc
 
-pub all_privileges_law : (b : Privileges) (a : Unit {0} × Option (Unit {0})) → as_all_privileges b ≡ Some a → b ≡ g.all_privileges
+pub all_privileges_law : (b : TablePrivileges) (a : Unit {0} × Option (Unit {0})) → as_all_privileges b ≡ Some a → b ≡ g.all_privileges
 all_privileges_law b a h = all_back b.select b.insert b.update b.delete (given_was (are_all b) (tt, None) a h).0
 
 -- the privilege, if it is there
@@ -574,11 +574,11 @@ where_there true x = x ∷ []
 where_there false x = []
 
 -- those that are there, in the order SELECT, INSERT, UPDATE, DELETE
-abbrev pub as_privileges : Privileges → Option (Privilege × List Privilege)
+abbrev pub as_privileges : TablePrivileges → Option (Privilege × List Privilege)
 as_privileges b = as_list (where_there b.select Privilege.Select ++ where_there b.insert Privilege.Insert ++ where_there b.update Privilege.Update ++ where_there b.delete Privilege.Delete)
 
 -- this one, and the others
-abbrev pub are_privileges : Privileges → Option (Privilege × List Privilege) → Type 0
+abbrev pub are_privileges : TablePrivileges → Option (Privilege × List Privilege) → Type 0
 are_privileges b None = Unit {0}
 are_privileges b (Some a) = b ≡ g.privileges_of a
 
@@ -601,8 +601,35 @@ privileges_back false false true false = refl
 privileges_back false false false true = refl
 privileges_back false false false false = tt
 
-pub privileges_law : (b : Privileges) (a : Privilege × List Privilege) → as_privileges b ≡ Some a → b ≡ g.privileges_of a
+pub privileges_law : (b : TablePrivileges) (a : Privilege × List Privilege) → as_privileges b ≡ Some a → b ≡ g.privileges_of a
 privileges_law b a h = subst (are_privileges b) h (privileges_back b.select b.insert b.update b.delete)
+
+-- whether each is named for the whole table
+abbrev pub are_named : Privileges → TablePrivileges
+are_named b = record { select = b.select.whole; insert = b.insert.whole; update = b.update.whole; delete = b.delete }
+
+-- privileges on the whole table, where no list of columns is written
+abbrev pub as_table_privileges : Privileges → Option TablePrivileges
+as_table_privileges b = given_if (not (has_columns b)) (are_named b)
+
+no_list : (e : Extent) → has_list e ≡ false → e ≡ g.whole_if e.whole
+no_list e h = go e.whole e.columns h
+  where
+    go : (whole : Bool) (columns : List (List ℕ)) → has_list record { whole = whole; columns = columns } ≡ false → record { whole = whole; columns = columns } ≡ g.whole_if whole
+    go whole [] k = refl
+    go whole (column ∷ columns) k = cc
+
+no_lists : (s i u : Bool) → not (s || (i || u)) ≡ true → (s ≡ false) × ((i ≡ false) × (u ≡ false))
+no_lists false false false h = (refl, (refl, refl))
+no_lists true i u h = cc
+no_lists false true u h = cc
+no_lists false false true h = cc
+
+pub table_privileges_law : (b : Privileges) (a : TablePrivileges) → as_table_privileges b ≡ Some a → b ≡ g.whole_privileges a
+table_privileges_law b a h =
+    let is = given_was (not (has_columns b)) (are_named b) a h in
+    let none = no_lists (has_list b.select) (has_list b.insert) (has_list b.update) is.0 in
+    (λ j. record { select = no_list b.select none.0 j; insert = no_list b.insert none.1.0 j; update = no_list b.update none.1.1 j; delete = b.delete }) ∙ ap g.whole_privileges is.1
 
 -- words that are written where it is so
 abbrev pub as_words : Bool → Option (Option (Unit {0}))

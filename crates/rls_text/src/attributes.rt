@@ -30,14 +30,10 @@ pub fn attributes_of_role(
 ) -> Result<(Attributes, &[Token]), Fault>
     ensures { Gives result ((g.attributes_of_role is_user).parses.read tokens.now) }
 {
-    match attributes_if_any(alloc, tokens) {
-        Ok((written, rest)) => {
-            let attributes = gathered(opening(is_user), written.as_slice());
-            drop(written);
-            Ok((attributes, rest))
-        }
-        Err(fault) => Err(fault),
-    }
+    let (written, rest) = attributes_if_any(alloc, tokens)?;
+    let attributes = gathered(opening(is_user), written.as_slice());
+    drop(written);
+    Ok((attributes, rest))
 }
 
 /// The attributes that are written, of which there is one at least.
@@ -49,14 +45,10 @@ pub fn written_attributes(alloc: Global, tokens: &[Token]) -> Result<(Attributes
         Some(rest) => rest,
         None => tokens,
     };
-    match attributes(alloc, rest) {
-        Ok((written, rest)) => {
-            let attributes = gathered(opening(false), written.as_slice());
-            drop(written);
-            Ok((attributes, rest))
-        }
-        Err(fault) => Err(fault),
-    }
+    let (written, rest) = attributes(alloc, rest)?;
+    let attributes = gathered(opening(false), written.as_slice());
+    drop(written);
+    Ok((attributes, rest))
 }
 
 #[tactic(auto, unfolding(crate::specs::Grammar::attributes_if_any, crate::specs::Gives::or_no_items))]
@@ -79,16 +71,12 @@ fn attributes_if_any(
 fn attributes(alloc: Global, tokens: &[Token]) -> Result<(Items<RoleAttribute>, &[Token]), Fault>
     ensures { Gives result (g.attributes.parses.read tokens.now) }
 {
-    match first_and_more(alloc, tokens) {
-        Ok((all, rest)) => {
-            if each_once(all.as_slice()) {
-                Ok((all, rest))
-            } else {
-                drop(all);
-                Err(Fault::Syntax)
-            }
-        }
-        Err(fault) => Err(fault),
+    let (all, rest) = first_and_more(alloc, tokens)?;
+    if each_once(all.as_slice()) {
+        Ok((all, rest))
+    } else {
+        drop(all);
+        Err(Fault::Syntax)
     }
 }
 
@@ -99,13 +87,9 @@ fn first_and_more(
 ) -> Result<(Items<RoleAttribute>, &[Token]), Fault>
     ensures { Gives result (g.first_and_more.parses.read tokens.now) }
 {
-    match attribute(tokens) {
-        Ok((first, rest)) => match only(alloc, first) {
-            Ok(all) => more_attributes(all, rest),
-            Err(_) => Err(Fault::NoMemory),
-        },
-        Err(fault) => Err(fault),
-    }
+    let (first, rest) = attribute(tokens)?;
+    let all = only(alloc, first)?;
+    more_attributes(all, rest)
 }
 
 #[tactic(auto, using(crate::proofs::Loops::front_begins, crate::proofs::Loops::loop_stops, crate::proofs::Loops::loop_ends, crate::proofs::Loops::loop_fails, crate::proofs::Loops::loop_goes_on))]

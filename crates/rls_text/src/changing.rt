@@ -14,7 +14,7 @@ use crate::reading::{name, only, sees_symbol, symbol, word};
 use crate::token::{Symbol, Token};
 use crate::tree::{SetColumn, SetColumns, Tree, TreeWithDepth, parted, with_set_column};
 use rls_statement::{Assignment, Delete, Selected, Statement, Update};
-use rls_value::{Items, Name};
+use rls_value::{Items, Name, or_drop};
 use std::alloc::{AllocError, Global};
 use std::collections::BTreeSet;
 
@@ -32,16 +32,9 @@ pub fn update(
     let Some(rest) = word(tokens, b"update") else {
         return Err(Fault::Syntax);
     };
-    match name(alloc, rest) {
-        Ok((table, rest)) => match set_behind(alloc, depth, rest) {
-            Ok(((columns, ending), rest)) => Ok((updated(table, columns, ending), rest)),
-            Err(fault) => {
-                drop(table);
-                Err(fault)
-            }
-        },
-        Err(fault) => Err(fault),
-    }
+    let (table, rest) = name(alloc, rest)?;
+    let ((columns, ending), rest) = or_drop!(set_behind(alloc, depth, rest), table);
+    Ok((updated(table, columns, ending), rest))
 }
 
 /// SET, its columns, and by which UPDATE ends.
@@ -55,16 +48,9 @@ fn set_behind(
     let Some(rest) = word(tokens, b"set") else {
         return Err(Fault::Syntax);
     };
-    match set_columns(alloc, depth, rest) {
-        Ok((columns, rest)) => match ending(alloc, depth, rest) {
-            Ok((ending, rest)) => Ok(((columns, ending), rest)),
-            Err(fault) => {
-                drop(columns);
-                Err(fault)
-            }
-        },
-        Err(fault) => Err(fault),
-    }
+    let (columns, rest) = set_columns(alloc, depth, rest)?;
+    let (ending, rest) = or_drop!(ending(alloc, depth, rest), columns);
+    Ok(((columns, ending), rest))
 }
 
 fn updated(table: Name, columns: SetColumns, ending: Ending) -> TreeWithDepth
@@ -96,16 +82,9 @@ pub fn delete(
     let Some(rest) = word(rest, b"from") else {
         return Err(Fault::Syntax);
     };
-    match name(alloc, rest) {
-        Ok((table, rest)) => match ending(alloc, depth, rest) {
-            Ok((ending, rest)) => Ok((deleted(table, ending), rest)),
-            Err(fault) => {
-                drop(table);
-                Err(fault)
-            }
-        },
-        Err(fault) => Err(fault),
-    }
+    let (table, rest) = name(alloc, rest)?;
+    let (ending, rest) = or_drop!(ending(alloc, depth, rest), table);
+    Ok((deleted(table, ending), rest))
 }
 
 fn deleted(table: Name, ending: Ending) -> TreeWithDepth
@@ -126,16 +105,9 @@ fn deleted(table: Name, ending: Ending) -> TreeWithDepth
 fn ending(alloc: Global, depth: usize, tokens: &[Token]) -> Result<(Ending, &[Token]), Fault>
     ensures { Gives result ((g.ending (g.expr depth)).read tokens.now) }
 {
-    match condition(alloc, depth, tokens) {
-        Ok((condition, rest)) => match returning(alloc, rest) {
-            Ok((returning, rest)) => Ok(((condition, returning), rest)),
-            Err(fault) => {
-                drop(condition);
-                Err(fault)
-            }
-        },
-        Err(fault) => Err(fault),
-    }
+    let (condition, rest) = condition(alloc, depth, tokens)?;
+    let (returning, rest) = or_drop!(returning(alloc, rest), condition);
+    Ok(((condition, returning), rest))
 }
 
 #[tactic(auto, unfolding(crate::specs::Grammar::returning))]
@@ -173,19 +145,16 @@ fn set_columns(
 ) -> Result<(SetColumns, &[Token]), Fault>
     ensures { Gives result ((g.set_columns (g.expr depth)).read tokens.now) }
 {
-    match all_set_columns(alloc, depth, tokens) {
-        Ok((columns, rest)) => match are_distinct_assignments(alloc, columns.0.as_slice()) {
-            Ok(true) => Ok((columns, rest)),
-            Ok(false) => {
-                drop(columns);
-                Err(Fault::Syntax)
-            }
-            Err(_) => {
-                drop(columns);
-                Err(Fault::NoMemory)
-            }
-        },
-        Err(fault) => Err(fault),
+    let (columns, rest) = all_set_columns(alloc, depth, tokens)?;
+    let are_distinct = or_drop!(
+        are_distinct_assignments(alloc, columns.0.as_slice()),
+        columns
+    );
+    if are_distinct {
+        Ok((columns, rest))
+    } else {
+        drop(columns);
+        Err(Fault::Syntax)
     }
 }
 
@@ -214,13 +183,9 @@ fn all_set_columns(
 ) -> Result<(SetColumns, &[Token]), Fault>
     ensures { Gives result ((g.all_set_columns (g.expr depth)).read tokens.now) }
 {
-    match set_column(alloc, depth, tokens) {
-        Ok(((first, height), rest)) => match only(alloc, first) {
-            Ok(all) => more_set_columns(alloc, depth, (all, height), rest),
-            Err(_) => Err(Fault::NoMemory),
-        },
-        Err(fault) => Err(fault),
-    }
+    let ((first, height), rest) = set_column(alloc, depth, tokens)?;
+    let all = only(alloc, first)?;
+    more_set_columns(alloc, depth, (all, height), rest)
 }
 
 #[tactic(auto, using(crate::proofs::Loops::fold_begins, crate::proofs::Loops::fold_stops, crate::proofs::Loops::fold_ends, crate::proofs::Loops::fold_fails, crate::proofs::Loops::fold_goes_on))]
@@ -273,19 +238,10 @@ fn next_set_column(
 fn set_column(alloc: Global, depth: usize, tokens: &[Token]) -> Result<(SetColumn, &[Token]), Fault>
     ensures { Gives result ((g.set_column (g.expr depth)).read tokens.now) }
 {
-    match name(alloc, tokens) {
-        Ok((column, rest)) => match set_value(alloc, depth, rest) {
-            Ok(((value, depth), rest)) => {
-                let value = value.into_expr();
-                Ok(((Assignment { column, value }, depth), rest))
-            }
-            Err(fault) => {
-                drop(column);
-                Err(fault)
-            }
-        },
-        Err(fault) => Err(fault),
-    }
+    let (column, rest) = name(alloc, tokens)?;
+    let ((value, depth), rest) = or_drop!(set_value(alloc, depth, rest), column);
+    let value = value.into_expr();
+    Ok(((Assignment { column, value }, depth), rest))
 }
 
 /// `=` and the expression behind it.

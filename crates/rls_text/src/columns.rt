@@ -10,7 +10,7 @@ use crate::reading::{name, sees_word, two_words, word};
 use crate::token::Token;
 use rls_expr::Column;
 use rls_statement::MarkedColumn;
-use rls_value::{ColType, Items, Name};
+use rls_value::{ColType, Items, Name, or_drop};
 use std::alloc::Global;
 
 /// A mark of a column as it is written.
@@ -25,26 +25,12 @@ pub enum ColumnMark {
 pub fn column(alloc: Global, tokens: &[Token]) -> Result<(MarkedColumn, &[Token]), Fault>
     ensures { Gives result (g.column_definition.parses.read tokens.now) }
 {
-    match name(alloc, tokens) {
-        Ok((name, rest)) => match column_type(rest) {
-            Ok((kind, rest)) => match column_marks(alloc, rest) {
-                Ok((marks, rest)) => {
-                    let column = marked(name, kind, marks.as_slice());
-                    drop(marks);
-                    Ok((column, rest))
-                }
-                Err(fault) => {
-                    drop(name);
-                    Err(fault)
-                }
-            },
-            Err(fault) => {
-                drop(name);
-                Err(fault)
-            }
-        },
-        Err(fault) => Err(fault),
-    }
+    let (name, rest) = name(alloc, tokens)?;
+    let (kind, rest) = or_drop!(column_type(rest), name);
+    let (marks, rest) = or_drop!(column_marks(alloc, rest), name);
+    let column = marked(name, kind, marks.as_slice());
+    drop(marks);
+    Ok((column, rest))
 }
 
 fn marked(name: Name, kind: ColType, marks: &[ColumnMark]) -> MarkedColumn
@@ -86,16 +72,12 @@ fn column_type(tokens: &[Token]) -> Result<(ColType, &[Token]), Fault>
 fn column_marks(alloc: Global, tokens: &[Token]) -> Result<(Items<ColumnMark>, &[Token]), Fault>
     ensures { Gives result (g.column_marks.parses.read tokens.now) }
 {
-    match all_marks(alloc, tokens) {
-        Ok((marks, rest)) => {
-            if marked_once(marks.as_slice()) {
-                Ok((marks, rest))
-            } else {
-                drop(marks);
-                Err(Fault::Syntax)
-            }
-        }
-        Err(fault) => Err(fault),
+    let (marks, rest) = all_marks(alloc, tokens)?;
+    if marked_once(marks.as_slice()) {
+        Ok((marks, rest))
+    } else {
+        drop(marks);
+        Err(Fault::Syntax)
     }
 }
 

@@ -11,6 +11,7 @@ use crate::tables::{altered_table, table};
 use crate::token::Token;
 use crate::tree::TreeWithDepth;
 use rls_statement::{AlterRole, CreateRole, Statement};
+use rls_value::or_drop;
 use std::alloc::Global;
 
 /// CREATE, whole.
@@ -42,19 +43,10 @@ pub fn create(
 fn role(alloc: Global, is_user: bool, tokens: &[Token]) -> Result<(TreeWithDepth, &[Token]), Fault>
     ensures { Gives result (read_mapped flat (g.role is_user).parses.read tokens.now) }
 {
-    match name(alloc, tokens) {
-        Ok((name, rest)) => match attributes_of_role(alloc, is_user, rest) {
-            Ok((attributes, rest)) => {
-                let create = CreateRole { name, attributes };
-                Ok(((Statement::CreateRole(create), 0), rest))
-            }
-            Err(fault) => {
-                drop(name);
-                Err(fault)
-            }
-        },
-        Err(fault) => Err(fault),
-    }
+    let (name, rest) = name(alloc, tokens)?;
+    let (attributes, rest) = or_drop!(attributes_of_role(alloc, is_user, rest), name);
+    let create = CreateRole { name, attributes };
+    Ok(((Statement::CreateRole(create), 0), rest))
 }
 
 /// ALTER, whole.
@@ -84,17 +76,8 @@ pub fn alter(
 fn altered_role(alloc: Global, tokens: &[Token]) -> Result<(TreeWithDepth, &[Token]), Fault>
     ensures { Gives result (read_mapped flat g.altered_role.parses.read tokens.now) }
 {
-    match name(alloc, tokens) {
-        Ok((name, rest)) => match written_attributes(alloc, rest) {
-            Ok((attributes, rest)) => {
-                let alter = AlterRole { name, attributes };
-                Ok(((Statement::AlterRole(alter), 0), rest))
-            }
-            Err(fault) => {
-                drop(name);
-                Err(fault)
-            }
-        },
-        Err(fault) => Err(fault),
-    }
+    let (name, rest) = name(alloc, tokens)?;
+    let (attributes, rest) = or_drop!(written_attributes(alloc, rest), name);
+    let alter = AlterRole { name, attributes };
+    Ok(((Statement::AlterRole(alter), 0), rest))
 }

@@ -18,7 +18,7 @@ use crate::tree::{
     with_part, with_summand,
 };
 use rls_expr::{Comparison, Sign};
-use rls_value::Items;
+use rls_value::{Items, or_drop};
 use std::alloc::{AllocError, Global};
 
 /// An expression with parentheses to this depth.
@@ -39,18 +39,10 @@ pub fn expr(alloc: Global, depth: usize, tokens: &[Token]) -> Result<(Tree, &[To
 fn or(alloc: Global, depth: usize, tokens: &[Token]) -> Result<(Tree, &[Token]), Fault>
     ensures { Gives result ((g.or (g.expr depth)).read tokens.now) }
 {
-    match and(alloc, depth, tokens) {
-        Ok(((first, height), rest)) => {
-            match or_more(alloc, depth, Operands::One(first, height), rest) {
-                Ok((operands, rest)) => match or_of(alloc, operands) {
-                    Ok(tree) => Ok((tree, rest)),
-                    Err(_) => Err(Fault::NoMemory),
-                },
-                Err(fault) => Err(fault),
-            }
-        }
-        Err(fault) => Err(fault),
-    }
+    let ((first, height), rest) = and(alloc, depth, tokens)?;
+    let (operands, rest) = or_more(alloc, depth, Operands::One(first, height), rest)?;
+    let tree = or_of(alloc, operands)?;
+    Ok((tree, rest))
 }
 
 #[cycle(expression)]
@@ -102,18 +94,10 @@ fn or_next(alloc: Global, depth: usize, tokens: &[Token]) -> Result<(Tree, &[Tok
 fn and(alloc: Global, depth: usize, tokens: &[Token]) -> Result<(Tree, &[Token]), Fault>
     ensures { Gives result ((g.and (g.expr depth)).read tokens.now) }
 {
-    match not(alloc, depth, tokens) {
-        Ok(((first, height), rest)) => {
-            match and_more(alloc, depth, Operands::One(first, height), rest) {
-                Ok((operands, rest)) => match and_of(alloc, operands) {
-                    Ok(tree) => Ok((tree, rest)),
-                    Err(_) => Err(Fault::NoMemory),
-                },
-                Err(fault) => Err(fault),
-            }
-        }
-        Err(fault) => Err(fault),
-    }
+    let ((first, height), rest) = not(alloc, depth, tokens)?;
+    let (operands, rest) = and_more(alloc, depth, Operands::One(first, height), rest)?;
+    let tree = and_of(alloc, operands)?;
+    Ok((tree, rest))
 }
 
 #[cycle(expression)]
@@ -166,13 +150,9 @@ fn not(alloc: Global, depth: usize, tokens: &[Token]) -> Result<(Tree, &[Token])
     ensures { Gives result ((g.not_ (g.expr depth)).read tokens.now) }
 {
     let (count, rest) = nots(tokens);
-    match is(alloc, depth, rest) {
-        Ok((operand, rest)) => match negated(alloc, count, operand) {
-            Ok(operand) => Ok((operand, rest)),
-            Err(_) => Err(Fault::NoMemory),
-        },
-        Err(fault) => Err(fault),
-    }
+    let (operand, rest) = is(alloc, depth, rest)?;
+    let operand = negated(alloc, count, operand)?;
+    Ok((operand, rest))
 }
 
 #[cycle(expression)]
@@ -180,10 +160,8 @@ fn not(alloc: Global, depth: usize, tokens: &[Token]) -> Result<(Tree, &[Token])
 fn is(alloc: Global, depth: usize, tokens: &[Token]) -> Result<(Tree, &[Token]), Fault>
     ensures { Gives result ((g.is (g.expr depth)).read tokens.now) }
 {
-    match cmp(alloc, depth, tokens) {
-        Ok((tested, rest)) => null_tests(alloc, tested, rest),
-        Err(fault) => Err(fault),
-    }
+    let (tested, rest) = cmp(alloc, depth, tokens)?;
+    null_tests(alloc, tested, rest)
 }
 
 #[cycle(expression)]
@@ -191,24 +169,13 @@ fn is(alloc: Global, depth: usize, tokens: &[Token]) -> Result<(Tree, &[Token]),
 fn cmp(alloc: Global, depth: usize, tokens: &[Token]) -> Result<(Tree, &[Token]), Fault>
     ensures { Gives result ((g.cmp (g.expr depth)).read tokens.now) }
 {
-    match memb(alloc, depth, tokens) {
-        Ok((left, rest)) => {
-            if starts_comparison(rest) {
-                match right_side(alloc, depth, rest) {
-                    Ok(((how, right), rest)) => match compare_of(alloc, how, left, right) {
-                        Ok(tree) => Ok((tree, rest)),
-                        Err(_) => Err(Fault::NoMemory),
-                    },
-                    Err(fault) => {
-                        drop(left);
-                        Err(fault)
-                    }
-                }
-            } else {
-                Ok((left, rest))
-            }
-        }
-        Err(fault) => Err(fault),
+    let (left, rest) = memb(alloc, depth, tokens)?;
+    if starts_comparison(rest) {
+        let ((how, right), rest) = or_drop!(right_side(alloc, depth, rest), left);
+        let tree = compare_of(alloc, how, left, right)?;
+        Ok((tree, rest))
+    } else {
+        Ok((left, rest))
     }
 }
 
@@ -222,10 +189,8 @@ fn right_side(
     ensures { Gives result (read_both g.comparison.parses.read (g.memb (g.expr depth)).read tokens.now) }
 {
     let (how, rest) = comparison(tokens)?;
-    match memb(alloc, depth, rest) {
-        Ok((right, rest)) => Ok(((how, right), rest)),
-        Err(fault) => Err(fault),
-    }
+    let (right, rest) = memb(alloc, depth, rest)?;
+    Ok(((how, right), rest))
 }
 
 #[cycle(expression)]
@@ -233,24 +198,13 @@ fn right_side(
 fn memb(alloc: Global, depth: usize, tokens: &[Token]) -> Result<(Tree, &[Token]), Fault>
     ensures { Gives result ((g.memb (g.expr depth)).read tokens.now) }
 {
-    match sum(alloc, depth, tokens) {
-        Ok((left, rest)) => {
-            if starts_in(rest) {
-                match in_choices(alloc, depth, rest) {
-                    Ok(((negated, all), rest)) => match among_of(alloc, left, negated, all) {
-                        Ok(tree) => Ok((tree, rest)),
-                        Err(_) => Err(Fault::NoMemory),
-                    },
-                    Err(fault) => {
-                        drop(left);
-                        Err(fault)
-                    }
-                }
-            } else {
-                Ok((left, rest))
-            }
-        }
-        Err(fault) => Err(fault),
+    let (left, rest) = sum(alloc, depth, tokens)?;
+    if starts_in(rest) {
+        let ((negated, all), rest) = or_drop!(in_choices(alloc, depth, rest), left);
+        let tree = among_of(alloc, left, negated, all)?;
+        Ok((tree, rest))
+    } else {
+        Ok((left, rest))
     }
 }
 
@@ -264,10 +218,8 @@ fn in_choices(
     ensures { Gives result ((g.in_choices (g.expr depth)).read tokens.now) }
 {
     let (negated, rest) = in_word(tokens)?;
-    match enclosed_choices(alloc, depth, rest) {
-        Ok((choices, rest)) => Ok(((negated, choices), rest)),
-        Err(fault) => Err(fault),
-    }
+    let (choices, rest) = enclosed_choices(alloc, depth, rest)?;
+    Ok(((negated, choices), rest))
 }
 
 #[cycle(expression)]
@@ -282,10 +234,8 @@ fn enclosed_choices(
     let Some(rest) = symbol(tokens, Symbol::LParen) else {
         return Err(Fault::Syntax);
     };
-    match choices(alloc, depth, rest) {
-        Ok((choices, rest)) => closed(choices, rest),
-        Err(fault) => Err(fault),
-    }
+    let (choices, rest) = choices(alloc, depth, rest)?;
+    closed(choices, rest)
 }
 
 /// A SELECT, or the expressions of a list.
@@ -295,15 +245,11 @@ fn choices(alloc: Global, depth: usize, tokens: &[Token]) -> Result<(Choices, &[
     ensures { Gives result ((g.choices (g.expr depth)).read tokens.now) }
 {
     if sees_word(tokens, b"select") {
-        match select_parts(alloc, depth, tokens) {
-            Ok((select, rest)) => Ok((Choices::Queried(select), rest)),
-            Err(fault) => Err(fault),
-        }
+        let (select, rest) = select_parts(alloc, depth, tokens)?;
+        Ok((Choices::Queried(select), rest))
     } else {
-        match parts(alloc, depth, tokens) {
-            Ok((list, rest)) => Ok((Choices::Listed(list), rest)),
-            Err(fault) => Err(fault),
-        }
+        let (list, rest) = parts(alloc, depth, tokens)?;
+        Ok((Choices::Listed(list), rest))
     }
 }
 
@@ -314,10 +260,8 @@ pub fn tuple(alloc: Global, depth: usize, tokens: &[Token]) -> Result<(Tuple, &[
     let Some(rest) = symbol(tokens, Symbol::LParen) else {
         return Err(Fault::Syntax);
     };
-    match parts(alloc, depth, rest) {
-        Ok((parts, rest)) => closed(parts, rest),
-        Err(fault) => Err(fault),
-    }
+    let (parts, rest) = parts(alloc, depth, rest)?;
+    closed(parts, rest)
 }
 
 #[cycle(expression)]
@@ -325,13 +269,9 @@ pub fn tuple(alloc: Global, depth: usize, tokens: &[Token]) -> Result<(Tuple, &[
 fn parts(alloc: Global, depth: usize, tokens: &[Token]) -> Result<(Tuple, &[Token]), Fault>
     ensures { Gives result ((g.parts (g.expr depth)).read tokens.now) }
 {
-    match expr(alloc, depth, tokens) {
-        Ok(((first, height), rest)) => match only(alloc, first.into_expr()) {
-            Ok(all) => more_parts(alloc, depth, (all, height), rest),
-            Err(_) => Err(Fault::NoMemory),
-        },
-        Err(fault) => Err(fault),
-    }
+    let ((first, height), rest) = expr(alloc, depth, tokens)?;
+    let all = only(alloc, first.into_expr())?;
+    more_parts(alloc, depth, (all, height), rest)
 }
 
 #[cycle(expression)]
@@ -383,19 +323,11 @@ fn next_part(alloc: Global, depth: usize, tokens: &[Token]) -> Result<(Tree, &[T
 fn sum(alloc: Global, depth: usize, tokens: &[Token]) -> Result<(Tree, &[Token]), Fault>
     ensures { Gives result ((g.sum (g.expr depth)).read tokens.now) }
 {
-    match prim(alloc, depth, tokens) {
-        Ok(((first, height), rest)) => {
-            let first = (Operands::One(first, height), Items::new(alloc));
-            match sum_more(alloc, depth, first, rest) {
-                Ok((sum, rest)) => match sum_of(alloc, sum) {
-                    Ok(tree) => Ok((tree, rest)),
-                    Err(_) => Err(Fault::NoMemory),
-                },
-                Err(fault) => Err(fault),
-            }
-        }
-        Err(fault) => Err(fault),
-    }
+    let ((first, height), rest) = prim(alloc, depth, tokens)?;
+    let first = (Operands::One(first, height), Items::new(alloc));
+    let (sum, rest) = sum_more(alloc, depth, first, rest)?;
+    let tree = sum_of(alloc, sum)?;
+    Ok((tree, rest))
 }
 
 #[cycle(expression)]
@@ -441,10 +373,8 @@ fn sum_next(
     ensures { Gives result ((g.sum_next (g.expr depth)).read tokens.now) }
 {
     let (sign, rest) = part_sign(tokens)?;
-    match prim(alloc, depth, rest) {
-        Ok((part, rest)) => Ok(((sign, part), rest)),
-        Err(fault) => Err(fault),
-    }
+    let (part, rest) = prim(alloc, depth, rest)?;
+    Ok(((sign, part), rest))
 }
 
 #[cycle(expression)]
@@ -470,13 +400,9 @@ fn exists(alloc: Global, depth: usize, tokens: &[Token]) -> Result<(Tree, &[Toke
     let Some(rest) = word(tokens, b"exists") else {
         return Err(Fault::Syntax);
     };
-    match enclosed_select(alloc, depth, rest) {
-        Ok((select, rest)) => match exists_of(alloc, select) {
-            Ok(tree) => Ok((tree, rest)),
-            Err(_) => Err(Fault::NoMemory),
-        },
-        Err(fault) => Err(fault),
-    }
+    let (select, rest) = enclosed_select(alloc, depth, rest)?;
+    let tree = exists_of(alloc, select)?;
+    Ok((tree, rest))
 }
 
 #[cycle(expression)]
@@ -490,10 +416,8 @@ fn enclosed_select(
     let Some(rest) = symbol(tokens, Symbol::LParen) else {
         return Err(Fault::Syntax);
     };
-    match select_parts(alloc, depth, rest) {
-        Ok((select, rest)) => closed(select, rest),
-        Err(fault) => Err(fault),
-    }
+    let (select, rest) = select_parts(alloc, depth, rest)?;
+    closed(select, rest)
 }
 
 /// A SELECT that stands for a value, or an expression.
@@ -504,10 +428,8 @@ fn in_parentheses(alloc: Global, depth: usize, tokens: &[Token]) -> Result<(Tree
     let Some(rest) = symbol(tokens, Symbol::LParen) else {
         return Err(Fault::Syntax);
     };
-    match enclosed(alloc, depth, rest) {
-        Ok((inner, rest)) => closed(inner, rest),
-        Err(fault) => Err(fault),
-    }
+    let (inner, rest) = enclosed(alloc, depth, rest)?;
+    closed(inner, rest)
 }
 
 #[cycle(expression)]
@@ -527,13 +449,9 @@ fn enclosed(alloc: Global, depth: usize, tokens: &[Token]) -> Result<(Tree, &[To
 fn scalar(alloc: Global, depth: usize, tokens: &[Token]) -> Result<(Tree, &[Token]), Fault>
     ensures { Gives result ((g.scalar (g.expr depth)).read tokens.now) }
 {
-    match select_parts(alloc, depth, tokens) {
-        Ok((select, rest)) => match scalar_of(alloc, select) {
-            Ok(tree) => Ok((tree, rest)),
-            Err(_) => Err(Fault::NoMemory),
-        },
-        Err(fault) => Err(fault),
-    }
+    let (select, rest) = select_parts(alloc, depth, tokens)?;
+    let tree = scalar_of(alloc, select)?;
+    Ok((tree, rest))
 }
 
 /// A SELECT, as a statement or inside an expression.
@@ -549,16 +467,9 @@ pub fn select_parts(
     let Some(rest) = word(tokens, b"select") else {
         return Err(Fault::Syntax);
     };
-    match items_and_depth(alloc, rest) {
-        Ok((items, rest)) => match selected_from(alloc, depth, rest) {
-            Ok((from, rest)) => Ok(((items, from), rest)),
-            Err(fault) => {
-                drop(items);
-                Err(fault)
-            }
-        },
-        Err(fault) => Err(fault),
-    }
+    let (items, rest) = items_and_depth(alloc, rest)?;
+    let (from, rest) = or_drop!(selected_from(alloc, depth, rest), items);
+    Ok(((items, from), rest))
 }
 
 /// FROM, and WHERE, if it is written.
@@ -570,16 +481,9 @@ fn selected_from(
 ) -> Result<((TableAndAlias, Option<Tree>), &[Token]), Fault>
     ensures { Gives result (read_both g.from_table.parses.read (g.condition (g.expr depth)).read tokens.now) }
 {
-    match from_table(alloc, tokens) {
-        Ok((table, rest)) => match condition(alloc, depth, rest) {
-            Ok((condition, rest)) => Ok(((table, condition), rest)),
-            Err(fault) => {
-                drop(table);
-                Err(fault)
-            }
-        },
-        Err(fault) => Err(fault),
-    }
+    let (table, rest) = from_table(alloc, tokens)?;
+    let (condition, rest) = or_drop!(condition(alloc, depth, rest), table);
+    Ok(((table, condition), rest))
 }
 
 #[cycle(expression)]
@@ -611,23 +515,17 @@ pub fn parenthesized(
     let Some(rest) = symbol(tokens, Symbol::LParen) else {
         return Err(Fault::Syntax);
     };
-    match expr(alloc, depth, rest) {
-        Ok((inner, rest)) => closed(inner, rest),
-        Err(fault) => Err(fault),
-    }
+    let (inner, rest) = expr(alloc, depth, rest)?;
+    closed(inner, rest)
 }
 
 /// An item, as an expression without operands.
 fn item_leaf(alloc: Global, tokens: &[Token]) -> Result<(Tree, &[Token]), Fault>
     ensures { Gives result (read_mapped spec.leaf g.item.parses.read tokens.now) }
 {
-    match item(alloc, tokens) {
-        Ok((item, rest)) => match leaf_of(alloc, item) {
-            Ok(leaf) => Ok((leaf, rest)),
-            Err(_) => Err(Fault::NoMemory),
-        },
-        Err(fault) => Err(fault),
-    }
+    let (item, rest) = item(alloc, tokens)?;
+    let leaf = leaf_of(alloc, item)?;
+    Ok((leaf, rest))
 }
 
 /// How many times NOT stands there.

@@ -1,19 +1,29 @@
 //! GRANT from tokens, of privileges here, and lists of privileges and of grantees.
 
 ghost use Rattle.std.specs.Prelude.{◌≡◌, [], ◌∷◌, length, codes};
-ghost use Rattle.rls_text.specs.{Gives.Gives, Gives.with_front, Gives.folded, Parses.read_many, Rule.with_comma, Heads.Sign, Heads.Keyword, Heads.sees};
+ghost use Rattle.rls_text.specs.{Gives.Gives, Gives.folded, Parses.read_many, Rule.with_comma, Heads.Sign, Heads.Keyword, Heads.sees};
 ghost use Rattle.rls_text.specs.Ahead as ahead;
 ghost use Rattle.rls_text.specs.Grammar as g;
 ghost use Rattle.rls_text.specs.Values as values;
 
 use crate::fault::Fault;
 use crate::memberships::granted_roles;
-use crate::reading::{name, only, sees_symbol, sees_word, symbol, two_words, word};
+use crate::phrase::{Phrase, listed};
+use crate::reading::{name, sees_symbol, sees_word, symbol, two_words, word};
 use crate::token::{Symbol, Token};
 use rls_expr::Grantee;
-use rls_statement::{GrantPrivileges, Privileges, Statement};
-use rls_value::{Items, Name, Privilege};
+use rls_statement::{Extent, GrantPrivileges, Privileges, Statement};
+use rls_value::{Items, Name, Privilege, or_drop};
 use std::alloc::Global;
+
+/// The privileges that are named, each on the whole table.
+#[derive(Clone, Copy)]
+pub struct TablePrivileges {
+    pub select: bool,
+    pub insert: bool,
+    pub update: bool,
+    pub delete: bool,
+}
 
 #[tactic(auto, unfolding(crate::specs::Grammar::grant))]
 pub fn grant(alloc: Global, tokens: &[Token]) -> Result<(Statement, &[Token]), Fault>
@@ -57,42 +67,31 @@ fn follows_roles(tokens: &[Token]) -> bool
 fn granted_privileges(alloc: Global, tokens: &[Token]) -> Result<(Statement, &[Token]), Fault>
     ensures { Gives result (g.granted_privileges.parses.read tokens.now) }
 {
-    match privileges_on(alloc, tokens) {
-        Ok(((privileges, table), rest)) => match granted_to(alloc, rest) {
-            Ok(((to, with_option), rest)) => {
-                let grant = GrantPrivileges {
-                    privileges,
-                    table,
-                    to,
-                    with_option,
-                };
-                Ok((Statement::Grant(grant), rest))
-            }
-            Err(fault) => {
-                drop(table);
-                Err(fault)
-            }
-        },
-        Err(fault) => Err(fault),
-    }
+    let ((privileges, table), rest) = privileges_on(alloc, tokens)?;
+    let ((to, with_option), rest) = or_drop!(granted_to(alloc, rest), table, privileges);
+    let grant = GrantPrivileges {
+        privileges,
+        table,
+        to,
+        with_option,
+    };
+    Ok((Statement::Grant(grant), rest))
 }
 
 /// Privileges, and the table that they are on.
-#[tactic(auto, unfolding(crate::specs::Grammar::privileges_on))]
+#[tactic(auto, unfolding(crate::specs::Grammar::privileges_on, crate::specs::Grammar::privileges))]
 pub fn privileges_on(
     alloc: Global,
     tokens: &[Token],
 ) -> Result<((Privileges, Name), &[Token]), Fault>
     ensures { Gives result (g.privileges_on.parses.read tokens.now) }
 {
-    let (privileges, rest) = privileges(tokens)?;
+    let (named, rest) = table_privileges(tokens)?;
     let Some(rest) = word(rest, b"on") else {
         return Err(Fault::Syntax);
     };
-    match table_name(alloc, rest) {
-        Ok((table, rest)) => Ok(((privileges, table), rest)),
-        Err(fault) => Err(fault),
-    }
+    let (table, rest) = table_name(alloc, rest)?;
+    Ok(((whole_privileges(alloc, named), table), rest))
 }
 
 /// The grantees, and whether WITH GRANT OPTION is written.
@@ -100,16 +99,9 @@ pub fn privileges_on(
 fn granted_to(alloc: Global, tokens: &[Token]) -> Result<((Items<Grantee>, bool), &[Token]), Fault>
     ensures { Gives result (g.granted_to.parses.read tokens.now) }
 {
-    match to_grantees(alloc, tokens) {
-        Ok((to, rest)) => match with_option(rest) {
-            Ok((with_option, rest)) => Ok(((to, with_option), rest)),
-            Err(fault) => {
-                drop(to);
-                Err(fault)
-            }
-        },
-        Err(fault) => Err(fault),
-    }
+    let (to, rest) = to_grantees(alloc, tokens)?;
+    let (with_option, rest) = or_drop!(with_option(rest), to);
+    Ok(((to, with_option), rest))
 }
 
 #[tactic(auto, unfolding(crate::specs::Grammar::with_option))]
@@ -136,9 +128,9 @@ fn table_name(alloc: Global, tokens: &[Token]) -> Result<(Name, &[Token]), Fault
     }
 }
 
-#[tactic(auto, unfolding(crate::specs::Grammar::privileges))]
-fn privileges(tokens: &[Token]) -> Result<(Privileges, &[Token]), Fault>
-    ensures { Gives result (g.privileges.parses.read tokens.now) }
+#[tactic(auto, unfolding(crate::specs::Grammar::table_privileges))]
+fn table_privileges(tokens: &[Token]) -> Result<(TablePrivileges, &[Token]), Fault>
+    ensures { Gives result (g.table_privileges.parses.read tokens.now) }
 {
     if let Some(rest) = word(tokens, b"all") {
         match word(rest, b"privileges") {
@@ -151,17 +143,18 @@ fn privileges(tokens: &[Token]) -> Result<(Privileges, &[Token]), Fault>
 }
 
 #[tactic(auto, unfolding(crate::specs::Grammar::named_privileges, crate::specs::Gives::folded))]
-fn named_privileges(tokens: &[Token]) -> Result<(Privileges, &[Token]), Fault>
+fn named_privileges(tokens: &[Token]) -> Result<(TablePrivileges, &[Token]), Fault>
     ensures { Gives result (g.named_privileges.parses.read tokens.now) }
 {
-    match privilege(tokens) {
-        Ok((first, rest)) => more_privileges(with_privilege(no_privileges(), first), rest),
-        Err(fault) => Err(fault),
-    }
+    let (first, rest) = privilege(tokens)?;
+    more_privileges(with_privilege(no_privileges(), first), rest)
 }
 
 #[tactic(auto, using(crate::proofs::Loops::fold_begins, crate::proofs::Loops::fold_stops, crate::proofs::Loops::fold_ends, crate::proofs::Loops::fold_fails, crate::proofs::Loops::fold_goes_on))]
-fn more_privileges(first: Privileges, tokens: &[Token]) -> Result<(Privileges, &[Token]), Fault>
+fn more_privileges(
+    first: TablePrivileges,
+    tokens: &[Token],
+) -> Result<(TablePrivileges, &[Token]), Fault>
     ensures { Gives result (folded values.with_privilege first (read_many (Sign Symbol.Comma ∷ []) (with_comma g.privilege).parses.read (length tokens.now) tokens.now)) }
 {
     let mut all = first;
@@ -208,10 +201,10 @@ fn privilege(tokens: &[Token]) -> Result<(Privilege, &[Token]), Fault>
     }
 }
 
-fn no_privileges() -> Privileges
+fn no_privileges() -> TablePrivileges
     ensures { result ≡ values.no_privileges }
 {
-    Privileges {
+    TablePrivileges {
         select: false,
         insert: false,
         update: false,
@@ -219,10 +212,10 @@ fn no_privileges() -> Privileges
     }
 }
 
-fn all_privileges() -> Privileges
+fn all_privileges() -> TablePrivileges
     ensures { result ≡ values.all_privileges }
 {
-    Privileges {
+    TablePrivileges {
         select: true,
         insert: true,
         update: true,
@@ -231,7 +224,7 @@ fn all_privileges() -> Privileges
 }
 
 #[tactic(auto, unfolding(crate::specs::Values::with_privilege))]
-fn with_privilege(privileges: Privileges, privilege: Privilege) -> Privileges
+fn with_privilege(privileges: TablePrivileges, privilege: Privilege) -> TablePrivileges
     ensures { result ≡ values.with_privilege privileges privilege }
 {
     let mut privileges = privileges;
@@ -242,6 +235,18 @@ fn with_privilege(privileges: Privileges, privilege: Privilege) -> Privileges
         Privilege::Delete => privileges.delete = true,
     }
     privileges
+}
+
+/// The privileges, each on the whole table.
+fn whole_privileges(alloc: Global, named: TablePrivileges) -> Privileges
+    ensures { result ≡ values.whole_privileges named }
+{
+    Privileges {
+        select: Extent::new(alloc, named.select),
+        insert: Extent::new(alloc, named.insert),
+        update: Extent::new(alloc, named.update),
+        delete: named.delete,
+    }
 }
 
 /// TO and its list.
@@ -255,53 +260,18 @@ pub fn to_grantees(alloc: Global, tokens: &[Token]) -> Result<(Items<Grantee>, &
     }
 }
 
-#[tactic(auto, unfolding(crate::specs::Grammar::grantees, crate::specs::Gives::with_front))]
+#[tactic(auto, unfolding(crate::specs::Grammar::grantees, crate::specs::Parses::read_listed, crate::specs::Parses::behind_comma, crate::specs::Rule::with_comma))]
 pub fn grantees(alloc: Global, tokens: &[Token]) -> Result<(Items<Grantee>, &[Token]), Fault>
     ensures { Gives result (g.grantees.parses.read tokens.now) }
 {
-    match grantee(alloc, tokens) {
-        Ok((first, rest)) => match only(alloc, first) {
-            Ok(all) => more_grantees(alloc, all, rest),
-            Err(_) => Err(Fault::NoMemory),
-        },
-        Err(fault) => Err(fault),
-    }
+    listed::<Grantee>(alloc, tokens)
 }
 
-#[tactic(auto, using(crate::proofs::Loops::front_begins, crate::proofs::Loops::loop_stops, crate::proofs::Loops::loop_ends, crate::proofs::Loops::loop_fails, crate::proofs::Loops::loop_goes_on))]
-fn more_grantees(
-    alloc: Global,
-    first: Items<Grantee>,
-    tokens: &[Token],
-) -> Result<(Items<Grantee>, &[Token]), Fault>
-    ensures { Gives result (with_front first (read_many (Sign Symbol.Comma ∷ []) (with_comma g.grantee).parses.read (length tokens.now) tokens.now)) }
-{
-    let mut all = first;
-    let mut rest = tokens;
-    for _turn in 0..tokens.len() {
-        if !sees_symbol(rest, Symbol::Comma) {
-            return Ok((all, rest));
-        }
-        match next_grantee(alloc, rest) {
-            Ok((next, behind)) => {
-                if all.push(next).is_err() {
-                    return Err(Fault::NoMemory);
-                }
-                rest = behind;
-            }
-            Err(fault) => return Err(fault),
-        }
-    }
-    Ok((all, rest))
-}
+impl Phrase for Grantee {
+    ghost reader = { g.grantee.parses.read };
 
-#[tactic(auto, unfolding(crate::specs::Rule::with_comma))]
-fn next_grantee(alloc: Global, tokens: &[Token]) -> Result<(Grantee, &[Token]), Fault>
-    ensures { Gives result ((with_comma g.grantee).parses.read tokens.now) }
-{
-    match symbol(tokens, Symbol::Comma) {
-        Some(rest) => grantee(alloc, rest),
-        None => Err(Fault::Syntax),
+    fn read(alloc: Global, tokens: &[Token]) -> Result<(Grantee, &[Token]), Fault> {
+        grantee(alloc, tokens)
     }
 }
 
@@ -311,9 +281,9 @@ fn grantee(alloc: Global, tokens: &[Token]) -> Result<(Grantee, &[Token]), Fault
 {
     match word(tokens, b"public") {
         Some(rest) => Ok((Grantee::Public, rest)),
-        None => match name(alloc, tokens) {
-            Ok((role, rest)) => Ok((Grantee::Role(role), rest)),
-            Err(fault) => Err(fault),
-        },
+        None => {
+            let (role, rest) = name(alloc, tokens)?;
+            Ok((Grantee::Role(role), rest))
+        }
     }
 }

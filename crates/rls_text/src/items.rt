@@ -1,66 +1,32 @@
 //! Items from tokens: literals, columns and CURRENT_USER, alone or in a list.
 
-ghost use Rattle.std.specs.Prelude.{◌≡◌, [], ◌∷◌, length};
+ghost use Rattle.std.specs.Prelude.{◌≡◌, [], ◌∷◌};
 ghost use Rattle.rls_expr.specs.Terms as term;
-ghost use Rattle.rls_text.specs.{FirstSets.constant_heads, FirstSets.literal_heads, FirstSets.item_heads, Gives.Gives, Gives.Has, Gives.with_front};
-ghost use Rattle.rls_text.specs.{Heads.sees, Heads.Sign, Parses.read_many, Parses.read_mapped, Rule.with_comma};
+ghost use Rattle.rls_text.specs.{FirstSets.constant_heads, FirstSets.literal_heads, FirstSets.item_heads, Gives.Gives, Gives.Has};
+ghost use Rattle.rls_text.specs.{Heads.sees, Parses.read_mapped};
 ghost use Rattle.rls_text.specs.Grammar as g;
 ghost use Rattle.rls_text.specs.Values as values;
 
 use crate::fault::Fault;
-use crate::reading::{name, only, sees_symbol, sees_word, starts_name, symbol, word};
+use crate::phrase::{Phrase, listed};
+use crate::reading::{name, sees_word, starts_name, symbol, word};
 use crate::token::{Symbol, Token};
 use rls_expr::{ColumnName, Expr, Node};
-use rls_value::{Items, Name, Value};
+use rls_value::{Items, Name, Value, or_drop};
 use std::alloc::Global;
 
-#[tactic(auto, unfolding(crate::specs::Grammar::item_list, crate::specs::Gives::with_front))]
+#[tactic(auto, unfolding(crate::specs::Grammar::item_list, crate::specs::Parses::read_listed, crate::specs::Parses::behind_comma, crate::specs::Rule::with_comma))]
 pub fn item_list(alloc: Global, tokens: &[Token]) -> Result<(Items<Expr>, &[Token]), Fault>
     ensures { Gives result (g.item_list.parses.read tokens.now) }
 {
-    match item(alloc, tokens) {
-        Ok((first, rest)) => match only(alloc, first) {
-            Ok(all) => more_items(alloc, all, rest),
-            Err(_) => Err(Fault::NoMemory),
-        },
-        Err(fault) => Err(fault),
-    }
+    listed::<Expr>(alloc, tokens)
 }
 
-#[tactic(auto, using(crate::proofs::Loops::front_begins, crate::proofs::Loops::loop_stops, crate::proofs::Loops::loop_ends, crate::proofs::Loops::loop_fails, crate::proofs::Loops::loop_goes_on))]
-fn more_items(
-    alloc: Global,
-    first: Items<Expr>,
-    tokens: &[Token],
-) -> Result<(Items<Expr>, &[Token]), Fault>
-    ensures { Gives result (with_front first (read_many (Sign Symbol.Comma ∷ []) (with_comma g.item).parses.read (length tokens.now) tokens.now)) }
-{
-    let mut all = first;
-    let mut rest = tokens;
-    for _turn in 0..tokens.len() {
-        if !sees_symbol(rest, Symbol::Comma) {
-            return Ok((all, rest));
-        }
-        match next_item(alloc, rest) {
-            Ok((next, behind)) => {
-                if all.push(next).is_err() {
-                    return Err(Fault::NoMemory);
-                }
-                rest = behind;
-            }
-            Err(fault) => return Err(fault),
-        }
-    }
-    Ok((all, rest))
-}
+impl Phrase for Expr {
+    ghost reader = { g.item.parses.read };
 
-#[tactic(auto, unfolding(crate::specs::Rule::with_comma))]
-fn next_item(alloc: Global, tokens: &[Token]) -> Result<(Expr, &[Token]), Fault>
-    ensures { Gives result ((with_comma g.item).parses.read tokens.now) }
-{
-    match symbol(tokens, Symbol::Comma) {
-        Some(rest) => item(alloc, rest),
-        None => Err(Fault::Syntax),
+    fn read(alloc: Global, tokens: &[Token]) -> Result<(Expr, &[Token]), Fault> {
+        item(alloc, tokens)
     }
 }
 
@@ -96,19 +62,15 @@ pub fn item(alloc: Global, tokens: &[Token]) -> Result<(Expr, &[Token]), Fault>
 fn literal_item(tokens: &[Token]) -> Result<(Expr, &[Token]), Fault>
     ensures { Gives result (read_mapped term.Literal g.literal.parses.read tokens.now) }
 {
-    match literal(tokens) {
-        Ok((literal, rest)) => Ok((Expr::new(Node::Literal(literal)), rest)),
-        Err(fault) => Err(fault),
-    }
+    let (literal, rest) = literal(tokens)?;
+    Ok((Expr::new(Node::Literal(literal)), rest))
 }
 
 fn column_item(alloc: Global, tokens: &[Token]) -> Result<(Expr, &[Token]), Fault>
     ensures { Gives result (read_mapped term.Column g.column.parses.read tokens.now) }
 {
-    match column(alloc, tokens) {
-        Ok((column, rest)) => Ok((Expr::new(Node::Column(column)), rest)),
-        Err(fault) => Err(fault),
-    }
+    let (column, rest) = column(alloc, tokens)?;
+    Ok((Expr::new(Node::Column(column)), rest))
 }
 
 /// A column, with what qualifies it where a dot follows.
@@ -116,16 +78,9 @@ fn column_item(alloc: Global, tokens: &[Token]) -> Result<(Expr, &[Token]), Faul
 fn column(alloc: Global, tokens: &[Token]) -> Result<(ColumnName, &[Token]), Fault>
     ensures { Gives result (g.column.parses.read tokens.now) }
 {
-    match name(alloc, tokens) {
-        Ok((first, rest)) => match behind_dot(alloc, rest) {
-            Ok((second, rest)) => Ok((column_name(first, second), rest)),
-            Err(fault) => {
-                drop(first);
-                Err(fault)
-            }
-        },
-        Err(fault) => Err(fault),
-    }
+    let (first, rest) = name(alloc, tokens)?;
+    let (second, rest) = or_drop!(behind_dot(alloc, rest), first);
+    Ok((column_name(first, second), rest))
 }
 
 /// A dot and the name behind it, if a dot is there.
@@ -134,10 +89,10 @@ fn behind_dot(alloc: Global, tokens: &[Token]) -> Result<(Option<Name>, &[Token]
     ensures { Gives result (g.behind_dot.parses.read tokens.now) }
 {
     match symbol(tokens, Symbol::Dot) {
-        Some(rest) => match name(alloc, rest) {
-            Ok((name, rest)) => Ok((Some(name), rest)),
-            Err(fault) => Err(fault),
-        },
+        Some(rest) => {
+            let (name, rest) = name(alloc, rest)?;
+            Ok((Some(name), rest))
+        }
         None => Ok((None, tokens)),
     }
 }
@@ -215,10 +170,7 @@ fn text(tokens: &[Token]) -> Result<(Value, &[Token]), Fault>
     ensures { Gives result (g.text.parses.read tokens.now) }
 {
     match tokens {
-        [Token::Text(content), rest @ ..] => match content.copy() {
-            Ok(content) => Ok((Value::Text(content), rest)),
-            Err(_) => Err(Fault::NoMemory),
-        },
+        [Token::Text(content), rest @ ..] => Ok((Value::Text(content.copy()?), rest)),
         _ => Err(Fault::Syntax),
     }
 }

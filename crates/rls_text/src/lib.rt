@@ -12,6 +12,7 @@ mod items;
 mod limits;
 mod memberships;
 mod parsing;
+mod phrase;
 mod policies;
 mod policy_parts;
 mod read_back;

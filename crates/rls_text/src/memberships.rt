@@ -1,37 +1,29 @@
 //! GRANT and REVOKE of roles behind the first word, and SET ROLE, from tokens.
 
-ghost use Rattle.std.specs.Prelude.{◌≡◌, [], ◌∷◌, length, codes, Some};
-ghost use Rattle.rls_text.specs.{Gives.Gives, Gives.with_front, Gives.or_no_items, Parses.and_then, Parses.read_both, Parses.read_many, Parses.read_token, Heads.Sign, Heads.Keyword, Lang.put_in, Rule.with_comma};
+ghost use Rattle.std.specs.Prelude.{◌≡◌, [], ◌∷◌, codes, Some};
+ghost use Rattle.rls_text.specs.{Gives.Gives, Gives.or_no_items, Parses.and_then, Parses.read_both, Parses.read_token, Heads.Keyword, Lang.put_in};
 ghost use Rattle.rls_text.specs.Ahead as ahead;
 ghost use Rattle.rls_text.specs.Grammar as g;
 ghost use Rattle.rls_text.specs.Values as values;
 
 use crate::fault::Fault;
-use crate::reading::{name, only, sees_symbol, sees_word, symbol, two_words, word};
-use crate::token::{Symbol, Token};
+use crate::phrase::{Phrase, listed};
+use crate::reading::{name, sees_word, two_words, word};
+use crate::token::Token;
 use rls_statement::{
     GrantRoles, MembershipOption, MembershipOptions, RevokeRoles, SetRole, Statement,
 };
-use rls_value::{Items, Name};
+use rls_value::{Items, Name, or_drop};
 use std::alloc::Global;
 
 #[tactic(auto, unfolding(crate::specs::Grammar::granted_roles))]
 pub fn granted_roles(alloc: Global, tokens: &[Token]) -> Result<(Statement, &[Token]), Fault>
     ensures { Gives result (g.granted_roles.parses.read tokens.now) }
 {
-    match names(alloc, tokens) {
-        Ok((roles, rest)) => match to_members(alloc, rest) {
-            Ok(((to, options), rest)) => {
-                let grant = GrantRoles { roles, to, options };
-                Ok((Statement::GrantRoles(grant), rest))
-            }
-            Err(fault) => {
-                drop(roles);
-                Err(fault)
-            }
-        },
-        Err(fault) => Err(fault),
-    }
+    let (roles, rest) = names(alloc, tokens)?;
+    let ((to, options), rest) = or_drop!(to_members(alloc, rest), roles);
+    let grant = GrantRoles { roles, to, options };
+    Ok((Statement::GrantRoles(grant), rest))
 }
 
 /// TO, the members, and the options.
@@ -44,16 +36,9 @@ fn to_members(
     let Some(rest) = word(tokens, b"to") else {
         return Err(Fault::Syntax);
     };
-    match names(alloc, rest) {
-        Ok((to, rest)) => match options(alloc, rest) {
-            Ok((options, rest)) => Ok(((to, options), rest)),
-            Err(fault) => {
-                drop(to);
-                Err(fault)
-            }
-        },
-        Err(fault) => Err(fault),
-    }
+    let (to, rest) = names(alloc, rest)?;
+    let (options, rest) = or_drop!(options(alloc, rest), to);
+    Ok(((to, options), rest))
 }
 
 #[tactic(auto, unfolding(crate::specs::Grammar::revoked_memberships))]
@@ -82,48 +67,38 @@ fn revoked_option(alloc: Global, tokens: &[Token]) -> Result<(Statement, &[Token
     ensures { Gives result (g.revoked_option.parses.read tokens.now) }
 {
     let (option, rest) = option_for(tokens)?;
-    match roles_from(alloc, rest) {
-        Ok(((roles, (from, cascade)), rest)) => {
-            let revoke = RevokeRoles {
-                option: Some(option),
-                roles,
-                from,
-                cascade,
-            };
-            Ok((Statement::RevokeRoles(revoke), rest))
-        }
-        Err(fault) => Err(fault),
-    }
+    let ((roles, (from, cascade)), rest) = roles_from(alloc, rest)?;
+    let revoke = RevokeRoles {
+        option: Some(option),
+        roles,
+        from,
+        cascade,
+    };
+    Ok((Statement::RevokeRoles(revoke), rest))
 }
 
 #[tactic(auto, unfolding(crate::specs::Grammar::revoked_roles))]
 fn revoked_roles(alloc: Global, tokens: &[Token]) -> Result<(Statement, &[Token]), Fault>
     ensures { Gives result (g.revoked_roles.parses.read tokens.now) }
 {
-    match roles_from(alloc, tokens) {
-        Ok(((roles, (from, cascade)), rest)) => {
-            let revoke = RevokeRoles {
-                option: None,
-                roles,
-                from,
-                cascade,
-            };
-            Ok((Statement::RevokeRoles(revoke), rest))
-        }
-        Err(fault) => Err(fault),
-    }
+    let ((roles, (from, cascade)), rest) = roles_from(alloc, tokens)?;
+    let revoke = RevokeRoles {
+        option: None,
+        roles,
+        from,
+        cascade,
+    };
+    Ok((Statement::RevokeRoles(revoke), rest))
 }
 
 #[tactic(auto, unfolding(crate::specs::Grammar::option_for))]
 fn option_for(tokens: &[Token]) -> Result<(MembershipOption, &[Token]), Fault>
     ensures { Gives result (g.option_for.parses.read tokens.now) }
 {
-    match option(tokens) {
-        Ok((option, rest)) => match two_words(rest, b"option", b"for") {
-            Some(rest) => Ok((option, rest)),
-            None => Err(Fault::Syntax),
-        },
-        Err(fault) => Err(fault),
+    let (option, rest) = option(tokens)?;
+    match two_words(rest, b"option", b"for") {
+        Some(rest) => Ok((option, rest)),
+        None => Err(Fault::Syntax),
     }
 }
 
@@ -134,16 +109,9 @@ fn roles_from(
 ) -> Result<((Items<Name>, (Items<Name>, bool)), &[Token]), Fault>
     ensures { Gives result (g.roles_from.parses.read tokens.now) }
 {
-    match names(alloc, tokens) {
-        Ok((roles, rest)) => match from_members(alloc, rest) {
-            Ok(((from, cascade), rest)) => Ok(((roles, (from, cascade)), rest)),
-            Err(fault) => {
-                drop(roles);
-                Err(fault)
-            }
-        },
-        Err(fault) => Err(fault),
-    }
+    let (roles, rest) = names(alloc, tokens)?;
+    let ((from, cascade), rest) = or_drop!(from_members(alloc, rest), roles);
+    Ok(((roles, (from, cascade)), rest))
 }
 
 /// FROM, the members, and whether CASCADE is written.
@@ -153,13 +121,9 @@ fn from_members(alloc: Global, tokens: &[Token]) -> Result<((Items<Name>, bool),
     let Some(rest) = word(tokens, b"from") else {
         return Err(Fault::Syntax);
     };
-    match names(alloc, rest) {
-        Ok((from, rest)) => {
-            let (cascade, rest) = cascade(rest);
-            Ok(((from, cascade), rest))
-        }
-        Err(fault) => Err(fault),
-    }
+    let (from, rest) = names(alloc, rest)?;
+    let (cascade, rest) = cascade(rest);
+    Ok(((from, cascade), rest))
 }
 
 /// Whether CASCADE is written. RESTRICT says what holds without it.
@@ -180,10 +144,8 @@ pub fn cascade(tokens: &[Token]) -> (bool, &[Token])
 pub fn set_role(alloc: Global, tokens: &[Token]) -> Result<(Statement, &[Token]), Fault>
     ensures { Gives result (g.set_role.parses.read tokens.now) }
 {
-    match role_change(alloc, tokens) {
-        Ok((role, rest)) => Ok((Statement::SetRole(role), rest)),
-        Err(fault) => Err(fault),
-    }
+    let (role, rest) = role_change(alloc, tokens)?;
+    Ok((Statement::SetRole(role), rest))
 }
 
 #[tactic(auto, unfolding(crate::specs::Grammar::role_change))]
@@ -226,60 +188,25 @@ fn chosen_role(alloc: Global, tokens: &[Token]) -> Result<(SetRole, &[Token]), F
 {
     match word(tokens, b"none") {
         Some(rest) => Ok((SetRole::None, rest)),
-        None => match name(alloc, tokens) {
-            Ok((role, rest)) => Ok((SetRole::To(role), rest)),
-            Err(fault) => Err(fault),
-        },
+        None => {
+            let (role, rest) = name(alloc, tokens)?;
+            Ok((SetRole::To(role), rest))
+        }
     }
 }
 
-#[tactic(auto, unfolding(crate::specs::Grammar::names, crate::specs::Gives::with_front))]
+#[tactic(auto, unfolding(crate::specs::Grammar::names, crate::specs::Parses::read_listed, crate::specs::Parses::behind_comma, crate::specs::Rule::with_comma))]
 pub fn names(alloc: Global, tokens: &[Token]) -> Result<(Items<Name>, &[Token]), Fault>
     ensures { Gives result (g.names.parses.read tokens.now) }
 {
-    match name(alloc, tokens) {
-        Ok((first, rest)) => match only(alloc, first) {
-            Ok(all) => more_names(alloc, all, rest),
-            Err(_) => Err(Fault::NoMemory),
-        },
-        Err(fault) => Err(fault),
-    }
+    listed::<Name>(alloc, tokens)
 }
 
-#[tactic(auto, using(crate::proofs::Loops::front_begins, crate::proofs::Loops::loop_stops, crate::proofs::Loops::loop_ends, crate::proofs::Loops::loop_fails, crate::proofs::Loops::loop_goes_on))]
-fn more_names(
-    alloc: Global,
-    first: Items<Name>,
-    tokens: &[Token],
-) -> Result<(Items<Name>, &[Token]), Fault>
-    ensures { Gives result (with_front first (read_many (Sign Symbol.Comma ∷ []) (with_comma g.name).parses.read (length tokens.now) tokens.now)) }
-{
-    let mut all = first;
-    let mut rest = tokens;
-    for _turn in 0..tokens.len() {
-        if !sees_symbol(rest, Symbol::Comma) {
-            return Ok((all, rest));
-        }
-        match next_name(alloc, rest) {
-            Ok((next, behind)) => {
-                if all.push(next).is_err() {
-                    return Err(Fault::NoMemory);
-                }
-                rest = behind;
-            }
-            Err(fault) => return Err(fault),
-        }
-    }
-    Ok((all, rest))
-}
+impl Phrase for Name {
+    ghost reader = { g.name.parses.read };
 
-#[tactic(auto, unfolding(crate::specs::Rule::with_comma))]
-fn next_name(alloc: Global, tokens: &[Token]) -> Result<(Name, &[Token]), Fault>
-    ensures { Gives result ((with_comma g.name).parses.read tokens.now) }
-{
-    match symbol(tokens, Symbol::Comma) {
-        Some(rest) => name(alloc, rest),
-        None => Err(Fault::Syntax),
+    fn read(alloc: Global, tokens: &[Token]) -> Result<(Name, &[Token]), Fault> {
+        name(alloc, tokens)
     }
 }
 
@@ -288,14 +215,10 @@ fn next_name(alloc: Global, tokens: &[Token]) -> Result<(Name, &[Token]), Fault>
 fn options(alloc: Global, tokens: &[Token]) -> Result<(MembershipOptions, &[Token]), Fault>
     ensures { Gives result (g.options.parses.read tokens.now) }
 {
-    match settings_if_any(alloc, tokens) {
-        Ok((written, rest)) => {
-            let options = gathered(written.as_slice());
-            drop(written);
-            Ok((options, rest))
-        }
-        Err(fault) => Err(fault),
-    }
+    let (written, rest) = settings_if_any(alloc, tokens)?;
+    let options = gathered(written.as_slice());
+    drop(written);
+    Ok((options, rest))
 }
 
 #[tactic(auto, unfolding(crate::specs::Grammar::settings_if_any, crate::specs::Gives::or_no_items))]
@@ -319,68 +242,33 @@ fn settings(
 ) -> Result<(Items<(MembershipOption, bool)>, &[Token]), Fault>
     ensures { Gives result (g.settings.parses.read tokens.now) }
 {
-    match all_settings(alloc, tokens) {
-        Ok((all, rest)) => {
-            if set_once(all.as_slice()) {
-                Ok((all, rest))
-            } else {
-                drop(all);
-                Err(Fault::Syntax)
-            }
-        }
-        Err(fault) => Err(fault),
+    let (all, rest) = all_settings(alloc, tokens)?;
+    if set_once(all.as_slice()) {
+        Ok((all, rest))
+    } else {
+        drop(all);
+        Err(Fault::Syntax)
     }
 }
 
-#[tactic(auto, unfolding(crate::specs::Grammar::all_settings, crate::specs::Gives::with_front))]
+#[tactic(auto, unfolding(crate::specs::Grammar::all_settings, crate::specs::Parses::read_listed, crate::specs::Parses::behind_comma, crate::specs::Rule::with_comma))]
 fn all_settings(
     alloc: Global,
     tokens: &[Token],
 ) -> Result<(Items<(MembershipOption, bool)>, &[Token]), Fault>
     ensures { Gives result (g.all_settings.parses.read tokens.now) }
 {
-    match setting(tokens) {
-        Ok((first, rest)) => match only(alloc, first) {
-            Ok(all) => more_settings(all, rest),
-            Err(_) => Err(Fault::NoMemory),
-        },
-        Err(fault) => Err(fault),
-    }
+    listed::<(MembershipOption, bool)>(alloc, tokens)
 }
 
-#[tactic(auto, using(crate::proofs::Loops::front_begins, crate::proofs::Loops::loop_stops, crate::proofs::Loops::loop_ends, crate::proofs::Loops::loop_fails, crate::proofs::Loops::loop_goes_on))]
-fn more_settings(
-    first: Items<(MembershipOption, bool)>,
-    tokens: &[Token],
-) -> Result<(Items<(MembershipOption, bool)>, &[Token]), Fault>
-    ensures { Gives result (with_front first (read_many (Sign Symbol.Comma ∷ []) (with_comma g.setting).parses.read (length tokens.now) tokens.now)) }
-{
-    let mut all = first;
-    let mut rest = tokens;
-    for _turn in 0..tokens.len() {
-        if !sees_symbol(rest, Symbol::Comma) {
-            return Ok((all, rest));
-        }
-        match next_setting(rest) {
-            Ok((next, behind)) => {
-                if all.push(next).is_err() {
-                    return Err(Fault::NoMemory);
-                }
-                rest = behind;
-            }
-            Err(fault) => return Err(fault),
-        }
-    }
-    Ok((all, rest))
-}
+impl Phrase for (MembershipOption, bool) {
+    ghost reader = { g.setting.parses.read };
 
-#[tactic(auto, unfolding(crate::specs::Rule::with_comma))]
-fn next_setting(tokens: &[Token]) -> Result<((MembershipOption, bool), &[Token]), Fault>
-    ensures { Gives result ((with_comma g.setting).parses.read tokens.now) }
-{
-    match symbol(tokens, Symbol::Comma) {
-        Some(rest) => setting(rest),
-        None => Err(Fault::Syntax),
+    fn read(
+        _alloc: Global,
+        tokens: &[Token],
+    ) -> Result<((MembershipOption, bool), &[Token]), Fault> {
+        setting(tokens)
     }
 }
 
@@ -388,13 +276,9 @@ fn next_setting(tokens: &[Token]) -> Result<((MembershipOption, bool), &[Token])
 fn setting(tokens: &[Token]) -> Result<((MembershipOption, bool), &[Token]), Fault>
     ensures { Gives result (g.setting.parses.read tokens.now) }
 {
-    match option(tokens) {
-        Ok((option, rest)) => match flag(rest) {
-            Ok((flag, rest)) => Ok(((option, flag), rest)),
-            Err(fault) => Err(fault),
-        },
-        Err(fault) => Err(fault),
-    }
+    let (option, rest) = option(tokens)?;
+    let (flag, rest) = flag(rest)?;
+    Ok(((option, flag), rest))
 }
 
 #[tactic(auto, unfolding(crate::specs::Grammar::option))]

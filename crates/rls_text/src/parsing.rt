@@ -70,10 +70,8 @@ fn command_answer(alloc: Global, tokens: &[Token]) -> Result<Command, Refusal>
             Err(Fault::NoMemory) => Err(Refusal::NoMemory),
         }
     } else {
-        match spelled(alloc, tokens) {
-            Ok(statement) => Ok(Command::Run(statement)),
-            Err(refusal) => Err(refusal),
-        }
+        let statement = spelled(alloc, tokens)?;
+        Ok(Command::Run(statement))
     }
 }
 
@@ -133,15 +131,13 @@ fn whole(alloc: Global, tokens: &[Token]) -> Result<TreeWithDepth, Fault>
     requires { spec.first_limit tokens.now ≡ None }
     ensures { GivesWhole result (whole_of tokens.now) }
 {
-    match statement(alloc, tokens.len() + 1, tokens) {
-        Ok((statement, rest)) => match rest {
-            [] => Ok(statement),
-            [_, ..] => {
-                drop(statement);
-                Err(Fault::Syntax)
-            }
-        },
-        Err(fault) => Err(fault),
+    let (statement, rest) = statement(alloc, tokens.len() + 1, tokens)?;
+    match rest {
+        [] => Ok(statement),
+        [_, ..] => {
+            drop(statement);
+            Err(Fault::Syntax)
+        }
     }
 }
 
@@ -154,12 +150,10 @@ fn statement(
 ) -> Result<(TreeWithDepth, &[Token]), Fault>
     ensures { Gives result ((g.statement depth).read tokens.now) }
 {
-    match body(alloc, depth, tokens) {
-        Ok((statement, rest)) => match symbol(rest, Symbol::Semicolon) {
-            Some(rest) => Ok((statement, rest)),
-            None => Ok((statement, rest)),
-        },
-        Err(fault) => Err(fault),
+    let (statement, rest) = body(alloc, depth, tokens)?;
+    match symbol(rest, Symbol::Semicolon) {
+        Some(rest) => Ok((statement, rest)),
+        None => Ok((statement, rest)),
     }
 }
 
@@ -180,10 +174,8 @@ fn body(alloc: Global, depth: usize, tokens: &[Token]) -> Result<(TreeWithDepth,
     } else if sees_word(tokens, b"alter") {
         alter(alloc, depth, tokens)
     } else {
-        match flat_body(alloc, tokens) {
-            Ok((statement, rest)) => Ok(((statement, 0), rest)),
-            Err(fault) => Err(fault),
-        }
+        let (statement, rest) = flat_body(alloc, tokens)?;
+        Ok(((statement, 0), rest))
     }
 }
 

@@ -1,6 +1,6 @@
 //! CREATE, ALTER and DROP of policies from tokens.
 
-ghost use Rattle.std.specs.Prelude.{◌≡◌, codes};
+ghost use Rattle.std.specs.Prelude.{◌≡◌, codes, IfOk};
 ghost use Rattle.rls_text.specs.{Gives.Gives, Parses.read_token, Parses.and_then};
 ghost use Rattle.rls_text.specs.Trees as trees;
 ghost use Rattle.rls_text.specs.Grammar as g;
@@ -10,11 +10,12 @@ use crate::fault::Fault;
 use crate::policy_parts::{Conditions, conditions, for_grantees, grantees_if_any, policy_options};
 use crate::reading::{name, word};
 use crate::token::Token;
-use crate::tree::{TreeWithDepth, parted};
-use rls_expr::{Grantee, Policy};
+use crate::tree::{Tree, TreeWithDepth, parted};
+use rls_expr::{Expr, Grantee, Policy};
 use rls_statement::{AlterPolicy, CreatePolicy, DropPolicy, Statement};
-use rls_value::{Items, Kind, Name, PolicyKind};
-use std::alloc::Global;
+use rls_value::shared::Share;
+use rls_value::{Items, Kind, Name, PolicyKind, or_drop};
+use std::alloc::{AllocError, Global};
 
 /// AS, FOR, TO, USING and WITH CHECK of a policy.
 type Description = ((bool, PolicyKind), (Items<Grantee>, Conditions));
@@ -31,25 +32,23 @@ pub fn policy(
 ) -> Result<(TreeWithDepth, &[Token]), Fault>
     ensures { Gives result ((g.policy (g.expr depth)).read tokens.now) }
 {
-    match policy_on(alloc, tokens) {
-        Ok((names, rest)) => match proper_description(alloc, depth, rest) {
-            Ok((description, rest)) => Ok((created(names, description), rest)),
-            Err(fault) => {
-                drop(names);
-                Err(fault)
-            }
-        },
-        Err(fault) => Err(fault),
-    }
+    let (names, rest) = policy_on(alloc, tokens)?;
+    let (description, rest) = or_drop!(proper_description(alloc, depth, rest), names);
+    let created = created(alloc, names, description)?;
+    Ok((created, rest))
 }
 
-fn created(names: (Name, Name), description: Description) -> TreeWithDepth
-    ensures { result ≡ trees.policy_of (names, description) }
+fn created(
+    alloc: Global,
+    names: (Name, Name),
+    description: Description,
+) -> Result<TreeWithDepth, AllocError>
+    ensures { IfOk result (λ created. created ≡ trees.policy_of (names, description)) }
 {
     let (name, table) = names;
     let ((permissive, kind), (to, (using, check))) = description;
-    let (using, using_depth) = parted(using);
-    let (check, check_depth) = parted(check);
+    let (using, using_depth) = or_drop!(shared(alloc, using), name, table, to, check);
+    let (check, check_depth) = or_drop!(shared(alloc, check), name, table, to, using);
     let policy = Policy {
         name,
         permissive,
@@ -58,10 +57,21 @@ fn created(names: (Name, Name), description: Description) -> TreeWithDepth
         using,
         check,
     };
-    (
+    Ok((
         Statement::CreatePolicy(CreatePolicy { table, policy }),
         using_depth.max(check_depth),
-    )
+    ))
+}
+
+/// The expression, shared, and its depth; 0 where there is none.
+fn shared(alloc: Global, tree: Option<Tree>) -> Result<(Option<Share<Expr>>, u32), AllocError>
+    ensures { IfOk result (λ both. both ≡ trees.parted tree) }
+{
+    let (expr, depth) = parted(tree);
+    match expr {
+        Some(expr) => Ok((Some(Share::new(alloc, expr)?), depth)),
+        None => Ok((None, depth)),
+    }
 }
 
 /// What stands behind ALTER POLICY.
@@ -73,25 +83,23 @@ pub fn altered_policy(
 ) -> Result<(TreeWithDepth, &[Token]), Fault>
     ensures { Gives result ((g.altered_policy (g.expr depth)).read tokens.now) }
 {
-    match policy_on(alloc, tokens) {
-        Ok((names, rest)) => match proper_change(alloc, depth, rest) {
-            Ok((change, rest)) => Ok((altered(names, change), rest)),
-            Err(fault) => {
-                drop(names);
-                Err(fault)
-            }
-        },
-        Err(fault) => Err(fault),
-    }
+    let (names, rest) = policy_on(alloc, tokens)?;
+    let (change, rest) = or_drop!(proper_change(alloc, depth, rest), names);
+    let altered = altered(alloc, names, change)?;
+    Ok((altered, rest))
 }
 
-fn altered(names: (Name, Name), change: PolicyChange) -> TreeWithDepth
-    ensures { result ≡ trees.altering_policy_of (names, change) }
+fn altered(
+    alloc: Global,
+    names: (Name, Name),
+    change: PolicyChange,
+) -> Result<TreeWithDepth, AllocError>
+    ensures { IfOk result (λ altered. altered ≡ trees.altering_policy_of (names, change)) }
 {
     let (name, table) = names;
     let (to, (using, check)) = change;
-    let (using, using_depth) = parted(using);
-    let (check, check_depth) = parted(check);
+    let (using, using_depth) = or_drop!(shared(alloc, using), name, table, to, check);
+    let (check, check_depth) = or_drop!(shared(alloc, check), name, table, to, using);
     let alter = AlterPolicy {
         name,
         table,
@@ -99,7 +107,7 @@ fn altered(names: (Name, Name), change: PolicyChange) -> TreeWithDepth
         using,
         check,
     };
-    (Statement::AlterPolicy(alter), using_depth.max(check_depth))
+    Ok((Statement::AlterPolicy(alter), using_depth.max(check_depth)))
 }
 
 /// DROP POLICY, whole.
@@ -113,12 +121,8 @@ pub fn dropped_policy(alloc: Global, tokens: &[Token]) -> Result<(Statement, &[T
     let Some(rest) = word(rest, b"policy") else {
         return Err(Fault::Syntax);
     };
-    match policy_on(alloc, rest) {
-        Ok(((name, table), rest)) => {
-            Ok((Statement::DropPolicy(DropPolicy { name, table }), rest))
-        }
-        Err(fault) => Err(fault),
-    }
+    let ((name, table), rest) = policy_on(alloc, rest)?;
+    Ok((Statement::DropPolicy(DropPolicy { name, table }), rest))
 }
 
 /// The names of a policy and of its table.
@@ -126,16 +130,9 @@ pub fn dropped_policy(alloc: Global, tokens: &[Token]) -> Result<(Statement, &[T
 fn policy_on(alloc: Global, tokens: &[Token]) -> Result<((Name, Name), &[Token]), Fault>
     ensures { Gives result (g.policy_on.parses.read tokens.now) }
 {
-    match name(alloc, tokens) {
-        Ok((policy, rest)) => match on_table(alloc, rest) {
-            Ok((table, rest)) => Ok(((policy, table), rest)),
-            Err(fault) => {
-                drop(policy);
-                Err(fault)
-            }
-        },
-        Err(fault) => Err(fault),
-    }
+    let (policy, rest) = name(alloc, tokens)?;
+    let (table, rest) = or_drop!(on_table(alloc, rest), policy);
+    Ok(((policy, table), rest))
 }
 
 fn on_table(alloc: Global, tokens: &[Token]) -> Result<(Name, &[Token]), Fault>
@@ -156,16 +153,12 @@ fn proper_description(
 ) -> Result<(Description, &[Token]), Fault>
     ensures { Gives result ((g.proper_description (g.expr depth)).read tokens.now) }
 {
-    match description(alloc, depth, tokens) {
-        Ok((description, rest)) => {
-            if is_policy(&description) {
-                Ok((description, rest))
-            } else {
-                drop(description);
-                Err(Fault::Syntax)
-            }
-        }
-        Err(fault) => Err(fault),
+    let (description, rest) = description(alloc, depth, tokens)?;
+    if is_policy(&description) {
+        Ok((description, rest))
+    } else {
+        drop(description);
+        Err(Fault::Syntax)
     }
 }
 
@@ -196,16 +189,9 @@ fn description(
     ensures { Gives result ((g.description (g.expr depth)).read tokens.now) }
 {
     let (options, rest) = policy_options(tokens)?;
-    match for_grantees(alloc, rest) {
-        Ok((to, rest)) => match conditions(alloc, depth, rest) {
-            Ok((conditions, rest)) => Ok(((options, (to, conditions)), rest)),
-            Err(fault) => {
-                drop(to);
-                Err(fault)
-            }
-        },
-        Err(fault) => Err(fault),
-    }
+    let (to, rest) = for_grantees(alloc, rest)?;
+    let (conditions, rest) = or_drop!(conditions(alloc, depth, rest), to);
+    Ok(((options, (to, conditions)), rest))
 }
 
 /// What changes of a policy; something does.
@@ -217,16 +203,12 @@ fn proper_change(
 ) -> Result<(PolicyChange, &[Token]), Fault>
     ensures { Gives result ((g.proper_change (g.expr depth)).read tokens.now) }
 {
-    match policy_change(alloc, depth, tokens) {
-        Ok((change, rest)) => {
-            if is_change(&change) {
-                Ok((change, rest))
-            } else {
-                drop(change);
-                Err(Fault::Syntax)
-            }
-        }
-        Err(fault) => Err(fault),
+    let (change, rest) = policy_change(alloc, depth, tokens)?;
+    if is_change(&change) {
+        Ok((change, rest))
+    } else {
+        drop(change);
+        Err(Fault::Syntax)
     }
 }
 
@@ -245,14 +227,7 @@ fn policy_change(
 ) -> Result<(PolicyChange, &[Token]), Fault>
     ensures { Gives result ((g.policy_change (g.expr depth)).read tokens.now) }
 {
-    match grantees_if_any(alloc, tokens) {
-        Ok((to, rest)) => match conditions(alloc, depth, rest) {
-            Ok((conditions, rest)) => Ok(((to, conditions), rest)),
-            Err(fault) => {
-                drop(to);
-                Err(fault)
-            }
-        },
-        Err(fault) => Err(fault),
-    }
+    let (to, rest) = grantees_if_any(alloc, tokens)?;
+    let (conditions, rest) = or_drop!(conditions(alloc, depth, rest), to);
+    Ok(((to, conditions), rest))
 }

@@ -12,7 +12,7 @@ use crate::reading::{only, sees_word, word};
 use crate::token::Token;
 use crate::tree::Tree;
 use rls_expr::Grantee;
-use rls_value::{Items, Kind, PolicyKind};
+use rls_value::{Items, Kind, PolicyKind, or_drop};
 use std::alloc::{AllocError, Global};
 
 /// USING and WITH CHECK.
@@ -23,13 +23,9 @@ pub type Conditions = (Option<Tree>, Option<Tree>);
 pub fn policy_options(tokens: &[Token]) -> Result<((bool, PolicyKind), &[Token]), Fault>
     ensures { Gives result (g.policy_options.parses.read tokens.now) }
 {
-    match permissive(tokens) {
-        Ok((permissive, rest)) => match for_commands(rest) {
-            Ok((kind, rest)) => Ok(((permissive, kind), rest)),
-            Err(fault) => Err(fault),
-        },
-        Err(fault) => Err(fault),
-    }
+    let (permissive, rest) = permissive(tokens)?;
+    let (kind, rest) = for_commands(rest)?;
+    Ok(((permissive, kind), rest))
 }
 
 /// Without AS, a policy is permissive.
@@ -88,10 +84,8 @@ pub fn grantees_if_any(
     ensures { Gives result (g.grantees_if_any.parses.read tokens.now) }
 {
     if sees_word(tokens, b"to") {
-        match to_grantees(alloc, tokens) {
-            Ok((to, rest)) => Ok((Some(to), rest)),
-            Err(fault) => Err(fault),
-        }
+        let (to, rest) = to_grantees(alloc, tokens)?;
+        Ok((Some(to), rest))
     } else {
         Ok((None, tokens))
     }
@@ -105,10 +99,8 @@ pub fn for_grantees(alloc: Global, tokens: &[Token]) -> Result<(Items<Grantee>, 
     if sees_word(tokens, b"to") {
         to_grantees(alloc, tokens)
     } else {
-        match public_alone(alloc) {
-            Ok(to) => Ok((to, tokens)),
-            Err(_) => Err(Fault::NoMemory),
-        }
+        let to = public_alone(alloc)?;
+        Ok((to, tokens))
     }
 }
 
@@ -127,16 +119,9 @@ pub fn conditions(
 ) -> Result<(Conditions, &[Token]), Fault>
     ensures { Gives result ((g.conditions (g.expr depth)).read tokens.now) }
 {
-    match using(alloc, depth, tokens) {
-        Ok((using, rest)) => match check(alloc, depth, rest) {
-            Ok((check, rest)) => Ok(((using, check), rest)),
-            Err(fault) => {
-                drop(using);
-                Err(fault)
-            }
-        },
-        Err(fault) => Err(fault),
-    }
+    let (using, rest) = using(alloc, depth, tokens)?;
+    let (check, rest) = or_drop!(check(alloc, depth, rest), using);
+    Ok(((using, check), rest))
 }
 
 #[tactic(auto, unfolding(crate::specs::Grammar::using))]
@@ -162,8 +147,6 @@ fn check(alloc: Global, depth: usize, tokens: &[Token]) -> Result<(Option<Tree>,
     let Some(rest) = word(rest, b"check") else {
         return Err(Fault::Syntax);
     };
-    match parenthesized(alloc, depth, rest) {
-        Ok((condition, rest)) => Ok((Some(condition), rest)),
-        Err(fault) => Err(fault),
-    }
+    let (condition, rest) = parenthesized(alloc, depth, rest)?;
+    Ok((Some(condition), rest))
 }

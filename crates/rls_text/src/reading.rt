@@ -9,7 +9,7 @@ ghost use Rattle.rls_text.specs.Values as values;
 
 use crate::fault::Fault;
 use crate::token::{Symbol, Token};
-use rls_value::{Items, Limit, Name, Refusal, is_reserved};
+use rls_value::{Items, Limit, Name, Refusal, is_reserved, or_drop};
 use std::alloc::{AllocError, Global};
 
 /// The tokens behind this word, if it comes next.
@@ -104,13 +104,8 @@ pub fn only<T: Drop>(alloc: Global, item: T) -> Result<Items<T>, AllocError>
     ensures { IfOk result (λ items. items ≡ item ∷ []) }
 {
     let mut items = Items::new(alloc);
-    match items.push(item) {
-        Ok(()) => Ok(items),
-        Err(refused) => {
-            drop(items);
-            Err(refused)
-        }
-    }
+    or_drop!(items.push(item), items);
+    Ok(items)
 }
 
 #[tactic(auto, unfolding(crate::specs::Grammar::name))]
@@ -119,10 +114,8 @@ pub fn name(alloc: Global, tokens: &[Token]) -> Result<(Name, &[Token]), Fault>
 {
     match tokens {
         [Token::Word(letters), rest @ ..] if !is_reserved(letters.as_str().as_bytes()) => {
-            match named(alloc, letters.as_str()) {
-                Ok(name) => Ok((name, rest)),
-                Err(fault) => Err(fault),
-            }
+            let name = named(alloc, letters.as_str())?;
+            Ok((name, rest))
         }
         _ => Err(Fault::Syntax),
     }

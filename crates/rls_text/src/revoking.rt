@@ -10,7 +10,7 @@ use crate::reading::{two_words, word};
 use crate::token::Token;
 use rls_expr::Grantee;
 use rls_statement::{RevokePrivileges, Statement};
-use rls_value::Items;
+use rls_value::{Items, or_drop};
 use std::alloc::Global;
 
 #[tactic(auto, unfolding(crate::specs::Grammar::revoke))]
@@ -32,25 +32,16 @@ fn revoked_privileges(alloc: Global, tokens: &[Token]) -> Result<(Statement, &[T
     ensures { Gives result (g.revoked_privileges.parses.read tokens.now) }
 {
     let (option_only, rest) = option_only(tokens)?;
-    match privileges_on(alloc, rest) {
-        Ok(((privileges, table), rest)) => match revoked_from(alloc, rest) {
-            Ok(((from, cascade), rest)) => {
-                let revoke = RevokePrivileges {
-                    option_only,
-                    privileges,
-                    table,
-                    from,
-                    cascade,
-                };
-                Ok((Statement::Revoke(revoke), rest))
-            }
-            Err(fault) => {
-                drop(table);
-                Err(fault)
-            }
-        },
-        Err(fault) => Err(fault),
-    }
+    let ((privileges, table), rest) = privileges_on(alloc, rest)?;
+    let ((from, cascade), rest) = or_drop!(revoked_from(alloc, rest), table, privileges);
+    let revoke = RevokePrivileges {
+        option_only,
+        privileges,
+        table,
+        from,
+        cascade,
+    };
+    Ok((Statement::Revoke(revoke), rest))
 }
 
 /// Whether GRANT OPTION FOR is written.
@@ -78,11 +69,7 @@ fn revoked_from(
     let Some(rest) = word(tokens, b"from") else {
         return Err(Fault::Syntax);
     };
-    match grantees(alloc, rest) {
-        Ok((from, rest)) => {
-            let (cascade, rest) = cascade(rest);
-            Ok(((from, cascade), rest))
-        }
-        Err(fault) => Err(fault),
-    }
+    let (from, rest) = grantees(alloc, rest)?;
+    let (cascade, rest) = cascade(rest);
+    Ok(((from, cascade), rest))
 }

@@ -12,7 +12,7 @@ use crate::reading::{closed, name, sees_symbol, sees_word, starts_name, symbol, 
 use crate::token::{Symbol, Token};
 use crate::tree::TableAndAlias;
 use rls_statement::Selected;
-use rls_value::Name;
+use rls_value::{Name, or_drop};
 use std::alloc::Global;
 
 /// What is selected, with the depth of its items.
@@ -22,10 +22,8 @@ pub fn items_and_depth(
 ) -> Result<((Selected, u32), &[Token]), Fault>
     ensures { Gives result (read_mapped spec.with_depth g.items.parses.read tokens.now) }
 {
-    match items(alloc, tokens) {
-        Ok((items, rest)) => Ok((with_depth(items), rest)),
-        Err(fault) => Err(fault),
-    }
+    let (items, rest) = items(alloc, tokens)?;
+    Ok((with_depth(items), rest))
 }
 
 /// An item is a leaf.
@@ -83,10 +81,8 @@ fn count(tokens: &[Token]) -> Result<(Selected, &[Token]), Fault>
 fn selected_items(alloc: Global, tokens: &[Token]) -> Result<(Selected, &[Token]), Fault>
     ensures { Gives result (g.selected_items.parses.read tokens.now) }
 {
-    match item_list(alloc, tokens) {
-        Ok((all, rest)) => Ok((Selected::Items(all), rest)),
-        Err(fault) => Err(fault),
-    }
+    let (all, rest) = item_list(alloc, tokens)?;
+    Ok((Selected::Items(all), rest))
 }
 
 #[tactic(auto, unfolding(crate::specs::Grammar::from_table))]
@@ -96,16 +92,9 @@ pub fn from_table(alloc: Global, tokens: &[Token]) -> Result<(TableAndAlias, &[T
     let Some(rest) = word(tokens, b"from") else {
         return Err(Fault::Syntax);
     };
-    match name(alloc, rest) {
-        Ok((table, rest)) => match alias_if_any(alloc, rest) {
-            Ok((alias, rest)) => Ok(((table, alias), rest)),
-            Err(fault) => {
-                drop(table);
-                Err(fault)
-            }
-        },
-        Err(fault) => Err(fault),
-    }
+    let (table, rest) = name(alloc, rest)?;
+    let (alias, rest) = or_drop!(alias_if_any(alloc, rest), table);
+    Ok(((table, alias), rest))
 }
 
 #[tactic(auto, unfolding(crate::specs::Grammar::alias_if_any))]
@@ -113,10 +102,8 @@ fn alias_if_any(alloc: Global, tokens: &[Token]) -> Result<(Option<Name>, &[Toke
     ensures { Gives result (g.alias_if_any.parses.read tokens.now) }
 {
     if starts_alias(tokens) {
-        match alias(alloc, tokens) {
-            Ok((alias, rest)) => Ok((Some(alias), rest)),
-            Err(fault) => Err(fault),
-        }
+        let (alias, rest) = alias(alloc, tokens)?;
+        Ok((Some(alias), rest))
     } else {
         Ok((None, tokens))
     }

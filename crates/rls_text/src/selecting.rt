@@ -16,7 +16,7 @@ use crate::token::{Symbol, Token};
 use crate::tree::{SelectParts, TreeWithDepth, Tuple, Tuples, parted, with_tuple};
 use rls_expr::Expr;
 use rls_statement::{Insert, Select, Selected, Statement};
-use rls_value::{Items, Name};
+use rls_value::{Items, Name, or_drop};
 use std::alloc::Global;
 
 /// The columns of INSERT, if they are written, and its tuples.
@@ -30,10 +30,8 @@ pub fn select(
 ) -> Result<(TreeWithDepth, &[Token]), Fault>
     ensures { Gives result ((g.select (g.expr depth)).read tokens.now) }
 {
-    match select_parts(alloc, depth, tokens) {
-        Ok((select, rest)) => Ok((selected(select), rest)),
-        Err(fault) => Err(fault),
-    }
+    let (select, rest) = select_parts(alloc, depth, tokens)?;
+    Ok((selected(select), rest))
 }
 
 fn selected(select: SelectParts) -> TreeWithDepth
@@ -64,16 +62,9 @@ pub fn insert(
     let Some(rest) = word(rest, b"into") else {
         return Err(Fault::Syntax);
     };
-    match name(alloc, rest) {
-        Ok((table, rest)) => match rows_and_returning(alloc, depth, rest) {
-            Ok(((rows, returning), rest)) => Ok((inserted(table, rows, returning), rest)),
-            Err(fault) => {
-                drop(table);
-                Err(fault)
-            }
-        },
-        Err(fault) => Err(fault),
-    }
+    let (table, rest) = name(alloc, rest)?;
+    let ((rows, returning), rest) = or_drop!(rows_and_returning(alloc, depth, rest), table);
+    Ok((inserted(table, rows, returning), rest))
 }
 
 fn rows_and_returning(
@@ -83,16 +74,9 @@ fn rows_and_returning(
 ) -> Result<((Rows, Option<Selected>), &[Token]), Fault>
     ensures { Gives result (read_both (g.proper_rows (g.expr depth)).read g.returning.parses.read tokens.now) }
 {
-    match proper_rows(alloc, depth, tokens) {
-        Ok((rows, rest)) => match returning(alloc, rest) {
-            Ok((returning, rest)) => Ok(((rows, returning), rest)),
-            Err(fault) => {
-                drop(rows);
-                Err(fault)
-            }
-        },
-        Err(fault) => Err(fault),
-    }
+    let (rows, rest) = proper_rows(alloc, depth, tokens)?;
+    let (returning, rest) = or_drop!(returning(alloc, rest), rows);
+    Ok(((rows, returning), rest))
 }
 
 fn inserted(table: Name, rows: Rows, returning: Option<Selected>) -> TreeWithDepth
@@ -113,16 +97,12 @@ fn inserted(table: Name, rows: Rows, returning: Option<Selected>) -> TreeWithDep
 fn proper_rows(alloc: Global, depth: usize, tokens: &[Token]) -> Result<(Rows, &[Token]), Fault>
     ensures { Gives result ((g.proper_rows (g.expr depth)).read tokens.now) }
 {
-    match rows(alloc, depth, tokens) {
-        Ok((rows, rest)) => {
-            if are_as_long(&rows) {
-                Ok((rows, rest))
-            } else {
-                drop(rows);
-                Err(Fault::Syntax)
-            }
-        }
-        Err(fault) => Err(fault),
+    let (rows, rest) = rows(alloc, depth, tokens)?;
+    if are_as_long(&rows) {
+        Ok((rows, rest))
+    } else {
+        drop(rows);
+        Err(Fault::Syntax)
     }
 }
 
@@ -140,16 +120,9 @@ fn are_as_long(rows: &Rows) -> bool
 fn rows(alloc: Global, depth: usize, tokens: &[Token]) -> Result<(Rows, &[Token]), Fault>
     ensures { Gives result ((g.rows (g.expr depth)).read tokens.now) }
 {
-    match columns_if_any(alloc, tokens) {
-        Ok((columns, rest)) => match values_behind(alloc, depth, rest) {
-            Ok((tuples, rest)) => Ok(((columns, tuples), rest)),
-            Err(fault) => {
-                drop(columns);
-                Err(fault)
-            }
-        },
-        Err(fault) => Err(fault),
-    }
+    let (columns, rest) = columns_if_any(alloc, tokens)?;
+    let (tuples, rest) = or_drop!(values_behind(alloc, depth, rest), columns);
+    Ok(((columns, tuples), rest))
 }
 
 /// VALUES and its tuples.
@@ -168,10 +141,8 @@ fn columns_if_any(alloc: Global, tokens: &[Token]) -> Result<(Option<Items<Name>
     ensures { Gives result (g.columns_if_any.parses.read tokens.now) }
 {
     if sees_symbol(tokens, Symbol::LParen) {
-        match listed_names(alloc, tokens) {
-            Ok((names, rest)) => Ok((Some(names), rest)),
-            Err(fault) => Err(fault),
-        }
+        let (names, rest) = listed_names(alloc, tokens)?;
+        Ok((Some(names), rest))
     } else {
         Ok((None, tokens))
     }
@@ -182,16 +153,12 @@ fn columns_if_any(alloc: Global, tokens: &[Token]) -> Result<(Option<Items<Name>
 fn even_tuples(alloc: Global, depth: usize, tokens: &[Token]) -> Result<(Tuples, &[Token]), Fault>
     ensures { Gives result ((g.even_tuples (g.expr depth)).read tokens.now) }
 {
-    match tuples(alloc, depth, tokens) {
-        Ok((tuples, rest)) => {
-            if are_even(tuples.0.as_slice()) {
-                Ok((tuples, rest))
-            } else {
-                drop(tuples);
-                Err(Fault::Syntax)
-            }
-        }
-        Err(fault) => Err(fault),
+    let (tuples, rest) = tuples(alloc, depth, tokens)?;
+    if are_even(tuples.0.as_slice()) {
+        Ok((tuples, rest))
+    } else {
+        drop(tuples);
+        Err(Fault::Syntax)
     }
 }
 
@@ -220,13 +187,9 @@ fn have_length(length: usize, mut tuples: &[Items<Expr>]) -> bool
 fn tuples(alloc: Global, depth: usize, tokens: &[Token]) -> Result<(Tuples, &[Token]), Fault>
     ensures { Gives result ((g.tuples (g.expr depth)).read tokens.now) }
 {
-    match tuple(alloc, depth, tokens) {
-        Ok(((first, height), rest)) => match only(alloc, first) {
-            Ok(all) => more_tuples(alloc, depth, (all, height), rest),
-            Err(_) => Err(Fault::NoMemory),
-        },
-        Err(fault) => Err(fault),
-    }
+    let ((first, height), rest) = tuple(alloc, depth, tokens)?;
+    let all = only(alloc, first)?;
+    more_tuples(alloc, depth, (all, height), rest)
 }
 
 #[tactic(auto, using(crate::proofs::Loops::fold_begins, crate::proofs::Loops::fold_stops, crate::proofs::Loops::fold_ends, crate::proofs::Loops::fold_fails, crate::proofs::Loops::fold_goes_on))]

@@ -9,6 +9,7 @@ ghost use Rattle.rls_text.specs.Nested.{subqueries_of, has_room, have_room, quer
 use rls_expr::{Expr, Node, Subquery};
 use rls_statement::{Assignment, Statement};
 use rls_value::Items;
+use rls_value::shared::Share;
 
 /// How many may lie one inside another at most.
 pub const MAX_SUBQUERIES: usize = 8;
@@ -41,10 +42,19 @@ fn statement_fits(statement: &Statement, room: usize) -> bool
     }
 }
 
-fn both_fit(using: &Option<Expr>, check: &Option<Expr>, room: usize) -> bool
+fn both_fit(using: &Option<Share<Expr>>, check: &Option<Share<Expr>>, room: usize) -> bool
     ensures { result ≡ (have_room room (maybe_term using.now) && have_room room (maybe_term check.now)) }
 {
-    condition_fits(using, room) && condition_fits(check, room)
+    shared_fits(using, room) && shared_fits(check, room)
+}
+
+fn shared_fits(condition: &Option<Share<Expr>>, room: usize) -> bool
+    ensures { result ≡ have_room room (maybe_term condition.now) }
+{
+    match condition {
+        None => true,
+        Some(condition) => fits(condition.get(), room),
+    }
 }
 
 fn tuples_fit(tuples: &[Items<Expr>], room: usize) -> bool

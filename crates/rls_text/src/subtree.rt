@@ -28,10 +28,8 @@ impl Subtree {
     pub fn new(alloc: Global, expr: Expr) -> Result<Subtree, AllocError>
         ensures { IfOk result (λ subtree. subtree ≡ expr) }
     {
-        match boxed(alloc, expr) {
-            Ok(expr) => Ok(Subtree { expr }),
-            Err(refused) => Err(refused),
-        }
+        let expr = boxed(alloc, expr)?;
+        Ok(Subtree { expr })
     }
 
     pub fn into_box(self) -> Box<Expr>

@@ -13,7 +13,7 @@ use crate::reading::{closed, name, only, sees_symbol, starts_name, symbol, two_w
 use crate::token::{Symbol, Token};
 use crate::tree::TreeWithDepth;
 use rls_statement::{AlterTable, CreateTable, MarkedColumn, RowSecurity, Statement};
-use rls_value::{Items, Name};
+use rls_value::{Items, Name, or_drop};
 use std::alloc::{AllocError, Global};
 use std::collections::BTreeSet;
 
@@ -38,16 +38,9 @@ pub struct TableElements {
 pub fn table(alloc: Global, tokens: &[Token]) -> Result<(TreeWithDepth, &[Token]), Fault>
     ensures { Gives result (read_mapped flat g.table.parses.read tokens.now) }
 {
-    match name(alloc, tokens) {
-        Ok((name, rest)) => match all_elements(alloc, rest) {
-            Ok((elements, rest)) => Ok(((created(name, elements), 0), rest)),
-            Err(fault) => {
-                drop(name);
-                Err(fault)
-            }
-        },
-        Err(fault) => Err(fault),
-    }
+    let (name, rest) = name(alloc, tokens)?;
+    let (elements, rest) = or_drop!(all_elements(alloc, rest), name);
+    Ok(((created(name, elements), 0), rest))
 }
 
 /// The elements in parentheses.
@@ -57,10 +50,8 @@ fn all_elements(alloc: Global, tokens: &[Token]) -> Result<(TableElements, &[Tok
     let Some(rest) = symbol(tokens, Symbol::LParen) else {
         return Err(Fault::Syntax);
     };
-    match proper_elements(alloc, rest) {
-        Ok((elements, rest)) => closed(elements, rest),
-        Err(fault) => Err(fault),
-    }
+    let (elements, rest) = proper_elements(alloc, rest)?;
+    closed(elements, rest)
 }
 
 fn created(name: Name, elements: TableElements) -> Statement
@@ -74,19 +65,13 @@ fn created(name: Name, elements: TableElements) -> Statement
 fn proper_elements(alloc: Global, tokens: &[Token]) -> Result<(TableElements, &[Token]), Fault>
     ensures { Gives result (g.proper_elements.parses.read tokens.now) }
 {
-    match columns_and_key(alloc, tokens) {
-        Ok((elements, rest)) => match is_table(alloc, &elements) {
-            Ok(true) => Ok((elements, rest)),
-            Ok(false) => {
-                drop(elements);
-                Err(Fault::Syntax)
-            }
-            Err(_) => {
-                drop(elements);
-                Err(Fault::NoMemory)
-            }
-        },
-        Err(fault) => Err(fault),
+    let (elements, rest) = columns_and_key(alloc, tokens)?;
+    let is_proper = or_drop!(is_table(alloc, &elements), elements);
+    if is_proper {
+        Ok((elements, rest))
+    } else {
+        drop(elements);
+        Err(Fault::Syntax)
     }
 }
 
@@ -95,16 +80,12 @@ fn proper_elements(alloc: Global, tokens: &[Token]) -> Result<(TableElements, &[
 fn columns_and_key(alloc: Global, tokens: &[Token]) -> Result<(TableElements, &[Token]), Fault>
     ensures { Gives result (g.columns_and_key.parses.read tokens.now) }
 {
-    match table_elements(alloc, tokens) {
-        Ok((elements, rest)) => {
-            if elements.key_last {
-                Ok((elements, rest))
-            } else {
-                drop(elements);
-                Err(Fault::Syntax)
-            }
-        }
-        Err(fault) => Err(fault),
+    let (elements, rest) = table_elements(alloc, tokens)?;
+    if elements.key_last {
+        Ok((elements, rest))
+    } else {
+        drop(elements);
+        Err(Fault::Syntax)
     }
 }
 
@@ -170,26 +151,20 @@ fn are_distinct(alloc: Global, mut columns: &[MarkedColumn]) -> Result<bool, All
 fn table_elements(alloc: Global, tokens: &[Token]) -> Result<(TableElements, &[Token]), Fault>
     ensures { Gives result (g.table_elements.parses.read tokens.now) }
 {
-    match column(alloc, tokens) {
-        Ok((first, rest)) => match only_column(alloc, first) {
-            Ok(first) => more_elements(alloc, first, rest),
-            Err(_) => Err(Fault::NoMemory),
-        },
-        Err(fault) => Err(fault),
-    }
+    let (first, rest) = column(alloc, tokens)?;
+    let first = only_column(alloc, first)?;
+    more_elements(alloc, first, rest)
 }
 
 fn only_column(alloc: Global, column: MarkedColumn) -> Result<TableElements, AllocError>
     ensures { IfOk result (λ elements. elements ≡ spec.only_columns (column ∷ [])) }
 {
-    match only(alloc, column) {
-        Ok(columns) => Ok(TableElements {
-            columns,
-            key: None,
-            key_last: true,
-        }),
-        Err(refused) => Err(refused),
-    }
+    let columns = only(alloc, column)?;
+    Ok(TableElements {
+        columns,
+        key: None,
+        key_last: true,
+    })
 }
 
 #[tactic(auto, using(crate::proofs::Loops::fold_begins, crate::proofs::Loops::fold_stops, crate::proofs::Loops::fold_ends, crate::proofs::Loops::fold_fails, crate::proofs::Loops::fold_goes_on))]
@@ -235,18 +210,12 @@ fn with_element(elements: TableElements, element: TableElement) -> Result<TableE
     let key_last = key_last && key.is_none();
     match element {
         TableElement::Column(column) => {
-            match columns.push(column) {
-                Ok(()) => Ok(TableElements {
-                    columns,
-                    key,
-                    key_last,
-                }),
-                Err(refused) => {
-                    drop(columns);
-                    drop(key);
-                    Err(refused)
-                }
-            }
+            or_drop!(columns.push(column), columns, key);
+            Ok(TableElements {
+                columns,
+                key,
+                key_last,
+            })
         }
         TableElement::Key(names) => {
             drop(key);
@@ -274,15 +243,11 @@ fn table_element(alloc: Global, tokens: &[Token]) -> Result<(TableElement, &[Tok
     ensures { Gives result (g.table_element.parses.read tokens.now) }
 {
     if starts_name(tokens) {
-        match column(alloc, tokens) {
-            Ok((column, rest)) => Ok((TableElement::Column(column), rest)),
-            Err(fault) => Err(fault),
-        }
+        let (column, rest) = column(alloc, tokens)?;
+        Ok((TableElement::Column(column), rest))
     } else {
-        match primary_key(alloc, tokens) {
-            Ok((key, rest)) => Ok((TableElement::Key(key), rest)),
-            Err(fault) => Err(fault),
-        }
+        let (key, rest) = primary_key(alloc, tokens)?;
+        Ok((TableElement::Key(key), rest))
     }
 }
 
@@ -307,29 +272,21 @@ pub fn listed_names(alloc: Global, tokens: &[Token]) -> Result<(Items<Name>, &[T
     let Some(rest) = symbol(tokens, Symbol::LParen) else {
         return Err(Fault::Syntax);
     };
-    match distinct_names(alloc, rest) {
-        Ok((names, rest)) => closed(names, rest),
-        Err(fault) => Err(fault),
-    }
+    let (names, rest) = distinct_names(alloc, rest)?;
+    closed(names, rest)
 }
 
 #[tactic(auto, unfolding(crate::specs::Grammar::distinct_names))]
 pub fn distinct_names(alloc: Global, tokens: &[Token]) -> Result<(Items<Name>, &[Token]), Fault>
     ensures { Gives result (g.distinct_names.parses.read tokens.now) }
 {
-    match names(alloc, tokens) {
-        Ok((names, rest)) => match are_distinct_names(alloc, names.as_slice()) {
-            Ok(true) => Ok((names, rest)),
-            Ok(false) => {
-                drop(names);
-                Err(Fault::Syntax)
-            }
-            Err(_) => {
-                drop(names);
-                Err(Fault::NoMemory)
-            }
-        },
-        Err(fault) => Err(fault),
+    let (names, rest) = names(alloc, tokens)?;
+    let are_distinct = or_drop!(are_distinct_names(alloc, names.as_slice()), names);
+    if are_distinct {
+        Ok((names, rest))
+    } else {
+        drop(names);
+        Err(Fault::Syntax)
     }
 }
 
@@ -352,31 +309,20 @@ fn are_distinct_names(alloc: Global, mut names: &[Name]) -> Result<bool, AllocEr
 pub fn altered_table(alloc: Global, tokens: &[Token]) -> Result<(TreeWithDepth, &[Token]), Fault>
     ensures { Gives result (read_mapped flat g.altered_table.parses.read tokens.now) }
 {
-    match name(alloc, tokens) {
-        Ok((table, rest)) => match security_change(rest) {
-            Ok((change, rest)) => {
-                let alter = AlterTable { table, change };
-                Ok(((Statement::AlterTable(alter), 0), rest))
-            }
-            Err(fault) => {
-                drop(table);
-                Err(fault)
-            }
-        },
-        Err(fault) => Err(fault),
-    }
+    let (table, rest) = name(alloc, tokens)?;
+    let (change, rest) = or_drop!(security_change(rest), table);
+    let alter = AlterTable { table, change };
+    Ok(((Statement::AlterTable(alter), 0), rest))
 }
 
 /// The change, and ROW LEVEL SECURITY.
 fn security_change(tokens: &[Token]) -> Result<(RowSecurity, &[Token]), Fault>
     ensures { Gives result ((before g.row_change (after (g_word (codes "row")) (after (g_word (codes "level")) (g_word (codes "security")) refl) refl) refl).parses.read tokens.now) }
 {
-    match row_change(tokens) {
-        Ok((change, rest)) => match row_level_security(rest) {
-            Some(rest) => Ok((change, rest)),
-            None => Err(Fault::Syntax),
-        },
-        Err(fault) => Err(fault),
+    let (change, rest) = row_change(tokens)?;
+    match row_level_security(rest) {
+        Some(rest) => Ok((change, rest)),
+        None => Err(Fault::Syntax),
     }
 }
 

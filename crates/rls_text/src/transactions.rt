@@ -42,15 +42,13 @@ pub fn starts_transaction(tokens: &[Token]) -> bool
 pub fn whole_transaction(alloc: Global, tokens: &[Token]) -> Result<Command, Fault>
     ensures { GivesWhole result (spec.whole_transaction tokens.now) }
 {
-    match transaction(alloc, tokens) {
-        Ok((command, rest)) => match rest {
-            [] => Ok(command),
-            [_, ..] => {
-                drop(command);
-                Err(Fault::Syntax)
-            }
-        },
-        Err(fault) => Err(fault),
+    let (command, rest) = transaction(alloc, tokens)?;
+    match rest {
+        [] => Ok(command),
+        [_, ..] => {
+            drop(command);
+            Err(Fault::Syntax)
+        }
     }
 }
 
@@ -59,12 +57,10 @@ pub fn whole_transaction(alloc: Global, tokens: &[Token]) -> Result<Command, Fau
 fn transaction(alloc: Global, tokens: &[Token]) -> Result<(Command, &[Token]), Fault>
     ensures { Gives result (g.transaction.parses.read tokens.now) }
 {
-    match bare_transaction(alloc, tokens) {
-        Ok((command, rest)) => match symbol(rest, Symbol::Semicolon) {
-            Some(rest) => Ok((command, rest)),
-            None => Ok((command, rest)),
-        },
-        Err(fault) => Err(fault),
+    let (command, rest) = bare_transaction(alloc, tokens)?;
+    match symbol(rest, Symbol::Semicolon) {
+        Some(rest) => Ok((command, rest)),
+        None => Ok((command, rest)),
     }
 }
 
@@ -85,10 +81,8 @@ fn bare_transaction(alloc: Global, tokens: &[Token]) -> Result<(Command, &[Token
 fn begin(alloc: Global, tokens: &[Token]) -> Result<(Command, &[Token]), Fault>
     ensures { Gives result (g.begin.parses.read tokens.now) }
 {
-    match begun_or_started(alloc, tokens) {
-        Ok((mode, rest)) => Ok((Command::Begin(mode), rest)),
-        Err(fault) => Err(fault),
-    }
+    let (mode, rest) = begun_or_started(alloc, tokens)?;
+    Ok((Command::Begin(mode), rest))
 }
 
 #[tactic(auto, unfolding(crate::specs::Transactions::begun_or_started, crate::specs::Transactions::begun, crate::specs::Transactions::started))]
@@ -150,14 +144,10 @@ fn access_mode(alloc: Global, tokens: &[Token]) -> Result<(AccessMode, &[Token])
     ensures { Gives result (g.access_mode.parses.read tokens.now) }
 {
     if sees_one_of(tokens, &MODES) {
-        match modes(alloc, tokens) {
-            Ok((written, rest)) => {
-                let mode = access_of(written.as_slice());
-                drop(written);
-                Ok((mode, rest))
-            }
-            Err(fault) => Err(fault),
-        }
+        let (written, rest) = modes(alloc, tokens)?;
+        let mode = access_of(written.as_slice());
+        drop(written);
+        Ok((mode, rest))
     } else {
         Ok((AccessMode::ReadWrite, tokens))
     }
@@ -168,16 +158,12 @@ fn access_mode(alloc: Global, tokens: &[Token]) -> Result<(AccessMode, &[Token])
 fn modes(alloc: Global, tokens: &[Token]) -> Result<(Items<TransactionMode>, &[Token]), Fault>
     ensures { Gives result (g.modes.parses.read tokens.now) }
 {
-    match first_and_more(alloc, tokens) {
-        Ok((all, rest)) => {
-            if each_once(all.as_slice()) {
-                Ok((all, rest))
-            } else {
-                drop(all);
-                Err(Fault::Syntax)
-            }
-        }
-        Err(fault) => Err(fault),
+    let (all, rest) = first_and_more(alloc, tokens)?;
+    if each_once(all.as_slice()) {
+        Ok((all, rest))
+    } else {
+        drop(all);
+        Err(Fault::Syntax)
     }
 }
 
@@ -188,13 +174,9 @@ fn first_and_more(
 ) -> Result<(Items<TransactionMode>, &[Token]), Fault>
     ensures { Gives result (g.first_and_more.parses.read tokens.now) }
 {
-    match mode(tokens) {
-        Ok((first, rest)) => match only(alloc, first) {
-            Ok(all) => more_modes(all, rest),
-            Err(_) => Err(Fault::NoMemory),
-        },
-        Err(fault) => Err(fault),
-    }
+    let (first, rest) = mode(tokens)?;
+    let all = only(alloc, first)?;
+    more_modes(all, rest)
 }
 
 #[tactic(auto, using(crate::proofs::Loops::front_begins, crate::proofs::Loops::loop_stops, crate::proofs::Loops::loop_ends, crate::proofs::Loops::loop_fails, crate::proofs::Loops::loop_goes_on))]

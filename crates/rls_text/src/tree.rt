@@ -10,7 +10,7 @@ ghost use Rattle.rls_text.specs.Values as values;
 use crate::subtree::Subtree;
 use rls_expr::{Comparison, Expr, FromItem, Node, Selects, Sign, Subquery, boxed_query};
 use rls_statement::{Assignment, Selected, Statement};
-use rls_value::{Items, Name, Value};
+use rls_value::{Items, Name, Value, or_drop};
 use std::alloc::{AllocError, Global};
 
 /// The greatest depth of an expression; a leaf counts one.
@@ -30,20 +30,16 @@ pub enum Operands {
 fn node_of(alloc: Global, node: Node, depth: u32) -> Result<Tree, AllocError>
     ensures { IfOk result (λ tree. tree ≡ (term_of node, depth)) }
 {
-    match Subtree::new(alloc, Expr::new(node)) {
-        Ok(node) => Ok((node, depth)),
-        Err(refused) => Err(refused),
-    }
+    let node = Subtree::new(alloc, Expr::new(node))?;
+    Ok((node, depth))
 }
 
 /// An expression without operands.
 pub fn leaf_of(alloc: Global, leaf: Expr) -> Result<Tree, AllocError>
     ensures { IfOk result (λ tree. tree ≡ spec.leaf leaf) }
 {
-    match Subtree::new(alloc, leaf) {
-        Ok(leaf) => Ok((leaf, 1)),
-        Err(refused) => Err(refused),
-    }
+    let leaf = Subtree::new(alloc, leaf)?;
+    Ok((leaf, 1))
 }
 
 fn cut(alloc: Global) -> Result<Tree, AllocError>
@@ -114,16 +110,12 @@ pub fn with_operand(
     let (operand, other) = operand;
     match operands {
         Operands::One(first, depth) => {
-            match pair(alloc, first.into_expr(), operand.into_expr()) {
-                Ok(all) => Ok(Operands::Several(all, depth.max(other))),
-                Err(refused) => Err(refused),
-            }
+            let all = pair(alloc, first.into_expr(), operand.into_expr())?;
+            Ok(Operands::Several(all, depth.max(other)))
         }
         Operands::Several(all, depth) => {
-            match with_one_more(all, operand.into_expr()) {
-                Ok(all) => Ok(Operands::Several(all, depth.max(other))),
-                Err(refused) => Err(refused),
-            }
+            let all = with_one_more(all, operand.into_expr())?;
+            Ok(Operands::Several(all, depth.max(other)))
         }
     }
 }
@@ -131,26 +123,16 @@ pub fn with_operand(
 fn pair(alloc: Global, first: Expr, second: Expr) -> Result<Items<Expr>, AllocError>
     ensures { IfOk result (λ all. all ≡ first ∷ second ∷ []) }
 {
-    match with_one_more(Items::new(alloc), first) {
-        Ok(all) => with_one_more(all, second),
-        Err(refused) => {
-            drop(second);
-            Err(refused)
-        }
-    }
+    let all = or_drop!(with_one_more(Items::new(alloc), first), second);
+    with_one_more(all, second)
 }
 
 fn with_one_more(all: Items<Expr>, next: Expr) -> Result<Items<Expr>, AllocError>
     ensures { IfOk result (λ more. more ≡ all ++ next ∷ []) }
 {
     let mut all = all;
-    match all.push(next) {
-        Ok(()) => Ok(all),
-        Err(refused) => {
-            drop(all);
-            Err(refused)
-        }
-    }
+    or_drop!(all.push(next), all);
+    Ok(all)
 }
 
 /// One operand alone makes no node.
@@ -196,33 +178,17 @@ pub fn with_summand(alloc: Global, sum: Summed, part: (Sign, Tree)) -> Result<Su
 {
     let (parts, signs) = sum;
     let (sign, part) = part;
-    match with_sign(signs, sign) {
-        Ok(signs) => match with_operand(alloc, parts, part) {
-            Ok(parts) => Ok((parts, signs)),
-            Err(refused) => {
-                drop(signs);
-                Err(refused)
-            }
-        },
-        Err(refused) => {
-            drop(parts);
-            drop(part);
-            Err(refused)
-        }
-    }
+    let signs = or_drop!(with_sign(signs, sign), parts, part);
+    let parts = or_drop!(with_operand(alloc, parts, part), signs);
+    Ok((parts, signs))
 }
 
 fn with_sign(signs: Items<Sign>, sign: Sign) -> Result<Items<Sign>, AllocError>
     ensures { IfOk result (λ all. all ≡ signs ++ sign ∷ []) }
 {
     let mut signs = signs;
-    match signs.push(sign) {
-        Ok(()) => Ok(signs),
-        Err(refused) => {
-            drop(signs);
-            Err(refused)
-        }
-    }
+    or_drop!(signs.push(sign), signs);
+    Ok(signs)
 }
 
 /// One part alone makes no node.
@@ -366,10 +332,8 @@ pub fn exists_of(alloc: Global, select: SelectParts) -> Result<Tree, AllocError>
     let (select, depth) = parted_select(select);
     let depth = one_deeper(depth);
     if depth < MAX_DEPTH {
-        match subquery(alloc, select) {
-            Ok(query) => node_of(alloc, Node::Exists(query), depth + 1),
-            Err(refused) => Err(refused),
-        }
+        let query = subquery(alloc, select)?;
+        node_of(alloc, Node::Exists(query), depth + 1)
     } else {
         drop(select);
         cut(alloc)
@@ -383,10 +347,8 @@ pub fn scalar_of(alloc: Global, select: SelectParts) -> Result<Tree, AllocError>
 {
     let (select, depth) = parted_select(select);
     if depth < MAX_DEPTH {
-        match subquery(alloc, select) {
-            Ok(query) => node_of(alloc, Node::Scalar(query), depth + 1),
-            Err(refused) => Err(refused),
-        }
+        let query = subquery(alloc, select)?;
+        node_of(alloc, Node::Scalar(query), depth + 1)
     } else {
         drop(select);
         cut(alloc)
@@ -448,18 +410,11 @@ fn queried_of(
     let (select, other) = parted_select(select);
     let depth = depth.max(one_deeper(other));
     if depth < MAX_DEPTH {
-        match subquery(alloc, select) {
-            Ok(query) => {
-                let left = left.into_box();
-                match negated {
-                    None => node_of(alloc, Node::InSubquery(left, query), depth + 1),
-                    Some(()) => node_of(alloc, Node::NotInSubquery(left, query), depth + 1),
-                }
-            }
-            Err(refused) => {
-                drop(left);
-                Err(refused)
-            }
+        let query = or_drop!(subquery(alloc, select), left);
+        let left = left.into_box();
+        match negated {
+            None => node_of(alloc, Node::InSubquery(left, query), depth + 1),
+            Some(()) => node_of(alloc, Node::NotInSubquery(left, query), depth + 1),
         }
     } else {
         drop(left);

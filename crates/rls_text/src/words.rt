@@ -17,14 +17,10 @@ const USUAL_WORDS: usize = 32;
 pub fn words(alloc: Global, text: &str) -> Result<Vec<Token>, AllocError>
     ensures { IfOk result (λ tokens. tokens.items ≡ spec.words_of text.now) }
 {
-    match chars_of(alloc, text) {
-        Ok(chars) => {
-            let words = words_in(alloc, chars.as_slice());
-            drop(chars);
-            words
-        }
-        Err(refused) => Err(refused),
-    }
+    let chars = chars_of(alloc, text)?;
+    let words = words_in(alloc, chars.as_slice());
+    drop(chars);
+    words
 }
 
 fn chars_of(alloc: Global, text: &str) -> Result<Vec<char>, AllocError>
@@ -59,10 +55,7 @@ fn next(alloc: Global, chars: &[char]) -> Result<Option<(Token, &[char])>, Alloc
     ensures { IfOk result (λ read. spec.next_word chars.now ≡ spec.read_now read) }
 {
     match behind_blanks(chars) {
-        [first, behind @ ..] => match word_from(alloc, *first, behind) {
-            Ok(read) => Ok(Some(read)),
-            Err(refused) => Err(refused),
-        },
+        [first, behind @ ..] => Ok(Some(word_from(alloc, *first, behind)?)),
         [] => Ok(None),
     }
 }

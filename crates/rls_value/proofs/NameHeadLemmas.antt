@@ -1,5 +1,5 @@
 -- The first bytes of a name as a number tell two names apart in their order.
-use Rattle.std.proofs.Common.{◌≡◌, ℕ, zero, suc, ◌+◌, ◌*◌, ◌-◌, ◌≤◌, ◌<◌, ◌⊎◌, Bool, true, false, List, [], ◌∷◌, refl, ap, sym, subst, ◌∙◌, arith, rules, inl, inr}
+use Rattle.std.proofs.Common.{◌≡◌, ℕ, zero, suc, ◌+◌, ◌*◌, ◌≤◌, ◌<◌, Bool, true, false, List, [], ◌∷◌, length, refl, ap, sym, subst, ◌∙◌, arith, rules, inl, inr}
 use Rattle.std.specs.{List.list_all, Str.bytes_eq}
 use Rattle.std.specs.Ordering.{nat_cmp, ordering_then}
 use Rattle.std.specs.Cmp.{nat_cmp_is}
@@ -9,6 +9,7 @@ use Rattle.std.specs.declared.cmp.Ordering.TheVariants.{Less, Equal, Greater}
 use Rattle.std.proofs.Math.Nat.{mul-le-mul_right}
 use Rattle.std.proofs.lemmas.Bool.{cases_order, and_parts}
 use Rattle.std.proofs.lemmas.Slice.Eq.{bytes_eq-Decides}
+use Rattle.std.proofs.lemmas.Map.Text.{is_eq-slice_cmp}
 use Rattle.rls_value.specs.Names.{is_letter_or_digit, IsName}
 use Rattle.rls_value.specs.NameHeads.{head_of, weight}
 
@@ -120,3 +121,50 @@ same_heads xs ys false is differ = is
 -- names whose numbers differ are two
 pub heads_differ : (xs ys : List ℕ) (m n : ℕ) → m ≡ head_of 8 xs → n ≡ head_of 8 ys → ¬ (m ≡ n) → bytes_eq xs ys ≡ false
 heads_differ xs ys m n is its differ = same_heads xs ys (bytes_eq xs ys) refl (λ same. differ (is ∙ same ∙ sym its))
+
+-- ---- short names
+
+some_byte : (byte : ℕ) → is_letter_or_digit byte ≡ true → 0 < byte
+some_byte byte h = search (rules, h)
+
+first_told : (n x y h k : ℕ) → x < y → h < weight n → ¬ (x * weight n + h ≡ y * weight n + k)
+first_told n x y h k less below same =
+    let up : suc x * weight n ≤ y * weight n = mul-le-mul_right (weight n) less in
+    omega (arith, up, below, same)
+
+-- a byte that is there counts
+byte_counts : (n x h : ℕ) → 0 < x → ¬ (0 ≡ x * weight n + h)
+byte_counts n x h some none =
+    let up : 1 * weight n ≤ x * weight n = mul-le-mul_right (weight n) some in
+    let above : 0 < weight n = weight_above n in
+    omega (arith, up, above, none)
+
+-- the number of so many bytes tells names that have no more
+head_tells : (n : ℕ) (xs ys : List ℕ) → list_all is_letter_or_digit xs ≡ true → list_all is_letter_or_digit ys ≡ true → length xs ≤ n → length ys ≤ n → head_of n xs ≡ head_of n ys → xs ≡ ys
+head_tells n [] [] h k short few same = refl
+head_tells zero (x ∷ xs) ys h k short few same = absurd (omega (arith, short))
+head_tells zero [] (y ∷ ys) h k short few same = absurd (omega (arith, few))
+head_tells (suc n) [] (y ∷ ys) h k short few same =
+    absurd (byte_counts n y (head_of n ys) (some_byte y (and_parts (is_letter_or_digit y) (list_all is_letter_or_digit ys) k).0) same)
+head_tells (suc n) (x ∷ xs) [] h k short few same =
+    absurd (byte_counts n x (head_of n xs) (some_byte x (and_parts (is_letter_or_digit x) (list_all is_letter_or_digit xs) h).0) (sym same))
+head_tells (suc n) (x ∷ xs) (y ∷ ys) h k short few same =
+    let hs = and_parts (is_letter_or_digit x) (list_all is_letter_or_digit xs) h in
+    let ks = and_parts (is_letter_or_digit y) (list_all is_letter_or_digit ys) k in
+    elim (cases_order x y) [
+      | inl is ↦
+          ap (λ (z : ℕ). z ∷ xs) is
+          ∙ ap (λ (zs : List ℕ). y ∷ zs) (head_tells n xs ys hs.1 ks.1 (omega (arith, short)) (omega (arith, few))
+          (let at : x * weight n + head_of n xs ≡ x * weight n + head_of n ys = subst (λ (z : ℕ). x * weight n + head_of n xs ≡ z * weight n + head_of n ys) (sym is) same in omega (arith, at)))
+      | inr (inl below) ↦ absurd (first_told n x y (head_of n xs) (head_of n ys) below (head_under n xs hs.1) same)
+      | inr (inr above) ↦ absurd (first_told n y x (head_of n ys) (head_of n xs) above (head_under n ys ks.1) (sym same))
+    ]
+
+-- short names whose numbers are the same are one
+pub heads_tell : (xs ys : List ℕ) (m n : ℕ) → IsName xs → IsName ys → m ≡ head_of 8 xs → n ≡ head_of 8 ys → m ≡ n → length xs ≤ 8 → length ys ≤ 8 → bytes_eq xs ys ≡ true
+heads_tell xs ys m n hx hy is its same short few =
+    (bytes_eq-Decides xs ys).1 (head_tells 8 xs ys (letters_of xs hx) (letters_of ys hy) short few (sym is ∙ same ∙ its))
+
+-- names that are the same tie
+pub same_names_tie : (xs ys : List ℕ) → true ≡ bytes_eq xs ys → Equal ≡ slice_cmp nat_cmp xs ys
+same_names_tie xs ys is = search (rules, is_eq-slice_cmp xs ys, is)

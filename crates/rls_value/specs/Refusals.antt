@@ -96,6 +96,7 @@ name_kind_text n.Policy = codes "policy"
 -- what a denial says is missing
 abbrev pub why_text : Why → List ℕ
 why_text (w.Privilege p table) = codes "permission denied for table " ++ (table ++ (codes ": " ++ (privilege_word p ++ codes " is missing")))
+why_text (w.Column p table column) = codes "permission denied for table " ++ (table ++ (codes ": " ++ (privilege_word p ++ (codes " is missing on column \"" ++ (column ++ codes "\"")))))
 why_text (w.Owner table) = codes "must be owner of table " ++ table
 why_text (w.Admin role) = codes "permission denied to manage role \"" ++ (role ++ codes "\"")
 why_text (w.SetRole role) = codes "permission denied to set role \"" ++ (role ++ codes "\"")

@@ -1,6 +1,7 @@
 //! Values, truth, names, row numbers, objects, and the refusals with their texts.
 #![tactic(auto)]
 
+mod dropping;
 mod items;
 mod name;
 mod object;
@@ -19,6 +20,7 @@ pub use object::{Object, cmp_objects};
 pub use reference::Reference;
 pub use refusal::{Cause, DefinedKind, GrantFault, Limit, NameKind, Refusal, TxnState, Why};
 pub use row::{Row, RowId, cmp_rows};
+pub use shared;
 pub use tag::Tag;
 pub use text::Text;
 pub use truth::Truth;

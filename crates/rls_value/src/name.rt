@@ -1,6 +1,6 @@
 //! Names of roles, tables, columns and policies.
 
-ghost use Rattle.std.specs.Prelude.{◌≡◌, ◌<◌, ◌↔◌, true, false, map, length, ◌≤◌, IfOk, IfErr, IsErrOf};
+ghost use Rattle.std.specs.Prelude.{◌≡◌, ◌<◌, ◌↔◌, true, false, map, length, ◌≤◌, nat_le, IfOk, IfErr, IsErrOf};
 ghost use Rattle.std.specs.{Str.bytes_eq, List.list_all, Cmp.Lexicographic.slice_cmp, Ordering.nat_cmp, Ordering.as_partial_cmp};
 ghost use Rattle.rls_value.specs.NameHeads.{head_of, weight};
 ghost use Rattle.rls_value.specs.Names as spec;
@@ -17,6 +17,9 @@ use std::sync::ArcStr;
 
 /// The most bytes that a name has.
 pub const MAX_NAME: usize = 63;
+
+// How many of its bytes a name's head has.
+const HEAD: usize = 8;
 
 /// A name, in lower case, seen as its bytes (PostgreSQL manual, 4.1.1, without quoted names).
 #[derive(Drop)]
@@ -101,7 +104,20 @@ impl Name {
     pub fn is(&self, other: &Name) -> bool
         ensures { result ≡ bytes_eq self.now other.now }
     {
-        self.head == other.head && self.letters.as_str() == other.letters.as_str()
+        if self.head != other.head {
+            return false;
+        }
+        if self.is_short() && other.is_short() {
+            return true;
+        }
+        self.letters.as_str() == other.letters.as_str()
+    }
+
+    /// Whether its head has all its letters: short names with the same head are the same.
+    fn is_short(&self) -> bool
+        ensures { result ≡ nat_le (length self.now) HEAD }
+    {
+        self.letters.as_str().len() <= HEAD
     }
 }
 
@@ -146,7 +162,14 @@ impl Ord for Name {
 
     fn cmp(&self, other: &Name) -> Ordering {
         match self.head.cmp(&other.head) {
-            Ordering::Equal => self.letters.as_str().cmp(other.letters.as_str()),
+            Ordering::Equal => {
+                // Most names with the same head are the same, which is told sooner than their order.
+                if self.is(other) {
+                    Ordering::Equal
+                } else {
+                    self.letters.as_str().cmp(other.letters.as_str())
+                }
+            }
             order => order,
         }
     }

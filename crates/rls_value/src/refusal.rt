@@ -109,6 +109,8 @@ impl DefinedKind {
 pub enum Why {
     /// The privilege on the table.
     Privilege(Privilege, Name),
+    /// The privilege on a column, where others are granted: first the table, then the column.
+    Column(Privilege, Name, Name),
     /// To own the table.
     Owner(Name),
     /// To manage the role.
@@ -268,6 +270,9 @@ impl Why {
     {
         match self {
             Why::Privilege(privilege, table) => Ok(Why::Privilege(*privilege, table.copy()?)),
+            Why::Column(privilege, table, column) => {
+                Ok(Why::Column(*privilege, table.copy()?, column.copy()?))
+            }
             Why::Owner(table) => Ok(Why::Owner(table.copy()?)),
             Why::Admin(role) => Ok(Why::Admin(role.copy()?)),
             Why::SetRole(role) => Ok(Why::SetRole(role.copy()?)),
@@ -489,6 +494,9 @@ impl fmt::Display for Why {
     fn fmt<W: fmt::Write>(&self, f: &mut fmt::Formatter<W>) -> fmt::Result {
         match self {
             Why::Privilege(privilege, table) => write_missing(f, *privilege, table),
+            Why::Column(privilege, table, column) => {
+                write_missing_on(f, *privilege, table, column)
+            }
             Why::Owner(table) => write_around(f, "must be owner of table ", table, ""),
             Why::Admin(role) => {
                 write_around(f, "permission denied to manage role \"", role, "\"")
@@ -511,6 +519,20 @@ fn write_missing<W: fmt::Write>(
     write!(
         f,
         "permission denied for table {table}: {privilege} is missing"
+    )
+}
+
+fn write_missing_on<W: fmt::Write>(
+    f: &mut fmt::Formatter<W>,
+    privilege: Privilege,
+    table: &Name,
+    column: &Name,
+) -> fmt::Result
+    ensures { WritesOnOk W.write_str_gives f.old result (spec.why_text (Why.Column privilege table.now column.now)) f.new }
+{
+    write!(
+        f,
+        "permission denied for table {table}: {privilege} is missing on column \"{column}\""
     )
 }
 

@@ -1,7 +1,9 @@
 pub mod Around
 pub mod Flat
 pub mod Hits
+pub mod KeyOrder
 pub mod Left
+pub mod Listed
 pub mod Lengths
 pub mod Order
 pub mod Parts

@@ -1,16 +1,18 @@
-//! A map in order whose copies share its nodes.
+//! A map in order, and a list in the order of its items' keys, whose copies share their nodes.
 #![tactic(auto)]
 
 mod branch;
 mod items;
 mod iter;
+mod list;
 mod map;
 mod page;
 mod part;
-mod share;
 mod tree;
+mod values;
 
 pub use iter::Iter;
+pub use list::SharedList;
 pub use map::SharedMap;
-pub use share::Share;
-pub use shared::Shared;
+pub use shared::{HasKey, Share, Shared};
+pub use values::Values;

@@ -1,12 +1,12 @@
 use Rattle.std.proofs.Common.{◌≡◌, ◌+◌, ◌*◌, drop}
 use Rattle.rls_expr.specs.ExprTerms.{query_of}
 use Rattle.rls_expr.specs.Terms.{maybe_term, terms_of, term_size, terms_size, query_size}
-use Rattle.rls_expr.specs.Parts.{nesting_of, some_mentions}
+use Rattle.rls_expr.specs.Parts.{is_wanted, nesting_of, some_mentions}
 use Rattle.rls_expr.proofs.parts.+mentions.Given as goal
 
 -- there is none in the parts passed: what is left decides
 abbrev pub invariant-some_mentions-loop-part : goal.invariant-some_mentions-loop-part
-invariant-some_mentions-loop-part l = some_mentions (nesting_of l.table) (terms_of (drop l.part-index l.parts)) ≡ some_mentions (nesting_of l.table) (terms_of l.parts)
+invariant-some_mentions-loop-part l = some_mentions (is_wanted l.wanted) (nesting_of l.table) (terms_of (drop l.part-index l.parts)) ≡ some_mentions (is_wanted l.wanted) (nesting_of l.table) (terms_of l.parts)
 
 -- the size of what is left; a list of parts stands above its parts
 abbrev pub decreases-is_mentioned : goal.decreases-is_mentioned

@@ -32,7 +32,7 @@ invariant_of-self g c =
           (subst (λ (n : ℕ). Happens (Event.Posts n asked) s.core c.admit.new.self) number c.in-Ok-admit.ensures.ok)
           c.set_token.ensures
           (subst (λ (u : Where Stand). Shows g.N.Named.steps u) (sym c.again.ensures) (subst (λ (v : Shelves). Shows v c.in-Ok.at) c.requires.steps c.in-Ok.ensures.0.0))
-          (leads_on s.core held asked t fits (ap (λ (u : Where Stand). u.value) c.again.ensures ∙ c.in-Ok.ensures.0.1 ∙ c.posted.ensures)),
+          (leads_on s.core held asked t fits (ap (λ (u : Where Stand). u.value) c.again.ensures ∙ c.in-Ok.ensures.0.1 ∙ c.posted.ensures ∙ ap (posted_on (stand_at s.core.committed (runs_at s.core held.txn))) c.get.ensures)),
       led_on g.N.Named.asks s.core c.admit.new.self (Event.Posts c.args.work.txn asked) c.self.invariant.1 c.in-Ok-admit.ensures.ok c.requires.asked,
     )
 
@@ -50,7 +50,7 @@ returns-in-Ok-admit-clause-ok g c =
         counted = (invariant_of-self g c).0.counted;
       };
       shows = subst (λ (v : Shelves). Shows v c.in-Ok.at) c.requires.steps c.in-Ok.ensures.0.0;
-      leads = leads_on s.core H asked c.in-Ok.at fits (c.in-Ok.ensures.0.1 ∙ c.posted.ensures ∙ ap (λ (n : ℕ). posted_on (stand_at s.core.committed (runs_at s.core n)) asked) txn);
+      leads = leads_on s.core H asked c.in-Ok.at fits (c.in-Ok.ensures.0.1 ∙ c.posted.ensures ∙ ap (posted_on (stand_at s.core.committed (runs_at s.core c.held.inside.txn))) c.get.ensures ∙ ap (λ (n : ℕ). posted_on (stand_at s.core.committed (runs_at s.core n)) asked) txn);
     }
 
 pub invariant_of-self-in-Err-admit : goal.invariant_of-self-in-Err-admit

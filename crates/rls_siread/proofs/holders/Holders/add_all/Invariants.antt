@@ -4,4 +4,4 @@ use Rattle.rls_siread.proofs.holders.Holders.add_all.Given as goal
 
 -- those that are left lead to all
 abbrev pub invariant-loop-txn : goal.invariant-loop-txn
-invariant-loop-txn l = all_arrived l.self.txns (drop l.txn-index l.others.txns) ≡ all_arrived l.fn.self.txns l.others.txns
+invariant-loop-txn l = all_arrived l.self.txns (drop l.txn-index l.others) ≡ all_arrived l.fn.self.txns l.others

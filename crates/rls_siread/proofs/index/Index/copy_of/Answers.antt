@@ -13,4 +13,4 @@ returns-in-Some c =
 
 pub returns-in-None : goal.returns-in-None
 returns-in-None c =
-    c.new.ensures ∙ sym (nobody_at c.args.self.now.holders.entries c.args.object.now c.len-in_order.ensures.ordered (sym c.get.ensures.value ∙ ap option_copied c.in-None.is))
+    c.new.ensures.nobody ∙ sym (nobody_at c.args.self.now.holders.entries c.args.object.now c.len-in_order.ensures.ordered (sym c.get.ensures.value ∙ ap option_copied c.in-None.is))

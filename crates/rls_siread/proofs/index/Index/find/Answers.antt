@@ -9,7 +9,7 @@ use Rattle.rls_siread.proofs.index.Index.find.Goals as goal
 pub returns-in-Some : goal.returns-in-Some
 returns-in-Some c =
     let found : entry_at c.args.self.now.holders.entries c.args.object.now ≡ Some c.in-Some.held.now = sym c.get.ensures.value ∙ ap option_copied c.in-Some.is in
-    let there : held_at c.args.self.now.holders.entries c.args.object.now ≡ c.in-Some.held.now.txns = seen c.args.self.now.holders.entries c.args.object.now c.len-in_order.ensures.ordered ∙ ap txns_in found in
+    let there : held_at c.args.self.now.holders.entries c.args.object.now ≡ c.as_slice.result.now = seen c.args.self.now.holders.entries c.args.object.now c.len-in_order.ensures.ordered ∙ ap txns_in found ∙ sym c.as_slice.ensures in
     rw there c.add_all.ensures
 
 pub returns-in-None : goal.returns-in-None

@@ -1,4 +1,4 @@
-use Rattle.std.proofs.Common.{◌≡◌, List, ℕ, refl, ap, sym, subst, ◌∙◌}
+use Rattle.std.proofs.Common.{List, ℕ, refl, ap, sym, subst, ◌∙◌}
 use Rattle.rls_value.specs.Names.{IsName, postgres, reserved}
 use Rattle.rls_value.specs.NameHeads.{head_of}
 use Rattle.rls_value.proofs.name.Name.postgres.Goals as goal

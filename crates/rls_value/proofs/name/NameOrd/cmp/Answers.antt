@@ -1,9 +1,12 @@
-use Rattle.std.proofs.Common.{◌≡◌, List, ℕ, ap, sym, subst, ◌∙◌}
+use Rattle.std.proofs.Common.{◌≡◌, List, ℕ, subst}
 use Rattle.std.specs.Arc.{arc_str_bytes}
 use Rattle.std.specs.Ordering.{nat_cmp}
 use Rattle.std.specs.Cmp.Lexicographic.{slice_cmp}
-use Rattle.rls_value.proofs.NameHeadLemmas.{head_orders}
+use Rattle.rls_value.proofs.NameHeadLemmas.{head_orders, same_names_tie}
 use Rattle.rls_value.proofs.name.NameOrd.cmp.Goals as goal
+
+pub returns-then-is : goal.returns-then-is
+returns-then-is c = same_names_tie c.args.self.now c.args.other.now c.if-is.ensures
 
 pub returns-in_default : goal.returns-in_default
 returns-in_default c =

@@ -1,9 +1,0 @@
-use Rattle.std.proofs.Common.{length, sym, ◌∙◌, arith}
-use Rattle.rls_text.proofs.Loops.{loop_stops, loop_ends}
-use Rattle.rls_text.proofs.memberships.more_settings.Goals as goal
-
-pub returns-then-not-sees_symbol : goal.returns-then-not-sees_symbol
-returns-then-not-sees_symbol c = c.loop-turn.invariant ∙ loop_stops _ _ c.loop-turn.all c.loop-turn._turn (length c.args.tokens.now) c.loop-turn.rest.now c.loop-turn-test.true (sym c.if-not-sees_symbol.ensures)
-
-pub returns : goal.returns
-returns c = c.loop-turn.invariant ∙ loop_ends _ _ c.loop-turn.all c.loop-turn._turn (length c.args.tokens.now) c.loop-turn.rest.now (omega (arith, c.loop-turn-test.false))
