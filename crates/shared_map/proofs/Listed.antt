@@ -6,8 +6,8 @@ use Rattle.std.specs.Ordering.{match_ordering}
 use Rattle.std.specs.Map.{keys_of, values_of, lookup, remove_entry}
 use Rattle.std.specs.BTreeMap.{insert_entry, is_at}
 use Rattle.std.specs.List.Sorted.{IsStrictlySortedBy}
-use Rattle.shared_map.specs.Entries.{Ascend}
-use Rattle.shared_map.specs.Lists.{HaveKeys, InKeyOrder, item_at, with_item, without_item}
+use Rattle.shared_map.specs.Entries.{Ascend, entries_from}
+use Rattle.shared_map.specs.Lists.{HaveKeys, InKeyOrder, item_at, items_from, with_item, without_item}
 
 module _ {K X : Type 0} (key_of : X → K) where
   pub keys_are : (es : List (K × X)) → HaveKeys key_of es → keys_of es ≡ map key_of (values_of es)
@@ -20,6 +20,13 @@ module _ {K X : Type 0} (key_of : X → K) where
   pub found : (test : K → Bool) (es : List (K × X)) → HaveKeys key_of es → lookup test es ≡ item_at test key_of (values_of es)
   found test [] h = refl
   found test (e ∷ es) h = λ i. cond (test (h.0 i)) (Some e.1) (found test es h.1 i)
+
+  pub left_from : (test : K → Bool) (es : List (K × X)) → HaveKeys key_of es → values_of (entries_from test es) ≡ items_from test key_of (values_of es)
+  left_from test [] h = refl
+  left_from test (e ∷ es) h =
+      (elim (test e.0) as (λ t. values_of (cond t (e ∷ es) (entries_from test es)) ≡ cond t (e.1 ∷ values_of es) (items_from test key_of (values_of es)))
+      [ true ↦ refl | false ↦ left_from test es h.1 ])
+      ∙ (λ i. cond (test (h.0 i)) (e.1 ∷ values_of es) (items_from test key_of (values_of es)))
 
   pub put_in : (cmp : K → K → Ordering) (es : List (K × X)) (k : K) (item : X) → k ≡ key_of item → HaveKeys key_of es → values_of (insert_entry cmp es k item) ≡ with_item cmp key_of (values_of es) item
   put_in cmp [] k item q h = refl

@@ -27,3 +27,8 @@ with_item cmp key_of (x ∷ xs) item = match_ordering (cmp (key_of item) (key_of
 abbrev pub without_item : {K X : Type 0} → (K → Bool) → (X → K) → List X → List X
 without_item test key_of [] = []
 without_item test key_of (x ∷ xs) = cond (test (key_of x)) xs (x ∷ without_item test key_of xs)
+
+-- the items from the first on whose key passes
+abbrev pub items_from : {K X : Type 0} → (K → Bool) → (X → K) → List X → List X
+items_from test key_of [] = []
+items_from test key_of (x ∷ xs) = cond (test (key_of x)) (x ∷ xs) (items_from test key_of xs)

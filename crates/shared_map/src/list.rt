@@ -1,9 +1,10 @@
 //! Lists in the order of their items' keys, whose copies share their nodes.
 
-ghost use Rattle.std.specs.Prelude.{◌≡◌, [], length, IfOk, OnOk, OnErr};
+ghost use Rattle.std.specs.Prelude.{◌≡◌, [], false, length, IfOk, OnOk, OnErr};
 ghost use Rattle.std.specs.Option.{option_copied};
 ghost use Rattle.std.specs.BTreeMap.{is_at};
-ghost use Rattle.shared_map.specs.Lists.{InKeyOrder, item_at, with_item, without_item};
+ghost use Rattle.shared_map.specs.Entries.{is_reached};
+ghost use Rattle.shared_map.specs.Lists.{InKeyOrder, item_at, items_from, with_item, without_item};
 
 use crate::map::SharedMap;
 use crate::values::Values;
@@ -75,6 +76,15 @@ impl<K: Ord + Shared, T: HasKey<K> + Shared> SharedList<K, T> {
         ensures ordered { InKeyOrder K.cmp T.key_of self.now }
     {
         self.items.values()
+    }
+
+    /// The items from the key on, in order.
+    #[tactic(auto, using(crate::proofs::Listed::keys_ascend, crate::proofs::Listed::left_from))]
+    pub fn iter_from<'m>(&'m self, key: &K) -> Values<'m, K, T>
+        ensures left { result ≡ items_from (is_reached (K.cmp key.now) false) T.key_of self.now }
+        ensures ordered { InKeyOrder K.cmp T.key_of self.now }
+    {
+        self.items.values_from(key)
     }
 
     /// The item with the key, if there is one.

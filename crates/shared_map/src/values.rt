@@ -1,8 +1,8 @@
 //! The way through the values of a map.
 
-ghost use Rattle.std.specs.Prelude.{◌≡◌};
+ghost use Rattle.std.specs.Prelude.{◌≡◌, false};
 ghost use Rattle.std.specs.Map.{values_of};
-ghost use Rattle.shared_map.specs.Entries.{Ascend};
+ghost use Rattle.shared_map.specs.Entries.{Ascend, entries_from, is_reached};
 
 use crate::iter::Iter;
 use crate::map::SharedMap;
@@ -52,6 +52,16 @@ impl<K: Ord + Shared, V: Shared> SharedMap<K, V> {
     {
         Values {
             entries: self.iter(),
+        }
+    }
+
+    /// The values from the key on, in the order of their keys.
+    pub fn values_from<'m>(&'m self, key: &K) -> Values<'m, K, V>
+        ensures left { result ≡ values_of (entries_from (is_reached (K.cmp key.now) false) self.now) }
+        ensures ordered { Ascend K.cmp self.now }
+    {
+        Values {
+            entries: self.iter_from(key),
         }
     }
 }
