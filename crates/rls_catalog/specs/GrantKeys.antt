@@ -1,5 +1,5 @@
 -- What tells grants on one table apart, and orders them: by privilege, then by grantee, then by grantor, then by the column's place.
-use Rattle.std.specs.Prelude.{◌≡◌, refl, ℕ, List, ◌∷◌, Option, Some, None}
+use Rattle.std.specs.Prelude.{◌≡◌, refl, ℕ, List, Option, Some, None}
 use Rattle.std.proofs.Common.{ap}
 use Rattle.std.specs.FinMap.{IsAntisymmetric, nat_cmp-IsAntisymmetric, slice_cmp-IsAntisymmetric}
 use Rattle.std.specs.Ordering.{nat_cmp, ordering_then}
@@ -24,14 +24,18 @@ role_of (Grantee.Role name) = Some name
 
 -- the key of a grant
 abbrev pub key_of : Grant → GrantKey
-key_of grant = record { privilege = place_of grant.privilege; grantee = role_of grant.grantee; grantor = grant.grantor; place = grant.place }
+key_of grant = record { privilege = place_of grant.privilege; grantee = role_of grant.grantee; grantor = Some grant.grantor; place = grant.place }
+
+-- the first key that a grant of the privilege to the grantee can have
+abbrev pub first_key : Privilege → Grantee → GrantKey
+first_key privilege grantee = record { privilege = place_of privilege; grantee = role_of grantee; grantor = None; place = 0 }
 
 -- by privilege, then by grantee, then by grantor, then by column
 abbrev pub key_order : GrantKey → GrantKey → Ordering
 key_order key other =
     ordering_then (nat_cmp key.privilege other.privilege)
     (ordering_then (option_cmp name_order key.grantee other.grantee)
-    (ordering_then (name_order key.grantor other.grantor) (nat_cmp key.place other.place)))
+    (ordering_then (option_cmp name_order key.grantor other.grantor) (nat_cmp key.place other.place)))
 
 both_same : (o p : Ordering) → ordering_then o p ≡ Equal → (o ≡ Equal) × (p ≡ Equal)
 both_same Less p is = cc
@@ -47,12 +51,12 @@ roles_exact (Some a) (Some b) is = ap Some (slice_cmp-IsAntisymmetric nat_cmp-Is
 -- grants with equal keys are of one privilege, grantee, grantor and place
 pub keys_exact : IsAntisymmetric key_order
 keys_exact key other is =
-    let one = both_same (nat_cmp key.privilege other.privilege) (ordering_then (option_cmp name_order key.grantee other.grantee) (ordering_then (name_order key.grantor other.grantor) (nat_cmp key.place other.place))) is in
-    let two = both_same (option_cmp name_order key.grantee other.grantee) (ordering_then (name_order key.grantor other.grantor) (nat_cmp key.place other.place)) one.1 in
-    let three = both_same (name_order key.grantor other.grantor) (nat_cmp key.place other.place) two.1 in
+    let one = both_same (nat_cmp key.privilege other.privilege) (ordering_then (option_cmp name_order key.grantee other.grantee) (ordering_then (option_cmp name_order key.grantor other.grantor) (nat_cmp key.place other.place))) is in
+    let two = both_same (option_cmp name_order key.grantee other.grantee) (ordering_then (option_cmp name_order key.grantor other.grantor) (nat_cmp key.place other.place)) one.1 in
+    let three = both_same (option_cmp name_order key.grantor other.grantor) (nat_cmp key.place other.place) two.1 in
     λ i. record {
       privilege = nat_cmp-IsAntisymmetric key.privilege other.privilege one.0 i;
       grantee = roles_exact key.grantee other.grantee two.0 i;
-      grantor = slice_cmp-IsAntisymmetric nat_cmp-IsAntisymmetric key.grantor other.grantor three.0 i;
+      grantor = roles_exact key.grantor other.grantor three.0 i;
       place = nat_cmp-IsAntisymmetric key.place other.place three.1 i;
     }

@@ -30,9 +30,24 @@ pub struct GrantKey {
     privilege: u8,
     /// None is PUBLIC, which stands first.
     grantee: Option<Name>,
-    grantor: Name,
+    /// None stands first: no grant has it, and a search may begin there.
+    grantor: Option<Name>,
     /// The place of the column among the table's columns, counted from one; 0 for the whole table.
     place: usize,
+}
+
+impl GrantKey {
+    /// The first key that a grant of the privilege to the grantee can have.
+    pub fn first(privilege: Privilege, grantee: &Grantee) -> Result<GrantKey, AllocError>
+        ensures { IfOk result (λ key. key ≡ keys.first_key privilege grantee.now) }
+    {
+        Ok(GrantKey {
+            privilege: place_of(privilege),
+            grantee: role_of(grantee)?,
+            grantor: None,
+            place: 0,
+        })
+    }
 }
 
 impl Clone for GrantKey {
@@ -44,7 +59,7 @@ impl Clone for GrantKey {
         Ok(GrantKey {
             privilege: self.privilege,
             grantee: copy_name(&self.grantee)?,
-            grantor: self.grantor.copy()?,
+            grantor: copy_name(&self.grantor)?,
             place: self.place,
         })
     }
@@ -103,7 +118,7 @@ impl HasKey<GrantKey> for Grant {
             Ok(grantor) => Ok(GrantKey {
                 privilege: place_of(self.privilege),
                 grantee,
-                grantor,
+                grantor: Some(grantor),
                 place: self.place,
             }),
             Err(refused) => {

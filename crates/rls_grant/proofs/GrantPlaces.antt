@@ -20,7 +20,7 @@ Ordered grants = InKeyOrder key_order key_of grants
 -- ---- the order of the keys
 
 key_total : IsTotalOrder key_order
-key_total = then_total (on_total (λ k. k.privilege) nat_cmp_total) (then_total (on_total (λ k. k.grantee) (options_total nat_list_cmp_total)) (then_total (on_total (λ k. k.grantor) nat_list_cmp_total) (on_total (λ k. k.place) nat_cmp_total)))
+key_total = then_total (on_total (λ k. k.privilege) nat_cmp_total) (then_total (on_total (λ k. k.grantee) (options_total nat_list_cmp_total)) (then_total (on_total (λ k. k.grantor) (options_total nat_list_cmp_total)) (on_total (λ k. k.place) nat_cmp_total)))
 
 place_same : (p : Privilege) → place_of p ≡ place_by_key p
 place_same Privilege.Select = refl

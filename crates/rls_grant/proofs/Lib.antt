@@ -1,3 +1,4 @@
+pub mod SideBySide
 pub mod SeenNames
 pub mod GrantOptions
 pub mod HandedLemmas

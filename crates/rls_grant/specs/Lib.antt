@@ -1,4 +1,5 @@
 pub use Rattle.rls_verdict.specs.rls_catalog.specs.Privileges
+pub mod GrantedTo
 pub mod Holders
 pub mod Seen
 pub mod Considered

@@ -1,15 +1,18 @@
 //! Which privileges a role holds.
 
-ghost use Rattle.std.specs.Prelude.{◌≡◌, ◌&&◌, IfOk, OnOk};
+ghost use Rattle.std.specs.Prelude.{◌≡◌, ◌&&◌, ◌||◌, IfOk, OnOk};
 ghost use Rattle.std.specs.List.{list_any};
 ghost use Rattle.rls_verdict.specs.rls_catalog.specs.Privileges as spec;
 ghost use Rattle.rls_verdict.specs.rls_catalog.specs.Privileges.{holds_reads};
+ghost use Rattle.rls_grant.specs.GrantedTo as grants_to;
 ghost use Rattle.rls_verdict.specs.rls_catalog.specs.State.{State, AgreesOn};
 
+use crate::granted::has_whole;
 use rls_role::rls_source::RowSource;
 use rls_role::{EffectiveRoles, effective_roles_of};
 use rls_value::{Name, Privilege};
 use rls_verdict::rls_catalog::Grants;
+use rls_verdict::rls_expr::Grantee;
 use std::alloc::{AllocError, Global};
 
 /// Whether the role holds the privilege on the table: it is a superuser, or there is a grant of it on the whole table to
@@ -33,29 +36,44 @@ pub fn holds<'c, S: RowSource<'c>>(
         return Ok(true);
     }
     let grants = source.grants(alloc, table)?;
-    Ok(is_granted(grants, privilege, &effective_roles))
+    let granted = is_granted(grants, privilege, &effective_roles)?;
+    drop(effective_roles);
+    Ok(granted)
 }
 
-/// Whether some of the grants is of the privilege on the whole table and for the role.
-pub fn is_granted(grants: &Grants, privilege: Privilege, effective_roles: &EffectiveRoles) -> bool
-    ensures { result ≡ list_any (λ grant. spec.is_whole grant && (spec.is_same_privilege grant.privilege privilege && spec.includes effective_roles.now.superuser effective_roles.now.names grant.grantee)) grants.now }
+/// Whether the role is a superuser, or some of the grants is of the privilege on the whole table and for it. The grants are
+/// looked up for each role whose privileges it has, and for PUBLIC.
+pub fn is_granted(
+    grants: &Grants,
+    privilege: Privilege,
+    effective_roles: &EffectiveRoles,
+) -> Result<bool, AllocError>
+    ensures { IfOk result (λ granted. granted ≡ (effective_roles.now.superuser || list_any (λ grant. spec.is_whole grant && (spec.is_same_privilege grant.privilege privilege && spec.includes effective_roles.now.superuser effective_roles.now.names grant.grantee)) grants.now)) }
 {
-    grants.iter().any(|grant| {
-        grant.is_whole()
-            && (is_same_privilege(grant.privilege, privilege)
-                && effective_roles.includes(&grant.grantee))
-    })
-}
-
-/// Whether the two are the same privilege.
-pub fn is_same_privilege(left: Privilege, right: Privilege) -> bool
-    ensures { result ≡ spec.is_same_privilege left right }
-{
-    match (left, right) {
-        (Privilege::Select, Privilege::Select)
-        | (Privilege::Insert, Privilege::Insert)
-        | (Privilege::Update, Privilege::Update)
-        | (Privilege::Delete, Privilege::Delete) => true,
-        (_, _) => false,
+    if effective_roles.superuser {
+        return Ok(true);
     }
+    if is_granted_to_some(grants, privilege, effective_roles.names.as_slice())? {
+        return Ok(true);
+    }
+    has_whole(grants, privilege, &Grantee::Public)
+}
+
+/// Whether some of the roles has a grant of the privilege on the whole table.
+fn is_granted_to_some(
+    grants: &Grants,
+    privilege: Privilege,
+    roles: &[Name],
+) -> Result<bool, AllocError>
+    ensures { IfOk result (λ granted. granted ≡ list_any (λ role. grants_to.has_whole privilege (Grantee.Role role) grants.now) roles.now) }
+{
+    for role in roles {
+        let grantee = Grantee::Role(role.copy()?);
+        let granted = has_whole(grants, privilege, &grantee);
+        drop(grantee);
+        if granted? {
+            return Ok(true);
+        }
+    }
+    Ok(false)
 }

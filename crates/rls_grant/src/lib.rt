@@ -1,6 +1,7 @@
 //! Privileges on tables: who holds them, who may grant them, and how they are granted and revoked.
 #![tactic(auto)]
 
+mod granted;
 mod granting;
 mod grantors;
 mod holding;

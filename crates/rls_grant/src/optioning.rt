@@ -10,7 +10,7 @@ ghost use Rattle.rls_grant.specs.Considered as seen;
 ghost use Rattle.rls_grant.specs.{Considered.considered, Considered.considered_one, Handed.HandsOn, Handed.under, Optioned.AreHolders, Optioned.HoldsOption, Optioned.HoldsOn, Optioned.option_reads};
 ghost use Rattle.rls_grant.specs.Handed as handed;
 
-use crate::holding::is_same_privilege;
+use crate::granted::is_same_privilege;
 use rls_role::rls_source::RowSource;
 use rls_value::{Items, Name, Privilege};
 use rls_verdict::rls_catalog::{Grant, Grants};
@@ -244,17 +244,6 @@ fn is_left_out(without: Option<&Name>, grantee: &Grantee) -> bool
 {
     match (without, grantee) {
         (Some(name), Grantee::Role(role)) => role.is(name),
-        (_, _) => false,
-    }
-}
-
-/// Whether the two are the same grantee.
-pub(crate) fn is_same_grantee(left: &Grantee, right: &Grantee) -> bool
-    ensures { result ≡ given.is_same_grantee left.now right.now }
-{
-    match (left, right) {
-        (Grantee::Public, Grantee::Public) => true,
-        (Grantee::Role(left), Grantee::Role(right)) => left.is(right),
         (_, _) => false,
     }
 }

@@ -8,10 +8,10 @@ ghost use Rattle.rls_role.specs.rls_source.specs.Answering.{Answers};
 ghost use Rattle.rls_grant.specs.{Holders.holders_of, Revoking.grants_revoked, Revoking.is_by, Revoking.is_taken, Revoking.left_after, Revoking.left_or_refused, Revoking.revoke_on, Revoking.without_grant_option, Revoking.without_taken};
 ghost use Rattle.rls_grant.specs.Revoking as spec;
 
+use crate::granted::{is_same_grantee, is_same_privilege};
 use crate::granting::write_grants;
 use crate::grantors::{Grantor, grantors_of};
-use crate::holding::is_same_privilege;
-use crate::optioning::{is_same_grantee, options};
+use crate::optioning::options;
 use crate::placing::{remove_grant, revoke_option};
 use rls_role::rls_source::{Reads, RowSource, noted_grants, require_grantees, table_named};
 use rls_role::rls_statement::RevokePrivileges;

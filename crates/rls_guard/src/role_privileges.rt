@@ -74,7 +74,7 @@ impl RolePrivileges {
             return Ok(());
         }
         let grants = noted_grants(alloc, source, read_set, table)?;
-        if is_granted(grants, privilege, &self.effective_roles) {
+        if is_granted(grants, privilege, &self.effective_roles)? {
             Ok(())
         } else {
             Err(Refusal::Denied(Why::Privilege(privilege, table.copy()?)))
