@@ -5,6 +5,7 @@ ghost use Rattle.rls_audit.specs.AnswerCodecs as codec;
 use crate::format::{Audit, Format};
 use crate::refusals::Audited;
 use rls_catalog::Verdict;
+use rls_catalog::shared_map::Share;
 use rls_codec::{Coded, Unread, is_word, item, json_of, require_length};
 use rls_guard::{Decision, Reply};
 use serde_json::{Value, json};
@@ -18,7 +19,7 @@ impl<F: Format> Coded<Audit<F>> for Result<Reply, Audited> {
             Ok(Reply::Done) => json!(in alloc; ["done"]),
             Ok(Reply::Count(count)) => json!(in alloc; ["count", *count]),
             Ok(Reply::Rows(rows)) =>
-                json!(in alloc; ["rows", json_of::<Audit<F>, _>(alloc, rows)?]),
+                json!(in alloc; ["rows", json_of::<Audit<F>, _>(alloc, rows.get())?]),
             Err(refused) => json!(in alloc; ["refused", json_of::<Audit<F>, _>(alloc, refused)?]),
         }
     }
@@ -36,7 +37,7 @@ impl<F: Format> Coded<Audit<F>> for Result<Reply, Audited> {
         if is_word(json, 0, "rows") {
             let rows = item::<Audit<F>, _>(alloc, json, 1)?;
             require_length(json, 2)?;
-            return Ok(Ok(Reply::Rows(rows)));
+            return Ok(Ok(Reply::Rows(Share::new(alloc, rows)?)));
         }
         if is_word(json, 0, "refused") {
             let refused = item::<Audit<F>, _>(alloc, json, 1)?;

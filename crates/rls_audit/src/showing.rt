@@ -154,7 +154,7 @@ fn reply_to(alloc: Global, effect: &Effect) -> Result<Result<Reply, Audited>, Un
     ensures { Gives result (CanShow effect.now) (λ reply. reply ≡ spec.reply_of effect.now) }
 {
     match effect {
-        Effect::Done(reply, _, _, _) => Ok(Ok(reply.copy(alloc)?)),
+        Effect::Done(reply, _, _, _) => Ok(Ok(reply.copy()?)),
         Effect::Refused(refusal, _) => match Audited::copy_of(alloc, refusal) {
             Ok(audited) => Ok(Err(audited)),
             Err(why) => Err(why),

@@ -52,7 +52,7 @@ fn push_reply(
 
 fn reply_text(alloc: Global, tag: Tag, reply: &Reply) -> Result<String, AllocError> {
     match reply {
-        Reply::Rows(rows) => counted(alloc, tag, rows.len() as u64),
+        Reply::Rows(rows) => counted(alloc, tag, rows.get().len() as u64),
         Reply::Count(count) => counted(alloc, tag, *count),
         Reply::Done => tag.text().to_string(alloc),
     }

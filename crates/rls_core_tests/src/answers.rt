@@ -31,7 +31,7 @@ pub fn refusal_text(alloc: Global, refusal: &Refusal) -> Result<String, AllocErr
 /// The rows, then the tag with its count.
 fn reply_text(alloc: Global, tag: Tag, reply: &Reply) -> Result<String, AllocError> {
     match reply {
-        Reply::Rows(rows) => rows_text(alloc, tag, rows.as_slice()),
+        Reply::Rows(rows) => rows_text(alloc, tag, rows.get().as_slice()),
         Reply::Count(count) => counted(alloc, tag, *count),
         Reply::Done => tag.text().to_string(alloc),
     }

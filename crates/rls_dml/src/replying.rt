@@ -9,6 +9,7 @@ use rls_evaluation::value_over;
 use rls_expr::Expr;
 use rls_guard::Reply;
 use rls_statement::Selected;
+use rls_value::shared::Share;
 use rls_value::{Items, Name, Row, Value};
 use std::alloc::{AllocError, Global};
 
@@ -23,11 +24,21 @@ pub fn reply_of(
 {
     match returning {
         None => Ok(Reply::Count(rows.len() as u64)),
-        Some(selected) => match answered(alloc, selected, role, rows) {
-            Ok(rows) => Ok(Reply::Rows(rows)),
-            Err(refused) => Err(refused),
-        },
+        Some(selected) => listed_reply(alloc, selected, role, rows),
     }
+}
+
+/// The selected of the rows, as a reply.
+pub fn listed_reply(
+    alloc: Global,
+    selected: &Selected,
+    role: &Name,
+    rows: &[&Row],
+) -> Result<Reply, AllocError>
+    ensures { IfOk result (λ reply. reply ≡ Reply.Rows (spec.answered selected.now role.now (map (λ row. row.now) rows.now))) }
+{
+    let listed = answered(alloc, selected, role, rows)?;
+    Ok(Reply::Rows(Share::new(alloc, listed)?))
 }
 
 /// The same of new rows.
@@ -44,7 +55,7 @@ pub fn reply_of_new(
 }
 
 /// The rows or their items' values, in listing order; or one row, with their number alone.
-pub fn answered(
+fn answered(
     alloc: Global,
     selected: &Selected,
     role: &Name,

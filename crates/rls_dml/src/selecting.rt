@@ -13,14 +13,12 @@ use crate::checking::{
     selection_fits, selection_unsupported, where_fits, where_tables, where_unsupported,
 };
 use crate::checking_rows::qualifying_rows_under;
-use crate::replying::{answered, standing_rows};
+use crate::replying::{listed_reply, standing_rows};
 use crate::writing::require_privileges;
 use rls_catalog::{BorrowedRow, Delta};
 use rls_expansion::{PolicyExpansion, expansion_of};
 use rls_expr::{Expr, FromTable, NameStep, NamedTable, Scope, TableDef, put_names_if};
-use rls_guard::{
-    Ctx, Decision, Effect, Found, Reply, RolePrivileges, named_over, role_privileges_of,
-};
+use rls_guard::{Ctx, Decision, Effect, Found, RolePrivileges, named_over, role_privileges_of};
 use rls_judging::scanned_rows;
 use rls_source::{Reads, RowSource, table_named};
 use rls_statement::{Select, Selected};
@@ -329,13 +327,8 @@ fn answer<'c>(
     ensures { IfOk result (λ effect. effect ≡ spec.listed_by analysed_select.now role.now (decisions.items, map (λ qualifying_row. qualifying_row.now) qualifying_rows.now)) }
 {
     let rows = standing_rows(alloc, qualifying_rows)?;
-    match answered(alloc, &analysed_select.items, role, &rows) {
-        Ok(rows) => Ok(Effect::Done(
-            Reply::Rows(rows),
-            Items::from_vec(decisions),
-            Delta::new(alloc),
-            None,
-        )),
+    match listed_reply(alloc, &analysed_select.items, role, &rows) {
+        Ok(reply) => Ok(Effect::Done(reply, Items::from_vec(decisions), Delta::new(alloc), None)),
         Err(refused) => {
             drop(decisions);
             Err(refused)

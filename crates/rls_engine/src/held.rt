@@ -192,7 +192,7 @@ fn told_of(alloc: Global, effect: &Effect) -> Result<Told, AllocError>
     ensures { IfOk result (λ told. told ≡ told_of effect.now) }
 {
     match effect {
-        Effect::Done(reply, _, _, _) => Ok(Ok(reply.copy(alloc)?)),
+        Effect::Done(reply, _, _, _) => Ok(Ok(reply.copy()?)),
         Effect::Refused(refusal, _) => Ok(Err(refusal.copy(alloc)?)),
     }
 }

@@ -6,7 +6,7 @@ use rls_evaluation::rls_equality::Same;
 impl Same for Reply {
     fn is_same(&self, other: &Reply) -> bool {
         match (self, other) {
-            (Reply::Rows(rows), Reply::Rows(others)) => rows.is_same(others),
+            (Reply::Rows(rows), Reply::Rows(others)) => rows.get().is_same(others.get()),
             (Reply::Count(count), Reply::Count(other)) => *count == *other,
             (Reply::Done, Reply::Done) => true,
             (_, _) => false,

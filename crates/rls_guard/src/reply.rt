@@ -3,14 +3,15 @@
 ghost use Rattle.std.specs.Prelude.{◌≡◌, IfOk};
 
 use rls_evaluation::rls_catalog::{Side, Verdict};
+use rls_expr::rls_value::shared::Share;
 use rls_expr::rls_value::{Items, Kind, Row, RowId};
-use std::alloc::{AllocError, Global};
+use std::alloc::AllocError;
 
 /// What a statement answers that isn't refused.
 #[derive(Drop)]
 pub enum Reply {
-    /// The rows, in listing order.
-    Rows(Items<Row>),
+    /// The rows, in listing order. Copies of the reply share them.
+    Rows(Share<Items<Row>>),
     /// How many rows were written.
     Count(u64),
     Done,
@@ -27,25 +28,16 @@ pub struct Decision {
 }
 
 impl Reply {
-    pub fn copy(&self, alloc: Global) -> Result<Reply, AllocError>
+    /// The same reply, whose rows are shared.
+    pub fn copy(&self) -> Result<Reply, AllocError>
         ensures { IfOk result (λ reply. reply ≡ self.now) }
     {
         match self {
-            Reply::Rows(rows) => Ok(Reply::Rows(copy_rows(alloc, rows.as_slice())?)),
+            Reply::Rows(rows) => Ok(Reply::Rows(rows.copy()?)),
             Reply::Count(count) => Ok(Reply::Count(*count)),
             Reply::Done => Ok(Reply::Done),
         }
     }
-}
-
-fn copy_rows(alloc: Global, rows: &[Row]) -> Result<Items<Row>, AllocError>
-    ensures { IfOk result (λ copies. copies ≡ rows.now) }
-{
-    let mut copies = Vec::with_capacity(alloc, rows.len())?;
-    for row in rows {
-        copies.push(row.copy(alloc)?)?;
-    }
-    Ok(Items::from_vec(copies))
 }
 
 impl Decision {

@@ -32,6 +32,7 @@ fn push_reply(
 {
     match reply {
         Reply::Rows(rows) => {
+            let rows = rows.get();
             push_rows(alloc, out, label, rows.as_slice())?;
             push_counted(alloc, out, label, tag, rows.len() as u64)
         }

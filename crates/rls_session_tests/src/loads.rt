@@ -190,7 +190,7 @@ fn total<N: Named, R: Wait>(
     let reply = post_text(rt, alloc, &mut txn, "SELECT v FROM x");
     txn.rollback(rt);
     match reply? {
-        Reply::Rows(rows) => Ok(added(rows.as_slice())),
+        Reply::Rows(rows) => Ok(added(rows.get().as_slice())),
         _ => Err(Refusal::Foreign),
     }
 }
