@@ -1,5 +1,5 @@
 -- The grants of a privilege to one grantee stand side by side in the list of grants, from the first key on that one can have.
-use Rattle.std.specs.Prelude.{◌≡◌, refl, ℕ, zero, suc, List, [], ◌∷◌, Bool, true, false, ◌&&◌, ◌||◌, cond, map, Option, Some, None}
+use Rattle.std.specs.Prelude.{◌≡◌, refl, ℕ, List, [], ◌∷◌, Bool, true, false, ◌&&◌, ◌||◌, cond, map}
 use Rattle.std.specs.List.{AllByRecursion, list_any}
 use Rattle.std.specs.List.Sorted.{IsStrictlySortedBy}
 use Rattle.std.specs.Ordering.{is_eq, is_le, nat_cmp, on, ordering_reverse, ordering_then, then_cmp}
@@ -242,3 +242,10 @@ for_each_grantee privilege grants (name ∷ names) =
     ∙ any_or (λ grant. is_whole grant && is_to privilege (Grantee.Role name) grant) (λ grant. is_whole grant && (is_same_privilege grant.privilege privilege && includes false names grant.grantee)) grants
     ∙ ap (λ b. has_whole privilege (Grantee.Role name) grants || b) (for_each_grantee privilege grants names)
     ∙ grouped (has_whole privilege (Grantee.Role name) grants) (list_any (λ name. has_whole privilege (Grantee.Role name) grants) names) (has_whole privilege Grantee.Public grants)
+
+-- what a role that is no superuser is granted, it or a role whose privileges it has or PUBLIC is granted
+pub granted_is : (superuser : Bool) (privilege : Privilege) (grants : List Grant) (names : List (List ℕ)) → superuser ≡ false
+    → (superuser || list_any (λ grant. is_whole grant && (is_same_privilege grant.privilege privilege && includes superuser names grant.grantee)) grants)
+    ≡ (list_any (λ name. has_whole privilege (Grantee.Role name) grants) names || has_whole privilege Grantee.Public grants)
+granted_is true privilege grants names is = cc
+granted_is false privilege grants names is = for_each_grantee privilege grants names

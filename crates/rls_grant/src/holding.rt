@@ -63,17 +63,18 @@ pub fn is_granted(
 fn is_granted_to_some(
     grants: &Grants,
     privilege: Privilege,
-    roles: &[Name],
+    mut roles: &[Name],
 ) -> Result<bool, AllocError>
-    ensures { IfOk result (λ granted. granted ≡ list_any (λ role. grants_to.has_whole privilege (Grantee.Role role) grants.now) roles.now) }
+    ensures { IfOk result (λ granted. granted ≡ list_any (λ role. grants_to.has_whole privilege (Grantee.Role role) grants.now) roles.entry.now) }
 {
-    for role in roles {
+    while let [role, rest @ ..] = roles {
         let grantee = Grantee::Role(role.copy()?);
         let granted = has_whole(grants, privilege, &grantee);
         drop(grantee);
         if granted? {
             return Ok(true);
         }
+        roles = rest;
     }
     Ok(false)
 }
