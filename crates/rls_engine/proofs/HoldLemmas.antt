@@ -1,5 +1,5 @@
 -- What a transaction holds behind each post, what its caller is told, and what stops its commit.
-use Rattle.std.specs.Prelude.{◌≡◌, refl, ℕ, true, false, Option, Some, None, List, [], ◌∷◌, ◌++◌, map, length, Result}
+use Rattle.std.specs.Prelude.{◌≡◌, refl, ℕ, true, false, Option, Some, None, List, [], ◌∷◌, ◌++◌, map, length, Result, Ok, Err, IfOk, IfErr, IfSome}
 use Rattle.std.proofs.Common.{ap, sym, subst, ◌∙◌, inl, inr}
 use Rattle.std.proofs.lemmas.Bool.{true≢false}
 use Rattle.rls_value.specs.declared.object.Object.{Object}
@@ -20,7 +20,7 @@ use Rattle.rls_engine.specs.declared.held.Next.{Next}
 use Rattle.rls_engine.specs.Stands.{Stand, posted_on, effect_on, sees, IsWorkOn}
 use Rattle.rls_engine.specs.Views.{Draft, Hold, Kept}
 use Rattle.rls_engine.specs.Steps.{HasPosted, IsBarredBy}
-use Rattle.rls_engine.specs.Drafts.{IsNext, IsStep, Posts, StopsCommit, told_of}
+use Rattle.rls_engine.specs.Drafts.{EndsPost, IsNext, IsStep, Posts, StopsCommit, WhenPosted, posting_of, told_of}
 use Rattle.rls_engine.proofs.TokenLemmas.{changed_all-append}
 
 -- the state that is seen behind a post
@@ -34,6 +34,13 @@ next_view stand view after work view_is worked is =
 -- the step of a post leads on
 pub is_step : (steps : Shelves) (held : Hold) (asked asked' : Statement) (old new : Kept) (t : Where Stand) → HasPosted steps held asked' old new t → asked' ≡ asked → IsStep steps held.stand asked t
 is_step steps held asked asked' old new t posted same = record { shows = posted.shows; leads = posted.leads ∙ ap (posted_on held.stand) same }
+
+-- what the post of a statement comes to, by what its hold of the lock came to
+pub when_posted : (steps : Shelves) (held : Hold) (asked asked' : Statement) (next : Next) (made : Result (Where Stand) (Option Refusal)) → IsNext held.stand asked next → asked' ≡ asked
+    → IfOk made (IsStep steps held.stand asked') → IfErr made (λ why. IfSome why (EndsPost held asked')) → WhenPosted steps held asked (posting_of asked next made)
+when_posted steps held asked asked' next (Ok at) comes same step ends = (comes, record { shows = step.shows; leads = step.leads ∙ ap (posted_on held.stand) same })
+when_posted steps held asked asked' next (Err None) comes same step ends = (refl, tt)
+when_posted steps held asked asked' next (Err (Some why)) comes same step ends = subst (λ (a : Statement). EndsPost held a why) same ends
 
 -- what a post that is done does to its transaction
 pub posts_done : (steps : Shelves) (old new : Draft) (asked : Statement) (stand : Stand) (next : Next) (at : Where Stand) (told : Result Reply Refusal) (tag txn : ℕ) (pending : Option Statement) (over : Option Refusal)

@@ -78,6 +78,12 @@ WhenPosted steps held asked (posting.Done next at) = IsNext held.stand asked nex
 WhenPosted steps held asked (posting.NoMemory left) = (left.statement ≡ asked) × IfSome left.work (IsWorkOf held.txn held.stand asked)
 WhenPosted steps held asked (posting.Over why) = EndsPost held asked why
 
+-- what a post comes to where it makes the step, or is refused; none is want of memory
+abbrev pub posting_of : Statement → Next → Result (Where Stand) (Option Refusal) → Posting
+posting_of asked next (Ok at) = posting.Done next at
+posting_of asked next (Err None) = posting.NoMemory (record { statement = asked; work = None })
+posting_of asked next (Err (Some why)) = posting.Over why
+
 -- what was pending is posted, and what it comes to is told; or nothing was pending
 abbrev pub Posts : Draft → Option Statement → Option (Result Reply Refusal) → Draft → Type 0
 Posts old None told new = (told ≡ None) × (new ≡ old)

@@ -5,8 +5,8 @@ ghost use Rattle.rls_value.specs.declared.refusal.Refusal.TheVariants.{Foreign};
 ghost use Rattle.rls_core.specs.Seen.{world_of};
 ghost use Rattle.rls_core.specs.Headline.{HaveOrder, AreExplained};
 ghost use Rattle.rls_engine.specs.Led.{IsLed};
-ghost use Rattle.rls_engine.specs.Stands.{IsWorkOf};
-ghost use Rattle.rls_engine.specs.Drafts.{BeganAs, IsReceiptOf, RefusesBegin, StopsCommit, IsNext, WhenPosted};
+ghost use Rattle.rls_engine.specs.Stands.{IsWorkOf, IsWorkOn};
+ghost use Rattle.rls_engine.specs.Drafts.{BeganAs, EndsPost, IsReceiptOf, IsStep, RefusesBegin, StopsCommit, IsNext, WhenPosted, posting_of};
 
 use crate::book::Book;
 use crate::commit::Commit;
@@ -18,7 +18,7 @@ use crate::receipt::Receipt;
 use crate::seen::Seen;
 use crate::step::Step;
 use crate::txn::Txn;
-use boxcar::Vec as Shared;
+use boxcar::{Pushed, Vec as Shared};
 use rls_core::{Begin, Core, Work};
 use rls_statement::Statement;
 use rls_value::shared::Share;
@@ -181,12 +181,29 @@ impl<N: Named> Engine<N> {
         requires next { IsNext held.now.stand statement next }
         ensures { WhenPosted N.steps held.now statement result }
     {
+        let posted = self.post_held(rt, held, work);
+        posting_of(statement, next, posted)
+    }
+
+    /// The same, and the step that it makes. None is want of memory, which ends nothing.
+    fn post_held<R: Wait>(
+        &self,
+        rt: &R,
+        held: &Held<N>,
+        work: Work,
+    ) -> Result<Pushed<Step>, Option<Refusal>>
+        requires asked { N.asks work.statement }
+        requires work { IsWorkOn held.now.stand work }
+        requires txn { work.txn ≡ held.now.txn }
+        ensures ok { IfOk result (IsStep N.steps held.now.stand work.statement) }
+        ensures err { IfErr result (λ why. IfSome why (EndsPost held.now work.statement)) }
+    {
         let posted = self.enter(rt).post(rt, self.alloc, &self.steps, held, work);
         match posted {
-            Ok(at) => Posting::Done(next, at),
-            Err(Refusal::NoMemory) => Posting::NoMemory(Pending::asked(statement)),
-            Err(Refusal::Serial(why)) => Posting::Over(Refusal::Serial(why)),
-            Err(_) => Posting::Over(Refusal::Foreign),
+            Ok(at) => Ok(at),
+            Err(Refusal::NoMemory) => Err(None),
+            Err(Refusal::Serial(why)) => Err(Some(Refusal::Serial(why))),
+            Err(_) => Err(Some(Refusal::Foreign)),
         }
     }
 
@@ -279,6 +296,21 @@ impl<N: Named> Engine<N> {
             return Err((engine, Refusal::Foreign));
         }
         Ok(Book::new(desk, commits))
+    }
+}
+
+/// What the post of a statement comes to.
+fn posting_of(
+    statement: Share<Statement>,
+    next: Next,
+    posted: Result<Pushed<Step>, Option<Refusal>>,
+) -> Posting
+    ensures { result ≡ posting_of statement next posted }
+{
+    match posted {
+        Ok(at) => Posting::Done(next, at),
+        Err(None) => Posting::NoMemory(Pending::asked(statement)),
+        Err(Some(why)) => Posting::Over(why),
     }
 }
 

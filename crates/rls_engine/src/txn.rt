@@ -134,14 +134,30 @@ impl<'a, N: Named> Txn<'a, N> {
         match self.engine.post(rt, &self.held, pending) {
             Posting::Done(next, at) => Ok(Some(self.settle(next, at))),
             Posting::NoMemory(pending) => {
-                self.pending = Some(pending);
+                self.put_back(pending);
                 Err(PostFault::NoMemory)
             }
             Posting::Over(refusal) => {
-                self.over = Some(refusal);
+                self.end_by(refusal);
                 Err(PostFault::Over)
             }
         }
+    }
+
+    /// It is pending again.
+    fn put_back(&mut self, pending: Pending)
+        requires asked { N.asks pending.statement }
+        requires work { IfSome pending.work (IsWorkOf self.old.txn self.old.stand pending.statement) }
+        ensures { self.new ≡ with_pending self.old pending.statement }
+    {
+        self.pending = Some(pending);
+    }
+
+    /// It is over.
+    fn end_by(&mut self, refusal: Refusal)
+        ensures { self.new ≡ record self.old { over = Some refusal } }
+    {
+        self.over = Some(refusal);
     }
 
     /// Takes out what is pending.
