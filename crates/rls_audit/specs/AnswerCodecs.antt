@@ -1,5 +1,5 @@
 -- The JSON of what statements were answered, and of what row security said of rows.
-use Rattle.std.specs.Prelude.{◌≡◌, ℕ, List, Result, Ok, Err, codes}
+use Rattle.std.specs.Prelude.{◌≡◌, ℕ, List, Bool, Result, Ok, Err, codes}
 use Rattle.std.proofs.Common.{◌⊎◌, inl, inr, refl}
 use Rattle.rls_value.specs.{declared.value.Value.Value, declared.refusal.Refusal.Refusal}
 use Rattle.rls_catalog.specs.declared.verdict.Verdict.{Verdict}
@@ -42,10 +42,10 @@ answer_same (Ok (r.Rows rows)) = refl
 answer_same (Err refused) = refl
 
 -- a word, and what belongs to it
-abbrev pub answer : Codec (Result Reply Refusal)
-answer = via answer_to answer_from answer_same
+abbrev pub answer : Bool → Codec (Result Reply Refusal)
+answer second = via answer_to answer_from answer_same
     (tuple (chosen (choice (by_word (codes "done")) no_more (choice (by_word (codes "count")) (part natural no_more)
-    (choice (by_word (codes "rows")) (part (list_of row) no_more) (choice (by_word (codes "refused")) (part refusal no_more) no_choice refl) refl) refl) refl)))
+    (choice (by_word (codes "rows")) (part (list_of row) no_more) (choice (by_word (codes "refused")) (part (refusal second) no_more) no_choice refl) refl) refl) refl)))
 
 -- ---- verdicts, decisions
 

@@ -1,18 +1,16 @@
 -- The JSON of what objects have: of a role, a membership, a table, a grant.
-use Rattle.std.specs.Prelude.{◌≡◌, ℕ, List, Bool, true, false, Some, None}
-use Rattle.std.proofs.Common.{refl, sym, arith}
-use Rattle.serde_json.specs.Data.{null}
-use Rattle.rls_value.specs.declared.verb.Privilege.{Privilege}
-use Rattle.rls_expr.specs.declared.policy.Grantee.{Grantee}
+use Rattle.std.specs.Prelude.{◌≡◌, ℕ, List, Bool, true, false, Option, Some, None, option_map}
+use Rattle.std.proofs.Common.{refl, sym, ap, ◌∙◌, arith}
+use Rattle.serde_json.specs.Data.{no_items}
 use Rattle.rls_expr.specs.declared.table.Column.{Column}
-use Rattle.rls_catalog.specs.{declared.role.RoleDef.RoleDef, declared.role.Membership.Membership, declared.grant.Grant.Grant}
-use Rattle.rls_codec.specs.Looking.{Anything, found_where, is_null}
+use Rattle.rls_catalog.specs.{declared.role.RoleDef.RoleDef, declared.role.Membership.Membership}
 use Rattle.rls_codec.specs.Codec.{Codec, Rest}
-use Rattle.rls_codec.specs.Codecs.{flag, list_of, parsed, via}
+use Rattle.rls_codec.specs.Codecs.{flag, list_of, maybe, via}
 use Rattle.rls_codec.specs.Arrays.{part, no_more, tuple, rest_via}
 use Rattle.rls_audit.specs.NameCodecs.{name, grantee}
 use Rattle.rls_audit.specs.WordCodecs.{privilege, column_type}
 use Rattle.rls_audit.specs.declared.contents.TableShape.{TableShape}
+use Rattle.rls_audit.specs.declared.contents.GrantShape.{GrantShape}
 
 -- the attributes of a role
 abbrev pub role_def : Codec RoleDef
@@ -34,36 +32,28 @@ abbrev pub table : Codec TableShape
 table = via (λ t. (t.owner, (t.enabled, (t.forced, (t.columns, (t.key, tt)))))) (λ p. record { owner = p.0; enabled = p.1.0; forced = p.1.1.0; columns = p.1.1.1.0; key = p.1.1.1.1.0 }) (λ t. refl)
     (tuple (part name (part flag (part flag (part (list_of column) (part (list_of name) no_more))))))
 
--- nothing that is said
-abbrev pub nothing : Codec (Unit {0})
-nothing = record { Fits = Anything; written = λ u. null; found = λ d. found_where (is_null d) (Some tt); levels = 0; back = λ u h. refl; plain = λ u. refl; flat = λ u. omega arith }
+-- no column
+abbrev pub whole_table : Unit {0} → Option (List ℕ)
+whole_table u = None
 
--- in the second format null says that a grant is on the whole table
-abbrev pub ending : Bool → Rest (Unit {0})
-ending false = no_more
-ending true = rest_via (λ u. (tt, tt)) (λ p. tt) (λ u. refl) (part nothing no_more)
+-- nothing behind a grant, which is on the whole table
+abbrev pub no_column : Rest (Option (List ℕ))
+no_column = record {
+  Fits = λ column. column ≡ None;
+  written = λ column. no_items;
+  found = λ n d. option_map whole_table (no_more.found n d);
+  levels = 0;
+  back = λ before column whole. ap (option_map whole_table) (no_more.back before tt tt) ∙ ap (λ (c : Option (List ℕ)). Some c) (sym whole);
+  plain = λ column. refl;
+  flat = λ column. omega arith;
+}
 
--- what is written of a grant
-abbrev pub GrantParts : Type 0
-GrantParts = Privilege × (Grantee × (List ℕ × (Bool × Unit {0})))
+-- in the second format the column of a grant, or null for the whole table
+abbrev pub ending : Bool → Rest (Option (List ℕ))
+ending false = no_column
+ending true = rest_via (λ column. (column, tt)) (λ p. p.0) (λ column. refl) (part (maybe name) no_more)
 
-abbrev pub grant_parts : Bool → Codec GrantParts
-grant_parts second = tuple (part privilege (part grantee (part name (part flag (ending second)))))
-
-abbrev pub parts_of : Grant → GrantParts
-parts_of g = (g.privilege, (g.grantee, (g.grantor, (g.option, tt))))
-
--- the grant on the whole table
-abbrev pub whole_grant : GrantParts → Grant
-whole_grant p = record { privilege = p.0; grantee = p.1.0; grantor = p.1.1.0; option = p.1.1.1.0; column = None; place = 0 }
-
--- it is on the whole table
-abbrev pub IsWhole : Grant → Type 0
-IsWhole g = (g.column ≡ None) × (g.place ≡ 0)
-
-pub whole_back : (g : Grant) → IsWhole g → Some (whole_grant (parts_of g)) ≡ Some g
-whole_back g whole = λ i. Some (record g { column = sym whole.0 i; place = sym whole.1 i })
-
--- a grant on the whole table; those on columns aren't written
-abbrev pub grant : Bool → Codec Grant
-grant second = parsed (λ g. (grant_parts second).Fits (parts_of g) × IsWhole g) parts_of (λ p. Some (whole_grant p)) (grant_parts second) (λ g fits. fits.0) (λ g fits. whole_back g fits.1)
+-- a grant
+abbrev pub grant : Bool → Codec GrantShape
+grant second = via (λ g. (g.privilege, (g.grantee, (g.grantor, (g.option, g.column))))) (λ p. record { privilege = p.0; grantee = p.1.0; grantor = p.1.1.0; option = p.1.1.1.0; column = p.1.1.1.1 }) (λ g. refl)
+    (tuple (part privilege (part grantee (part name (part flag (ending second))))))

@@ -20,9 +20,9 @@ use Rattle.rls_audit.specs.declared.lines.Line.TheVariants.{Head, Txn, End}
 -- ---- statements
 
 -- a statement with its answer
-abbrev pub answered : Codec Answered
-answered = via (λ a. (a.decisions, (a.reply, (a.text, tt)))) (λ p. record { decisions = p.0; reply = p.1.0; text = p.1.1.0 }) (λ a. refl)
-    (record_of (field (codes "decisions") (list_of decision) (field (codes "reply") answer (field (codes "text") text no_fields refl) refl) refl))
+abbrev pub answered : Bool → Codec Answered
+answered second = via (λ a. (a.decisions, (a.reply, (a.text, tt)))) (λ p. record { decisions = p.0; reply = p.1.0; text = p.1.1.0 }) (λ a. refl)
+    (record_of (field (codes "decisions") (list_of decision) (field (codes "reply") (answer second) (field (codes "text") text no_fields refl) refl) refl))
 
 -- ---- the head
 
@@ -51,7 +51,7 @@ ShownShape = List Changed × (ℕ × (List ℕ × (Mode × (List ℕ × (ℕ × 
 -- the members of a transaction's line
 abbrev pub shown_fields : Bool → Fields ShownShape
 shown_fields second = field (codes "changes") (list_of (changed second)) (field (codes "commit") natural (field (codes "login") name (field (codes "mode") mode
-    (field (codes "role") name (field (codes "snap") natural (field (codes "statements") (list_of answered) (field (codes "txn") natural no_fields refl) refl) refl) refl) refl) refl) refl) refl
+    (field (codes "role") name (field (codes "snap") natural (field (codes "statements") (list_of (answered second)) (field (codes "txn") natural no_fields refl) refl) refl) refl) refl) refl) refl) refl
 
 -- a line, as one of its shapes
 abbrev pub LineShape : Type 0

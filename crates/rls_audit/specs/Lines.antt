@@ -13,13 +13,18 @@ use Rattle.rls_guard.specs.{declared.reply.Reply.Reply, declared.reply.Decision.
 use Rattle.rls_guard.specs.declared.effect.Effect.TheVariants as effect
 use Rattle.rls_core.specs.rls_access.specs.Transactions.{Begin}
 use Rattle.rls_core.specs.Records.{Record}
+use Rattle.rls_audit.specs.declared.contents.GrantShape.{GrantShape}
+
+-- what is shown of a grant: its column by its name alone, whose place is that among the table's columns
+abbrev pub grant_shape : Grant → GrantShape
+grant_shape grant = record { privilege = grant.privilege; grantee = grant.grantee; grantor = grant.grantor; option = grant.option; column = grant.column }
 
 -- what an object has once it was changed; a row its values, none where it is gone
 pub data Content : Type 0 where
   Role : RoleDef → Content
   Members : List Membership → Content
   Table : TableDef → Content
-  Grants : List Grant → Content
+  Grants : List GrantShape → Content
   Policies : List Policy → Content
   Row : Option (List Value) → Content
 
@@ -28,7 +33,7 @@ abbrev pub content_of : Change → Content
 content_of (c.Role name def) = Role def
 content_of (c.Members member content) = Members content
 content_of (c.Table name def) = Table def
-content_of (c.Grants table content) = Grants content
+content_of (c.Grants table content) = Grants (map grant_shape content)
 content_of (c.Policies table content) = Policies content
 content_of (c.Row change) = Row (option_map (λ keyed. keyed.row) change.after)
 

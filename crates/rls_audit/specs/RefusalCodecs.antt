@@ -1,6 +1,7 @@
 -- The JSON of refusals: the number, and what is said of it.
-use Rattle.std.specs.Prelude.{◌≡◌, ℕ, List, Some, codes}
-use Rattle.std.proofs.Common.{◌⊎◌, inl, inr, refl, ap}
+use Rattle.std.specs.Prelude.{◌≡◌, ℕ, List, Bool, true, false, Some, None, codes}
+use Rattle.std.proofs.Common.{◌⊎◌, inl, inr, refl, ap, arith}
+use Rattle.serde_json.specs.Data.{no_items}
 use Rattle.rls_value.specs.{declared.verb.Privilege.Privilege, declared.verb.Kind.Kind, declared.tag.Tag.Tag, declared.refusal.Limit.Limit, declared.refusal.NameKind.NameKind, declared.refusal.DefinedKind.DefinedKind, declared.refusal.TxnState.TxnState, declared.refusal.Why.Why, declared.refusal.GrantFault.GrantFault, declared.refusal.Refusal.Refusal}
 use Rattle.rls_value.specs.declared.refusal.TxnState.TheVariants as t
 use Rattle.rls_value.specs.declared.refusal.Why.TheVariants as w
@@ -89,13 +90,22 @@ why_same (w.NoPermissive table _) = refl
 why_same (w.Restrictive policy table) = refl
 why_same (w.Column _ table column) = refl
 
+-- nothing that is written or found
+abbrev pub never : {A : Type 0} → Rest A
+never = record { Fits = λ a. ⊥; written = λ a. no_items; found = λ n d. None; levels = 0; back = λ before a h. absurd h; plain = λ a. refl; flat = λ a. omega arith }
+
+-- a privilege, a table and one of its columns; the first format has no grants on columns, and none that is missing
+abbrev pub column_behind : Bool → Rest (Privilege × (List ℕ × (List ℕ × Unit {0})))
+column_behind false = never
+column_behind true = part privilege (part name name_item)
+
 -- a word for what is missing, and the names
-abbrev pub why_behind : Rest Why
-why_behind = rest_via why_to why_from why_same
+abbrev pub why_behind : Bool → Rest Why
+why_behind second = rest_via why_to why_from why_same
     (chosen (choice (by_word (codes "Privilege")) (part privilege name_item) (choice (by_word (codes "Owner")) name_item
     (choice (by_word (codes "Admin")) name_item (choice (by_word (codes "SetRole")) name_item
     (choice (by_word (codes "GrantOption")) (part privilege name_item) (choice (by_word (codes "NoPermissive")) (part name (part kind no_more))
-    (choice (by_word (codes "Restrictive")) (part name name_item) (choice (by_word (codes "Column")) (part privilege (part name name_item)) no_choice refl) refl) refl) refl) refl) refl) refl) refl))
+    (choice (by_word (codes "Restrictive")) (part name name_item) (choice (by_word (codes "Column")) (column_behind second) no_choice refl) refl) refl) refl) refl) refl) refl) refl))
 
 -- ---- grants that may not be
 
@@ -196,17 +206,17 @@ refusal_same r.Foreign h = absurd h
 refusal_same (r.BadAudit line) h = absurd h
 
 -- its number, and what is said of it
-abbrev pub refusal_items : Rest RefusalShape
-refusal_items = chosen (choice (by_number 3) (part limit no_more) (choice (by_number 4) state_behind (choice (by_number 6) (part name_kind name_item)
-    (choice (by_number 7) (part defined_kind name_item) (choice (by_number 11) why_behind (choice (by_number 12) fault_behind
+abbrev pub refusal_items : Bool → Rest RefusalShape
+refusal_items second = chosen (choice (by_number 3) (part limit no_more) (choice (by_number 4) state_behind (choice (by_number 6) (part name_kind name_item)
+    (choice (by_number 7) (part defined_kind name_item) (choice (by_number 11) (why_behind second) (choice (by_number 12) fault_behind
     (choice (by_number 8) no_more (choice (by_number 9) no_more (choice (by_number 10) name_item (choice (by_number 13) name_item
     (choice (by_number 14) name_item (choice (by_number 15) name_item (choice (by_number 16) name_item
     no_choice refl) refl) refl) refl) refl) refl) refl) refl) refl) refl) refl) refl) refl)
 
 -- one that may be in an audit, whose names are names
-abbrev pub FitsRefusal : Refusal → Type 0
-FitsRefusal x = IsAudited x × refusal_items.Fits (refusal_to x)
+abbrev pub FitsRefusal : Bool → Refusal → Type 0
+FitsRefusal second x = IsAudited x × (refusal_items second).Fits (refusal_to x)
 
 -- a refusal
-abbrev pub refusal : Codec Refusal
-refusal = parsed FitsRefusal refusal_to (λ s. Some (refusal_from s)) (tuple refusal_items) (λ x h. h.1) (λ x h. ap (λ y. Some y) (refusal_same x h.0))
+abbrev pub refusal : Bool → Codec Refusal
+refusal second = parsed (FitsRefusal second) refusal_to (λ s. Some (refusal_from s)) (tuple (refusal_items second)) (λ x h. h.1) (λ x h. ap (λ y. Some y) (refusal_same x h.0))

@@ -12,7 +12,7 @@ use serde_json::{Value, json};
 use std::alloc::{AllocError, Global};
 
 impl<F: Format> Coded<Audit<F>> for Result<Reply, Audited> {
-    ghost codec = { codec.answer };
+    ghost codec = { codec.answer F.second };
 
     fn to_json(&self, alloc: Global) -> Result<Value, AllocError> {
         match self {

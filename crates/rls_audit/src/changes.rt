@@ -11,10 +11,10 @@ ghost use Rattle.serde_json.specs.Data.{string};
 ghost use Rattle.serde_json.specs.Find.{at};
 ghost use Rattle.serde_json.specs.View.{view};
 
-use crate::contents::TableShape;
+use crate::contents::{GrantShape, TableShape};
 use crate::format::{Audit, Format};
 use crate::texts::read_object;
-use rls_catalog::{Grant, Membership, RoleDef};
+use rls_catalog::{Membership, RoleDef};
 use rls_codec::{Coded, Unread, array_of, item, json_of, read_text, require_length};
 use rls_value::{Items, Name, Object, Row, RowId, Text};
 use serde_json::Value;
@@ -27,7 +27,7 @@ pub enum Changed {
     /// The memberships that the role has.
     Members(Name, Items<Membership>),
     Table(Name, TableShape),
-    Grants(Name, Items<Grant>),
+    Grants(Name, Items<GrantShape>),
     /// The policies of the table, as statements that create them.
     Policies(Name, Items<Text>),
     /// The values of the row, or none where it is gone.

@@ -6,10 +6,10 @@ ghost use Rattle.rls_codec.specs.Reading.{Reads};
 ghost use Rattle.serde_json.specs.View.{view};
 
 use crate::format::{Audit, Format};
-use rls_catalog::{Grant, Membership, RoleDef};
+use rls_catalog::{Membership, RoleDef};
 use rls_codec::{Coded, Unread, item, json_of, require_length};
-use rls_expr::Column;
-use rls_value::{Items, Name};
+use rls_expr::{Column, Grantee};
+use rls_value::{Items, Name, Privilege};
 use serde_json::{Value, json};
 use std::alloc::{AllocError, Global};
 
@@ -21,6 +21,18 @@ pub struct TableShape {
     pub forced: bool,
     pub columns: Items<Column>,
     pub key: Items<Name>,
+}
+
+/// What a grant on a table is; its column by its name alone.
+#[derive(Drop)]
+pub struct GrantShape {
+    pub privilege: Privilege,
+    pub grantee: Grantee,
+    pub grantor: Name,
+    /// Whether the grantee may grant it further.
+    pub option: bool,
+    /// None for the whole table.
+    pub column: Option<Name>,
 }
 
 impl<F: Format> Coded<Audit<F>> for RoleDef {
@@ -124,58 +136,56 @@ impl<F: Format> Coded<Audit<F>> for TableShape {
     }
 }
 
-impl<F: Format> Coded<Audit<F>> for Grant {
+impl<F: Format> Coded<Audit<F>> for GrantShape {
     ghost codec = { codec.grant F.second };
 
-    // One on a column isn't written: no statement makes it.
+    // One on a column has no form in the first format, which nobody writes.
     fn to_json(&self, alloc: Global) -> Result<Value, AllocError> {
-        if !self.is_whole() || self.place != 0 {
-            return Err(AllocError);
-        }
         if F::is_second() {
-            json!(in alloc; [
+            return json!(in alloc; [
                 json_of::<Audit<F>, _>(alloc, &self.privilege)?,
                 json_of::<Audit<F>, _>(alloc, &self.grantee)?,
                 json_of::<Audit<F>, _>(alloc, &self.grantor)?,
                 self.option,
-                null
-            ])
-        } else {
-            json!(in alloc; [
-                json_of::<Audit<F>, _>(alloc, &self.privilege)?,
-                json_of::<Audit<F>, _>(alloc, &self.grantee)?,
-                json_of::<Audit<F>, _>(alloc, &self.grantor)?,
-                self.option
-            ])
+                json_of::<Audit<F>, _>(alloc, &self.column)?
+            ]);
         }
+        if self.column.is_some() {
+            return Err(AllocError);
+        }
+        json!(in alloc; [
+            json_of::<Audit<F>, _>(alloc, &self.privilege)?,
+            json_of::<Audit<F>, _>(alloc, &self.grantee)?,
+            json_of::<Audit<F>, _>(alloc, &self.grantor)?,
+            self.option
+        ])
     }
 
-    fn from_json(alloc: Global, json: &Value) -> Result<Grant, Unread> {
+    fn from_json(alloc: Global, json: &Value) -> Result<GrantShape, Unread> {
         let privilege = item::<Audit<F>, _>(alloc, json, 0)?;
         let grantee = item::<Audit<F>, _>(alloc, json, 1)?;
         let grantor = item::<Audit<F>, _>(alloc, json, 2)?;
         let option = item::<Audit<F>, _>(alloc, json, 3)?;
-        require_ending::<F>(json)?;
-        Ok(Grant {
+        let column = read_column::<F>(alloc, json)?;
+        Ok(GrantShape {
             privilege,
             grantee,
             grantor,
             option,
-            column: None,
-            place: 0,
+            column,
         })
     }
 }
 
-/// Passes what stands behind the option of a grant.
-fn require_ending<F: Format>(json: &Value) -> Result<(), Unread>
+/// What stands behind the option of a grant: its column, or none in the first format.
+fn read_column<F: Format>(alloc: Global, json: &Value) -> Result<Option<Name>, Unread>
     ensures { Reads result ((ending F.second).found 4 (view json.now)) }
 {
     if !F::is_second() {
-        return require_length(json, 4);
+        require_length(json, 4)?;
+        return Ok(None);
     }
-    match json.get(4usize) {
-        Some(column) if column.is_null() => require_length(json, 5),
-        _ => Err(Unread::Bad),
-    }
+    let column = item::<Audit<F>, _>(alloc, json, 4)?;
+    require_length(json, 5)?;
+    Ok(column)
 }

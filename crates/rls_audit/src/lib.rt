@@ -18,7 +18,7 @@ mod values;
 mod words;
 
 pub use changes::Changed;
-pub use contents::TableShape;
+pub use contents::{GrantShape, TableShape};
 pub use format::{Audit, First, Format, Second};
 pub use lines::{Answered, Line, Shown};
 pub use meaning::{audits_hold, empty_audit_holds};

@@ -50,7 +50,7 @@ pub enum Line {
 }
 
 impl<F: Format> Coded<Audit<F>> for Answered {
-    ghost codec = { codec.answered };
+    ghost codec = { codec.answered F.second };
 
     fn to_json(&self, alloc: Global) -> Result<Value, AllocError> {
         json!(in alloc; {

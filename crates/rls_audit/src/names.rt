@@ -6,7 +6,7 @@ ghost use Rattle.rls_audit.specs.NamesFound.{name_found, grantee_found};
 ghost use Rattle.rls_codec.specs.Reading.{Reads};
 
 use crate::format::{Audit, Format};
-use rls_codec::{Coded, Unread, read_text};
+use rls_codec::{Coded, NeverNull, Unread, read_text};
 use rls_expr::Grantee;
 use rls_value::{Name, Refusal};
 use serde_json::Value;
@@ -24,6 +24,13 @@ impl<F: Format> Coded<Audit<F>> for Name {
     fn from_json(alloc: Global, json: &Value) -> Result<Name, Unread> {
         read_name(alloc, read_text(json)?)
     }
+}
+
+/// Its JSON is a text.
+impl<F: Format> NeverNull<Audit<F>> for Name {
+    ghost use Rattle.std.proofs.Common.{refl};
+
+    ghost apart = { λ name. refl };
 }
 
 impl<F: Format> Coded<Audit<F>> for Grantee {

@@ -1,9 +1,9 @@
 //! Refusals as JSON: their number, and what is said of them.
 
-ghost use Rattle.std.specs.Prelude.{◌≡◌, false, IfOk, OnOk, option_map};
+ghost use Rattle.std.specs.Prelude.{◌≡◌, false, codes, IfOk, OnOk, option_map};
 ghost use Rattle.rls_audit.specs.RefusalCodecs as codec;
 ghost use Rattle.rls_audit.specs.Showing.{Gives};
-ghost use Rattle.rls_audit.specs.RefusalCodecs.{IsAudited, why_behind, fault_behind, state_behind, name_item, empty_item};
+ghost use Rattle.rls_audit.specs.RefusalCodecs.{IsAudited, column_behind, why_behind, fault_behind, state_behind, name_item, empty_item};
 ghost use Rattle.rls_codec.specs.Arrays.{part, no_more};
 ghost use Rattle.rls_codec.specs.Looking.{by_number, is_head};
 ghost use Rattle.rls_codec.specs.Reading.{Reads};
@@ -11,11 +11,12 @@ ghost use Rattle.serde_json.specs.Data.{array, item as then_items, no_items, num
 ghost use Rattle.serde_json.specs.Find.{at};
 ghost use Rattle.serde_json.specs.View.{view};
 ghost use Rattle.rls_value.specs.Names.{IsName};
+ghost use Rattle.rls_value.specs.declared.refusal.Why.TheVariants.{Column};
 
 use crate::format::{Audit, Format};
 use crate::showing::Unshown;
 use rls_codec::{Coded, Unread, is_number, is_word, item, json_of, require_length};
-use rls_value::{GrantFault, Name, Refusal, TxnState, Why};
+use rls_value::{GrantFault, Name, Privilege, Refusal, TxnState, Why};
 use serde_json::{Value, json};
 use std::alloc::{AllocError, Global};
 use std::marker::Model;
@@ -81,7 +82,7 @@ fn copied(alloc: Global, refusal: &Refusal) -> Result<Audited, Unshown>
 }
 
 impl<F: Format> Coded<Audit<F>> for Audited {
-    ghost codec = { codec.refusal };
+    ghost codec = { codec.refusal F.second };
 
     fn to_json(&self, alloc: Global) -> Result<Value, AllocError> {
         match &self.refusal {
@@ -142,8 +143,8 @@ fn write_state<F: Format>(alloc: Global, state: TxnState) -> Result<Value, Alloc
 
 /// The number of what is denied, and what is missing.
 fn write_why<F: Format>(alloc: Global, why: &Why) -> Result<Value, AllocError>
-    ensures json { IfOk result (λ json. view json ≡ array (then_items (number_data (unsigned 11)) (why_behind.written why.now))) }
-    ensures fits { OnOk result (why_behind.Fits why.now) }
+    ensures json { IfOk result (λ json. view json ≡ array (then_items (number_data (unsigned 11)) ((why_behind F.second).written why.now))) }
+    ensures fits { OnOk result ((why_behind F.second).Fits why.now) }
 {
     match why {
         Why::Privilege(privilege, table) => write_two::<F, _, _>(
@@ -168,14 +169,33 @@ fn write_why<F: Format>(alloc: Global, why: &Why) -> Result<Value, AllocError>
             policy,
             table,
         ),
-        Why::Column(privilege, table, column) => json!(in alloc; [
-            11u64,
-            "Column",
-            json_of::<Audit<F>, _>(alloc, privilege)?,
-            json_of::<Audit<F>, _>(alloc, table)?,
-            json_of::<Audit<F>, _>(alloc, column)?
-        ]),
+        Why::Column(privilege, table, column) => {
+            write_column::<F>(alloc, *privilege, table, column)
+        }
     }
+}
+
+/// The number of what is denied, and the privilege that is missing on a column; it has no form in the first format, which nobody
+/// writes.
+fn write_column<F: Format>(
+    alloc: Global,
+    privilege: Privilege,
+    table: &Name,
+    column: &Name,
+) -> Result<Value, AllocError>
+    ensures json { IfOk result (λ json. view json ≡ array (then_items (number_data (unsigned 11)) (then_items (string (codes "Column")) ((column_behind F.second).written (privilege, (table.now, (column.now, tt))))))) }
+    ensures fits { OnOk result ((column_behind F.second).Fits (privilege, (table.now, (column.now, tt)))) }
+{
+    if !F::is_second() {
+        return Err(AllocError);
+    }
+    json!(in alloc; [
+        11u64,
+        "Column",
+        json_of::<Audit<F>, _>(alloc, &privilege)?,
+        json_of::<Audit<F>, _>(alloc, table)?,
+        json_of::<Audit<F>, _>(alloc, column)?
+    ])
 }
 
 /// The number, the word, and the name.
@@ -228,7 +248,7 @@ fn write_fault<F: Format>(alloc: Global, fault: &GrantFault) -> Result<Value, Al
 }
 
 fn read_refusal<F: Format>(alloc: Global, json: &Value) -> Result<Refusal, Unread>
-    ensures found { Reads result (codec.refusal.found (view json.now)) }
+    ensures found { Reads result ((codec.refusal F.second).found (view json.now)) }
     ensures audited { IfOk result IsAudited }
 {
     if is_number(json, 0, 3) {
@@ -268,7 +288,7 @@ fn read_plain<F: Format>(alloc: Global, json: &Value) -> Result<Refusal, Unread>
     requires duplicate { is_head (by_number 7) (at 0 (view json.now)) ≡ false }
     requires denied { is_head (by_number 11) (at 0 (view json.now)) ≡ false }
     requires fault { is_head (by_number 12) (at 0 (view json.now)) ≡ false }
-    ensures found { Reads result (codec.refusal.found (view json.now)) }
+    ensures found { Reads result ((codec.refusal F.second).found (view json.now)) }
     ensures audited { IfOk result IsAudited }
 {
     if is_number(json, 0, 8) {
@@ -342,7 +362,7 @@ fn require_empty(json: &Value) -> Result<(), Unread>
 
 /// What is missing, behind the number.
 fn read_why<F: Format>(alloc: Global, json: &Value) -> Result<Why, Unread>
-    ensures { Reads result (why_behind.found 1 (view json.now)) }
+    ensures { Reads result ((why_behind F.second).found 1 (view json.now)) }
 {
     if is_word(json, 1, "Privilege") {
         let (privilege, table) = read_two::<F, _, _>(alloc, json)?;
@@ -370,13 +390,23 @@ fn read_why<F: Format>(alloc: Global, json: &Value) -> Result<Why, Unread>
         return Ok(Why::Restrictive(policy, table));
     }
     if is_word(json, 1, "Column") {
-        let privilege = item::<Audit<F>, _>(alloc, json, 2)?;
-        let table = item::<Audit<F>, _>(alloc, json, 3)?;
-        let column = item::<Audit<F>, _>(alloc, json, 4)?;
-        require_length(json, 5)?;
-        return Ok(Why::Column(privilege, table, column));
+        return read_column::<F>(alloc, json);
     }
     Err(Unread::Bad)
+}
+
+/// The privilege that is missing, the table and the column behind the number and a word; the first format has none.
+fn read_column<F: Format>(alloc: Global, json: &Value) -> Result<Why, Unread>
+    ensures { Reads result (option_map (λ p. Column p.0 p.1.0 p.1.1.0) ((column_behind F.second).found 2 (view json.now))) }
+{
+    if !F::is_second() {
+        return Err(Unread::Bad);
+    }
+    let privilege = item::<Audit<F>, _>(alloc, json, 2)?;
+    let table = item::<Audit<F>, _>(alloc, json, 3)?;
+    let column = item::<Audit<F>, _>(alloc, json, 4)?;
+    require_length(json, 5)?;
+    Ok(Why::Column(privilege, table, column))
 }
 
 /// The name behind the number and a word.

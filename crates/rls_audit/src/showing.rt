@@ -4,20 +4,20 @@ ghost use Rattle.std.specs.Prelude.{◌≡◌, ◌<◌, length, map, option_map,
 ghost use Rattle.std.specs.List.{All, AllZip, flat_map};
 ghost use Rattle.rls_core.specs.Posts.{effect_of};
 ghost use Rattle.rls_audit.specs.Lines as spec;
-ghost use Rattle.rls_audit.specs.Lines.{in_object_order, ordered_changes};
+ghost use Rattle.rls_audit.specs.Lines.{grant_shape, in_object_order, ordered_changes};
 ghost use Rattle.rls_audit.specs.Showing.{IsSpellable, IsPolicySpellable, AreTexts, HasKey, CanTell, CanShow, Gives};
 ghost use Rattle.rls_audit.specs.Shows.{NamesColumn, SpellsPolicy, ShowsTable, ShowsLine};
 ghost use Rattle.rls_audit.specs.ShownParts.{Adds, ShowsChange, ShowsPost, ShowsPolicy, line_of};
 ghost use Rattle.rls_text.specs.{ParseResults.IsSpelled, Words.words_of};
 
 use crate::changes::Changed;
-use crate::contents::TableShape;
+use crate::contents::{GrantShape, TableShape};
 use crate::copying::copies;
 use crate::lines::{Answered, Line, Shown};
 use crate::ordering::{are_in_order, in_order};
 use crate::refusals::Audited;
 use rls_catalog::shared_map::Share;
-use rls_catalog::{Change, Keyed, Policies};
+use rls_catalog::{Change, Grant, Grants, Keyed, Policies};
 use rls_core::{Posted, Record};
 use rls_expr::{Column, Policy, TableDef};
 use rls_guard::{Effect, Reply};
@@ -242,7 +242,7 @@ fn changed_by(alloc: Global, change: &Change) -> Result<Changed, Unshown>
             Err(why) => Err(why),
         },
         Change::Grants(table, content) => {
-            Ok(Changed::Grants(table.copy()?, copies(alloc, content)?))
+            Ok(Changed::Grants(table.copy()?, grant_shapes(alloc, content)?))
         }
         Change::Policies(table, content) => Ok(Changed::Policies(
             table.copy()?,
@@ -254,6 +254,37 @@ fn changed_by(alloc: Global, change: &Change) -> Result<Changed, Unshown>
             copy_values(alloc, &row.after)?,
         )),
     }
+}
+
+/// The grants, each by the name of its column.
+fn grant_shapes(alloc: Global, grants: &Grants) -> Result<Items<GrantShape>, AllocError>
+    ensures { IfOk result (λ shapes. shapes ≡ map grant_shape grants.now) }
+{
+    let mut shapes = Vec::with_capacity(alloc, grants.len())?;
+    for grant in grants.iter() {
+        shapes.push(shape_of_grant(grant)?)?;
+    }
+    Ok(Items::from_vec(shapes))
+}
+
+fn shape_of_grant(grant: &Grant) -> Result<GrantShape, AllocError>
+    ensures { IfOk result (λ shape. shape ≡ grant_shape grant.now) }
+{
+    let Grant {
+        privilege,
+        grantee,
+        grantor,
+        option,
+        column,
+        place: _,
+    } = grant.copy()?;
+    Ok(GrantShape {
+        privilege,
+        grantee,
+        grantor,
+        option,
+        column,
+    })
 }
 
 /// The values of a row, if there is one.

@@ -21,7 +21,7 @@ use Rattle.rls_text.specs.{ParseResults.IsParseResult, ParseResults.IsSpelled, W
 use Rattle.rls_audit.specs.Reading.{IsStatementText, IsPolicyText}
 use Rattle.rls_audit.specs.Shows.{NamesColumn, SpellsPolicy, ShowsChanged}
 use Rattle.rls_audit.specs.Showing.{HasKey, CanTell}
-use Rattle.rls_audit.specs.Lines.{Content, Written, written_by}
+use Rattle.rls_audit.specs.Lines.{Content, Written, grant_shape, written_by}
 use Rattle.rls_audit.specs.Lines as content
 use Rattle.rls_audit.specs.declared.contents.TableShape.{TableShape}
 use Rattle.rls_audit.specs.declared.changes.Changed.{Changed}
@@ -163,7 +163,7 @@ told_table : (name : List ℕ) (def : TableDef) (change : Change) → CanTell ch
 told_table name def (c.Table n d) can is = subst HasKey (same_table d def (ap (λ (w : Written). w.content) is)) can
 told_table name def (c.Role n d) can is = let e : ◌≡◌ {A = Content} (content.Role d) (content.Table def) = ap (λ (w : Written). w.content) is in absurd (cc)
 told_table name def (c.Members n d) can is = let e : ◌≡◌ {A = Content} (content.Members d) (content.Table def) = ap (λ (w : Written). w.content) is in absurd (cc)
-told_table name def (c.Grants n d) can is = let e : ◌≡◌ {A = Content} (content.Grants d) (content.Table def) = ap (λ (w : Written). w.content) is in absurd (cc)
+told_table name def (c.Grants n d) can is = let e : ◌≡◌ {A = Content} (content.Grants (map grant_shape d)) (content.Table def) = ap (λ (w : Written). w.content) is in absurd (cc)
 told_table name def (c.Policies n d) can is = let e : ◌≡◌ {A = Content} (content.Policies d) (content.Table def) = ap (λ (w : Written). w.content) is in absurd (cc)
 told_table name def (c.Row row) can is = let e : ◌≡◌ {A = Content} (content.Row (option_map (λ keyed. keyed.row) row.after)) (content.Table def) = ap (λ (w : Written). w.content) is in absurd (cc)
 

@@ -2,14 +2,15 @@
 
 ghost use Rattle.std.specs.Prelude.{◌≡◌, ◌↔◌, true, map, option_map};
 ghost use Rattle.rls_audit.specs.Lines as lines;
-ghost use Rattle.rls_audit.specs.Lines.{reply_of, written_by};
+ghost use Rattle.rls_audit.specs.Lines.{grant_shape, reply_of, written_by};
 ghost use Rattle.rls_check.specs.Audited.{written_of};
 ghost use Rattle.rls_check.specs.Checking.{ArePuts, IsAnswer};
 
 use crate::transaction::{Answer, Put};
-use rls_agreement::rls_equality::{Same, are_items_of, are_policies_of};
+use rls_agreement::rls_equality::{Same, are_both_same, are_items_of, are_policies_of};
+use rls_audit::GrantShape;
 use rls_audit::rls_access::{Decision, Effect};
-use rls_catalog::{Change, Keyed};
+use rls_catalog::{Change, Grant, Grants, Keyed};
 use rls_value::{Items, Row};
 
 /// Whether the effect is the reply or the refusal that is shown, with its decisions.
@@ -72,7 +73,7 @@ fn is_put(put: &Put, change: &Change) -> bool
             name.is_same(other) && def.is_same(made)
         }
         (Put::Grants(table, content), Change::Grants(other, made)) => {
-            table.is_same(other) && are_items_of(content.as_slice(), made)
+            table.is_same(other) && are_grants(content.as_slice(), made)
         }
         (Put::Policies(table, policies), Change::Policies(other, made)) => {
             table.is_same(other) && are_policies_of(policies.as_slice(), made)
@@ -82,6 +83,36 @@ fn is_put(put: &Put, change: &Change) -> bool
         }
         (_, _) => false,
     }
+}
+
+/// Whether the grants are those that are shown.
+fn are_grants(mut shapes: &[GrantShape], grants: &Grants) -> bool
+    ensures { (result ≡ true) ↔ (shapes.entry.now ≡ map grant_shape grants.now) }
+{
+    let mut left = grants.iter();
+    while let Some(grant) = left.next() {
+        match shapes {
+            [shape, others @ ..] => {
+                if !is_grant(shape, grant) {
+                    return false;
+                }
+                shapes = others;
+            }
+            [] => return false,
+        }
+    }
+    shapes.is_empty()
+}
+
+// Where its column stands follows from the table.
+fn is_grant(shape: &GrantShape, grant: &Grant) -> bool
+    ensures { (result ≡ true) ↔ (shape.now ≡ grant_shape grant.now) }
+{
+    shape.privilege == grant.privilege
+        && shape.grantee.is_same(&grant.grantee)
+        && shape.grantor.is_same(&grant.grantor)
+        && shape.option == grant.option
+        && are_both_same(shape.column.as_ref(), grant.column.as_ref())
 }
 
 /// Whether the values are the row's.

@@ -1,8 +1,8 @@
 //! A transaction as an audit shows it.
 
-use rls_audit::Audited;
 use rls_audit::rls_core::Begin;
-use rls_catalog::{Grant, Membership, RoleDef};
+use rls_audit::{Audited, GrantShape};
+use rls_catalog::{Membership, RoleDef};
 use rls_expr::{Policy, TableDef};
 use rls_guard::{Decision, Reply};
 use rls_statement::Statement;
@@ -16,7 +16,7 @@ pub enum Put {
     /// The memberships that the role has.
     Members(Name, Items<Membership>),
     Table(Name, TableDef),
-    Grants(Name, Items<Grant>),
+    Grants(Name, Items<GrantShape>),
     Policies(Name, Items<Policy>),
     /// The values of the row, or none where it is gone.
     Row(Name, RowId, Option<Row>),

@@ -85,6 +85,7 @@ fn other_lines_are_bad(rt: HostRuntime) {
         "{\"changes\":[[\"key (1) of t\",[]]],\"commit\":1,\"login\":\"p\",\"mode\":\"write\",\"role\":\"p\",\"snap\":0,\"statements\":[],\"txn\":2}",
         "{\"changes\":[[\"row 1.4294967296 of t\",[]]],\"commit\":1,\"login\":\"p\",\"mode\":\"write\",\"role\":\"p\",\"snap\":0,\"statements\":[],\"txn\":2}",
         "{\"changes\":[[\"row 1.0 of t\",[9223372036854775808]]],\"commit\":1,\"login\":\"p\",\"mode\":\"write\",\"role\":\"p\",\"snap\":0,\"statements\":[],\"txn\":2}",
+        "{\"changes\":[[\"grants on t\",[[\"SELECT\",\"r\",\"p\",false,1]]]],\"commit\":1,\"login\":\"p\",\"mode\":\"write\",\"role\":\"p\",\"snap\":0,\"statements\":[],\"txn\":2}",
         "{\"changes\":[[\"policies on u\",[\"CREATE POLICY p ON t AS PERMISSIVE FOR SELECT TO PUBLIC USING (a = 1)\"]]],\"commit\":1,\"login\":\"p\",\"mode\":\"write\",\"role\":\"p\",\"snap\":0,\"statements\":[],\"txn\":2}",
         "{\"changes\":[[\"policies on t\",[\"SELECT a FROM t\"]]],\"commit\":1,\"login\":\"p\",\"mode\":\"write\",\"role\":\"p\",\"snap\":0,\"statements\":[],\"txn\":2}",
         "{\"changes\":[],\"commit\":1,\"login\":\"p\",\"mode\":\"write\",\"role\":\"p\",\"snap\":0,\"statements\":[{\"decisions\":[],\"reply\":[\"done\"],\"text\":\"CREATE\"}],\"txn\":2}",

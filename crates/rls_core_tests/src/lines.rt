@@ -32,8 +32,21 @@ fn first_format_is_read(rt: HostRuntime) {
     assert!(rt; is_read_as::<First>(rt.alloc(), "{\"format\":1}", "{\"format\":2}"));
     assert!(rt; is_bad::<First>(rt.alloc(), new));
     assert!(rt; is_bad::<Second>(rt.alloc(), old));
-    assert!(rt; is_bad::<Second>(rt.alloc(), of_column));
     assert!(rt; is_bad::<Second>(rt.alloc(), "{\"format\":1}"));
+    assert!(rt; is_read_as::<Second>(rt.alloc(), of_column, of_column));
+    assert!(rt; is_bad::<First>(rt.alloc(), of_column));
+}
+
+/// A denial for a column is one of the second format alone; it has a privilege, a table and a column, and nothing else.
+#[test]
+fn denial_for_a_column_is_read(rt: HostRuntime) {
+    let denial =
+        "{\"changes\":[],\"commit\":1,\"login\":\"p\",\"mode\":\"write\",\"role\":\"p\",\"snap\":0,\"statements\":[{\"decisions\":[],\"reply\":[\"refused\",[11,\"Column\",\"SELECT\",\"t\",\"c\"]],\"text\":\"SELECT c FROM t\"}],\"txn\":2}";
+    let shorter =
+        "{\"changes\":[],\"commit\":1,\"login\":\"p\",\"mode\":\"write\",\"role\":\"p\",\"snap\":0,\"statements\":[{\"decisions\":[],\"reply\":[\"refused\",[11,\"Column\",\"SELECT\",\"t\"]],\"text\":\"SELECT c FROM t\"}],\"txn\":2}";
+    assert!(rt; is_read_as::<Second>(rt.alloc(), denial, denial));
+    assert!(rt; is_bad::<First>(rt.alloc(), denial));
+    assert!(rt; is_bad::<Second>(rt.alloc(), shorter));
 }
 
 /// Another layout and order of keys; of a key twice the last counts; a text that isn't as printed is none the worse.

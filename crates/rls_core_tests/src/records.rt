@@ -28,7 +28,8 @@ fn is_line(alloc: Global, statements: &[&str], wanted: &str) -> bool {
     }
 }
 
-/// A role; a table, with its owner's grants; memberships, in the order of the members; a policy as it is printed; a refusal.
+/// A role; a table, with its owner's grants; grants on columns, in the table's order; memberships, in the order of the members; a
+/// policy as it is printed; a refusal.
 #[test]
 fn records_are_shown(rt: HostRuntime) {
     let role = ["CREATE ROLE x"];
@@ -42,6 +43,11 @@ fn records_are_shown(rt: HostRuntime) {
     let policy = [
         "CREATE TABLE u (n int)",
         "create policy p on u for select using (n = 1)",
+    ];
+    let columns = [
+        "CREATE ROLE x",
+        "CREATE TABLE u (b int, a int)",
+        "grant update (a), select (a, b) on table u to x",
     ];
     let refused = ["CREATE ROLE postgres"];
     assert!(rt;
@@ -70,6 +76,13 @@ fn records_are_shown(rt: HostRuntime) {
             rt.alloc(),
             &policy,
             "{\"changes\":[[\"policies on u\",[\"CREATE POLICY p ON u AS PERMISSIVE FOR SELECT TO PUBLIC USING (n = 1)\"]]],\"commit\":2,\"login\":\"postgres\",\"mode\":\"write\",\"role\":\"postgres\",\"snap\":1,\"statements\":[{\"decisions\":[],\"reply\":[\"done\"],\"text\":\"CREATE POLICY p ON u AS PERMISSIVE FOR SELECT TO PUBLIC USING (n = 1)\"}],\"txn\":3}"
+        )
+    );
+    assert!(rt;
+        is_line(
+            rt.alloc(),
+            &columns,
+            "{\"changes\":[[\"grants on u\",[[\"SELECT\",\"postgres\",\"postgres\",false,null],[\"SELECT\",\"x\",\"postgres\",false,\"b\"],[\"SELECT\",\"x\",\"postgres\",false,\"a\"],[\"INSERT\",\"postgres\",\"postgres\",false,null],[\"UPDATE\",\"postgres\",\"postgres\",false,null],[\"UPDATE\",\"x\",\"postgres\",false,\"a\"],[\"DELETE\",\"postgres\",\"postgres\",false,null]]]],\"commit\":3,\"login\":\"postgres\",\"mode\":\"write\",\"role\":\"postgres\",\"snap\":2,\"statements\":[{\"decisions\":[],\"reply\":[\"done\"],\"text\":\"GRANT SELECT (a, b), UPDATE (a) ON u TO x\"}],\"txn\":4}"
         )
     );
     assert!(rt;

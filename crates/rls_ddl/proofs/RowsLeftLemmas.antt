@@ -214,7 +214,7 @@ grants_made_beside : (effective_roles : EffectiveRoles) (role : List ℕ) (table
 unfolding privileges.Granting.grants_made privileges.Granting.granted
 grants_made_beside effective_roles role table grants asked =
     given_then AreBeside (privileges.Grantors.grantors effective_roles role asked.table table grants asked.privileges) (λ by. privileges.Granting.granted table grants by asked) (λ by.
-    given_then AreBeside (privileges.Granting.options_or_refused asked.with_option table.owner grants by asked.to) (λ _. Ok (privileges.Granting.grants_with grants by asked)) (λ _. (tt, tt)))
+    given_then AreBeside (privileges.Granting.options_or_refused asked.with_option table.owner grants by asked.to) (λ _. Ok (privileges.Granting.grants_with table.columns grants by asked)) (λ _. (tt, tt)))
 
 grant_on_beside : (role : List ℕ) (table : TableDef) (asked : GrantPrivileges) → GivesBeside (privileges.Granting.grant_on role table asked)
 unfolding privileges.Granting.grant_on
@@ -222,16 +222,22 @@ grant_on_beside role table asked =
     given_any (asked_grants asked.table) (λ grants. followed_by (effective_roles_of role) (λ effective_roles. known (privileges.Granting.grants_made effective_roles role table grants asked))) (λ grants.
     given_any (effective_roles_of role) (λ effective_roles. known (privileges.Granting.grants_made effective_roles role table grants asked)) (λ effective_roles s. grants_made_beside effective_roles role table grants asked))
 
+grant_to_beside : (role : List ℕ) (table : TableDef) (asked : GrantPrivileges) → GivesBeside (privileges.Granting.grant_to role table asked)
+unfolding privileges.Granting.grant_to
+grant_to_beside role table asked =
+    given_any (grantees_or_undefined asked.to) (λ _. followed_by (known (privileges.Columns.option_or_unsupported asked.with_option asked.privileges)) (λ _. privileges.Granting.grant_on role table asked)) (λ _.
+    given_any (known (privileges.Columns.option_or_unsupported asked.with_option asked.privileges)) (λ _. privileges.Granting.grant_on role table asked) (λ _. grant_on_beside role table asked))
+
 pub grant_leaves : (ctx : Ctx) (asked : GrantPrivileges) → LeavesRows (grant ctx asked)
 grant_leaves ctx asked = written_leaves (privileges.Granting.grant ctx.role asked) (
-    given_any (table_or_undefined asked.table) (λ table. followed_by (grantees_or_undefined asked.to) (λ _. privileges.Granting.grant_on ctx.role table asked)) (λ table.
-    given_any (grantees_or_undefined asked.to) (λ _. privileges.Granting.grant_on ctx.role table asked) (λ _. grant_on_beside ctx.role table asked)))
+    given_any (table_or_undefined asked.table) (λ table. followed_by (known (privileges.Columns.columns_or_undefined table.columns asked.privileges)) (λ _. privileges.Granting.grant_to ctx.role table asked)) (λ table.
+    given_any (known (privileges.Columns.columns_or_undefined table.columns asked.privileges)) (λ _. privileges.Granting.grant_to ctx.role table asked) (λ _. grant_to_beside ctx.role table asked)))
 
 grants_revoked_beside : (effective_roles : EffectiveRoles) (role : List ℕ) (table : TableDef) (grants : List Grant) (asked : RevokePrivileges) → IfOk (privileges.Revoking.grants_revoked effective_roles role table grants asked) AreBeside
 unfolding privileges.Revoking.grants_revoked privileges.Revoking.revoked
 grants_revoked_beside effective_roles role table grants asked =
     given_then AreBeside (privileges.Grantors.grantors effective_roles role asked.table table grants asked.privileges) (λ by. privileges.Revoking.revoked table grants by asked) (λ by.
-    given_then AreBeside (privileges.Revoking.left_after asked.cascade asked.table table.owner by (privileges.Revoking.without_taken asked.option_only by asked.from grants))
+    given_then AreBeside (privileges.Revoking.left_after asked.cascade asked.table table.owner by (privileges.Revoking.without_taken asked by grants))
     (λ left. Ok (privileges.Granting.grants_written asked.table left)) (λ left. (tt, tt)))
 
 revoke_on_beside : (role : List ℕ) (table : TableDef) (asked : RevokePrivileges) → GivesBeside (privileges.Revoking.revoke_on role table asked)
@@ -240,10 +246,16 @@ revoke_on_beside role table asked =
     given_any (asked_grants asked.table) (λ grants. followed_by (effective_roles_of role) (λ effective_roles. known (privileges.Revoking.grants_revoked effective_roles role table grants asked))) (λ grants.
     given_any (effective_roles_of role) (λ effective_roles. known (privileges.Revoking.grants_revoked effective_roles role table grants asked)) (λ effective_roles s. grants_revoked_beside effective_roles role table grants asked))
 
+revoke_from_beside : (role : List ℕ) (table : TableDef) (asked : RevokePrivileges) → GivesBeside (privileges.Revoking.revoke_from role table asked)
+unfolding privileges.Revoking.revoke_from
+revoke_from_beside role table asked =
+    given_any (grantees_or_undefined asked.from) (λ _. followed_by (known (privileges.Columns.option_or_unsupported asked.option_only asked.privileges)) (λ _. privileges.Revoking.revoke_on role table asked)) (λ _.
+    given_any (known (privileges.Columns.option_or_unsupported asked.option_only asked.privileges)) (λ _. privileges.Revoking.revoke_on role table asked) (λ _. revoke_on_beside role table asked))
+
 pub revoke_leaves : (ctx : Ctx) (asked : RevokePrivileges) → LeavesRows (revoke ctx asked)
 revoke_leaves ctx asked = written_leaves (privileges.Revoking.revoke ctx.role asked) (
-    given_any (table_or_undefined asked.table) (λ table. followed_by (grantees_or_undefined asked.from) (λ _. privileges.Revoking.revoke_on ctx.role table asked)) (λ table.
-    given_any (grantees_or_undefined asked.from) (λ _. privileges.Revoking.revoke_on ctx.role table asked) (λ _. revoke_on_beside ctx.role table asked)))
+    given_any (table_or_undefined asked.table) (λ table. followed_by (known (privileges.Columns.columns_or_undefined table.columns asked.privileges)) (λ _. privileges.Revoking.revoke_from ctx.role table asked)) (λ table.
+    given_any (known (privileges.Columns.columns_or_undefined table.columns asked.privileges)) (λ _. privileges.Revoking.revoke_from ctx.role table asked) (λ _. revoke_from_beside ctx.role table asked)))
 
 members_beside : (held : List HeldMembership) → AreBeside (members.Granting.members_written held)
 members_beside [] = tt

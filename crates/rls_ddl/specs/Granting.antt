@@ -1,5 +1,5 @@
--- GRANT and REVOKE (PostgreSQL manual, GRANT and REVOKE), of privileges and of roles: the current role asks, and what is
--- asked is written.
+-- GRANT and REVOKE (PostgreSQL manual, GRANT and REVOKE), of privileges on tables and on columns of them, and of roles: the
+-- current role asks, and what is asked is written.
 use Rattle.std.specs.Prelude.{List, Ok}
 use Rattle.rls_catalog.specs.declared.change.Change.{Change}
 use Rattle.rls_statement.specs.{declared.statement.GrantPrivileges.GrantPrivileges, declared.statement.GrantRoles.GrantRoles, declared.statement.RevokePrivileges.RevokePrivileges, declared.statement.RevokeRoles.RevokeRoles}

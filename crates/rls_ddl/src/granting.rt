@@ -11,7 +11,8 @@ use rls_statement::{GrantPrivileges, GrantRoles, RevokePrivileges, RevokeRoles};
 use rls_value::Refusal;
 use std::alloc::Global;
 
-/// Grants the privileges to each grantee. Each privilege has its own grantor; the first without one is refused.
+/// Grants the privileges, on the table or on columns of it, to each grantee. Each privilege has its own grantor; the first
+/// without one is refused.
 pub fn run_grant<'c, S: RowSource<'c>>(
     alloc: Global,
     source: &mut S,
@@ -25,7 +26,8 @@ pub fn run_grant<'c, S: RowSource<'c>>(
     Ok(Effect::done(alloc, delta))
 }
 
-/// Takes the privileges from each grantee, or their grant options, as the chosen grantors gave them.
+/// Takes the privileges, on the table or on columns of it, from each grantee, or their grant options, as the chosen grantors
+/// gave them.
 pub fn run_revoke<'c, S: RowSource<'c>>(
     alloc: Global,
     source: &mut S,

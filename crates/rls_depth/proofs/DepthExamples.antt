@@ -148,7 +148,9 @@ protects : ((expansion_of (only (codes "alice")) (codes "papers") papers Kind.Se
       old = record { kind = Kind.Select; side = side.Old; quals = of_paper } ∷ [];
       new = [];
       relations = record { table = codes "teams"; quals = of_team } ∷ [];
-      permission_checks = codes "teams" ∷ [];
+      tables = codes "teams" ∷ [];
+      own = record { table = codes "teams"; columns = codes "id" ∷ [] } ∷ [];
+      subqueries = record { table = codes "teams"; selected = [] } ∷ [];
     })
 unfolding expansion_of policies_for past_policies dependencies_of dependency_of dependency_there table_at policies_at
 protects = refl

@@ -8,7 +8,7 @@ use Rattle.rls_catalog.specs.{declared.verdict.Side.Side, Membership.Within, Sta
 use Rattle.rls_guard.specs.rls_source.specs.{Asked.asked_policies, Asked.policies_at, Askings.asked_if, Askings.followed_by, Askings.known}
 use Rattle.rls_guard.specs.rls_evaluation.specs.{Eval.Shows, declared.relation.SecurityQuals.TheVariants.Policies, Showing.shown, Showing.shows, Showing.verdict_on}
 use Rattle.rls_guard.specs.{declared.role_privileges.RolePrivileges.RolePrivileges, SecurityQuals.quals_from, RolePrivileges.has_owner}
-use Rattle.rls_recursion.specs.{declared.dependency.PolicyDependency.PolicyDependency, declared.searching.Reached.Reached, Searching.ChecksEach, Searching.InOrder, Searching.ordered_by}
+use Rattle.rls_recursion.specs.{declared.dependency.PolicyDependency.PolicyDependency, declared.searching.Reached.Reached, Searching.ListsEach, Searching.InOrder, Searching.ordered_by}
 use Rattle.rls_expansion.specs.{declared.expansion.PolicyExpansion.PolicyExpansion, Relations.known_in, Policies.policies_for, Dependencies.dependencies_of, Used.Ask, Used.expression_by, Used.takes_check, Used.takes_using, Expanding.asks_of, Expanding.asks_on, Expanding.judges_new, Expanding.judges_old, Expanding.own_tables, Expanding.past_policies, Expanding.expanded_from, Expanding.expansion_by, Expanding.expansion_of, Expanding.row_checks_if}
 use Rattle.rls_depth.{specs.Deep.JudgeAlike, specs.Deep.ShowAlike, specs.Deep.quals_at, specs.Deep.policies_in, specs.Deep.shown_by, specs.Deep.shows_deep, specs.Deep.state_quals, specs.Leading.quals_tables, proofs.Agreeing.Agree, proofs.Agreeing.shown_same, proofs.Agreeing.verdict_same, proofs.Using.IsAsk, proofs.Using.chosen_used, proofs.Using.in_front, proofs.Using.own_ask, proofs.Walking.AreRead, proofs.Walking.and_then_ok, proofs.Walking.are_read, proofs.Walking.ok_same, proofs.Deepening.conditions_tables, proofs.Resolving.SameKnown, proofs.Resolving.conditions_same, proofs.Stating.same_known, proofs.Stating.state_deep, proofs.Tables.within_all, proofs.Tables.within_nothing}
 
@@ -137,7 +137,7 @@ pub record Searched (dependencies : List PolicyDependency) (own queries : List (
   pub order : InOrder dependencies reached.secured
   pub own_in : Within own reached.secured
   pub queries_in : Within queries reached.secured
-  pub asks : ChecksEach queries reached
+  pub asks : ListsEach queries reached
 
 made_deep : (s : State) (role_privileges : RolePrivileges) (name : List ℕ) (table : TableDef) (kind : Kind) (reads : Bool) (queries : List (List ℕ)) (expansion : PolicyExpansion) (made : IsMade s role_privileges name table kind reads queries expansion) (n : ℕ) (user : List ℕ)
     → InOrder made.dependencies made.reached.secured → length expansion.relations ≤ n → Agree s made.reached.secured (shows expansion.relations user) (shows_deep n (state_quals s role_privileges) user)
@@ -147,21 +147,21 @@ made_deep s role_privileges name table kind reads queries expansion made n user 
     (subst (λ relations. length relations ≤ n) (sym (ap (λ p. p.relations) made.is)) enough))
 
 -- each table whose privilege is asked is reached
-checked_reached : (queries : List (List ℕ)) (reached : Reached) → ChecksEach queries reached → Within queries reached.secured → Within reached.permission_checks reached.secured
+checked_reached : (queries : List (List ℕ)) (reached : Reached) → ListsEach queries reached → Within queries reached.secured → Within reached.tables reached.secured
 checked_reached queries reached asks within t is =
     within_all queries asks.listed reached.secured within asks.only t (ap (λ names. one_of names t) (sym asks.behind) ∙ is)
 
 pub made_shows : (s : State) (role_privileges : RolePrivileges) (name : List ℕ) (table : TableDef) (kind : Kind) (reads : Bool) (queries : List (List ℕ)) (expansion : PolicyExpansion) (made : IsMade s role_privileges name table kind reads queries expansion)
     → Searched made.dependencies (own_of s role_privileges name table kind reads) queries made.reached → (n : ℕ) (user : List ℕ) → length expansion.relations ≤ n
-    → Agree s expansion.permission_checks (shows expansion.relations user) (shows_deep n (state_quals s role_privileges) user)
+    → Agree s expansion.tables (shows expansion.relations user) (shows_deep n (state_quals s role_privileges) user)
 made_shows s role_privileges name table kind reads queries expansion made searched n user enough t among key =
     made_deep s role_privileges name table kind reads queries expansion made n user searched.order enough t
-    (checked_reached queries made.reached searched.asks searched.queries_in t (ap (λ p. one_of p.permission_checks t) made.is ∙ among)) key
+    (checked_reached queries made.reached searched.asks searched.queries_in t (ap (λ p. one_of p.tables t) made.is ∙ among)) key
 
 pub made_queries : (s : State) (role_privileges : RolePrivileges) (name : List ℕ) (table : TableDef) (kind : Kind) (reads : Bool) (queries : List (List ℕ)) (expansion : PolicyExpansion) (made : IsMade s role_privileges name table kind reads queries expansion)
-    → Searched made.dependencies (own_of s role_privileges name table kind reads) queries made.reached → Within queries expansion.permission_checks
+    → Searched made.dependencies (own_of s role_privileges name table kind reads) queries made.reached → Within queries expansion.tables
 made_queries s role_privileges name table kind reads queries expansion made searched t among =
-    ap (λ p. one_of p.permission_checks t) (sym made.is) ∙ ap (λ names. one_of names t) searched.asks.behind ∙ in_front queries searched.asks.listed queries (λ t is. is) t among
+    ap (λ p. one_of p.tables t) (sym made.is) ∙ ap (λ names. one_of names t) searched.asks.behind ∙ in_front queries searched.asks.listed queries (λ t is. is) t among
 
 -- ---- its row checks
 

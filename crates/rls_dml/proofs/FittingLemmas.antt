@@ -8,9 +8,9 @@ use Rattle.rls_catalog.{specs.declared.change.Change.Change, specs.declared.chan
 use Rattle.rls_statement.specs.{declared.statement.Insert.Insert, declared.statement.Selected.Selected, declared.changing.Update.Update, declared.changing.Delete.Delete}
 use Rattle.rls_guard.specs.{declared.context.Ctx.Ctx, declared.role_privileges.RolePrivileges.RolePrivileges, declared.quals.RowCheck.RowCheck, declared.reply.Decision.Decision, declared.effect.Effect.Effect, RolePrivileges.role_privileges_of}
 use Rattle.rls_evaluation.specs.{declared.relation.SecuredRelation.SecuredRelation, Gathering.gathered, Showing.shows}
-use Rattle.rls_expansion.specs.{declared.expansion.PolicyExpansion.PolicyExpansion, Expanding.expansion_of, Used.tables_if}
+use Rattle.rls_expansion.specs.{declared.expansion.PolicyExpansion.PolicyExpansion, Expanding.expansion_of, Expanding.permission_checks, Used.tables_if}
 use Rattle.rls_source.specs.{Asked.rows_at, Asked.keyed_at, Asked.asked_key, Askings.Asking, Askings.known, Askings.followed_by, Named.table_or_undefined}
-use Rattle.rls_dml.specs.{declared.analysed_insert.AnalysedInsert.AnalysedInsert, declared.analysed_update.AnalysedUpdate.AnalysedUpdate, declared.deleting.AnalysedDelete.AnalysedDelete, Checking.names_over_none, Checking.returning_reads, Fitting.IfDone, Fitting.NumbersFree, Fitting.numbers_from, Fitting.Overwrite, Writing.privileges_or_denied, Writing.order_of, Writing.rows_or_refused, Writing.each_with, Writing.each_taking, Writing.first_of, Writing.behind_first, Inserting.places_of, Inserting.tuple_resolved, Inserting.analysed_insert_named, Inserting.analysed_insert_resolved, Inserting.analysed_insert_in, Inserting.analysed_insert_or_refused, Inserting.analysed_insert_for, Inserting.row_of_tuple, Inserting.numbered, Inserting.new_rows, Inserting.inserted_row, Inserting.inserted, Inserting.insert_judged, Inserting.insert_rows, Inserting.insert_made, Inserting.insert_values, Inserting.tuples_tables, Inserting.insert_with_quals, Inserting.insert_as, Inserting.insert_into, Inserting.insert, Updating.analysed_update_for, Updating.analysed_update_reads, Updating.places_set, Updating.updated_row, Updating.updated_rows, Updating.changed_rows, Updating.updated, Updating.update_judged, Updating.update_rows, Updating.update_made, Updating.update_values, Updating.update_qualifying_rows, Updating.analysed_update_tables, Updating.update_with_quals, Updating.update_as, Updating.update_in, Updating.update, Deleting.analysed_delete_for, Deleting.analysed_delete_reads, Deleting.deleted_row, Deleting.deleted, Deleting.delete_qualifying_rows, Deleting.delete_with_quals, Deleting.delete_as, Deleting.delete_from, Deleting.delete}
+use Rattle.rls_dml.specs.{declared.analysed_insert.AnalysedInsert.AnalysedInsert, declared.analysed_update.AnalysedUpdate.AnalysedUpdate, declared.deleting.AnalysedDelete.AnalysedDelete, Checking.names_over_none, Checking.has_some, Checking.where_selected, Fitting.IfDone, Fitting.NumbersFree, Fitting.numbers_from, Fitting.Overwrite, Writing.checks_of, Writing.permissions_or_denied, Writing.order_of, Writing.rows_or_refused, Writing.each_with, Writing.each_taking, Writing.first_of, Writing.behind_first, Inserting.places_of, Inserting.tuple_resolved, Inserting.analysed_insert_named, Inserting.analysed_insert_resolved, Inserting.analysed_insert_in, Inserting.analysed_insert_or_refused, Inserting.analysed_insert_for, Inserting.row_of_tuple, Inserting.numbered, Inserting.new_rows, Inserting.inserted_row, Inserting.inserted, Inserting.insert_judged, Inserting.insert_rows, Inserting.insert_made, Inserting.insert_values, Inserting.tuples_tables, Inserting.insert_columns, Inserting.tuples_selected, Inserting.insert_columns_read, Inserting.insert_with_quals, Inserting.insert_as, Inserting.insert_into, Inserting.insert, Updating.analysed_update_for, Updating.update_columns, Updating.update_selected, Updating.update_columns_read, Updating.places_set, Updating.updated_row, Updating.updated_rows, Updating.changed_rows, Updating.updated, Updating.update_judged, Updating.update_rows, Updating.update_made, Updating.update_values, Updating.update_qualifying_rows, Updating.analysed_update_tables, Updating.update_with_quals, Updating.update_as, Updating.update_in, Updating.update, Deleting.analysed_delete_for, Deleting.delete_columns, Deleting.deleted_row, Deleting.deleted, Deleting.delete_qualifying_rows, Deleting.delete_with_quals, Deleting.delete_as, Deleting.delete_from, Deleting.delete}
 use Rattle.rls_judging.specs.{Judging.row_if_qualifying, Judging.qualifying_rows_of, Judging.judged_all, Judging.judged_old, Judging.with_judged, Judging.decisions_of, Valuing.assignments_of, Valuing.tuples_of, ScannedRows.pinned_key, ScannedRows.scanned_rows_with, ScannedRows.scanned_rows}
 
 -- ---- numbers
@@ -301,7 +301,7 @@ delete_with_quals_fit : (s : State) (role_privileges : RolePrivileges) (expansio
     → IfDone ((delete_with_quals role_privileges expansion analysed_delete role name table).in_state s).gives (FitsAll s)
 unfolding delete_with_quals
 delete_with_quals_fit s role_privileges expansion analysed_delete role name table ordered =
-    done_then (FitsAll s) ((privileges_or_denied role_privileges Privilege.Delete (analysed_delete_reads analysed_delete) name expansion.permission_checks).in_state s).gives
+    done_then (FitsAll s) ((permissions_or_denied role_privileges (checks_of Privilege.Delete name [] (delete_columns table analysed_delete) (permission_checks expansion (where_selected analysed_delete.found analysed_delete.condition)))).in_state s).gives
     (λ _. ((followed_by (scanned_rows role name table analysed_delete.condition) (λ rows. delete_qualifying_rows role name expansion analysed_delete rows)).in_state s).gives) (λ _.
     done_after (StandIn s name) (FitsAll s) ((scanned_rows role name table analysed_delete.condition).in_state s).gives
     (λ rows. ((delete_qualifying_rows role name expansion analysed_delete rows).in_state s).gives)
@@ -311,7 +311,7 @@ delete_as_fit : (s : State) (role_privileges : RolePrivileges) (role name : List
     → IfDone ((delete_as role_privileges role name table analysed_delete).in_state s).gives (FitsAll s)
 unfolding delete_as
 delete_as_fit s role_privileges role name table analysed_delete ordered =
-    done_then (FitsAll s) ((expansion_of role_privileges name table Kind.Delete (analysed_delete_reads analysed_delete) (tables_if analysed_delete.condition)).in_state s).gives
+    done_then (FitsAll s) ((expansion_of role_privileges name table Kind.Delete (has_some (delete_columns table analysed_delete)) (tables_if analysed_delete.condition)).in_state s).gives
     (λ expansion. ((delete_with_quals role_privileges expansion analysed_delete role name table).in_state s).gives) (λ expansion.
     delete_with_quals_fit s role_privileges expansion analysed_delete role name table ordered)
 
@@ -382,7 +382,7 @@ update_with_quals_fit : (s : State) (role_privileges : RolePrivileges) (expansio
     → IfDone ((update_with_quals role_privileges expansion analysed_update role name table).in_state s).gives (FitsAll s)
 unfolding update_with_quals
 update_with_quals_fit s role_privileges expansion analysed_update role name table ordered =
-    done_then (FitsAll s) ((privileges_or_denied role_privileges Privilege.Update (analysed_update_reads analysed_update) name expansion.permission_checks).in_state s).gives
+    done_then (FitsAll s) ((permissions_or_denied role_privileges (checks_of Privilege.Update name (update_columns table analysed_update) (update_columns_read table analysed_update) (permission_checks expansion (update_selected analysed_update)))).in_state s).gives
     (λ _. ((followed_by (scanned_rows role name table analysed_update.condition) (λ rows. update_qualifying_rows role name table expansion analysed_update rows)).in_state s).gives) (λ _.
     done_after (StandIn s name) (FitsAll s) ((scanned_rows role name table analysed_update.condition).in_state s).gives
     (λ rows. ((update_qualifying_rows role name table expansion analysed_update rows).in_state s).gives)
@@ -392,7 +392,7 @@ update_as_fit : (s : State) (role_privileges : RolePrivileges) (role name : List
     → IfDone ((update_as role_privileges role name table analysed_update).in_state s).gives (FitsAll s)
 unfolding update_as
 update_as_fit s role_privileges role name table analysed_update ordered =
-    done_then (FitsAll s) ((expansion_of role_privileges name table Kind.Update (analysed_update_reads analysed_update) (analysed_update_tables analysed_update)).in_state s).gives
+    done_then (FitsAll s) ((expansion_of role_privileges name table Kind.Update (has_some (update_columns_read table analysed_update)) (analysed_update_tables analysed_update)).in_state s).gives
     (λ expansion. ((update_with_quals role_privileges expansion analysed_update role name table).in_state s).gives) (λ expansion.
     update_with_quals_fit s role_privileges expansion analysed_update role name table ordered)
 
@@ -483,7 +483,7 @@ insert_with_quals_done : (fact : List Change → Type 0) (s : State) (ctx : Ctx)
     → HoldsOf fact ctx name (length analysed_insert.tuples) → IfDone ((insert_with_quals ctx name table role_privileges expansion analysed_insert).in_state s).gives fact
 unfolding insert_with_quals
 insert_with_quals_done fact s ctx name table role_privileges expansion analysed_insert all =
-    done_then fact ((privileges_or_denied role_privileges Privilege.Insert (returning_reads analysed_insert.returning) name expansion.permission_checks).in_state s).gives
+    done_then fact ((permissions_or_denied role_privileges (checks_of Privilege.Insert name (insert_columns table analysed_insert) (insert_columns_read table analysed_insert) (permission_checks expansion (tuples_selected analysed_insert.found analysed_insert.tuples)))).in_state s).gives
     (λ _. ((insert_values ctx name table expansion analysed_insert).in_state s).gives) (λ _.
     insert_values_done fact s ctx name table expansion analysed_insert all)
 
@@ -491,7 +491,7 @@ insert_as_done : (fact : List Change → Type 0) (s : State) (ctx : Ctx) (name :
     → HoldsOf fact ctx name (length analysed_insert.tuples) → IfDone ((insert_as ctx name table role_privileges analysed_insert).in_state s).gives fact
 unfolding insert_as
 insert_as_done fact s ctx name table role_privileges analysed_insert all =
-    done_then fact ((expansion_of role_privileges name table Kind.Insert (returning_reads analysed_insert.returning) (tuples_tables analysed_insert.tuples)).in_state s).gives
+    done_then fact ((expansion_of role_privileges name table Kind.Insert (has_some (insert_columns_read table analysed_insert)) (tuples_tables analysed_insert.tuples)).in_state s).gives
     (λ expansion. ((insert_with_quals ctx name table role_privileges expansion analysed_insert).in_state s).gives) (λ expansion.
     insert_with_quals_done fact s ctx name table role_privileges expansion analysed_insert all)
 

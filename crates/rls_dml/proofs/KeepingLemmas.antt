@@ -8,9 +8,9 @@ use Rattle.rls_catalog.specs.{declared.change.Change.Change, declared.stored.Sto
 use Rattle.rls_statement.specs.{declared.changing.Delete.Delete, declared.changing.Update.Update, declared.statement.Insert.Insert, declared.statement.Select.Select, declared.statement.Selected.Selected}
 use Rattle.rls_source.specs.{Asked.table_at, Askings.known, Askings.followed_by, Named.found_or, Named.table_or_undefined}
 use Rattle.rls_guard.specs.{declared.context.Ctx.Ctx, declared.reply.Decision.Decision, declared.role_privileges.RolePrivileges.RolePrivileges, RolePrivileges.role_privileges_of, Keeping.IfDone, Keeping.IsNoRow, Keeping.KeepsRowsSound, Keeping.KeepsTables, Keeping.LeavesRows, Keeping.TablesStay}
-use Rattle.rls_expansion.specs.{declared.expansion.PolicyExpansion.PolicyExpansion, Expanding.expansion_of, Used.tables_if}
+use Rattle.rls_expansion.specs.{declared.expansion.PolicyExpansion.PolicyExpansion, Expanding.expansion_of, Expanding.permission_checks, Used.tables_if}
 use Rattle.rls_judging.specs.{ScannedRows.scanned_rows, Judging.decisions_of, Judging.qualifying_rows_of, Valuing.assignments_of, Valuing.tuples_of}
-use Rattle.rls_dml.{specs.declared.analysed_insert.AnalysedInsert.AnalysedInsert, specs.declared.deleting.AnalysedDelete.AnalysedDelete, specs.declared.analysed_update.AnalysedUpdate.AnalysedUpdate, specs.declared.selecting.AnalysedSelect.AnalysedSelect, specs.Checking.returning_reads, specs.NextRows.NumberOn, specs.Numbers.has_number, specs.Selecting.listed_by, specs.Selecting.listed_for, specs.Selecting.listed_from, specs.Selecting.qualifier_of, specs.Selecting.analysed_select_for, specs.Selecting.select, specs.Selecting.select_as, specs.Selecting.select_from, specs.Writing.assigned, specs.Writing.each_with, specs.Writing.key_at, specs.Writing.order_of, specs.Writing.privileges_or_denied, specs.Writing.rows_or_refused, specs.Deleting.delete, specs.Deleting.delete_as, specs.Deleting.delete_from, specs.Deleting.delete_with_quals, specs.Deleting.delete_qualifying_rows, specs.Deleting.deleted, specs.Deleting.deleted_row, specs.Deleting.analysed_delete_for, specs.Deleting.analysed_delete_reads, specs.Inserting.analysed_insert_for, specs.Inserting.insert, specs.Inserting.insert_as, specs.Inserting.insert_with_quals, specs.Inserting.insert_into, specs.Inserting.insert_judged, specs.Inserting.insert_made, specs.Inserting.insert_rows, specs.Inserting.insert_values, specs.Inserting.inserted, specs.Inserting.inserted_row, specs.Inserting.new_rows, specs.Inserting.numbered, specs.Inserting.row_of_tuple, specs.Inserting.tuples_tables, specs.Updating.changed_row, specs.Updating.changed_rows, specs.Updating.places_set, specs.Updating.analysed_update_for, specs.Updating.analysed_update_reads, specs.Updating.analysed_update_tables, specs.Updating.update, specs.Updating.update_as, specs.Updating.update_with_quals, specs.Updating.update_qualifying_rows, specs.Updating.update_in, specs.Updating.update_judged, specs.Updating.update_rows, specs.Updating.update_made, specs.Updating.update_values, specs.Updating.updated, specs.Updating.updated_row, specs.Updating.updated_rows, proofs.FittingLemmas.Apart, proofs.FittingLemmas.OtherThan, proofs.FittingLemmas.StandIn, proofs.FittingLemmas.scanned_rows_stand, proofs.FittingLemmas.done_after, proofs.FittingLemmas.done_then, proofs.FittingLemmas.given_after, proofs.FittingLemmas.given_then, proofs.FittingLemmas.qualifying_rows_stand, proofs.FittingLemmas.insert_done, proofs.FittingLemmas.numbered_apart, proofs.PassingLemmas.KeysAreMade, proofs.PassingLemmas.Pass, proofs.PassingLemmas.each_free, proofs.PassingLemmas.rows_carry, proofs.PassingLemmas.rows_passed, proofs.SoundLemmas.AreRenewed, proofs.SoundLemmas.changed_leave, proofs.SoundLemmas.deleted_leave, proofs.SoundLemmas.inserted_leave, proofs.SoundLemmas.left_rows_sound, proofs.SoundLemmas.sound_in, proofs.WrittenLemmas.MayStand, proofs.WrittenLemmas.keyed_of, proofs.WrittenLemmas.left_sound, proofs.WrittenLemmas.with_rows, proofs.WrittenLemmas.without_rows, proofs.WrittenLemmas.written_sound}
+use Rattle.rls_dml.{specs.declared.analysed_insert.AnalysedInsert.AnalysedInsert, specs.declared.deleting.AnalysedDelete.AnalysedDelete, specs.declared.analysed_update.AnalysedUpdate.AnalysedUpdate, specs.declared.selecting.AnalysedSelect.AnalysedSelect, specs.Checking.has_some, specs.Checking.where_selected, specs.NextRows.NumberOn, specs.Numbers.has_number, specs.Selecting.listed_by, specs.Selecting.listed_for, specs.Selecting.listed_from, specs.Selecting.qualifier_of, specs.Selecting.analysed_select_for, specs.Selecting.select, specs.Selecting.select_as, specs.Selecting.select_from, specs.Selecting.select_columns, specs.Writing.assigned, specs.Writing.each_with, specs.Writing.key_at, specs.Writing.order_of, specs.Writing.checks_of, specs.Writing.permissions_or_denied, specs.Writing.rows_or_refused, specs.Deleting.delete, specs.Deleting.delete_as, specs.Deleting.delete_from, specs.Deleting.delete_with_quals, specs.Deleting.delete_qualifying_rows, specs.Deleting.deleted, specs.Deleting.deleted_row, specs.Deleting.analysed_delete_for, specs.Deleting.delete_columns, specs.Inserting.analysed_insert_for, specs.Inserting.insert, specs.Inserting.insert_as, specs.Inserting.insert_with_quals, specs.Inserting.insert_into, specs.Inserting.insert_judged, specs.Inserting.insert_made, specs.Inserting.insert_rows, specs.Inserting.insert_values, specs.Inserting.inserted, specs.Inserting.inserted_row, specs.Inserting.new_rows, specs.Inserting.numbered, specs.Inserting.row_of_tuple, specs.Inserting.tuples_tables, specs.Inserting.insert_columns, specs.Inserting.tuples_selected, specs.Inserting.insert_columns_read, specs.Updating.changed_row, specs.Updating.changed_rows, specs.Updating.places_set, specs.Updating.analysed_update_for, specs.Updating.update_columns, specs.Updating.update_selected, specs.Updating.update_columns_read, specs.Updating.analysed_update_tables, specs.Updating.update, specs.Updating.update_as, specs.Updating.update_with_quals, specs.Updating.update_qualifying_rows, specs.Updating.update_in, specs.Updating.update_judged, specs.Updating.update_rows, specs.Updating.update_made, specs.Updating.update_values, specs.Updating.updated, specs.Updating.updated_row, specs.Updating.updated_rows, proofs.FittingLemmas.Apart, proofs.FittingLemmas.OtherThan, proofs.FittingLemmas.StandIn, proofs.FittingLemmas.scanned_rows_stand, proofs.FittingLemmas.done_after, proofs.FittingLemmas.done_then, proofs.FittingLemmas.given_after, proofs.FittingLemmas.given_then, proofs.FittingLemmas.qualifying_rows_stand, proofs.FittingLemmas.insert_done, proofs.FittingLemmas.numbered_apart, proofs.PassingLemmas.KeysAreMade, proofs.PassingLemmas.Pass, proofs.PassingLemmas.each_free, proofs.PassingLemmas.rows_carry, proofs.PassingLemmas.rows_passed, proofs.SoundLemmas.AreRenewed, proofs.SoundLemmas.changed_leave, proofs.SoundLemmas.deleted_leave, proofs.SoundLemmas.inserted_leave, proofs.SoundLemmas.left_rows_sound, proofs.SoundLemmas.sound_in, proofs.WrittenLemmas.MayStand, proofs.WrittenLemmas.keyed_of, proofs.WrittenLemmas.left_sound, proofs.WrittenLemmas.with_rows, proofs.WrittenLemmas.without_rows, proofs.WrittenLemmas.written_sound}
 
 -- tables that are the same stay
 same_stay : (s : State) (changes : List Change) → ((name : List ℕ) → table_of (changed_all s changes) name ≡ table_of s name) → TablesStay s changes
@@ -100,14 +100,14 @@ insert_with_quals_keep : (s : State) (ctx : Ctx) (name : List ℕ) (table : Tabl
     → IfDone ((insert_with_quals ctx name table role_privileges expansion analysed_insert).in_state s).gives (Keeps s)
 unfolding insert_with_quals
 insert_with_quals_keep s ctx name table role_privileges expansion analysed_insert sound there =
-    done_then (Keeps s) ((privileges_or_denied role_privileges Privilege.Insert (returning_reads analysed_insert.returning) name expansion.permission_checks).in_state s).gives
+    done_then (Keeps s) ((permissions_or_denied role_privileges (checks_of Privilege.Insert name (insert_columns table analysed_insert) (insert_columns_read table analysed_insert) (permission_checks expansion (tuples_selected analysed_insert.found analysed_insert.tuples)))).in_state s).gives
     (λ _. ((insert_values ctx name table expansion analysed_insert).in_state s).gives) (λ _. insert_values_keep s ctx name table expansion analysed_insert sound there)
 
 insert_as_keep : (s : State) (ctx : Ctx) (name : List ℕ) (table : TableDef) (role_privileges : RolePrivileges) (analysed_insert : AnalysedInsert) → RowsAreSound s → table_of s name ≡ Some table
     → IfDone ((insert_as ctx name table role_privileges analysed_insert).in_state s).gives (Keeps s)
 unfolding insert_as
 insert_as_keep s ctx name table role_privileges analysed_insert sound there =
-    done_then (Keeps s) ((expansion_of role_privileges name table Kind.Insert (returning_reads analysed_insert.returning) (tuples_tables analysed_insert.tuples)).in_state s).gives
+    done_then (Keeps s) ((expansion_of role_privileges name table Kind.Insert (has_some (insert_columns_read table analysed_insert)) (tuples_tables analysed_insert.tuples)).in_state s).gives
     (λ expansion. ((insert_with_quals ctx name table role_privileges expansion analysed_insert).in_state s).gives) (λ expansion.
     insert_with_quals_keep s ctx name table role_privileges expansion analysed_insert sound there)
 
@@ -236,7 +236,7 @@ update_with_quals_hold : (fact : List Change → Type 0) (s : State) (role_privi
     → RowsAreSound s → table_of s name ≡ Some table → IfDone ((update_with_quals role_privileges expansion analysed_update role name table).in_state s).gives fact
 unfolding update_with_quals
 update_with_quals_hold fact s role_privileges expansion analysed_update role name table all sound there =
-    done_then fact ((privileges_or_denied role_privileges Privilege.Update (analysed_update_reads analysed_update) name expansion.permission_checks).in_state s).gives
+    done_then fact ((permissions_or_denied role_privileges (checks_of Privilege.Update name (update_columns table analysed_update) (update_columns_read table analysed_update) (permission_checks expansion (update_selected analysed_update)))).in_state s).gives
     (λ _. ((followed_by (scanned_rows role name table analysed_update.condition) (λ rows. update_qualifying_rows role name table expansion analysed_update rows)).in_state s).gives) (λ _.
     done_after (StandIn s name) fact ((scanned_rows role name table analysed_update.condition).in_state s).gives
     (λ rows. ((update_qualifying_rows role name table expansion analysed_update rows).in_state s).gives)
@@ -247,7 +247,7 @@ update_as_hold : (fact : List Change → Type 0) (s : State) (role_privileges : 
     → table_of s name ≡ Some table → IfDone ((update_as role_privileges role name table analysed_update).in_state s).gives fact
 unfolding update_as
 update_as_hold fact s role_privileges role name table analysed_update all sound there =
-    done_then fact ((expansion_of role_privileges name table Kind.Update (analysed_update_reads analysed_update) (analysed_update_tables analysed_update)).in_state s).gives
+    done_then fact ((expansion_of role_privileges name table Kind.Update (has_some (update_columns_read table analysed_update)) (analysed_update_tables analysed_update)).in_state s).gives
     (λ expansion. ((update_with_quals role_privileges expansion analysed_update role name table).in_state s).gives) (λ expansion.
     update_with_quals_hold fact s role_privileges expansion analysed_update role name table all sound there)
 
@@ -299,7 +299,7 @@ delete_with_quals_hold : (fact : List Change → Type 0) (s : State) (role_privi
     → table_of s name ≡ Some table → IfDone ((delete_with_quals role_privileges expansion analysed_delete role name table).in_state s).gives fact
 unfolding delete_with_quals
 delete_with_quals_hold fact s role_privileges expansion analysed_delete role name table all there =
-    done_then fact ((privileges_or_denied role_privileges Privilege.Delete (analysed_delete_reads analysed_delete) name expansion.permission_checks).in_state s).gives
+    done_then fact ((permissions_or_denied role_privileges (checks_of Privilege.Delete name [] (delete_columns table analysed_delete) (permission_checks expansion (where_selected analysed_delete.found analysed_delete.condition)))).in_state s).gives
     (λ _. ((followed_by (scanned_rows role name table analysed_delete.condition) (λ rows. delete_qualifying_rows role name expansion analysed_delete rows)).in_state s).gives) (λ _.
     done_then fact ((scanned_rows role name table analysed_delete.condition).in_state s).gives (λ rows. ((delete_qualifying_rows role name expansion analysed_delete rows).in_state s).gives) (λ rows.
     delete_qualifying_rows_hold fact s role name table expansion analysed_delete rows all there))
@@ -308,7 +308,7 @@ delete_as_hold : (fact : List Change → Type 0) (s : State) (role_privileges : 
     → IfDone ((delete_as role_privileges role name table analysed_delete).in_state s).gives fact
 unfolding delete_as
 delete_as_hold fact s role_privileges role name table analysed_delete all there =
-    done_then fact ((expansion_of role_privileges name table Kind.Delete (analysed_delete_reads analysed_delete) (tables_if analysed_delete.condition)).in_state s).gives
+    done_then fact ((expansion_of role_privileges name table Kind.Delete (has_some (delete_columns table analysed_delete)) (tables_if analysed_delete.condition)).in_state s).gives
     (λ expansion. ((delete_with_quals role_privileges expansion analysed_delete role name table).in_state s).gives) (λ expansion.
     delete_with_quals_hold fact s role_privileges expansion analysed_delete role name table all there)
 
@@ -349,7 +349,7 @@ listed_for_hold : (fact : List Change → Type 0) (s : State) (role_privileges :
     → IfDone ((listed_for role_privileges expansion analysed_select role name table).in_state s).gives fact
 unfolding listed_for
 listed_for_hold fact s role_privileges expansion analysed_select role name table none =
-    done_then fact ((privileges_or_denied role_privileges Privilege.Select false name expansion.permission_checks).in_state s).gives
+    done_then fact ((permissions_or_denied role_privileges (checks_of Privilege.Select name (select_columns table analysed_select) [] (permission_checks expansion (where_selected analysed_select.found analysed_select.condition)))).in_state s).gives
     (λ _. ((followed_by (scanned_rows role name table analysed_select.condition) (λ rows. listed_from role expansion analysed_select rows)).in_state s).gives) (λ _.
     done_then fact ((scanned_rows role name table analysed_select.condition).in_state s).gives (λ rows. ((listed_from role expansion analysed_select rows).in_state s).gives) (λ rows.
     listed_from_hold fact s role expansion analysed_select rows none))

@@ -1,11 +1,11 @@
 -- The parts of a statement on rows, checked (PostgreSQL manual, 4.1 and 4.2): first the names of all parts, in text order,
 -- then the types of all, then that nothing stands in them that isn't supported.
-use Rattle.std.specs.Prelude.{ℕ, List, [], Bool, true, false, Option, Some, None, Result, Ok, Err, if◌then◌else◌, slice_get, map}
+use Rattle.std.specs.Prelude.{ℕ, List, [], ◌∷◌, Bool, true, false, Option, Some, None, Result, Ok, Err, if◌then◌else◌, slice_get, map}
 use Rattle.std.specs.List.{list_any, list_all}
 use Rattle.std.specs.Option.{option_map}
 use Rattle.rls_value.specs.{declared.refusal.Refusal.Refusal, declared.refusal.Refusal.TheVariants.TypeFault, declared.refusal.Refusal.TheVariants.Undefined, declared.refusal.Refusal.TheVariants.Unsupported}
 use Rattle.rls_value.specs.declared.refusal.NameKind.TheVariants as kind
-use Rattle.rls_expr.specs.{declared.table.Column.Column, declared.typing.Typing.Typing, Scopes.InScope, Tables.column_named, Parts.reads_target}
+use Rattle.rls_expr.specs.{declared.table.Column.Column, declared.typing.Typing.Typing, declared.columns.SelectedTable.SelectedTable, Scopes.InScope, Selecting.columns_of, Selecting.names_where, Selecting.selected_of, Tables.column_named}
 use Rattle.rls_expr.specs.Terms.{Term, maybe_term, terms_of}
 use Rattle.rls_expr.specs.{Naming.Step, Naming.names_all, Resolving.Names, Resolving.resolved}
 use Rattle.rls_expr.specs.Typing.{type_of, is_typed, takes_boolean, goes_into}
@@ -120,20 +120,44 @@ returning_unsupported (Some items) = selection_unsupported items
 abbrev pub supported_or_refused : Bool → Result (Unit {0}) Refusal
 supported_or_refused unsupported = if unsupported then Err Unsupported else Ok tt
 
--- ---- what reads
+-- ---- which columns are mentioned
 
--- the condition mentions a column
-abbrev pub where_reads : Option Term → Bool
-where_reads None = false
-where_reads (Some condition) = reads_target condition
+-- the expressions that are selected; `*` and `count(*)` have none
+abbrev pub selection_terms : Selected → List Term
+selection_terms selected.All = []
+selection_terms (selected.Items items) = items
+selection_terms selected.Count = []
 
--- so does what is selected: `*` stands for all columns
-abbrev pub selection_reads : Selected → Bool
-selection_reads selected.All = true
-selection_reads (selected.Items items) = list_any reads_target items
-selection_reads selected.Count = false
+-- those of RETURNING
+abbrev pub returning_terms : Option Selected → List Term
+returning_terms None = []
+returning_terms (Some items) = selection_terms items
 
--- or RETURNING
-abbrev pub returning_reads : Option Selected → Bool
-returning_reads None = false
-returning_reads (Some items) = selection_reads items
+-- all columns are selected
+abbrev pub selects_all : Selected → Bool
+selects_all selected.All = true
+selects_all (selected.Items items) = false
+selects_all selected.Count = false
+
+-- all columns are returned
+abbrev pub returns_all : Option Selected → Bool
+returns_all None = false
+returns_all (Some items) = selects_all items
+
+-- the columns that stand in the expressions, in the table's order; for `*` all
+abbrev pub columns_read : List Column → Bool → List Term → List (List ℕ)
+columns_read columns all terms = if all then map (λ column. column.name) columns else columns_of columns terms
+
+-- the columns that are written: those at these places, in the table's order
+abbrev pub columns_at : (ℕ → Bool) → List Column → List (List ℕ)
+columns_at is_written columns = names_where is_written 0 columns
+
+-- there are some
+abbrev pub has_some : List (List ℕ) → Bool
+has_some [] = false
+has_some (name ∷ names) = true
+
+-- the tables of the condition's subqueries, with the columns that they mention
+abbrev pub where_selected : List InScope → Option Term → List SelectedTable
+where_selected found None = []
+where_selected found (Some condition) = selected_of found condition

@@ -1,16 +1,17 @@
 -- DELETE (PostgreSQL manual, DELETE, and 5.8): names, then types, then the privileges; then the rows that row security
 -- lets go and that WHERE holds of. A row that it hides stays, and nothing is said of it.
 use Rattle.std.specs.Prelude.{ℕ, List, [], ◌∷◌, ◌++◌, Some, None, Bool, ◌&&◌, ◌||◌, Result, Ok, map}
+use Rattle.std.specs.Option.{option_to_list}
 use Rattle.rls_value.specs.{declared.refusal.Refusal.Refusal, Giving.and_then, declared.verb.Privilege.Privilege, declared.verb.Kind.Kind}
 use Rattle.rls_expr.specs.{declared.table.TableDef.TableDef, Scopes.InScope, Naming.Step, Resolving.Names}
 use Rattle.rls_catalog.specs.{declared.change.Change.Change, declared.stored.Stored.Stored}
 use Rattle.rls_catalog.specs.declared.change.Change.TheVariants as change
 use Rattle.rls_statement.specs.declared.changing.Delete.{Delete}
 use Rattle.rls_guard.specs.{declared.context.Ctx.Ctx, declared.role_privileges.RolePrivileges.RolePrivileges, declared.effect.Effect.Effect, RolePrivileges.role_privileges_of, declared.reply.Decision.Decision, Naming.named, Naming.names_over}
-use Rattle.rls_expansion.specs.{declared.expansion.PolicyExpansion.PolicyExpansion, Used.tables_if, Expanding.expansion_of}
+use Rattle.rls_expansion.specs.{declared.expansion.PolicyExpansion.PolicyExpansion, Used.tables_if, Expanding.expansion_of, Expanding.permission_checks}
 use Rattle.rls_guard.specs.declared.effect.Effect.TheVariants as effect
 use Rattle.rls_source.specs.{Askings.Asking, Askings.known, Askings.followed_by, Named.table_or_undefined}
-use Rattle.rls_dml.specs.{declared.deleting.AnalysedDelete.AnalysedDelete, Listings.reply_of, Writing.privileges_or_denied, Checking.where_names, Checking.returning_names, Checking.where_resolved, Checking.returning_resolved, Checking.where_fits, Checking.returning_fits, Checking.fitting_or_fault, Checking.where_unsupported, Checking.returning_unsupported, Checking.supported_or_refused, Checking.where_reads, Checking.returning_reads}
+use Rattle.rls_dml.specs.{declared.deleting.AnalysedDelete.AnalysedDelete, Listings.reply_of, Writing.checks_of, Writing.permissions_or_denied, Checking.columns_read, Checking.has_some, Checking.returning_terms, Checking.returns_all, Checking.where_selected, Checking.where_names, Checking.returning_names, Checking.where_resolved, Checking.returning_resolved, Checking.where_fits, Checking.returning_fits, Checking.fitting_or_fault, Checking.where_unsupported, Checking.returning_unsupported, Checking.supported_or_refused}
 use Rattle.rls_judging.specs.{Judging.qualifying_rows_of, ScannedRows.scanned_rows}
 
 -- the names of the condition and of RETURNING
@@ -19,7 +20,8 @@ analysed_delete_names delete = where_names delete.condition ++ returning_names d
 
 -- the condition and RETURNING, with resolved columns
 abbrev pub analysed_delete_resolved : Delete → Names → AnalysedDelete
-analysed_delete_resolved delete names = record { condition = where_resolved names delete.condition; returning = returning_resolved names delete.returning }
+analysed_delete_resolved delete names =
+    record { condition = where_resolved names delete.condition; returning = returning_resolved names delete.returning; found = names.known }
 
 -- their types, then that nothing in them isn't supported
 abbrev pub analysed_delete_or_refused : AnalysedDelete → Result (Unit {0}) Refusal
@@ -38,9 +40,9 @@ analysed_delete_in delete from found = analysed_delete_checked (analysed_delete_
 abbrev pub analysed_delete_for : Delete → TableDef → Asking AnalysedDelete
 analysed_delete_for delete table = followed_by (named (analysed_delete_names delete) ((delete.table, table) ∷ []) []) (λ found. known (analysed_delete_in delete (delete.table, table) found))
 
--- it reads the table where it mentions a column
-abbrev pub analysed_delete_reads : AnalysedDelete → Bool
-analysed_delete_reads analysed_delete = where_reads analysed_delete.condition || returning_reads analysed_delete.returning
+-- the columns that it reads
+abbrev pub delete_columns : TableDef → AnalysedDelete → List (List ℕ)
+delete_columns table analysed_delete = columns_read table.columns (returns_all analysed_delete.returning) (option_to_list analysed_delete.condition ++ returning_terms analysed_delete.returning)
 
 -- the change that takes the row out of the table
 abbrev pub deleted_row : List ℕ → Stored → Change
@@ -56,13 +58,13 @@ delete_qualifying_rows role name expansion analysed_delete rows = followed_by (q
 
 -- the rows, where the role may delete them
 unfoldable pub delete_with_quals : RolePrivileges → PolicyExpansion → AnalysedDelete → List ℕ → List ℕ → TableDef → Asking Effect
-delete_with_quals role_privileges expansion analysed_delete role name table = followed_by (privileges_or_denied role_privileges Privilege.Delete (analysed_delete_reads analysed_delete) name expansion.permission_checks) (λ _.
+delete_with_quals role_privileges expansion analysed_delete role name table = followed_by (permissions_or_denied role_privileges (checks_of Privilege.Delete name [] (delete_columns table analysed_delete) (permission_checks expansion (where_selected analysed_delete.found analysed_delete.condition)))) (λ _.
     followed_by (scanned_rows role name table analysed_delete.condition) (λ rows. delete_qualifying_rows role name expansion analysed_delete rows))
 
 -- the policy expansion
 unfoldable pub delete_as : RolePrivileges → List ℕ → List ℕ → TableDef → AnalysedDelete → Asking Effect
 delete_as role_privileges role name table analysed_delete =
-    followed_by (expansion_of role_privileges name table Kind.Delete (analysed_delete_reads analysed_delete) (tables_if analysed_delete.condition)) (λ expansion. delete_with_quals role_privileges expansion analysed_delete role name table)
+    followed_by (expansion_of role_privileges name table Kind.Delete (has_some (delete_columns table analysed_delete)) (tables_if analysed_delete.condition)) (λ expansion. delete_with_quals role_privileges expansion analysed_delete role name table)
 
 -- who the role is
 unfoldable pub delete_from : List ℕ → List ℕ → TableDef → AnalysedDelete → Asking Effect

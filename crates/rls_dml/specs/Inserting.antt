@@ -1,16 +1,16 @@
 -- INSERT .. VALUES (PostgreSQL manual, INSERT, and 5.8): names, then types, then how many rows, then the privileges, then
 -- the ranges; then the rows are judged: row security, then NOT NULL, then the primary key.
-use Rattle.std.specs.Prelude.{ℕ, suc, ◌+◌, List, [], ◌∷◌, ◌++◌, Option, Some, None, Bool, true, false, ◌&&◌, ◌||◌, nat_le, Result, Ok, Err, length, if◌then◌else◌, map}
+use Rattle.std.specs.Prelude.{ℕ, suc, ◌+◌, List, [], ◌∷◌, ◌++◌, Option, Some, None, Bool, true, false, ◌&&◌, ◌||◌, nat_le, Result, Ok, Err, length, if◌then◌else◌, map, take}
 use Rattle.std.specs.List.{list_any, list_all}
 use Rattle.rls_value.specs.{declared.value.Value.Value, declared.value.Value.TheVariants.Null, declared.refusal.Refusal.Refusal, declared.refusal.Refusal.TheVariants.Limit, Giving.and_then, declared.verb.Privilege.Privilege, declared.verb.Kind.Kind}
 use Rattle.rls_value.specs.declared.refusal.Limit.TheVariants as limit
-use Rattle.rls_expr.specs.{declared.table.Column.Column, declared.table.TableDef.TableDef, Scopes.InScope, Resolving.Names, Terms.Term, Terms.terms_of, Naming.Step, Naming.names_all}
+use Rattle.rls_expr.specs.{declared.columns.SelectedTable.SelectedTable, Selecting.selected_of, declared.table.Column.Column, declared.table.TableDef.TableDef, Scopes.InScope, Resolving.Names, Terms.Term, Terms.terms_of, Naming.Step, Naming.names_all}
 use Rattle.rls_catalog.specs.{declared.change.Change.Change, declared.stored.Stored.Stored}
 use Rattle.rls_statement.specs.{declared.statement.Insert.Insert, declared.statement.Selected.Selected}
 use Rattle.rls_guard.specs.{declared.context.Ctx.Ctx, declared.role_privileges.RolePrivileges.RolePrivileges, declared.reply.Decision.Decision, declared.effect.Effect.Effect, Checks.is_unsupported, RolePrivileges.role_privileges_of, Naming.named, Naming.names_over}
-use Rattle.rls_expansion.specs.{declared.expansion.PolicyExpansion.PolicyExpansion, Used.all_tables, Expanding.expansion_of}
+use Rattle.rls_expansion.specs.{declared.expansion.PolicyExpansion.PolicyExpansion, Used.all_tables, Expanding.expansion_of, Expanding.permission_checks}
 use Rattle.rls_source.specs.{Askings.Asking, Askings.known, Askings.followed_by, Askings.settled, Sequences.each_of, Named.table_or_undefined}
-use Rattle.rls_dml.specs.{declared.analysed_insert.AnalysedInsert.AnalysedInsert, Listings.reply_of, Writing.privileges_or_denied, Writing.assigned, Writing.each_with, Writing.key_at, Writing.order_of, Writing.rows_or_refused, Checking.names_over_none, Checking.returning_names, Checking.resolved_in, Checking.returning_resolved, Checking.place_or_undefined, Checking.value_fits, Checking.returning_fits, Checking.fitting_or_fault, Checking.returning_unsupported, Checking.supported_or_refused, Checking.returning_reads}
+use Rattle.rls_dml.specs.{declared.analysed_insert.AnalysedInsert.AnalysedInsert, Listings.reply_of, Writing.checks_of, Writing.is_written, Writing.permissions_or_denied, Checking.columns_at, Checking.columns_read, Checking.has_some, Checking.returning_terms, Checking.returns_all, Writing.assigned, Writing.each_with, Writing.key_at, Writing.order_of, Writing.rows_or_refused, Checking.names_over_none, Checking.returning_names, Checking.resolved_in, Checking.returning_resolved, Checking.place_or_undefined, Checking.value_fits, Checking.returning_fits, Checking.fitting_or_fault, Checking.returning_unsupported, Checking.supported_or_refused}
 use Rattle.rls_judging.specs.{Judging.decisions_of, Valuing.tuples_of}
 
 -- ---- its parts
@@ -48,10 +48,24 @@ room_or_limit next count = if nat_le (next + count) 4294967295 then Ok tt else E
 abbrev pub analysed_insert_named : Insert → InScope → Asking (List InScope)
 analysed_insert_named insert from = followed_by (named (tuples_names insert.tuples) [] []) (λ found. named (returning_names insert.returning) (from ∷ []) found)
 
+-- the tables of the tuples' subqueries, with the columns that they mention
+abbrev pub tuple_selected : List InScope → List Term → List SelectedTable
+tuple_selected found [] = []
+tuple_selected found (term ∷ terms) = selected_of found term ++ tuple_selected found terms
+
+-- of all tuples
+abbrev pub tuples_selected : List InScope → List (List Term) → List SelectedTable
+tuples_selected found [] = []
+tuples_selected found (tuple ∷ tuples) = tuple_selected found tuple ++ tuples_selected found tuples
+
 -- the parts, with resolved columns
 abbrev pub analysed_insert_resolved : Insert → InScope → List ℕ → List InScope → AnalysedInsert
-analysed_insert_resolved insert from places found =
-    record { places = places; tuples = map (tuple_resolved (names_over_none found)) insert.tuples; returning = returning_resolved (names_over from found) insert.returning }
+analysed_insert_resolved insert from places found = record {
+  places = places;
+  tuples = map (tuple_resolved (names_over_none found)) insert.tuples;
+  returning = returning_resolved (names_over from found) insert.returning;
+  found = found;
+}
 
 -- their types, then that nothing in them isn't supported, then how many rows
 abbrev pub analysed_insert_or_refused : ℕ → List Column → AnalysedInsert → Result (Unit {0}) Refusal
@@ -117,9 +131,21 @@ insert_made ctx name table expansion analysed_insert values = followed_by (known
 unfoldable pub insert_values : Ctx → List ℕ → TableDef → PolicyExpansion → AnalysedInsert → Asking Effect
 insert_values ctx name table expansion analysed_insert = followed_by (tuples_of expansion.relations ctx.role analysed_insert.tuples) (insert_made ctx name table expansion analysed_insert)
 
+-- some tuple gives the column at that place a value
+abbrev pub is_given : List ℕ → List (List Term) → ℕ → Bool
+is_given places tuples place = list_any (λ tuple. is_written (take (length tuple) places) place) tuples
+
+-- the columns that are given a value
+abbrev pub insert_columns : TableDef → AnalysedInsert → List (List ℕ)
+insert_columns table analysed_insert = columns_at (is_given analysed_insert.places analysed_insert.tuples) table.columns
+
+-- the columns that it reads
+abbrev pub insert_columns_read : TableDef → AnalysedInsert → List (List ℕ)
+insert_columns_read table analysed_insert = columns_read table.columns (returns_all analysed_insert.returning) (returning_terms analysed_insert.returning)
+
 -- the privileges, then the values
 unfoldable pub insert_with_quals : Ctx → List ℕ → TableDef → RolePrivileges → PolicyExpansion → AnalysedInsert → Asking Effect
-insert_with_quals ctx name table role_privileges expansion analysed_insert = followed_by (privileges_or_denied role_privileges Privilege.Insert (returning_reads analysed_insert.returning) name expansion.permission_checks) (λ _.
+insert_with_quals ctx name table role_privileges expansion analysed_insert = followed_by (permissions_or_denied role_privileges (checks_of Privilege.Insert name (insert_columns table analysed_insert) (insert_columns_read table analysed_insert) (permission_checks expansion (tuples_selected analysed_insert.found analysed_insert.tuples)))) (λ _.
     insert_values ctx name table expansion analysed_insert)
 
 -- the tables of the tuples' subqueries
@@ -130,7 +156,7 @@ tuples_tables (tuple ∷ tuples) = all_tables tuple ++ tuples_tables tuples
 -- the policy expansion of the new rows
 unfoldable pub insert_as : Ctx → List ℕ → TableDef → RolePrivileges → AnalysedInsert → Asking Effect
 insert_as ctx name table role_privileges analysed_insert =
-    followed_by (expansion_of role_privileges name table Kind.Insert (returning_reads analysed_insert.returning) (tuples_tables analysed_insert.tuples)) (λ expansion. insert_with_quals ctx name table role_privileges expansion analysed_insert)
+    followed_by (expansion_of role_privileges name table Kind.Insert (has_some (insert_columns_read table analysed_insert)) (tuples_tables analysed_insert.tuples)) (λ expansion. insert_with_quals ctx name table role_privileges expansion analysed_insert)
 
 -- who the role is
 unfoldable pub insert_into : Ctx → List ℕ → TableDef → AnalysedInsert → Asking Effect

@@ -2,15 +2,16 @@
 -- lets change and that WHERE holds of get their new values: their ranges come before the new rows are judged.
 use Rattle.std.specs.Prelude.{ℕ, List, [], ◌∷◌, ◌++◌, Some, None, Bool, true, ◌&&◌, ◌||◌, Result, Ok, Err, length, map}
 use Rattle.std.specs.List.{list_any}
+use Rattle.std.specs.Option.{option_to_list}
 use Rattle.rls_value.specs.{declared.refusal.Refusal.Refusal, declared.value.Value.Value, Giving.and_then, declared.verb.Privilege.Privilege, declared.verb.Kind.Kind}
-use Rattle.rls_expr.specs.{declared.table.Column.Column, declared.table.TableDef.TableDef, Parts.reads_target, Scopes.InScope, Resolving.Names, Terms.Term, Naming.Step, Naming.Look, Naming.names_of}
+use Rattle.rls_expr.specs.{declared.table.Column.Column, declared.table.TableDef.TableDef, declared.columns.SelectedTable.SelectedTable, Selecting.selected_of, Scopes.InScope, Resolving.Names, Terms.Term, Naming.Step, Naming.Look, Naming.names_of}
 use Rattle.rls_catalog.specs.{declared.change.Change.Change, declared.stored.Stored.Stored}
 use Rattle.rls_statement.specs.{declared.changing.Assignment.Assignment, declared.changing.Update.Update}
 use Rattle.rls_guard.specs.{declared.context.Ctx.Ctx, declared.role_privileges.RolePrivileges.RolePrivileges, declared.reply.Decision.Decision, declared.effect.Effect.Effect, Support.is_unsupported, RolePrivileges.role_privileges_of, Naming.named, Naming.names_over}
-use Rattle.rls_expansion.specs.{declared.expansion.PolicyExpansion.PolicyExpansion, Expanding.expansion_of, Used.all_tables, Used.tables_if}
+use Rattle.rls_expansion.specs.{declared.expansion.PolicyExpansion.PolicyExpansion, Expanding.expansion_of, Expanding.permission_checks, Used.all_tables, Used.tables_if}
 use Rattle.rls_guard.specs.declared.effect.Effect.TheVariants as effect
 use Rattle.rls_source.specs.{Askings.Asking, Askings.known, Askings.followed_by, Askings.settled, Sequences.each_of, Named.table_or_undefined}
-use Rattle.rls_dml.specs.{declared.analysed_update.AnalysedUpdate.AnalysedUpdate, Listings.reply_of, Writing.privileges_or_denied, Writing.assigned, Writing.each_taking, Writing.key_at, Writing.order_of, Writing.rows_or_refused, Checking.where_names, Checking.returning_names, Checking.resolved_in, Checking.where_resolved, Checking.returning_resolved, Checking.place_or_undefined, Checking.value_fits, Checking.where_fits, Checking.returning_fits, Checking.fitting_or_fault, Checking.where_unsupported, Checking.returning_unsupported, Checking.supported_or_refused, Checking.where_reads, Checking.returning_reads}
+use Rattle.rls_dml.specs.{declared.analysed_update.AnalysedUpdate.AnalysedUpdate, Listings.reply_of, Writing.checks_of, Writing.is_written, Writing.permissions_or_denied, Checking.columns_at, Checking.columns_read, Checking.has_some, Checking.returning_terms, Checking.returns_all, Checking.where_selected, Writing.assigned, Writing.each_taking, Writing.key_at, Writing.order_of, Writing.rows_or_refused, Checking.where_names, Checking.returning_names, Checking.resolved_in, Checking.where_resolved, Checking.returning_resolved, Checking.place_or_undefined, Checking.value_fits, Checking.where_fits, Checking.returning_fits, Checking.fitting_or_fault, Checking.where_unsupported, Checking.returning_unsupported, Checking.supported_or_refused}
 use Rattle.rls_judging.specs.{Judging.qualifying_rows_of, Judging.decisions_of, Valuing.assignments_of, ScannedRows.scanned_rows}
 
 -- ---- its parts
@@ -28,10 +29,20 @@ analysed_update_names update = assignments_names update.assignments ++ (where_na
 abbrev pub assignment_resolved : List Column → Names → Assignment → Result (ℕ × Term) Refusal
 assignment_resolved columns names assignment = and_then (place_or_undefined columns assignment.column) (λ place. Ok (place, resolved_in names assignment.value))
 
+-- the tables of the subqueries in what columns are set to, with the columns that they mention
+abbrev pub assignments_selected : List InScope → List (ℕ × Term) → List SelectedTable
+assignments_selected found [] = []
+assignments_selected found (assignment ∷ assignments) = selected_of found assignment.1 ++ assignments_selected found assignments
+
 -- the parts, with resolved columns
 abbrev pub analysed_update_resolved : Update → List Column → Names → Result AnalysedUpdate Refusal
 analysed_update_resolved update columns names = and_then (each_of (assignment_resolved columns names) update.assignments) (λ assignments.
-    Ok (record { assignments = assignments; condition = where_resolved names update.condition; returning = returning_resolved names update.returning }))
+    Ok (record {
+      assignments = assignments;
+      condition = where_resolved names update.condition;
+      returning = returning_resolved names update.returning;
+      found = names.known;
+    }))
 
 -- each column is set to what fits it
 abbrev pub assignments_fit : List Column → List (ℕ × Term) → Bool
@@ -56,9 +67,18 @@ analysed_update_in update from found = and_then (analysed_update_resolved update
 abbrev pub analysed_update_for : Update → TableDef → Asking AnalysedUpdate
 analysed_update_for update table = followed_by (named (analysed_update_names update) ((update.table, table) ∷ []) []) (λ found. known (analysed_update_in update (update.table, table) found))
 
--- it reads the table where it mentions a column, to the right of SET's equal signs too
-abbrev pub analysed_update_reads : AnalysedUpdate → Bool
-analysed_update_reads analysed_update = list_any (λ assignment. reads_target assignment.1) analysed_update.assignments || (where_reads analysed_update.condition || returning_reads analysed_update.returning)
+-- the columns that it sets
+abbrev pub update_columns : TableDef → AnalysedUpdate → List (List ℕ)
+update_columns table analysed_update = columns_at (is_written (map (λ assignment. assignment.0) analysed_update.assignments)) table.columns
+
+-- the columns that it reads, to the right of SET's equal signs too
+abbrev pub update_columns_read : TableDef → AnalysedUpdate → List (List ℕ)
+update_columns_read table analysed_update =
+    columns_read table.columns (returns_all analysed_update.returning) ((map (λ assignment. assignment.1) analysed_update.assignments ++ option_to_list analysed_update.condition) ++ returning_terms analysed_update.returning)
+
+-- the tables of its subqueries, with the columns that they mention: to the right of SET's equal signs, then in WHERE
+abbrev pub update_selected : AnalysedUpdate → List SelectedTable
+update_selected analysed_update = assignments_selected analysed_update.found analysed_update.assignments ++ where_selected analysed_update.found analysed_update.condition
 
 -- ---- its rows
 
@@ -118,7 +138,7 @@ update_qualifying_rows role name table expansion analysed_update rows = followed
 
 -- the rows, where the role may change them
 unfoldable pub update_with_quals : RolePrivileges → PolicyExpansion → AnalysedUpdate → List ℕ → List ℕ → TableDef → Asking Effect
-update_with_quals role_privileges expansion analysed_update role name table = followed_by (privileges_or_denied role_privileges Privilege.Update (analysed_update_reads analysed_update) name expansion.permission_checks) (λ _.
+update_with_quals role_privileges expansion analysed_update role name table = followed_by (permissions_or_denied role_privileges (checks_of Privilege.Update name (update_columns table analysed_update) (update_columns_read table analysed_update) (permission_checks expansion (update_selected analysed_update)))) (λ _.
     followed_by (scanned_rows role name table analysed_update.condition) (λ rows. update_qualifying_rows role name table expansion analysed_update rows))
 
 -- the tables of its subqueries: to the right of SET's equal signs, then in WHERE
@@ -128,7 +148,7 @@ analysed_update_tables analysed_update = all_tables (map (λ assignment. assignm
 -- the policy expansion, before and after
 unfoldable pub update_as : RolePrivileges → List ℕ → List ℕ → TableDef → AnalysedUpdate → Asking Effect
 update_as role_privileges role name table analysed_update =
-    followed_by (expansion_of role_privileges name table Kind.Update (analysed_update_reads analysed_update) (analysed_update_tables analysed_update)) (λ expansion. update_with_quals role_privileges expansion analysed_update role name table)
+    followed_by (expansion_of role_privileges name table Kind.Update (has_some (update_columns_read table analysed_update)) (analysed_update_tables analysed_update)) (λ expansion. update_with_quals role_privileges expansion analysed_update role name table)
 
 -- who the role is
 unfoldable pub update_in : List ℕ → List ℕ → TableDef → AnalysedUpdate → Asking Effect

@@ -5,29 +5,33 @@ use Rattle.std.specs.List.{list_any}
 use Rattle.std.specs.Cmp.Lexicographic.{slice_cmp}
 use Rattle.std.specs.Ordering.{is_eq, is_lt}
 use Rattle.rls_value.specs.{declared.value.Value.Value, declared.value.Value.TheVariants.Null, declared.verb.Kind.Kind, declared.verb.Privilege.Privilege, declared.object.Object.Object, declared.object.Object.TheVariants.Key, declared.refusal.Refusal.Refusal, Giving.and_then, declared.refusal.Refusal.TheVariants.NotNull, declared.refusal.Refusal.TheVariants.Unique, declared.refusal.Refusal.TheVariants.Denied, Values.is_null, Values.value_at, Values.listed, declared.refusal.Why.Why}
-use Rattle.rls_expr.specs.declared.table.Column.{Column}
+use Rattle.rls_expr.specs.{declared.columns.SelectedTable.SelectedTable, declared.table.Column.Column}
 use Rattle.rls_catalog.specs.{declared.verdict.Verdict.Verdict, declared.stored.Stored.Stored}
 use Rattle.rls_catalog.specs.declared.verdict.Verdict.TheVariants as verdict
-use Rattle.rls_guard.specs.{declared.reply.Decision.Decision, declared.role_privileges.RolePrivileges.RolePrivileges, RolePrivileges.privilege_or_denied}
+use Rattle.rls_guard.specs.{declared.reply.Decision.Decision, declared.permission_check.PermissionCheck.PermissionCheck, declared.role_privileges.RolePrivileges.RolePrivileges, RolePrivileges.permission_or_denied}
 use Rattle.rls_evaluation.specs.{Environments.assigned_value, Showing.allows}
-use Rattle.rls_source.specs.{Askings.Asking, Askings.known, Askings.asked_if, Askings.followed_by, Asked.asked_key, Sequences.each_or_refused}
+use Rattle.rls_source.specs.{Askings.Asking, Askings.known, Askings.followed_by, Asked.asked_key, Sequences.each_or_refused}
+use Rattle.rls_dml.specs.Checking.{has_some}
 use Rattle.rls_dml.specs.Numbers.{has_number}
 
 -- ---- privileges
 
--- SELECT on each of the tables
-abbrev pub readable_or_denied : RolePrivileges → List (List ℕ) → Asking (Unit {0})
-readable_or_denied role_privileges [] = known (Ok tt)
-readable_or_denied role_privileges (name ∷ names) = followed_by (privilege_or_denied role_privileges Privilege.Select name) (λ _. readable_or_denied role_privileges names)
+-- SELECT for these columns of each of the tables
+abbrev pub readable : List SelectedTable → List PermissionCheck
+readable others = map (λ one. record { privilege = Privilege.Select; table = one.table; columns = one.columns }) others
 
--- that of the command, and SELECT where it reads the table
-abbrev pub own_or_denied : RolePrivileges → Privilege → Bool → List ℕ → Asking (Unit {0})
-own_or_denied role_privileges privilege reads name = followed_by (privilege_or_denied role_privileges privilege name) (λ _.
-    asked_if reads (privilege_or_denied role_privileges Privilege.Select name) (known (Ok tt)))
+-- what a command is asked for: its own privilege for these columns, SELECT for those that it reads beside, and SELECT for the
+-- columns that subqueries mention of their tables, those of policies too
+abbrev pub checks_of : Privilege → List ℕ → List (List ℕ) → List (List ℕ) → List SelectedTable → List PermissionCheck
+checks_of privilege name own read others =
+    record { privilege = privilege; table = name; columns = own }
+    ∷ ((if has_some read then record { privilege = Privilege.Select; table = name; columns = read } ∷ [] else [])
+    ++ readable others)
 
--- the same, then SELECT on each table that subqueries look at, those of policies too
-abbrev pub privileges_or_denied : RolePrivileges → Privilege → Bool → List ℕ → List (List ℕ) → Asking (Unit {0})
-privileges_or_denied role_privileges privilege reads name others = followed_by (own_or_denied role_privileges privilege reads name) (λ _. readable_or_denied role_privileges others)
+-- each of them, in order
+abbrev pub permissions_or_denied : RolePrivileges → List PermissionCheck → Asking (Unit {0})
+permissions_or_denied role_privileges [] = known (Ok tt)
+permissions_or_denied role_privileges (check ∷ checks) = followed_by (permission_or_denied role_privileges check) (λ _. permissions_or_denied role_privileges checks)
 
 -- ---- values
 

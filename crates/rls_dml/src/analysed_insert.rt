@@ -13,7 +13,9 @@ use crate::checking::{
     known_place, put_returning_names, require_fitting, require_supported, resolve_returning,
     resolve_terms, returning_fits, returning_unsupported, value_fits,
 };
-use rls_expr::{Column, Expr, NameStep, NamedTable, Scope, TableDef, put_all_names};
+use rls_expr::{
+    Column, Expr, NameStep, NamedTable, Scope, SelectedTable, TableDef, put_all_names, put_selected,
+};
 use rls_guard::{Ctx, Found, named};
 use rls_source::{Reads, RowSource};
 use rls_statement::{Insert, Selected};
@@ -22,10 +24,12 @@ use std::alloc::{AllocError, Global};
 
 /// An INSERT whose names are resolved: the places that are written, and the tuples. There is room for its rows.
 #[derive(Drop)]
-pub struct AnalysedInsert {
+pub struct AnalysedInsert<'c> {
     pub places: Items<usize>,
     pub tuples: Items<Items<Expr>>,
     pub returning: Option<Selected>,
+    /// The tables that its subqueries name.
+    pub found: Found<'c>,
 }
 
 /// The parts of the statement, where names and types are right and numbers are left.
@@ -36,24 +40,13 @@ pub fn known_analysed_insert<'c, S: RowSource<'c>>(
     ctx: &Ctx,
     insert: &Insert,
     table: &'c TableDef,
-) -> Result<AnalysedInsert, Refusal>
+) -> Result<AnalysedInsert<'c>, Refusal>
     ensures given { Answers S.state S.after (spec.analysed_insert_for ctx.now insert.now table.now) source.old source.new read_set.old read_set.new result }
     ensures room { IfOk result (λ analysed_insert. ctx.now.next + length analysed_insert.tuples ≤ 4294967295) }
 {
     let places = places_of(alloc, table, &insert.columns)?;
     match found_for(alloc, source, read_set, insert, table) {
-        Ok(found) => {
-            let analysed_insert = check_analysed_insert(
-                alloc,
-                ctx.next,
-                insert,
-                table,
-                places,
-                found.as_slice(),
-            );
-            drop(found);
-            analysed_insert
-        }
+        Ok(found) => check_analysed_insert(alloc, ctx.next, insert, table, places, found),
         Err(refusal) => {
             drop(places);
             Err(refusal)
@@ -151,28 +144,28 @@ fn names_of_returning<'x>(
 }
 
 /// Resolves the parts, and checks their types, that nothing isn't supported, and how many rows they are.
-fn check_analysed_insert<'x>(
+fn check_analysed_insert<'c>(
     alloc: Global,
     next: u32,
     insert: &Insert,
-    table: &'x TableDef,
+    table: &TableDef,
     places: Items<usize>,
-    known: &'x [NamedTable<'x>],
-) -> Result<AnalysedInsert, Refusal>
-    ensures given { Gives result (spec.analysed_insert_in next insert.now (insert.now.table, table.now) places known.now) }
+    found: Found<'c>,
+) -> Result<AnalysedInsert<'c>, Refusal>
+    ensures given { Gives result (spec.analysed_insert_in next insert.now (insert.now.table, table.now) places found.entry) }
     ensures room { IfOk result (λ analysed_insert. next + length analysed_insert.tuples ≤ 4294967295) }
 {
-    let analysed_insert = resolve_insert(alloc, insert, table, places, known)?;
+    let analysed_insert = resolve_insert(alloc, insert, table, places, found)?;
     allowed(next, table.columns.as_slice(), analysed_insert)
 }
 
 /// The parts, if they are right.
-fn allowed(
+fn allowed<'c>(
     next: u32,
     columns: &[Column],
-    analysed_insert: AnalysedInsert,
-) -> Result<AnalysedInsert, Refusal>
-    ensures given { Gives result (and_then (spec.analysed_insert_or_refused next columns.now analysed_insert) (λ _. Ok analysed_insert)) }
+    analysed_insert: AnalysedInsert<'c>,
+) -> Result<AnalysedInsert<'c>, Refusal>
+    ensures given { Gives result (and_then (spec.analysed_insert_or_refused next columns.now analysed_insert.entry) (λ _. Ok analysed_insert.entry)) }
     ensures room { IfOk result (λ analysed_insert. next + length analysed_insert.tuples ≤ 4294967295) }
 {
     match require_analysed_insert(next, columns, &analysed_insert) {
@@ -185,27 +178,57 @@ fn allowed(
 }
 
 /// The parts with resolved columns.
-fn resolve_insert<'x>(
+fn resolve_insert<'c>(
     alloc: Global,
     insert: &Insert,
-    table: &'x TableDef,
+    table: &TableDef,
     places: Items<usize>,
-    known: &'x [NamedTable<'x>],
-) -> Result<AnalysedInsert, AllocError>
-    ensures { IfOk result (λ analysed_insert. analysed_insert ≡ spec.analysed_insert_resolved insert.now (insert.now.table, table.now) places known.now) }
+    found: Found<'c>,
+) -> Result<AnalysedInsert<'c>, AllocError>
+    ensures { IfOk result (λ analysed_insert. analysed_insert ≡ spec.analysed_insert_resolved insert.now (insert.now.table, table.now) places found.entry) }
 {
-    let tuples = resolve_tuples(alloc, insert.tuples.as_slice(), known)?;
-    match place_answer(alloc, insert, table, known) {
+    let tuples = resolve_tuples(alloc, insert.tuples.as_slice(), found.as_slice())?;
+    match place_answer(alloc, insert, table, found.as_slice()) {
         Ok(returning) => Ok(AnalysedInsert {
             places,
             tuples,
             returning,
+            found,
         }),
         Err(refused) => {
             drop(tuples);
             Err(refused)
         }
     }
+}
+
+/// The tables of the tuples' subqueries, with the columns that they mention.
+pub fn tuples_selected<'x>(
+    alloc: Global,
+    found: &'x [NamedTable<'x>],
+    tuples: &[Items<Expr>],
+) -> Result<Items<SelectedTable>, AllocError>
+    ensures { IfOk result (λ selected. selected ≡ spec.tuples_selected found.now tuples.now) }
+{
+    let mut selected = Items::new(alloc);
+    for tuple in tuples {
+        put_tuple_selected(alloc, &mut selected, found, tuple.as_slice())?;
+    }
+    Ok(selected)
+}
+
+fn put_tuple_selected<'x>(
+    alloc: Global,
+    selected: &mut Items<SelectedTable>,
+    found: &'x [NamedTable<'x>],
+    tuple: &[Expr],
+) -> Result<(), AllocError>
+    ensures { OnOk result (selected.new ≡ selected.old ++ spec.tuple_selected found.now tuple.now) }
+{
+    for expr in tuple {
+        put_selected(alloc, selected, found, expr)?;
+    }
+    Ok(())
 }
 
 /// RETURNING with resolved columns.

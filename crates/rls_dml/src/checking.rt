@@ -1,17 +1,18 @@
 //! The parts of a statement on rows, checked: names, then types, then that nothing isn't supported.
 
-ghost use Rattle.std.specs.Prelude.{◌≡◌, ◌++◌, map, slice_get, IfOk, OnOk};
-ghost use Rattle.std.specs.List.{list_any, list_all};
+ghost use Rattle.std.specs.Prelude.{◌≡◌, [], ◌∷◌, ◌++◌, map, slice_get, IfOk, OnOk};
+ghost use Rattle.std.specs.{List.list_any, List.list_all, Option.option_to_list};
 ghost use Rattle.rls_value.specs.Giving.{Gives};
-ghost use Rattle.rls_expr.specs.{Parts.reads_target, Naming.step_of, Resolving.names_in};
+ghost use Rattle.rls_expr.specs.{Naming.step_of, Resolving.names_in};
 ghost use Rattle.rls_expansion.specs.Used.{tables_if};
 ghost use Rattle.rls_guard.specs.Checks.{is_unsupported_item as spec_unsupported_item};
 ghost use Rattle.rls_dml.specs.Checking as spec;
 
 use rls_expansion::put_tables_if;
 use rls_expr::{
-    Column, Expr, NameStep, NamedTable, Scope, TableDef, goes_into, has_query, has_sum, is_boolean,
-    is_typed, put_all_names, reads_target, resolve_columns, typing_of,
+    Column, Expr, NameStep, NamedTable, Scope, SelectedTable, TableDef, all_columns, columns_of,
+    goes_into, has_query, has_sum, is_boolean, is_typed, put_all_names, put_selected,
+    resolve_columns, typing_of,
 };
 use rls_guard::{is_unsupported, is_unsupported_item};
 use rls_statement::Selected;
@@ -235,30 +236,132 @@ pub fn require_supported(unsupported: bool) -> Result<(), Refusal>
     }
 }
 
-/// Whether the condition mentions a column.
-pub fn where_reads(condition: &Option<Expr>) -> bool
-    ensures { result ≡ spec.where_reads condition.now }
+/// Puts the condition behind the others, if there is one.
+pub fn put_where<'x>(
+    terms: &mut Vec<&'x Expr>,
+    condition: &'x Option<Expr>,
+) -> Result<(), AllocError>
+    ensures { OnOk result (map (λ term. term.now) terms.new.items ≡ map (λ term. term.now) terms.old.items ++ option_to_list condition.now) }
 {
     match condition {
-        None => false,
-        Some(condition) => reads_target(condition),
+        None => Ok(()),
+        Some(condition) => put_term(terms, condition),
     }
 }
 
-/// Whether RETURNING mentions a column; `*` stands for all.
-pub fn returning_reads(returning: &Option<Selected>) -> bool
-    ensures { result ≡ spec.returning_reads returning.now }
+/// Puts what is selected behind the others.
+pub fn put_selection<'x>(
+    terms: &mut Vec<&'x Expr>,
+    selected: &'x Selected,
+) -> Result<(), AllocError>
+    ensures { OnOk result (map (λ term. term.now) terms.new.items ≡ map (λ term. term.now) terms.old.items ++ spec.selection_terms selected.now) }
+{
+    match selected {
+        Selected::All | Selected::Count => Ok(()),
+        Selected::Items(items) => put_terms(terms, items.as_slice()),
+    }
+}
+
+/// Puts what RETURNING selects behind the others.
+pub fn put_returning<'x>(
+    terms: &mut Vec<&'x Expr>,
+    returning: &'x Option<Selected>,
+) -> Result<(), AllocError>
+    ensures { OnOk result (map (λ term. term.now) terms.new.items ≡ map (λ term. term.now) terms.old.items ++ spec.returning_terms returning.now) }
+{
+    match returning {
+        None => Ok(()),
+        Some(selected) => put_selection(terms, selected),
+    }
+}
+
+fn put_terms<'x>(terms: &mut Vec<&'x Expr>, exprs: &'x [Expr]) -> Result<(), AllocError>
+    ensures { OnOk result (map (λ term. term.now) terms.new.items ≡ map (λ term. term.now) terms.old.items ++ exprs.now) }
+{
+    for expr in exprs {
+        put_term(terms, expr)?;
+    }
+    Ok(())
+}
+
+/// Puts the expression behind the others.
+pub fn put_term<'x>(terms: &mut Vec<&'x Expr>, expr: &'x Expr) -> Result<(), AllocError>
+    ensures { OnOk result (map (λ term. term.now) terms.new.items ≡ map (λ term. term.now) terms.old.items ++ expr.now ∷ []) }
+{
+    terms.push(expr)?;
+    Ok(())
+}
+
+/// Whether all columns are selected.
+pub fn selects_all(selected: &Selected) -> bool
+    ensures { result ≡ spec.selects_all selected.now }
+{
+    match selected {
+        Selected::All => true,
+        Selected::Items(_) | Selected::Count => false,
+    }
+}
+
+/// Whether all columns are returned.
+pub fn returns_all(returning: &Option<Selected>) -> bool
+    ensures { result ≡ spec.returns_all returning.now }
 {
     match returning {
         None => false,
-        Some(Selected::All) => true,
-        Some(Selected::Items(items)) => mention_columns(items.as_slice()),
-        Some(Selected::Count) => false,
+        Some(selected) => selects_all(selected),
     }
 }
 
-fn mention_columns(exprs: &[Expr]) -> bool
-    ensures { result ≡ list_any reads_target exprs.now }
+/// The columns that stand in the expressions, in the table's order; or all.
+pub fn columns_read(
+    alloc: Global,
+    columns: &[Column],
+    all: bool,
+    terms: &[&Expr],
+) -> Result<Items<Name>, AllocError>
+    ensures { IfOk result (λ names. names ≡ spec.columns_read columns.now all (map (λ term. term.now) terms.now)) }
 {
-    exprs.iter().any(|expr| reads_target(expr))
+    if all {
+        all_columns(alloc, columns)
+    } else {
+        columns_of(alloc, terms, columns)
+    }
+}
+
+/// Whether there are some.
+pub fn has_some(names: &[Name]) -> bool
+    ensures { result ≡ spec.has_some names.now }
+{
+    match names {
+        [] => false,
+        [_, ..] => true,
+    }
+}
+
+/// The tables of the condition's subqueries, with the columns that they mention.
+pub fn put_where_selected<'x>(
+    alloc: Global,
+    selected: &mut Items<SelectedTable>,
+    found: &'x [NamedTable<'x>],
+    condition: &Option<Expr>,
+) -> Result<(), AllocError>
+    ensures { OnOk result (selected.new ≡ selected.old ++ spec.where_selected found.now condition.now) }
+{
+    match condition {
+        None => Ok(()),
+        Some(condition) => put_selected(alloc, selected, found, condition),
+    }
+}
+
+/// The same alone.
+pub fn where_selected<'x>(
+    alloc: Global,
+    found: &'x [NamedTable<'x>],
+    condition: &Option<Expr>,
+) -> Result<Items<SelectedTable>, AllocError>
+    ensures { IfOk result (λ selected. selected ≡ spec.where_selected found.now condition.now) }
+{
+    let mut selected = Items::new(alloc);
+    put_where_selected(alloc, &mut selected, found, condition)?;
+    Ok(selected)
 }

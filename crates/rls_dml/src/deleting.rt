@@ -3,24 +3,26 @@
 ghost use Rattle.std.specs.Prelude.{◌≡◌, [], ◌∷◌, None, map, IfOk};
 ghost use Rattle.rls_value.specs.Giving.{Gives};
 ghost use Rattle.rls_source.specs.Answering.{Answers, Tells};
-ghost use Rattle.rls_expr.specs.{Naming.step_of, Resolving.names_in};
-ghost use Rattle.rls_guard.specs.Naming.{named};
-ghost use Rattle.rls_expansion.specs.{Expanding.expansion_of, Used.tables_if};
+ghost use Rattle.rls_expr.specs.Naming.{step_of};
+ghost use Rattle.rls_guard.specs.Naming.{named, names_over};
+ghost use Rattle.rls_expansion.specs.{Expanding.expansion_of, Expanding.permission_checks, Used.tables_if};
+ghost use Rattle.rls_dml.specs.{Checking.has_some as spec_has_some, Checking.returning_resolved, Checking.where_resolved, Checking.where_selected as spec_where_selected, Writing.checks_of};
 ghost use Rattle.rls_dml.specs.Deleting as spec;
 
 use crate::checking::{
-    put_returning_names, require_fitting, require_supported, resolve_returning, resolve_where,
-    returning_fits, returning_reads, returning_unsupported, where_fits, where_reads, where_tables,
-    where_unsupported,
+    columns_read, has_some, put_returning, put_returning_names, put_where, require_fitting,
+    require_supported, resolve_returning, resolve_where, returning_fits, returning_unsupported,
+    returns_all, where_fits, where_selected, where_tables, where_unsupported,
 };
 use crate::checking_rows::qualifying_rows_under;
 use crate::replying::{reply_of, standing_rows};
-use crate::writing::require_privileges;
+use crate::writing::{checks_of, require_all};
 use rls_catalog::{BorrowedRow, Change, Delta, Keyed, RowChange};
 use rls_expansion::{PolicyExpansion, expansion_of};
 use rls_expr::{Expr, FromTable, NameStep, NamedTable, Scope, TableDef, put_names_if};
 use rls_guard::{
-    Ctx, Decision, Effect, Found, Reply, RolePrivileges, named_over, role_privileges_of,
+    Ctx, Decision, Effect, Found, PermissionCheck, Reply, RolePrivileges, named_over,
+    role_privileges_of,
 };
 use rls_judging::scanned_rows;
 use rls_source::{Reads, RowSource, table_named};
@@ -30,9 +32,11 @@ use std::alloc::{AllocError, Global};
 
 /// A DELETE whose names are resolved.
 #[derive(Drop)]
-pub struct AnalysedDelete {
+pub struct AnalysedDelete<'c> {
     pub condition: Option<Expr>,
     pub returning: Option<Selected>,
+    /// The tables that its subqueries name.
+    pub found: Found<'c>,
 }
 
 /// Deletes the rows that row security lets go and that meet the condition. What it hides stays.
@@ -63,13 +67,11 @@ fn known_analysed_delete<'c, S: RowSource<'c>>(
     read_set: &mut Reads,
     delete: &Delete,
     table: &'c TableDef,
-) -> Result<AnalysedDelete, Refusal>
+) -> Result<AnalysedDelete<'c>, Refusal>
     ensures { Answers S.state S.after (spec.analysed_delete_for delete.now table.now) source.old source.new read_set.old read_set.new result }
 {
     let found = found_for(alloc, source, read_set, delete, table)?;
-    let analysed_delete = check_analysed_delete(alloc, delete, table, found.as_slice());
-    drop(found);
-    analysed_delete
+    check_analysed_delete(alloc, delete, table, found)
 }
 
 /// Looks for the names of the condition and of RETURNING.
@@ -98,29 +100,21 @@ fn names_of<'x>(alloc: Global, delete: &'x Delete) -> Result<Vec<NameStep<'x>>, 
 }
 
 /// Resolves the parts, and checks their types and that nothing isn't supported.
-fn check_analysed_delete<'x>(
+fn check_analysed_delete<'c>(
     alloc: Global,
     delete: &Delete,
-    table: &'x TableDef,
-    known: &'x [NamedTable<'x>],
-) -> Result<AnalysedDelete, Refusal>
-    ensures { Gives result (spec.analysed_delete_in delete.now (delete.now.table, table.now) known.now) }
+    table: &TableDef,
+    found: Found<'c>,
+) -> Result<AnalysedDelete<'c>, Refusal>
+    ensures { Gives result (spec.analysed_delete_in delete.now (delete.now.table, table.now) found.entry) }
 {
-    let tables = [NamedTable::new(&delete.table, table)?];
-    let analysed_delete = resolve_delete(
-        alloc,
-        delete,
-        &Scope {
-            tables: &tables,
-            known,
-        },
-    )?;
+    let analysed_delete = resolve_delete(alloc, delete, table, found)?;
     checked(analysed_delete)
 }
 
 /// The parts, if none is refused.
-fn checked(analysed_delete: AnalysedDelete) -> Result<AnalysedDelete, Refusal>
-    ensures { Gives result (spec.analysed_delete_checked analysed_delete) }
+fn checked<'c>(analysed_delete: AnalysedDelete<'c>) -> Result<AnalysedDelete<'c>, Refusal>
+    ensures { Gives result (spec.analysed_delete_checked analysed_delete.entry) }
 {
     match require_analysed_delete(&analysed_delete) {
         Ok(()) => Ok(analysed_delete),
@@ -131,19 +125,40 @@ fn checked(analysed_delete: AnalysedDelete) -> Result<AnalysedDelete, Refusal>
     }
 }
 
-fn resolve_delete(
+fn resolve_delete<'c>(
     alloc: Global,
     delete: &Delete,
-    scope: &Scope,
-) -> Result<AnalysedDelete, AllocError>
-    ensures { IfOk result (λ analysed_delete. analysed_delete ≡ spec.analysed_delete_resolved delete.now (names_in scope.now)) }
+    table: &TableDef,
+    found: Found<'c>,
+) -> Result<AnalysedDelete<'c>, AllocError>
+    ensures { IfOk result (λ analysed_delete. analysed_delete ≡ spec.analysed_delete_resolved delete.now (names_over (delete.now.table, table.now) found.entry)) }
 {
-    let condition = resolve_where(alloc, &delete.condition, scope)?;
-    match resolve_returning(alloc, &delete.returning, scope) {
-        Ok(returning) => Ok(AnalysedDelete {
-            condition,
-            returning,
-        }),
+    let (condition, returning) = resolve_parts(alloc, delete, table, found.as_slice())?;
+    Ok(AnalysedDelete {
+        condition,
+        returning,
+        found,
+    })
+}
+
+/// The condition and RETURNING, with resolved columns.
+fn resolve_parts<'x>(
+    alloc: Global,
+    delete: &Delete,
+    table: &'x TableDef,
+    known: &'x [NamedTable<'x>],
+) -> Result<(Option<Expr>, Option<Selected>), AllocError>
+    ensures condition { IfOk result (λ parts. parts.0 ≡ where_resolved (names_over (delete.now.table, table.now) known.now) delete.now.condition) }
+    ensures returning { IfOk result (λ parts. parts.1 ≡ returning_resolved (names_over (delete.now.table, table.now) known.now) delete.now.returning) }
+{
+    let tables = [NamedTable::new(&delete.table, table)?];
+    let scope = Scope {
+        tables: &tables,
+        known,
+    };
+    let condition = resolve_where(alloc, &delete.condition, &scope)?;
+    match resolve_returning(alloc, &delete.returning, &scope) {
+        Ok(returning) => Ok((condition, returning)),
         Err(refused) => {
             drop(condition);
             Err(refused)
@@ -163,11 +178,19 @@ fn require_analysed_delete(analysed_delete: &AnalysedDelete) -> Result<(), Refus
     )
 }
 
-/// Whether it mentions a column of the table.
-fn reads(analysed_delete: &AnalysedDelete) -> bool
-    ensures { result ≡ spec.analysed_delete_reads analysed_delete.now }
+/// The columns that it reads.
+fn columns_of_delete(
+    alloc: Global,
+    table: &TableDef,
+    analysed_delete: &AnalysedDelete,
+) -> Result<Items<Name>, AllocError>
+    ensures { IfOk result (λ columns. columns ≡ spec.delete_columns table.now analysed_delete.now) }
 {
-    where_reads(&analysed_delete.condition) || returning_reads(&analysed_delete.returning)
+    let mut terms = Vec::new(alloc);
+    put_where(&mut terms, &analysed_delete.condition)?;
+    put_returning(&mut terms, &analysed_delete.returning)?;
+    let all = returns_all(&analysed_delete.returning);
+    columns_read(alloc, table.columns.as_slice(), all, &terms)
 }
 
 /// The role's privileges, the policy expansion, and the rows.
@@ -240,9 +263,11 @@ fn expansion<'c, 'x, S: RowSource<'c>>(
     from: FromTable<'x>,
     analysed_delete: &AnalysedDelete,
 ) -> Result<PolicyExpansion<'c>, Refusal>
-    ensures { Answers S.state S.after (expansion_of role_privileges.now from.entry.name.now from.entry.table.now Kind.Delete (spec.analysed_delete_reads analysed_delete.now) (tables_if analysed_delete.now.condition)) source.old source.new read_set.old read_set.new result }
+    ensures { Answers S.state S.after (expansion_of role_privileges.now from.entry.name.now from.entry.table.now Kind.Delete (spec_has_some (spec.delete_columns from.entry.table.now analysed_delete.now)) (tables_if analysed_delete.now.condition)) source.old source.new read_set.old read_set.new result }
 {
-    let reads = reads(analysed_delete);
+    let columns = columns_of_delete(alloc, from.table, analysed_delete)?;
+    let reads = has_some(columns.as_slice());
+    drop(columns);
     let tables = where_tables(alloc, &analysed_delete.condition)?;
     let expansion = expansion_of(
         alloc,
@@ -272,17 +297,8 @@ fn delete_with_quals<'c, 'x, S: RowSource<'c>>(
 ) -> Result<Effect, Refusal>
     ensures { Answers S.state S.after (spec.delete_with_quals role_privileges.now expansion.now analysed_delete.now role.now from.entry.name.now from.entry.table.now) source.old source.new read_set.old read_set.new result }
 {
-    let reads = reads(analysed_delete);
-    require_privileges(
-        alloc,
-        source,
-        read_set,
-        role_privileges,
-        Privilege::Delete,
-        reads,
-        from.name,
-        expansion.permission_checks.as_slice(),
-    )?;
+    let checks = checks(alloc, from, expansion, analysed_delete)?;
+    require_all(alloc, source, read_set, role_privileges, checks)?;
     let rows = scanned_rows(
         alloc,
         source,
@@ -302,6 +318,33 @@ fn delete_with_quals<'c, 'x, S: RowSource<'c>>(
         rows.as_slice(),
     )?;
     Ok(deleted)
+}
+
+/// What the role is asked for.
+fn checks<'c, 'x>(
+    alloc: Global,
+    from: FromTable<'x>,
+    expansion: &PolicyExpansion<'c>,
+    analysed_delete: &AnalysedDelete,
+) -> Result<Items<PermissionCheck>, AllocError>
+    ensures { IfOk result (λ checks. checks ≡ checks_of Privilege.Delete from.entry.name.now [] (spec.delete_columns from.entry.table.now analysed_delete.now) (permission_checks expansion.now (spec_where_selected analysed_delete.now.found analysed_delete.now.condition))) }
+{
+    let read = columns_of_delete(alloc, from.table, analysed_delete)?;
+    let queries = where_selected(
+        alloc,
+        analysed_delete.found.as_slice(),
+        &analysed_delete.condition,
+    )?;
+    let others = expansion.permission_checks(alloc, queries.as_slice())?;
+    drop(queries);
+    checks_of(
+        alloc,
+        Privilege::Delete,
+        from.name,
+        Items::new(alloc),
+        read,
+        others.as_slice(),
+    )
 }
 
 /// Judges each scanned row; those that are allowed and meet the condition go.

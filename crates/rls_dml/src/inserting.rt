@@ -1,26 +1,28 @@
 //! INSERT.
 
-ghost use Rattle.std.specs.Prelude.{◌≡◌, ◌+◌, ◌≤◌, [], ◌∷◌, None, length, map, IfOk};
+ghost use Rattle.std.specs.Prelude.{◌≡◌, ◌+◌, ◌≤◌, [], ◌∷◌, None, length, map, take, IfOk};
 ghost use Rattle.rls_value.specs.Giving.{Gives};
 ghost use Rattle.rls_source.specs.Answering.{Answers, Tells};
-ghost use Rattle.rls_dml.specs.{Listings.reply_of as spec_reply_of, Checking.returning_reads as spec_returning_reads, Writing.assigned, Writing.each_with, Writing.rows_or_refused, Writing.order_of as spec_order_of};
+ghost use Rattle.rls_dml.specs.{Listings.reply_of as spec_reply_of, Checking.columns_at, Checking.has_some as spec_has_some, Writing.assigned, Writing.checks_of, Writing.each_with, Writing.rows_or_refused, Writing.order_of as spec_order_of};
 ghost use Rattle.rls_evaluation.specs.Scoping.{datum_value};
-ghost use Rattle.rls_expansion.specs.Expanding.{expansion_of};
+ghost use Rattle.rls_expansion.specs.Expanding.{expansion_of, permission_checks};
 ghost use Rattle.rls_judging.specs.{Handed.datum_values_each, Handed.datum_values, Valuing.tuples_of};
 ghost use Rattle.rls_dml.specs.Inserting as spec;
 
-use crate::analysed_insert::{AnalysedInsert, known_analysed_insert};
-use crate::checking::returning_reads;
+use crate::analysed_insert::{AnalysedInsert, known_analysed_insert, tuples_selected};
+use crate::checking::{columns_read, has_some, put_returning, returns_all};
 use crate::checking_rows::judged_under;
 use crate::keys::key_at;
 use crate::replaced::Replaced;
 use crate::replying::reply_of_new;
-use crate::writing::{assign, behind_first, first_of, order_of, require_privileges, require_rows};
+use crate::writing::{
+    assign, behind_first, checks_of, first_of, is_written, order_of, require_all, require_rows,
+};
 use rls_catalog::{Change, Delta, Keyed, RowChange, Stored};
 use rls_evaluation::Datum;
 use rls_expansion::{PolicyExpansion, expansion_of, put_all_tables};
-use rls_expr::{Column, Expr, FromTable, TableDef};
-use rls_guard::{Ctx, Decision, Effect, RolePrivileges, role_privileges_of};
+use rls_expr::{Column, Expr, FromTable, TableDef, put_if};
+use rls_guard::{Ctx, Decision, Effect, PermissionCheck, RolePrivileges, role_privileges_of};
 use rls_judging::tuples_of;
 use rls_source::{Reads, RowSource, table_named};
 use rls_statement::{Insert, Selected};
@@ -120,9 +122,11 @@ fn expansion<'c, 'x, S: RowSource<'c>>(
     from: FromTable<'x>,
     analysed_insert: &AnalysedInsert,
 ) -> Result<PolicyExpansion<'c>, Refusal>
-    ensures { Answers S.state S.after (expansion_of role_privileges.now from.entry.name.now from.entry.table.now Kind.Insert (spec_returning_reads analysed_insert.now.returning) (spec.tuples_tables analysed_insert.now.tuples)) source.old source.new read_set.old read_set.new result }
+    ensures { Answers S.state S.after (expansion_of role_privileges.now from.entry.name.now from.entry.table.now Kind.Insert (spec_has_some (spec.insert_columns_read from.entry.table.now analysed_insert.now)) (spec.tuples_tables analysed_insert.now.tuples)) source.old source.new read_set.old read_set.new result }
 {
-    let reads = returning_reads(&analysed_insert.returning);
+    let columns = columns_returned(alloc, from.table, analysed_insert)?;
+    let reads = has_some(columns.as_slice());
+    drop(columns);
     let tables = tuples_tables(alloc, analysed_insert.tuples.as_slice())?;
     let expansion = expansion_of(
         alloc,
@@ -164,17 +168,8 @@ fn insert_with_quals<'c, 'x, S: RowSource<'c>>(
     requires { ctx.now.next + length analysed_insert.now.tuples ≤ 4294967295 }
     ensures { Answers S.state S.after (spec.insert_with_quals ctx.now from.entry.name.now from.entry.table.now role_privileges.now expansion.now analysed_insert.now) source.old source.new read_set.old read_set.new result }
 {
-    let reads = returning_reads(&analysed_insert.returning);
-    require_privileges(
-        alloc,
-        source,
-        read_set,
-        role_privileges,
-        Privilege::Insert,
-        reads,
-        from.name,
-        expansion.permission_checks.as_slice(),
-    )?;
+    let checks = checks(alloc, from, expansion, analysed_insert)?;
+    require_all(alloc, source, read_set, role_privileges, checks)?;
     insert_values(
         alloc,
         source,
@@ -184,6 +179,83 @@ fn insert_with_quals<'c, 'x, S: RowSource<'c>>(
         &*expansion,
         &*analysed_insert,
     )
+}
+
+/// What the role is asked for.
+fn checks<'c, 'x>(
+    alloc: Global,
+    from: FromTable<'x>,
+    expansion: &PolicyExpansion<'c>,
+    analysed_insert: &AnalysedInsert,
+) -> Result<Items<PermissionCheck>, AllocError>
+    ensures { IfOk result (λ checks. checks ≡ checks_of Privilege.Insert from.entry.name.now (spec.insert_columns from.entry.table.now analysed_insert.now) (spec.insert_columns_read from.entry.table.now analysed_insert.now) (permission_checks expansion.now (spec.tuples_selected analysed_insert.now.found analysed_insert.now.tuples))) }
+{
+    let own = columns_given(alloc, from.table.columns.as_slice(), analysed_insert)?;
+    let read = columns_returned(alloc, from.table, analysed_insert)?;
+    let queries = tuples_selected(
+        alloc,
+        analysed_insert.found.as_slice(),
+        analysed_insert.tuples.as_slice(),
+    )?;
+    let others = expansion.permission_checks(alloc, queries.as_slice())?;
+    drop(queries);
+    checks_of(
+        alloc,
+        Privilege::Insert,
+        from.name,
+        own,
+        read,
+        others.as_slice(),
+    )
+}
+
+/// The columns that are given a value, in the table's order.
+fn columns_given(
+    alloc: Global,
+    columns: &[Column],
+    analysed_insert: &AnalysedInsert,
+) -> Result<Items<Name>, AllocError>
+    ensures { IfOk result (λ names. names ≡ columns_at (spec.is_given analysed_insert.now.places analysed_insert.now.tuples) columns.now) }
+{
+    let places = analysed_insert.places.as_slice();
+    let tuples = analysed_insert.tuples.as_slice();
+    let mut names = Items::new(alloc);
+    for (place, column) in columns.iter().enumerate() {
+        put_if(&mut names, is_given(places, tuples, place), column)?;
+    }
+    Ok(names)
+}
+
+/// Whether some tuple gives the column at the place a value.
+fn is_given(places: &[usize], tuples: &[Items<Expr>], place: usize) -> bool
+    ensures { result ≡ spec.is_given places.now tuples.now place }
+{
+    tuples.iter().any(|tuple| is_written(first_places(places, tuple.len()), place))
+}
+
+/// The first so many of the places, or all where there are fewer.
+fn first_places(places: &[usize], many: usize) -> &[usize]
+    ensures { result.now ≡ take many places.now }
+{
+    if many < places.len() {
+        &places[..many]
+    } else {
+        places
+    }
+}
+
+/// The columns that RETURNING mentions.
+fn columns_returned(
+    alloc: Global,
+    table: &TableDef,
+    analysed_insert: &AnalysedInsert,
+) -> Result<Items<Name>, AllocError>
+    ensures { IfOk result (λ columns. columns ≡ spec.insert_columns_read table.now analysed_insert.now) }
+{
+    let mut terms = Vec::new(alloc);
+    put_returning(&mut terms, &analysed_insert.returning)?;
+    let all = returns_all(&analysed_insert.returning);
+    columns_read(alloc, table.columns.as_slice(), all, &terms)
 }
 
 /// The values of the tuples, their ranges, and then the rows.

@@ -2,23 +2,27 @@
 
 ghost use Rattle.std.specs.Prelude.{◌≡◌, [], ◌∷◌, false, map, IfOk};
 ghost use Rattle.rls_value.specs.Giving.{Gives};
-ghost use Rattle.rls_expr.specs.{Naming.step_of, Resolving.names_in};
-ghost use Rattle.rls_guard.specs.Naming.{named};
+ghost use Rattle.rls_expr.specs.Naming.{step_of};
+ghost use Rattle.rls_guard.specs.Naming.{named, names_over};
 ghost use Rattle.rls_source.specs.Answering.{Answers, Tells};
-ghost use Rattle.rls_expansion.specs.{Expanding.expansion_of, Used.tables_if};
+ghost use Rattle.rls_expansion.specs.{Expanding.expansion_of, Expanding.permission_checks, Used.tables_if};
+ghost use Rattle.rls_dml.specs.{Checking.selection_resolved, Checking.where_resolved, Checking.where_selected as spec_where_selected, Writing.checks_of};
 ghost use Rattle.rls_dml.specs.Selecting as spec;
 
 use crate::checking::{
-    put_selection_names, require_fitting, require_supported, resolve_selection, resolve_where,
-    selection_fits, selection_unsupported, where_fits, where_tables, where_unsupported,
+    columns_read, put_selection, put_selection_names, put_where, require_fitting,
+    require_supported, resolve_selection, resolve_where, selection_fits, selection_unsupported,
+    selects_all, where_fits, where_selected, where_tables, where_unsupported,
 };
 use crate::checking_rows::qualifying_rows_under;
 use crate::replying::{listed_reply, standing_rows};
-use crate::writing::require_privileges;
+use crate::writing::{checks_of, require_all};
 use rls_catalog::{BorrowedRow, Delta};
 use rls_expansion::{PolicyExpansion, expansion_of};
 use rls_expr::{Expr, FromTable, NameStep, NamedTable, Scope, TableDef, put_names_if};
-use rls_guard::{Ctx, Decision, Effect, Found, RolePrivileges, named_over, role_privileges_of};
+use rls_guard::{
+    Ctx, Decision, Effect, Found, PermissionCheck, RolePrivileges, named_over, role_privileges_of,
+};
 use rls_judging::scanned_rows;
 use rls_source::{Reads, RowSource, table_named};
 use rls_statement::{Select, Selected};
@@ -27,9 +31,11 @@ use std::alloc::{AllocError, Global};
 
 /// A SELECT whose names are resolved; no condition stands for one that is true.
 #[derive(Drop)]
-pub struct AnalysedSelect {
+pub struct AnalysedSelect<'c> {
     pub items: Selected,
     pub condition: Option<Expr>,
+    /// The tables that its subqueries name.
+    pub found: Found<'c>,
 }
 
 /// The rows that the role sees and that meet the condition, in listing order, or how many they are.
@@ -60,13 +66,11 @@ fn known_analysed_select<'c, S: RowSource<'c>>(
     read_set: &mut Reads,
     select: &Select,
     table: &'c TableDef,
-) -> Result<AnalysedSelect, Refusal>
+) -> Result<AnalysedSelect<'c>, Refusal>
     ensures { Answers S.state S.after (spec.analysed_select_for select.now (spec.qualifier_of select.now, table.now)) source.old source.new read_set.old read_set.new result }
 {
     let found = found_for(alloc, source, read_set, select, table)?;
-    let analysed_select = check_analysed_select(alloc, select, table, found.as_slice());
-    drop(found);
-    analysed_select
+    check_analysed_select(alloc, select, table, found)
 }
 
 /// Looks for the names of the items and of the condition.
@@ -105,23 +109,15 @@ fn qualifier(select: &Select) -> &Name
 }
 
 /// Resolves the parts, and checks their types and that nothing isn't supported.
-fn check_analysed_select<'x>(
+fn check_analysed_select<'c>(
     alloc: Global,
     select: &Select,
-    table: &'x TableDef,
-    known: &'x [NamedTable<'x>],
-) -> Result<AnalysedSelect, Refusal>
-    ensures { Gives result (spec.analysed_select_in select.now (spec.qualifier_of select.now, table.now) known.now) }
+    table: &TableDef,
+    found: Found<'c>,
+) -> Result<AnalysedSelect<'c>, Refusal>
+    ensures { Gives result (spec.analysed_select_in select.now (spec.qualifier_of select.now, table.now) found.entry) }
 {
-    let tables = [NamedTable::new(qualifier(select), table)?];
-    let analysed_select = resolve_select(
-        alloc,
-        select,
-        &Scope {
-            tables: &tables,
-            known,
-        },
-    )?;
+    let analysed_select = resolve_select(alloc, select, table, found)?;
     match require_analysed_select(&analysed_select) {
         Ok(()) => Ok(analysed_select),
         Err(refusal) => {
@@ -131,16 +127,40 @@ fn check_analysed_select<'x>(
     }
 }
 
-fn resolve_select(
+fn resolve_select<'c>(
     alloc: Global,
     select: &Select,
-    scope: &Scope,
-) -> Result<AnalysedSelect, AllocError>
-    ensures { IfOk result (λ analysed_select. analysed_select ≡ spec.analysed_select_resolved select.now (names_in scope.now)) }
+    table: &TableDef,
+    found: Found<'c>,
+) -> Result<AnalysedSelect<'c>, AllocError>
+    ensures { IfOk result (λ analysed_select. analysed_select ≡ spec.analysed_select_resolved select.now (names_over (spec.qualifier_of select.now, table.now) found.entry)) }
 {
-    let items = resolve_selection(alloc, &select.items, scope)?;
-    match resolve_where(alloc, &select.condition, scope) {
-        Ok(condition) => Ok(AnalysedSelect { items, condition }),
+    let (items, condition) = resolve_parts(alloc, select, table, found.as_slice())?;
+    Ok(AnalysedSelect {
+        items,
+        condition,
+        found,
+    })
+}
+
+/// The items and the condition, with resolved columns.
+fn resolve_parts<'x>(
+    alloc: Global,
+    select: &Select,
+    table: &'x TableDef,
+    known: &'x [NamedTable<'x>],
+) -> Result<(Selected, Option<Expr>), AllocError>
+    ensures items { IfOk result (λ parts. parts.0 ≡ selection_resolved (names_over (spec.qualifier_of select.now, table.now) known.now) select.now.items) }
+    ensures condition { IfOk result (λ parts. parts.1 ≡ where_resolved (names_over (spec.qualifier_of select.now, table.now) known.now) select.now.condition) }
+{
+    let tables = [NamedTable::new(qualifier(select), table)?];
+    let scope = Scope {
+        tables: &tables,
+        known,
+    };
+    let items = resolve_selection(alloc, &select.items, &scope)?;
+    match resolve_where(alloc, &select.condition, &scope) {
+        Ok(condition) => Ok((items, condition)),
         Err(refused) => {
             drop(items);
             Err(refused)
@@ -261,16 +281,8 @@ fn list_with_quals<'c, 'x, S: RowSource<'c>>(
 ) -> Result<Effect, Refusal>
     ensures { Answers S.state S.after (spec.listed_for role_privileges.now expansion.now analysed_select.now role.now from.entry.name.now from.entry.table.now) source.old source.new read_set.old read_set.new result }
 {
-    require_privileges(
-        alloc,
-        source,
-        read_set,
-        role_privileges,
-        Privilege::Select,
-        false,
-        from.name,
-        expansion.permission_checks.as_slice(),
-    )?;
+    let checks = checks(alloc, from, expansion, analysed_select)?;
+    require_all(alloc, source, read_set, role_privileges, checks)?;
     let rows = scanned_rows(
         alloc,
         source,
@@ -289,6 +301,48 @@ fn list_with_quals<'c, 'x, S: RowSource<'c>>(
         rows.as_slice(),
     )?;
     Ok(listed)
+}
+
+/// What the role is asked for.
+fn checks<'c, 'x>(
+    alloc: Global,
+    from: FromTable<'x>,
+    expansion: &PolicyExpansion<'c>,
+    analysed_select: &AnalysedSelect,
+) -> Result<Items<PermissionCheck>, AllocError>
+    ensures { IfOk result (λ checks. checks ≡ checks_of Privilege.Select from.entry.name.now (spec.select_columns from.entry.table.now analysed_select.now) [] (permission_checks expansion.now (spec_where_selected analysed_select.now.found analysed_select.now.condition))) }
+{
+    let own = mentioned(alloc, from.table, analysed_select)?;
+    let queries = where_selected(
+        alloc,
+        analysed_select.found.as_slice(),
+        &analysed_select.condition,
+    )?;
+    let others = expansion.permission_checks(alloc, queries.as_slice())?;
+    drop(queries);
+    checks_of(
+        alloc,
+        Privilege::Select,
+        from.name,
+        own,
+        Items::new(alloc),
+        others.as_slice(),
+    )
+}
+
+/// The columns that it mentions.
+fn mentioned(
+    alloc: Global,
+    table: &TableDef,
+    analysed_select: &AnalysedSelect,
+) -> Result<Items<Name>, AllocError>
+    ensures { IfOk result (λ columns. columns ≡ spec.select_columns table.now analysed_select.now) }
+{
+    let mut terms = Vec::new(alloc);
+    put_where(&mut terms, &analysed_select.condition)?;
+    put_selection(&mut terms, &analysed_select.items)?;
+    let all = selects_all(&analysed_select.items);
+    columns_read(alloc, table.columns.as_slice(), all, &terms)
 }
 
 /// Judges each scanned row, and answers from those that are allowed and meet the condition.

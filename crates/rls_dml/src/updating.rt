@@ -5,23 +5,26 @@ ghost use Rattle.rls_value.specs.Giving.{Gives};
 ghost use Rattle.rls_evaluation.specs.Scoping.{datum_value};
 ghost use Rattle.rls_source.specs.Answering.{Answers, Tells};
 ghost use Rattle.rls_dml.specs.Listings as listings;
-ghost use Rattle.rls_dml.specs.Writing.{rows_or_refused, order_of as spec_order_of};
-ghost use Rattle.rls_expansion.specs.Expanding.{expansion_of};
+ghost use Rattle.rls_dml.specs.Checking.{has_some as spec_has_some};
+ghost use Rattle.rls_dml.specs.Writing.{checks_of, rows_or_refused, order_of as spec_order_of};
+ghost use Rattle.rls_expansion.specs.Expanding.{expansion_of, permission_checks};
 ghost use Rattle.rls_dml.specs.Updating as spec;
 
 use crate::analysed_update::{
-    AnalysedUpdate, analysed_update_tables, known_analysed_update, places_set, reads,
+    AnalysedUpdate, analysed_update_tables, columns_of_update, columns_set, known_analysed_update,
+    places_set, update_selected,
 };
+use crate::checking::has_some;
 use crate::checking_rows::{judged_under, qualifying_rows_under};
 use crate::keys::key_like;
 use crate::replaced::Replaced;
 use crate::replying::reply_of_new;
-use crate::writing::{assign, order_of, require_privileges, require_rows};
+use crate::writing::{assign, checks_of, order_of, require_all, require_rows};
 use rls_catalog::{BorrowedRow, Change, Delta, Keyed, RowChange, Stored};
 use rls_evaluation::{Datum, Scoped};
 use rls_expansion::{PolicyExpansion, expansion_of};
 use rls_expr::{FromTable, TableDef};
-use rls_guard::{Ctx, Decision, Effect, RolePrivileges, role_privileges_of};
+use rls_guard::{Ctx, Decision, Effect, PermissionCheck, RolePrivileges, role_privileges_of};
 use rls_judging::{assignments_of, scanned_rows};
 use rls_source::{Reads, RowSource, table_named};
 use rls_statement::Update;
@@ -120,9 +123,11 @@ fn expansion<'c, 'x, S: RowSource<'c>>(
     from: FromTable<'x>,
     analysed_update: &AnalysedUpdate,
 ) -> Result<PolicyExpansion<'c>, Refusal>
-    ensures { Answers S.state S.after (expansion_of role_privileges.now from.entry.name.now from.entry.table.now Kind.Update (spec.analysed_update_reads analysed_update.now) (spec.analysed_update_tables analysed_update.now)) source.old source.new read_set.old read_set.new result }
+    ensures { Answers S.state S.after (expansion_of role_privileges.now from.entry.name.now from.entry.table.now Kind.Update (spec_has_some (spec.update_columns_read from.entry.table.now analysed_update.now)) (spec.analysed_update_tables analysed_update.now)) source.old source.new read_set.old read_set.new result }
 {
-    let reads = reads(analysed_update);
+    let columns = columns_of_update(alloc, from.table, analysed_update)?;
+    let reads = has_some(columns.as_slice());
+    drop(columns);
     let tables = analysed_update_tables(alloc, analysed_update)?;
     let expansion = expansion_of(
         alloc,
@@ -152,17 +157,8 @@ fn update_with_quals<'c, 'x, S: RowSource<'c>>(
 ) -> Result<Effect, Refusal>
     ensures { Answers S.state S.after (spec.update_with_quals role_privileges.now expansion.now analysed_update.now role.now from.entry.name.now from.entry.table.now) source.old source.new read_set.old read_set.new result }
 {
-    let reads = reads(analysed_update);
-    require_privileges(
-        alloc,
-        source,
-        read_set,
-        role_privileges,
-        Privilege::Update,
-        reads,
-        from.name,
-        expansion.permission_checks.as_slice(),
-    )?;
+    let checks = checks(alloc, from, expansion, analysed_update)?;
+    require_all(alloc, source, read_set, role_privileges, checks)?;
     let rows = scanned_rows(
         alloc,
         source,
@@ -180,6 +176,30 @@ fn update_with_quals<'c, 'x, S: RowSource<'c>>(
         &*role,
         from,
         rows.as_slice(),
+    )
+}
+
+/// What the role is asked for.
+fn checks<'c, 'x>(
+    alloc: Global,
+    from: FromTable<'x>,
+    expansion: &PolicyExpansion<'c>,
+    analysed_update: &AnalysedUpdate,
+) -> Result<Items<PermissionCheck>, AllocError>
+    ensures { IfOk result (λ checks. checks ≡ checks_of Privilege.Update from.entry.name.now (spec.update_columns from.entry.table.now analysed_update.now) (spec.update_columns_read from.entry.table.now analysed_update.now) (permission_checks expansion.now (spec.update_selected analysed_update.now))) }
+{
+    let own = columns_set(alloc, from.table.columns.as_slice(), analysed_update)?;
+    let read = columns_of_update(alloc, from.table, analysed_update)?;
+    let queries = update_selected(alloc, analysed_update)?;
+    let others = expansion.permission_checks(alloc, queries.as_slice())?;
+    drop(queries);
+    checks_of(
+        alloc,
+        Privilege::Update,
+        from.name,
+        own,
+        read,
+        others.as_slice(),
     )
 }
 

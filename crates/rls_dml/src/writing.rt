@@ -1,78 +1,116 @@
 //! New rows: the values that columns are given, and what the rows are refused for.
 
-ghost use Rattle.std.specs.Prelude.{◌≡◌, map, slice_get, slice_set, Some, None, Ok, IfOk, MatchOption};
+ghost use Rattle.std.specs.Prelude.{◌≡◌, [], ◌∷◌, ◌++◌, OnOk, map, slice_get, slice_set, Some, None, Ok, IfOk, MatchOption};
 ghost use Rattle.rls_value.specs.{Giving.Gives, Values.is_null, Values.value_at};
 ghost use Rattle.rls_evaluation.specs.Scoping.{datum_value};
 ghost use Rattle.rls_judging.specs.Handed.{datum_values};
 ghost use Rattle.rls_source.specs.{Answering.Answers, Sequences.each_or_refused};
+ghost use Rattle.rls_dml.specs.Checking.{columns_at};
 ghost use Rattle.rls_dml.specs.Writing as spec;
 
+use crate::checking::has_some;
 use crate::keys::require_unique;
 use crate::replaced::Replaced;
 use rls_catalog::{Stored, Verdict};
 use rls_evaluation::{Datum, allows};
-use rls_expr::{Column, FromTable};
-use rls_guard::{Decision, RolePrivileges};
+use rls_expr::{Column, FromTable, SelectedTable, copies, put_if};
+use rls_guard::{Decision, PermissionCheck, RolePrivileges};
 use rls_source::{Reads, RowSource};
-use rls_value::{Name, Privilege, Refusal, Row, Value, Why};
+use rls_value::{Items, Name, Privilege, Refusal, Row, Value, Why};
 use std::alloc::{AllocError, Global};
 
-/// Denied where the role lacks the privilege of the command or, where that reads the table, SELECT; or SELECT on one of
-/// the other tables.
-pub fn require_privileges<'c, S: RowSource<'c>>(
+/// What a command is asked for: its own privilege for these columns, SELECT for those that it reads beside, if there are some,
+/// and SELECT for those of the other tables.
+pub fn checks_of(
+    alloc: Global,
+    privilege: Privilege,
+    name: &Name,
+    own: Items<Name>,
+    read: Items<Name>,
+    others: &[SelectedTable],
+) -> Result<Items<PermissionCheck>, AllocError>
+    ensures { IfOk result (λ checks. checks ≡ spec.checks_of privilege name.now own read others.now) }
+{
+    let mut checks = Items::new(alloc);
+    put_check(&mut checks, privilege, name, own)?;
+    if has_some(read.as_slice()) {
+        put_check(&mut checks, Privilege::Select, name, read)?;
+    } else {
+        drop(read);
+    }
+    put_others(alloc, &mut checks, others)?;
+    Ok(checks)
+}
+
+/// SELECT for these columns of each of the tables, behind the others.
+fn put_others(
+    alloc: Global,
+    checks: &mut Items<PermissionCheck>,
+    others: &[SelectedTable],
+) -> Result<(), AllocError>
+    ensures { OnOk result (checks.new ≡ checks.old ++ spec.readable others.now) }
+{
+    for one in others {
+        let columns = copies(alloc, one.columns.as_slice())?;
+        put_check(checks, Privilege::Select, &one.table, columns)?;
+    }
+    Ok(())
+}
+
+/// One more, behind the others.
+fn put_check(
+    checks: &mut Items<PermissionCheck>,
+    privilege: Privilege,
+    table: &Name,
+    columns: Items<Name>,
+) -> Result<(), AllocError>
+    ensures { OnOk result (checks.new ≡ checks.old ++ record { privilege = privilege; table = table.now; columns = columns } ∷ []) }
+{
+    match table.copy() {
+        Ok(table) => checks.push(PermissionCheck {
+            privilege,
+            table,
+            columns,
+        }),
+        Err(refused) => {
+            drop(columns);
+            Err(refused)
+        }
+    }
+}
+
+/// Denied where the role lacks one of them; the first counts.
+pub fn require_all<'c, S: RowSource<'c>>(
     alloc: Global,
     source: &mut S,
     read_set: &mut Reads,
     role_privileges: &RolePrivileges,
-    privilege: Privilege,
-    reads: bool,
-    name: &Name,
-    others: &[Name],
+    checks: Items<PermissionCheck>,
 ) -> Result<(), Refusal>
-    ensures { Answers S.state S.after (spec.privileges_or_denied role_privileges.now privilege reads name.now others.now) source.old source.new read_set.old read_set.new result }
+    ensures { Answers S.state S.after (spec.permissions_or_denied role_privileges.now checks) source.old source.new read_set.old read_set.new result }
 {
-    require_own(
+    let permitted = require_permissions(
         alloc,
         source,
         read_set,
         role_privileges,
-        privilege,
-        reads,
-        name,
-    )?;
-    require_readable(alloc, source, read_set, role_privileges, others)
+        checks.as_slice(),
+    );
+    drop(checks);
+    permitted
 }
 
-fn require_own<'c, S: RowSource<'c>>(
+fn require_permissions<'c, S: RowSource<'c>>(
     alloc: Global,
     source: &mut S,
     read_set: &mut Reads,
     role_privileges: &RolePrivileges,
-    privilege: Privilege,
-    reads: bool,
-    name: &Name,
+    checks: &[PermissionCheck],
 ) -> Result<(), Refusal>
-    ensures { Answers S.state S.after (spec.own_or_denied role_privileges.now privilege reads name.now) source.old source.new read_set.old read_set.new result }
+    ensures { Answers S.state S.after (spec.permissions_or_denied role_privileges.now checks.now) source.old source.new read_set.old read_set.new result }
 {
-    role_privileges.require_privilege(alloc, source, read_set, privilege, name)?;
-    if reads {
-        role_privileges.require_privilege(alloc, source, read_set, Privilege::Select, name)
-    } else {
-        Ok(())
-    }
-}
-
-fn require_readable<'c, S: RowSource<'c>>(
-    alloc: Global,
-    source: &mut S,
-    read_set: &mut Reads,
-    role_privileges: &RolePrivileges,
-    names: &[Name],
-) -> Result<(), Refusal>
-    ensures { Answers S.state S.after (spec.readable_or_denied role_privileges.now names.now) source.old source.new read_set.old read_set.new result }
-{
-    for name in names {
-        role_privileges.require_privilege(alloc, source, read_set, Privilege::Select, name)?;
+    for check in checks {
+        role_privileges.require_permission(alloc, source, read_set, check)?;
     }
     Ok(())
 }
@@ -165,7 +203,23 @@ pub fn order_of(
     Ok(order)
 }
 
-fn is_written(places: &[usize], place: usize) -> bool
+/// The columns at these places, in the table's order.
+pub fn columns_written(
+    alloc: Global,
+    places: &[usize],
+    columns: &[Column],
+) -> Result<Items<Name>, AllocError>
+    ensures { IfOk result (λ names. names ≡ columns_at (spec.is_written places.now) columns.now) }
+{
+    let mut names = Items::new(alloc);
+    for (place, column) in columns.iter().enumerate() {
+        put_if(&mut names, is_written(places, place), column)?;
+    }
+    Ok(names)
+}
+
+/// Whether the place is one of these.
+pub fn is_written(places: &[usize], place: usize) -> bool
     ensures { result ≡ spec.is_written places.now place }
 {
     places.iter().any(|written| *written == place)

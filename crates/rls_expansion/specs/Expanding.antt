@@ -4,14 +4,15 @@
 use Rattle.std.specs.Prelude.{ℕ, List, [], ◌∷◌, ◌++◌, Bool, true, false, Option, Some, None, Result, Ok, Err, if◌then◌else◌}
 use Rattle.rls_value.specs.{declared.refusal.Refusal.Refusal, declared.verb.Kind.Kind, Giving.and_then}
 use Rattle.rls_value.specs.declared.verb.Kind.TheVariants as k
-use Rattle.rls_expr.specs.{declared.policy.Policy.Policy, declared.table.TableDef.TableDef, Scopes.InScope}
+use Rattle.rls_expr.specs.{declared.columns.SelectedTable.SelectedTable, declared.policy.Policy.Policy, declared.table.TableDef.TableDef, Scopes.InScope}
 use Rattle.rls_recursion.specs.rls_catalog.specs.declared.verdict.Side.{Side}
 use Rattle.rls_recursion.specs.rls_catalog.specs.declared.verdict.Side.TheVariants as side
 use Rattle.rls_guard.specs.rls_source.specs.Askings.{Asking, known, followed_by}
 use Rattle.rls_guard.specs.{declared.role_privileges.RolePrivileges.RolePrivileges, declared.quals.RowCheck.RowCheck, SecurityQuals.row_checks_by}
-use Rattle.rls_recursion.specs.{declared.dependency.PolicyDependency.PolicyDependency, declared.searching.Reached.Reached, Searching.ordered_by}
+use Rattle.rls_recursion.specs.{declared.dependency.PolicyDependency.PolicyDependency, declared.searching.Reached.Reached, Searching.ordered_by, Listings.listed}
 use Rattle.rls_expansion.specs.{declared.expansion.PolicyExpansion.PolicyExpansion, Policies.policies_for, Dependencies.dependencies_of}
 use Rattle.rls_expansion.specs.Relations.{known_in, relations_of}
+use Rattle.rls_expansion.specs.Selected.{selected_used, subqueries_in}
 use Rattle.rls_expansion.specs.Used.{Ask, tables_used}
 
 -- the command judges rows as they stand
@@ -42,6 +43,11 @@ abbrev pub own_tables : RolePrivileges → Kind → Bool → Option (List Policy
 own_tables role_privileges kind reads None = []
 own_tables role_privileges kind reads (Some policies) = tables_used role_privileges.effective_roles.superuser role_privileges.effective_roles.names (asks_of kind reads) policies
 
+-- the tables of the subqueries in what the policies of the statement's table are asked for, with their columns
+abbrev pub own_selected : RolePrivileges → Kind → Bool → InScope → List InScope → Option (List Policy) → List SelectedTable
+own_selected role_privileges kind reads from found None = []
+own_selected role_privileges kind reads from found (Some policies) = selected_used role_privileges.effective_roles.superuser role_privileges.effective_roles.names (asks_of kind reads) from found policies
+
 -- the checks of the rows of one side, where the command judges it
 abbrev pub row_checks_if : Bool → RolePrivileges → Kind → Bool → InScope → List InScope → Option (List Policy) → Side → List RowCheck
 row_checks_if false role_privileges kind reads from found policies which = []
@@ -53,7 +59,9 @@ expanded_from role_privileges kind reads from policies dependencies reached = re
   old = row_checks_if (judges_old kind) role_privileges kind reads from (known_in dependencies) policies side.Old;
   new = row_checks_if (judges_new kind) role_privileges kind reads from (known_in dependencies) policies side.New;
   relations = relations_of (known_in dependencies) dependencies reached.secured;
-  permission_checks = reached.permission_checks;
+  tables = reached.tables;
+  own = own_selected role_privileges kind reads from (known_in dependencies) policies;
+  subqueries = subqueries_in (known_in dependencies) dependencies;
 }
 
 -- the same, unless a chain of policies never ends
@@ -69,3 +77,10 @@ past_policies role_privileges name table kind reads queries policies = followed_
 -- the policy expansion of a statement of that type on the table, whose own subqueries are over those tables
 unfoldable pub expansion_of : RolePrivileges → List ℕ → TableDef → Kind → Bool → List (List ℕ) → Asking PolicyExpansion
 expansion_of role_privileges name table kind reads queries = followed_by (policies_for role_privileges name table) (past_policies role_privileges name table kind reads queries)
+
+-- ---- what the role is asked for
+
+-- the tables whose columns SELECT is asked for: those of the statement's own subqueries, and all that they and the policies lead
+-- to
+abbrev pub permission_checks : PolicyExpansion → List SelectedTable → List SelectedTable
+permission_checks expansion queries = listed expansion.subqueries expansion.own queries

@@ -4,4 +4,5 @@ pub mod Enough
 pub mod Leading
 pub mod Dependencies
 pub mod Relations
+pub mod Selected
 pub mod Expanding

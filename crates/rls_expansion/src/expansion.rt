@@ -10,13 +10,14 @@ ghost use Rattle.rls_expansion.specs.Expanding as spec;
 use crate::dependencies::dependencies_of;
 use crate::policies::policies_for;
 use crate::relations::{known_in, relations_of};
+use crate::selected::{selected_used, subqueries_in};
 use crate::used::tables_used;
-use rls_expr::{FromTable, NamedTable};
+use rls_expr::{FromTable, SelectedTable};
 use rls_guard::rls_evaluation::SecuredRelation;
 use rls_guard::rls_source::{Reads, RowSource};
 use rls_guard::{PolicyScope, RolePrivileges, RowCheck, row_checks_by};
 use rls_recursion::rls_catalog::{Policies, Side};
-use rls_recursion::{PolicyDependency, Reached, search};
+use rls_recursion::{PolicyDependency, PolicySubqueries, Reached, listed, search};
 use rls_value::{Items, Kind, Name, Refusal};
 use std::alloc::{AllocError, Global};
 
@@ -29,8 +30,31 @@ pub struct PolicyExpansion<'c> {
     pub new: Items<RowCheck<'c>>,
     /// What subqueries look through, those of policies too.
     pub relations: Items<SecuredRelation<'c>>,
-    /// The other tables, in the order in which the SELECT privilege is asked.
-    pub permission_checks: Items<Name>,
+    /// The tables that subqueries look at: those of the statement's own, and all that these and the policies lead to.
+    pub tables: Items<Name>,
+    /// The tables of the subqueries in the policies of its table, with the columns that they mention.
+    pub own: Items<SelectedTable>,
+    /// Of each table that subqueries look at, those of the subqueries in its policies.
+    pub subqueries: Items<PolicySubqueries>,
+}
+
+impl<'c> PolicyExpansion<'c> {
+    /// The tables whose columns SELECT is asked for: those of the statement's own subqueries, and all that they and the
+    /// policies lead to.
+    pub fn permission_checks(
+        &self,
+        alloc: Global,
+        queries: &[SelectedTable],
+    ) -> Result<Items<SelectedTable>, AllocError>
+        ensures { IfOk result (λ tables. tables ≡ spec.permission_checks self.now queries.now) }
+    {
+        listed(
+            alloc,
+            self.subqueries.as_slice(),
+            self.own.as_slice(),
+            queries,
+        )
+    }
 }
 
 /// A type of command, and whether it reads its table.
@@ -228,33 +252,49 @@ fn expanded_from<'c, 'x>(
 ) -> Result<PolicyExpansion<'c>, AllocError>
     ensures { IfOk result (λ made. made ≡ spec.expanded_from role_privileges.now command.kind command.reads (in_scope from.entry) (option_copied policies.entry) dependencies.now reached) }
 {
-    let Reached {
-        secured,
-        permission_checks,
-    } = reached;
+    let Reached { secured, tables } = reached;
     let found = known_in(alloc, dependencies)?;
     let relations = relations_of(alloc, found.as_slice(), dependencies, secured.as_slice())?;
     drop(secured);
-    let row_checks = both_sides(
-        alloc,
-        role_privileges,
+    let subqueries = subqueries_in(alloc, found.as_slice(), dependencies)?;
+    let scope = PolicyScope {
         from,
-        command,
-        policies,
-        found.as_slice(),
-    );
+        found: found.as_slice(),
+    };
+    let own = own_selected(alloc, role_privileges, scope, command, policies)?;
+    let (old, new) = both_sides(alloc, role_privileges, scope, command, policies)?;
     drop(found);
-    match row_checks {
-        Ok((old, new)) => Ok(PolicyExpansion {
-            old,
-            new,
-            relations,
-            permission_checks,
-        }),
-        Err(refused) => {
-            drop(relations);
-            drop(permission_checks);
-            Err(refused)
+    Ok(PolicyExpansion {
+        old,
+        new,
+        relations,
+        tables,
+        own,
+        subqueries,
+    })
+}
+
+/// The tables of the subqueries in the policies of the statement's table, with their columns.
+fn own_selected<'x>(
+    alloc: Global,
+    role_privileges: &RolePrivileges,
+    scope: PolicyScope<'x>,
+    command: Command,
+    policies: Option<&Policies>,
+) -> Result<Items<SelectedTable>, AllocError>
+    ensures { IfOk result (λ selected. selected ≡ spec.own_selected role_privileges.now command.kind command.reads (in_scope scope.entry.from) scope.entry.found.now (option_copied policies.entry)) }
+{
+    match policies {
+        None => Ok(Items::new(alloc)),
+        Some(policies) => {
+            let asks = asks_of(alloc, command)?;
+            selected_used(
+                alloc,
+                policies,
+                &role_privileges.effective_roles,
+                &asks,
+                scope,
+            )
         }
     }
 }
@@ -263,15 +303,13 @@ fn expanded_from<'c, 'x>(
 fn both_sides<'c, 'x>(
     alloc: Global,
     role_privileges: &RolePrivileges,
-    from: FromTable<'x>,
+    scope: PolicyScope<'x>,
     command: Command,
     policies: Option<&'c Policies>,
-    found: &'x [NamedTable<'x>],
 ) -> Result<(Items<RowCheck<'c>>, Items<RowCheck<'c>>), AllocError>
-    ensures old { IfOk result (λ both. both.0 ≡ spec.row_checks_if (spec.judges_old command.kind) role_privileges.now command.kind command.reads (in_scope from.entry) found.now (option_copied policies.entry) Side.Old) }
-    ensures new { IfOk result (λ both. both.1 ≡ spec.row_checks_if (spec.judges_new command.kind) role_privileges.now command.kind command.reads (in_scope from.entry) found.now (option_copied policies.entry) Side.New) }
+    ensures old { IfOk result (λ both. both.0 ≡ spec.row_checks_if (spec.judges_old command.kind) role_privileges.now command.kind command.reads (in_scope scope.entry.from) scope.entry.found.now (option_copied policies.entry) Side.Old) }
+    ensures new { IfOk result (λ both. both.1 ≡ spec.row_checks_if (spec.judges_new command.kind) role_privileges.now command.kind command.reads (in_scope scope.entry.from) scope.entry.found.now (option_copied policies.entry) Side.New) }
 {
-    let scope = PolicyScope { from, found };
     let judges = judges_old(command.kind);
     let old = row_checks_if(
         alloc,

@@ -7,6 +7,7 @@ mod expansion;
 mod laws;
 mod policies;
 mod relations;
+mod selected;
 mod used;
 
 pub use dependencies::dependencies_of;

@@ -48,7 +48,7 @@ fn put_used(
     }
 }
 
-fn is_to(policy: &Policy, effective_roles: &EffectiveRoles) -> bool
+pub(crate) fn is_to(policy: &Policy, effective_roles: &EffectiveRoles) -> bool
     ensures { result ≡ list_any (includes effective_roles.now.superuser effective_roles.now.names) policy.now.to }
 {
     for grantee in policy.to.as_slice() {
@@ -147,7 +147,7 @@ fn put_entered(tables: &mut Items<Name>, steps: &[NameStep]) -> Result<(), Alloc
 }
 
 /// Whether one of the asks is for USING.
-fn asks_using(policy: &Policy, asks: &[(Kind, Side)]) -> bool
+pub(crate) fn asks_using(policy: &Policy, asks: &[(Kind, Side)]) -> bool
     ensures { result ≡ list_any (spec.is_for_using policy.now) asks.now }
 {
     for (kind, side) in asks {
@@ -159,7 +159,7 @@ fn asks_using(policy: &Policy, asks: &[(Kind, Side)]) -> bool
 }
 
 /// Whether one of the asks is for WITH CHECK.
-fn asks_check(policy: &Policy, asks: &[(Kind, Side)]) -> bool
+pub(crate) fn asks_check(policy: &Policy, asks: &[(Kind, Side)]) -> bool
     ensures { result ≡ list_any (spec.is_for_check policy.now) asks.now }
 {
     for (kind, side) in asks {

@@ -1,20 +1,18 @@
 -- What the policies of an expansion say of a row is what the state's say that apply.
-use Rattle.std.specs.Prelude.{◌≡◌, refl, ℕ, suc, ◌+◌, List, [], ◌∷◌, ◌++◌, false, ◌&&◌, Option, Some, None, filter, map, is_some, length, if◌then◌else◌}
+use Rattle.std.specs.Prelude.{◌≡◌, refl, ℕ, List, [], ◌∷◌, ◌++◌, false, ◌&&◌, Option, Some, None, filter, map, is_some, if◌then◌else◌}
 use Rattle.std.specs.List.{flat_map, list_any}
-use Rattle.std.specs.Option.{option_to_list}
 use Rattle.std.proofs.{Common.ap, Common.sym, Common.◌∙◌, Common.subst, lemmas.Bool.or_right}
 use Rattle.rls_value.specs.{Names.one_of, declared.value.Value.Value, declared.verb.Kind.Kind}
 use Rattle.rls_value.specs.declared.verb.Kind.TheVariants as k
 use Rattle.rls_expr.specs.{declared.policy.Policy.Policy, declared.table.TableDef.TableDef, Scopes.InScope, Terms.Term}
-use Rattle.rls_catalog.specs.{declared.verdict.Side.Side, Membership.Within, Membership.fresh, State.State, State.policies_of, Verdict.applying_of, Verdict.chosen, Verdict.expression_of, Verdict.is_exempt, Verdict.is_for_kind, Verdict.is_to}
+use Rattle.rls_catalog.specs.{declared.verdict.Side.Side, Membership.Within, State.State, State.policies_of, Verdict.applying_of, Verdict.chosen, Verdict.expression_of, Verdict.is_exempt, Verdict.is_for_kind, Verdict.is_to}
 use Rattle.rls_catalog.specs.declared.verdict.Side.TheVariants as side
-use Rattle.rls_catalog.proofs.Inheriting.{fresh_all}
 use Rattle.rls_evaluation.specs.{declared.relation.SecurityQuals.SecurityQuals, declared.relation.SecurityQuals.TheVariants.Exempt, declared.relation.SecurityQuals.TheVariants.Policies, Environments.Environment, Environments.over, Eval.Shows, Eval.value_of, Showing.shows}
 use Rattle.rls_guard.specs.{declared.role_privileges.RolePrivileges.RolePrivileges, SecurityQuals.conditions_of, SecurityQuals.quals_from, SecurityQuals.with_condition, RolePrivileges.role_privileges_in}
 use Rattle.rls_meaning.specs.rls_expansion.specs.{declared.expansion.PolicyExpansion.PolicyExpansion, Used.tables_of, Expanding.asks_of, Expanding.own_tables}
-use Rattle.rls_meaning.specs.rls_depth.{specs.Deep.policies_in, specs.Deep.ruled, specs.Leading.condition_tables, specs.Leading.quals_tables, proofs.Deepening.conditions_tables, proofs.ExpansionLaws.Taken, proofs.Tables.within_append, proofs.Tables.within_first, proofs.Tables.within_last, proofs.Tables.within_nothing, proofs.Using.IsAsk, proofs.Using.chosen_used, proofs.Using.in_front, proofs.Using.own_ask}
-use Rattle.rls_meaning.specs.{Chains.subquery_tables_in, Commands.Command, Commands.closing_in, Commands.depth_of, Commands.own_of, Parts.tables_of as tables_in_part, Needing.needed_by, Needing.needs, Expanding.IsExpanded, Expanding.IsExpansionIn, Expanding.Made, Expanding.Refused, Expanding.expansion_in, Expanding.sees}
-use Rattle.rls_meaning.proofs.{Asking.alike_append, Asking.asked_in, Asking.needs_alike, Asking.own_alike, States.own_told}
+use Rattle.rls_meaning.specs.rls_depth.{specs.Deep.policies_in, specs.Deep.ruled, specs.Leading.condition_tables, specs.Leading.quals_tables, proofs.Deepening.conditions_tables, proofs.ExpansionLaws.Taken, proofs.Tables.within_first, proofs.Tables.within_last, proofs.Tables.within_nothing, proofs.Using.IsAsk, proofs.Using.chosen_used, proofs.Using.own_ask}
+use Rattle.rls_meaning.specs.{Commands.Command, Commands.closing_in, Commands.own_of, Expanding.IsExpanded, Expanding.IsExpansionIn, Expanding.Made, Expanding.Refused, Expanding.expansion_in, Expanding.sees}
+use Rattle.rls_meaning.proofs.{Asking.alike_within, Asking.asked_in, Asking.own_alike, States.own_told}
 use Rattle.rls_explain.specs.Saying.{command_on, conditions_in, first_conditions, said_as, said_by, said_found, said_in, truth_told, unless_closing, unless_refused, row_checks_for}
 
 -- the quals of rows for a role are what the rules over a state say
@@ -92,31 +90,18 @@ ruled_own laws s role name table kind which ask =
     (subst (Within (quals_tables (quals_from (role_privileges_in s role) kind which (name, table) s.tables (policies_in s (role_privileges_in s role) name table)))) (own_told s (command_on role name table kind))
     (quals_own kind which (role_privileges_in s role) (name, table) s.tables (policies_in s (role_privileges_in s role) name table) laws.taken ask))
 
-names_needed : (n : ℕ) (next : List ℕ → List (List ℕ)) (names : List (List ℕ)) → Within names (needs (suc n) next names)
-names_needed n next [] = within_nothing []
-names_needed n next (t ∷ ts) =
-    within_append (t ∷ []) ts (needed_by (suc n) next t) (needs (suc n) next ts)
-    (in_front (t ∷ []) (flat_map (needed_by n next) (next t)) (t ∷ []) (λ name is. is))
-    (names_needed n next ts)
-
-own_needed : (n : ℕ) (next : List ℕ → List (List ℕ)) (own : List (List ℕ)) → Within own (fresh [] (needs (suc n) next (own ++ [])))
-own_needed n next own name is =
-    fresh_all [] (needs (suc n) next (own ++ [])) name (names_needed n next (own ++ []) name (in_front own [] own (λ name is. is) name is))
-
 tables_in : (quals : SecurityQuals) → flat_map condition_tables (conditions_in quals) ≡ quals_tables quals
 tables_in Exempt = refl
 tables_in (Policies conditions) = refl
 
--- they are among those that SELECT is asked of
+-- they are looked at
 conditions_asked : Laws → (s : State) (role name : List ℕ) (table : TableDef) (kind : Kind) (which : Side) (p : PolicyExpansion) → IsExpansionIn s (command_on role name table kind) p → IsAsk (kind, which) (asks_of kind false)
-    → Within (flat_map condition_tables (conditions_in (ruled s role kind which (name, table)))) p.permission_checks
+    → Within (flat_map condition_tables (conditions_in (ruled s role kind which (name, table)))) p.tables
 conditions_asked laws s role name table kind which p protected ask t is =
     let c : Command = command_on role name table kind in
-    ap (λ names. one_of names t) protected.permission_checks
-    ∙ ap (λ names. one_of names t)
-    (needs_alike (needed_by (depth_of s c) (subquery_tables_in s role)) (own_of s c ++ []) (asked_in s c ++ []) (alike_append (own_of s c) (asked_in s c) [] [] (own_alike s c) (λ seen. refl)))
-    ∙ own_needed (length (own_of s c ++ []) + length (flat_map (λ entry. flat_map (λ policy. flat_map tables_in_part (option_to_list policy.using ++ option_to_list policy.check)) entry.1) s.policies)) (subquery_tables_in s role) (asked_in s c) t
-    (ruled_own laws s role name table kind which ask t (sym (ap (λ names. one_of names t) (tables_in (ruled s role kind which (name, table)))) ∙ is))
+    protected.own_looked t
+    (alike_within (asked_in s c) (own_of s c) (λ seen. sym (own_alike s c seen)) t
+    (ruled_own laws s role name table kind which ask t (sym (ap (λ names. one_of names t) (tables_in (ruled s role kind which (name, table)))) ∙ is)))
 
 -- ---- what they say
 
@@ -133,7 +118,7 @@ protected_says : Laws → (s : State) (role name : List ℕ) (table : TableDef) 
 protected_says laws s role name table kind which row p protected never =
     let c : Command = command_on role name table kind in
     ap (map (said_by s (shows p.relations role) role row)) (first_told s role name table kind which p protected)
-    ∙ said_alike s (shows p.relations role) (sees s c) role row p.permission_checks protected.value (conditions_in (ruled s role kind (side_for kind which) (name, table)))
+    ∙ said_alike s (shows p.relations role) (sees s c) role row p.tables protected.value (conditions_in (ruled s role kind (side_for kind which) (name, table)))
     (conditions_asked laws s role name table kind (side_for kind which) p protected (asked_for kind which))
     ∙ ap (λ quals. map (said_by s (sees s c) role row) (conditions_in quals)) (all_quals_alike s role kind (side_for kind which) which (name, table) (side_alike kind which))
     ∙ sym (ap (λ closing. unless_closing closing (map (said_by s (sees s c) role row) (conditions_in (ruled s role kind which (name, table))))) never)

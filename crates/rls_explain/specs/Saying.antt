@@ -1,5 +1,5 @@
 -- What the policies that apply say of a row (PostgreSQL manual, 5.8, and CREATE POLICY).
-use Rattle.std.specs.Prelude.{ℕ, List, [], ◌∷◌, false, Option, Some, None, Result, Ok, Err, map}
+use Rattle.std.specs.Prelude.{ℕ, List, [], ◌∷◌, Option, Some, None, Result, Ok, Err, map}
 use Rattle.rls_value.specs.{declared.refusal.Refusal.Refusal, declared.truth.Truth.Truth, declared.truth.Truth.TheVariants.Unknown, declared.value.Value.Value, declared.verb.Kind.Kind, Values.truth_in}
 use Rattle.rls_value.specs.declared.verb.Kind.TheVariants as k
 use Rattle.rls_expr.specs.{declared.policy.Policy.Policy, declared.table.TableDef.TableDef, Terms.Term}
@@ -40,7 +40,7 @@ conditions_in (Policies conditions) = conditions
 
 -- a command of that type on the table
 abbrev pub command_on : List ℕ → List ℕ → TableDef → Kind → Command
-command_on role name table kind = record { role = role; name = name; table = table; kind = kind; reads = false; queries = [] }
+command_on role name table kind = record { role = role; name = name; table = table; kind = kind; own = []; read = []; queries = [] }
 
 -- what is said, where no chain of policies closes; where one does no row is decided
 abbrev pub unless_closing : Option (List ℕ) → List Said → List Said

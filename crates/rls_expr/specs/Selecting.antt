@@ -31,9 +31,14 @@ columns_of columns terms = names_where (λ place. list_any (mentions (nat_eq pla
 abbrev pub columns_found : List InScope → List ℕ → List ColumnOf
 columns_found found table = option_map_or (λ table. table.columns) (known_table found table) []
 
--- the columns of a subquery's table that stand in its items or in its WHERE, also inside its own subqueries
-abbrev pub query_columns : List ColumnOf → Terms → Terms → List (List ℕ)
-query_columns columns items condition = names_where (λ place. some_mentions (nat_eq place) 0 items || some_mentions (nat_eq place) 0 condition) 0 columns
+-- the column at the place, of a subquery's table, stands in its items or in its WHERE, also inside its own subqueries
+abbrev pub selects_column : Query → ℕ → Bool
+selects_column (Select from key selects items condition) place = some_mentions (nat_eq place) 0 items || some_mentions (nat_eq place) 0 condition
+
+-- the table of a subquery, with its columns that the subquery mentions
+abbrev pub table_selected : List InScope → Query → SelectedTable
+table_selected found (Select from key selects items condition) =
+    record { table = from.table; columns = names_where (selects_column (Select from key selects items condition)) 0 (columns_found found from.table) }
 
 abbrev mutual
   -- the tables of the subqueries in a resolved expression, with the columns that each mentions, in text order; one before
@@ -60,7 +65,7 @@ abbrev mutual
   -- of a subquery
   pub query_selected : List InScope → Query → List SelectedTable
   query_selected found (Select from key selects items condition) =
-      record { table = from.table; columns = query_columns (columns_found found from.table) items condition } ∷ (selected_all found items ++ selected_all found condition)
+      table_selected found (Select from key selects items condition) ∷ (selected_all found items ++ selected_all found condition)
 
   -- of each of them
   pub selected_all : List InScope → Terms → List SelectedTable

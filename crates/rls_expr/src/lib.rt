@@ -10,11 +10,12 @@ mod parts;
 mod policy;
 mod resolving;
 mod scope;
+mod selecting;
 mod table;
 mod typing;
 
 pub use column_name::ColumnName;
-pub use columns::{SelectedTable, columns_of};
+pub use columns::{SelectedTable, all_columns, columns_of, copies, put_if};
 pub use expr::{
     Category, Comparison, Expr, FromItem, Node, Selects, Sign, Subquery, Var, boxed, boxed_query,
 };
@@ -25,5 +26,6 @@ pub use policy::{Grantee, Policy, copy_shared, shared_expr};
 pub use resolving::{Scope, resolve_columns};
 pub use rls_value;
 pub use scope::{FromTable, NamedTable, inside, known_table, unqualified, var_of};
+pub use selecting::put_selected;
 pub use table::{Column, TableDef, category_of};
 pub use typing::{Typing, goes_into, is_boolean, is_typed, typing_of};

@@ -4,6 +4,7 @@ ghost use Rattle.std.specs.Prelude.{◌≡◌, nat_eq};
 ghost use Rattle.rls_expr.specs.ExprTerms.{query_of};
 ghost use Rattle.rls_expr.specs.Parts as spec;
 ghost use Rattle.rls_expr.specs.Parts.{has_query, have_query, has_sum, have_sum, is_wanted, nesting_of, mentions, some_mentions};
+ghost use Rattle.rls_expr.specs.Selecting.{selects_column as spec_selects_column};
 ghost use Rattle.rls_expr.specs.Terms.{maybe_term, terms_of};
 
 use crate::expr::{Expr, Node, Subquery};
@@ -101,6 +102,15 @@ pub fn reads_column(expr: &Expr, place: usize) -> bool
     ensures { result ≡ mentions (nat_eq place) 0 expr.now }
 {
     is_mentioned(expr, Wanted::At(place), &Nesting::Innermost)
+}
+
+/// Whether the column at the place, of the subquery's table, stands in its items or in its WHERE, also inside its own
+/// subqueries.
+pub fn selects_column(query: &Subquery, place: usize) -> bool
+    ensures { result ≡ spec_selects_column (query_of query.now) place }
+{
+    some_mentions(&query.items, Wanted::At(place), &Nesting::Innermost)
+        || condition_mentions(&query.condition, Wanted::At(place), &Nesting::Innermost)
 }
 
 #[cycle(mentions)]

@@ -2,7 +2,7 @@
 
 ghost use Rattle.std.specs.Prelude.{◌≡◌, ◌∷◌, IfOk};
 ghost use Rattle.std.specs.Option.{option_copied};
-ghost use Rattle.rls_expr.specs.Scopes.{known_table, var_in, unqualified_from, qualified_from, var_borrowed};
+ghost use Rattle.rls_expr.specs.Scopes.{in_scope, known_table, var_in, unqualified_from, qualified_from, var_borrowed};
 
 use crate::column_name::ColumnName;
 use crate::expr::Var;
@@ -44,6 +44,16 @@ impl<'c> NamedTable<'c> {
     {
         let name = name.copy()?;
         Ok(NamedTable { name, table })
+    }
+
+    /// The same as a table of a FROM clause.
+    pub fn as_from(&self) -> FromTable<'_>
+        ensures { in_scope result ≡ self.now }
+    {
+        FromTable {
+            name: &self.name,
+            table: self.table,
+        }
     }
 
     pub fn copy(&self) -> Result<NamedTable<'c>, AllocError>

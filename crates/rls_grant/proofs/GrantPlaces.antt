@@ -12,6 +12,7 @@ use Rattle.rls_verdict.specs.rls_catalog.specs.{declared.grant.Grant.Grant, decl
 use Rattle.rls_role.specs.shared_map.specs.Lists.{InKeyOrder, item_at}
 use Rattle.rls_role.specs.shared_map.proofs.KeyOrder.{next_put, next_removed, put_exchanges, put_inserts}
 use Rattle.rls_role.specs.rls_source.specs.Sequences.{put_before}
+use Rattle.rls_role.specs.rls_statement.specs.declared.statement.RevokePrivileges.{RevokePrivileges}
 use Rattle.rls_grant.specs.{declared.grantors.Grantor.Grantor, Granting.grant_order, Granting.grantee_order, Granting.is_there, Granting.place_of, Granting.with_grant, Granting.with_grant_option, Placing.optioned, Placing.optioned_or, Placing.same_there, Placing.with_option_there, Placing.with_put, Placing.without_grant, Revoking.is_taken, Revoking.without_grant_option}
 
 abbrev Ordered : List Grant → Type 0
@@ -126,8 +127,8 @@ pub each_left : (keep : Grant → Bool) (grants : List Grant) → Ordered grants
 each_left keep grants order = left_from keep [] grants order
 
 -- the grants with the grant option of this one revoked, if it is to go
-abbrev pub revoked_at : List Grantor → List Grantee → List Grant → Grant → List Grant
-revoked_at by grantees grants grant = if is_taken by grantees grant then with_put grants (not_grantable grant) else grants
+abbrev pub revoked_at : RevokePrivileges → List Grantor → List Grant → Grant → List Grant
+revoked_at asked by grants grant = if is_taken asked by grant then with_put grants (not_grantable grant) else grants
 
 key_stays : (b : Bool) (grant : Grant) → key_of (if b then not_grantable grant else grant) ≡ key_of grant
 key_stays true grant = refl
@@ -143,17 +144,17 @@ mapped_more : (f : Grant → Grant) (seen left : List Grant) (grant : Grant) →
 mapped_more f [] left grant = refl
 mapped_more f (x ∷ seen) left grant = ap (λ l. f x ∷ l) (mapped_more f seen left grant)
 
-revoked_from : (by : List Grantor) (grantees : List Grantee) (seen left : List Grant) → Ordered (seen ++ left)
-    → fold (revoked_at by grantees) (map (without_grant_option by grantees) seen ++ left) left ≡ map (without_grant_option by grantees) (seen ++ left)
-revoked_from by grantees seen [] order = append-nil (map (without_grant_option by grantees) seen) ∙ ap (map (without_grant_option by grantees)) (sym (append-nil seen))
-revoked_from by grantees seen (grant ∷ left) order =
-    let f : Grant → Grant = without_grant_option by grantees in
+revoked_from : (asked : RevokePrivileges) (by : List Grantor) (seen left : List Grant) → Ordered (seen ++ left)
+    → fold (revoked_at asked by) (map (without_grant_option asked by) seen ++ left) left ≡ map (without_grant_option asked by) (seen ++ left)
+revoked_from asked by seen [] order = append-nil (map (without_grant_option asked by) seen) ∙ ap (map (without_grant_option asked by)) (sym (append-nil seen))
+revoked_from asked by seen (grant ∷ left) order =
+    let f : Grant → Grant = without_grant_option asked by in
     let joined : (seen ++ grant ∷ []) ++ left ≡ seen ++ grant ∷ left = append_assoc seen (grant ∷ []) left in
-    ap (λ l. fold (revoked_at by grantees) l left)
-    (revoked_if (is_taken by grantees grant) (map f seen) left grant (next_put key_total key_of f (λ x. key_stays (is_taken by grantees x) x) seen left grant order) ∙ mapped_more f seen left grant)
-    ∙ revoked_from by grantees (seen ++ grant ∷ []) left (subst Ordered (sym joined) order)
+    ap (λ l. fold (revoked_at asked by) l left)
+    (revoked_if (is_taken asked by grant) (map f seen) left grant (next_put key_total key_of f (λ x. key_stays (is_taken asked by x) x) seen left grant order) ∙ mapped_more f seen left grant)
+    ∙ revoked_from asked by (seen ++ grant ∷ []) left (subst Ordered (sym joined) order)
     ∙ ap (map f) joined
 
 -- one after another, those that are taken lose the grant option
-pub each_revoked : (by : List Grantor) (grantees : List Grantee) (grants : List Grant) → Ordered grants → fold (revoked_at by grantees) grants grants ≡ map (without_grant_option by grantees) grants
-each_revoked by grantees grants order = revoked_from by grantees [] grants order
+pub each_revoked : (asked : RevokePrivileges) (by : List Grantor) (grants : List Grant) → Ordered grants → fold (revoked_at asked by) grants grants ≡ map (without_grant_option asked by) grants
+each_revoked asked by grants order = revoked_from asked by [] grants order

@@ -6,7 +6,9 @@ pub mod HolderLemmas
 pub mod GrantLaws
 pub mod GrantPlaces
 pub mod GrantorLaws
+pub mod ColumnLaws
 pub mod ConsideredLaws
 pub mod HolderLaws
+pub mod MissingLaws
 pub mod OptionedLaws
 mod PassedOn

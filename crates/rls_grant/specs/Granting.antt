@@ -1,16 +1,17 @@
--- GRANT of privileges on a table (PostgreSQL manual, GRANT): each privilege to each grantee, in one place each.
-use Rattle.std.specs.Prelude.{ℕ, List, [], ◌∷◌, None, Bool, false, ◌||◌, not, Result, Ok, Err, if◌then◌else◌, map}
+-- GRANT of privileges on a table, or on columns of it (PostgreSQL manual, GRANT): each privilege to each grantee, in one place
+-- each.
+use Rattle.std.specs.Prelude.{ℕ, List, [], ◌∷◌, Option, None, Bool, false, ◌||◌, not, Result, Ok, Err, if◌then◌else◌, map}
 use Rattle.std.specs.List.{flat_map, list_any}
 use Rattle.std.specs.Ordering.{nat_cmp, ordering_then, is_eq, is_lt}
 use Rattle.std.specs.declared.cmp.Ordering.{Ordering}
 use Rattle.std.specs.declared.cmp.Ordering.TheVariants.{Less, Equal, Greater}
 use Rattle.rls_value.specs.{Giving.and_then, Names.one_of, declared.verb.Privilege.Privilege, declared.refusal.Refusal.Refusal, declared.refusal.Refusal.TheVariants.GrantOp, declared.refusal.GrantFault.TheVariants.PublicOption, declared.refusal.GrantFault.TheVariants.Back}
-use Rattle.rls_verdict.specs.rls_expr.specs.{declared.table.TableDef.TableDef, declared.policy.Grantee.Grantee}
+use Rattle.rls_verdict.specs.rls_expr.specs.{declared.table.Column.Column, declared.table.TableDef.TableDef, declared.policy.Grantee.Grantee}
 use Rattle.rls_verdict.specs.rls_catalog.specs.{declared.change.Change.Change, declared.grant.Grant.Grant, GrantOptions.without_options_of, State.name_order}
 use Rattle.rls_role.specs.rls_source.specs.{Asked.asked_grants, Named.table_or_undefined, Named.grantees_or_undefined, Sequences.each_or_refused, Sequences.put_before, Askings.Asking, Askings.known, Askings.followed_by}
-use Rattle.rls_role.specs.rls_statement.specs.declared.statement.GrantPrivileges.{GrantPrivileges}
+use Rattle.rls_role.specs.rls_statement.specs.{declared.statement.GrantPrivileges.GrantPrivileges, Extents.extent_of, Extents.granted_on}
 use Rattle.rls_role.specs.{Reaching.effective_roles_of, declared.effective_roles.EffectiveRoles.EffectiveRoles}
-use Rattle.rls_grant.specs.{declared.grantors.Grantor.Grantor, Holders.holders_of, Grantors.all_privileges, Grantors.grantors}
+use Rattle.rls_grant.specs.{declared.grantors.Grantor.Grantor, Columns.column_place, Columns.columns_or_undefined, Columns.option_or_unsupported, Holders.holders_of, Grantors.all_privileges, Grantors.grantors}
 
 -- ---- where a grant stands among the others
 
@@ -55,21 +56,25 @@ with_grants grants (grant ∷ more) = with_grants (with_grant grants grant) more
 
 -- ---- what is granted
 
--- a grant of the privilege on the whole table
-abbrev pub new_grant : Bool → Privilege → Grantee → List ℕ → Grant
-new_grant option privilege grantee grantor = record { privilege = privilege; grantee = grantee; grantor = grantor; option = option; column = None; place = 0 }
+-- a grant on the column, or on the whole table
+abbrev pub new_grant : List Column → Bool → Grantor → Grantee → Option (List ℕ) → Grant
+new_grant columns option grantor grantee column = record { privilege = grantor.privilege; grantee = grantee; grantor = grantor.name; option = option; column = column; place = column_place columns column }
 
 -- the owner's own grants, which a table has from the start
 abbrev pub own_grant : List ℕ → Privilege → Grant
-own_grant owner privilege = new_grant false privilege (Grantee.Role owner) owner
+own_grant owner privilege = record { privilege = privilege; grantee = Grantee.Role owner; grantor = owner; option = false; column = None; place = 0 }
 
 -- the owner's own grants of all privileges
 abbrev pub own_grants : List ℕ → List Grant
 own_grants owner = map (own_grant owner) all_privileges
 
--- a privilege to each grantee
-abbrev pub grants_by : Bool → List Grantee → Grantor → List Grant
-grants_by option grantees grantor = map (λ grantee. new_grant option grantor.privilege grantee grantor.name) grantees
+-- to each grantee, on each of these
+abbrev pub grants_on : List Column → Bool → Grantor → List Grantee → List (Option (List ℕ)) → List Grant
+grants_on columns option grantor grantees on = flat_map (λ grantee. map (new_grant columns option grantor grantee) on) grantees
+
+-- a privilege to each grantee: on the table as a whole, where it is named so, and on each column
+abbrev pub grants_by : List Column → GrantPrivileges → Grantor → List Grant
+grants_by columns asked grantor = grants_on columns asked.with_option grantor asked.to (granted_on (extent_of asked.privileges grantor.privilege))
 
 -- ---- to whom the grant option may go
 
@@ -97,12 +102,12 @@ abbrev pub grants_written : List ℕ → List Grant → List Change
 grants_written table grants = Change.Grants table grants ∷ []
 
 -- the grants that are there, with each privilege to each grantee
-abbrev pub grants_with : List Grant → List Grantor → GrantPrivileges → List Change
-grants_with grants by asked = grants_written asked.table (with_grants grants (flat_map (grants_by asked.with_option asked.to) by))
+abbrev pub grants_with : List Column → List Grant → List Grantor → GrantPrivileges → List Change
+grants_with columns grants by asked = grants_written asked.table (with_grants grants (flat_map (grants_by columns asked) by))
 
 -- what GRANT changes: the options may be granted, then each grant is put in
 unfoldable pub granted : TableDef → List Grant → List Grantor → GrantPrivileges → Result (List Change) Refusal
-granted table grants by asked = and_then (options_or_refused asked.with_option table.owner grants by asked.to) (λ _. Ok (grants_with grants by asked))
+granted table grants by asked = and_then (options_or_refused asked.with_option table.owner grants by asked.to) (λ _. Ok (grants_with table.columns grants by asked))
 
 -- each privilege has to have a grantor; then the grant option has to be one that may go to the grantees
 unfoldable pub grants_made : EffectiveRoles → List ℕ → TableDef → List Grant → GrantPrivileges → Result (List Change) Refusal
@@ -113,7 +118,12 @@ unfoldable pub grant_on : List ℕ → TableDef → GrantPrivileges → Asking (
 grant_on role table asked = followed_by (asked_grants asked.table) (λ grants.
     followed_by (effective_roles_of role) (λ effective_roles. known (grants_made effective_roles role table grants asked)))
 
--- the table and the grantees have to be there
+-- the grantees have to be there, and no grant option is granted on columns
+unfoldable pub grant_to : List ℕ → TableDef → GrantPrivileges → Asking (List Change)
+grant_to role table asked = followed_by (grantees_or_undefined asked.to) (λ _.
+    followed_by (known (option_or_unsupported asked.with_option asked.privileges)) (λ _. grant_on role table asked))
+
+-- the table, the columns and the grantees have to be there
 abbrev pub grant : List ℕ → GrantPrivileges → Asking (List Change)
 grant role asked = followed_by (table_or_undefined asked.table) (λ table.
-    followed_by (grantees_or_undefined asked.to) (λ _. grant_on role table asked))
+    followed_by (known (columns_or_undefined table.columns asked.privileges)) (λ _. grant_to role table asked))

@@ -1,5 +1,6 @@
 pub use Rattle.rls_verdict.specs.rls_catalog.specs.Privileges
 pub mod GrantedTo
+pub mod Missing
 pub mod Holders
 pub mod Seen
 pub mod Considered
@@ -7,5 +8,6 @@ pub mod Handed
 pub mod Optioned
 pub mod Placing
 pub mod Grantors
+pub mod Columns
 pub mod Granting
 pub mod Revoking

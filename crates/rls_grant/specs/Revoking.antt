@@ -1,36 +1,36 @@
--- REVOKE of privileges on a table (PostgreSQL manual, REVOKE): it takes the grants of the chosen grantors, or their grant
--- options. What is left then has to have grantors who hold the grant option: CASCADE takes the rest too.
-use Rattle.std.specs.Prelude.{ℕ, List, [], ◌∷◌, Bool, ◌||◌, not, Result, Ok, Err, if◌then◌else◌, map, filter}
+-- REVOKE of privileges on a table, or on columns of it (PostgreSQL manual, REVOKE): it takes the grants of the chosen grantors,
+-- or their grant options. What is left then has to have grantors who hold the grant option: CASCADE takes the rest too.
+use Rattle.std.specs.Prelude.{ℕ, List, [], ◌∷◌, Bool, ◌&&◌, ◌||◌, not, Result, Ok, Err, if◌then◌else◌, map, filter}
 use Rattle.std.specs.List.{list_any}
 use Rattle.rls_value.specs.{Giving.and_then, Names.one_of, declared.verb.Privilege.Privilege, declared.refusal.Refusal.Refusal, declared.refusal.Refusal.TheVariants.Dependent}
-use Rattle.rls_verdict.specs.rls_expr.specs.{declared.table.TableDef.TableDef, declared.policy.Grantee.Grantee}
+use Rattle.rls_verdict.specs.rls_expr.specs.declared.table.TableDef.{TableDef}
 use Rattle.rls_verdict.specs.rls_catalog.specs.{declared.change.Change.Change, declared.grant.Grant.Grant, Privileges.is_same_privilege}
 use Rattle.rls_verdict.specs.rls_catalog.specs.GrantOptions.{is_grant_of, not_grantable}
 use Rattle.rls_role.specs.rls_source.specs.Asked.{asked_grants}
 use Rattle.rls_role.specs.rls_source.specs.Askings.{Asking, known, followed_by}
 use Rattle.rls_role.specs.rls_source.specs.Named.{table_or_undefined, grantees_or_undefined}
-use Rattle.rls_role.specs.rls_statement.specs.declared.statement.RevokePrivileges.{RevokePrivileges}
+use Rattle.rls_role.specs.rls_statement.specs.{declared.statement.RevokePrivileges.RevokePrivileges, Extents.extent_of, Extents.takes_from}
 use Rattle.rls_role.specs.{Reaching.effective_roles_of, declared.effective_roles.EffectiveRoles.EffectiveRoles}
-use Rattle.rls_grant.specs.{declared.grantors.Grantor.Grantor, Granting.grants_written, Grantors.grantors, Holders.holders_of}
+use Rattle.rls_grant.specs.{declared.grantors.Grantor.Grantor, Columns.columns_or_undefined, Columns.option_or_unsupported, Granting.grants_written, Grantors.grantors, Holders.holders_of}
 
 -- ---- what is taken
 
--- the grant is by one of the grantors, of its privilege and to one of the grantees
-abbrev pub is_by : List Grantee → Grant → Grantor → Bool
-is_by grantees grant grantor = list_any (λ grantee. is_grant_of grantor.privilege grantee grantor.name grant) grantees
+-- the grant is by the grantor, of its privilege and to one of the grantees; where columns are named it is on one of them
+abbrev pub is_by : RevokePrivileges → Grant → Grantor → Bool
+is_by asked grant grantor = takes_from (extent_of asked.privileges grantor.privilege) grant.column && list_any (λ grantee. is_grant_of grantor.privilege grantee grantor.name grant) asked.from
 
--- a grant by one of the grantors to one of the grantees
-abbrev pub is_taken : List Grantor → List Grantee → Grant → Bool
-is_taken by grantees grant = list_any (is_by grantees grant) by
+-- by one of the grantors
+abbrev pub is_taken : RevokePrivileges → List Grantor → Grant → Bool
+is_taken asked by grant = list_any (is_by asked grant) by
 
 -- it goes, or its grant option does
-abbrev pub without_grant_option : List Grantor → List Grantee → Grant → Grant
-without_grant_option by grantees grant = if is_taken by grantees grant then not_grantable grant else grant
+abbrev pub without_grant_option : RevokePrivileges → List Grantor → Grant → Grant
+without_grant_option asked by grant = if is_taken asked by grant then not_grantable grant else grant
 
 -- the grants without those that are taken, or without their options
-abbrev pub without_taken : Bool → List Grantor → List Grantee → List Grant → List Grant
-without_taken option_only by grantees grants =
-    if option_only then map (without_grant_option by grantees) grants else filter (λ grant. not (is_taken by grantees grant)) grants
+abbrev pub without_taken : RevokePrivileges → List Grantor → List Grant → List Grant
+without_taken asked by grants =
+    if asked.option_only then map (without_grant_option asked by) grants else filter (λ grant. not (is_taken asked by grant)) grants
 
 -- ---- what is left of it
 
@@ -55,7 +55,7 @@ left_after cascade table owner (grantor ∷ by) grants =
 -- what REVOKE changes: what it takes itself, and with CASCADE what hangs on that; without, it is refused where something does
 unfoldable pub revoked : TableDef → List Grant → List Grantor → RevokePrivileges → Result (List Change) Refusal
 revoked table grants by asked =
-    and_then (left_after asked.cascade asked.table table.owner by (without_taken asked.option_only by asked.from grants)) (λ left. Ok (grants_written asked.table left))
+    and_then (left_after asked.cascade asked.table table.owner by (without_taken asked by grants)) (λ left. Ok (grants_written asked.table left))
 
 -- each privilege has to have a grantor
 unfoldable pub grants_revoked : EffectiveRoles → List ℕ → TableDef → List Grant → RevokePrivileges → Result (List Change) Refusal
@@ -66,7 +66,12 @@ unfoldable pub revoke_on : List ℕ → TableDef → RevokePrivileges → Asking
 revoke_on role table asked = followed_by (asked_grants asked.table) (λ grants.
     followed_by (effective_roles_of role) (λ effective_roles. known (grants_revoked effective_roles role table grants asked)))
 
--- the table and the grantees have to be there
+-- the grantees have to be there, and no grant option is revoked on columns
+unfoldable pub revoke_from : List ℕ → TableDef → RevokePrivileges → Asking (List Change)
+revoke_from role table asked = followed_by (grantees_or_undefined asked.from) (λ _.
+    followed_by (known (option_or_unsupported asked.option_only asked.privileges)) (λ _. revoke_on role table asked))
+
+-- the table, the columns and the grantees have to be there
 abbrev pub revoke : List ℕ → RevokePrivileges → Asking (List Change)
 revoke role asked = followed_by (table_or_undefined asked.table) (λ table.
-    followed_by (grantees_or_undefined asked.from) (λ _. revoke_on role table asked))
+    followed_by (known (columns_or_undefined table.columns asked.privileges)) (λ _. revoke_from role table asked))

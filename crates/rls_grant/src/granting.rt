@@ -1,13 +1,14 @@
-//! GRANT of privileges on a table.
+//! GRANT of privileges on a table, or on columns of it.
 
-ghost use Rattle.std.specs.Prelude.{◌≡◌, [], ◌∷◌, ◌++◌, ◌↔◌, ℕ, List, true, IfOk, OnOk};
+ghost use Rattle.std.specs.Prelude.{◌≡◌, [], ◌∷◌, ◌++◌, ◌↔◌, ℕ, List, map, true, IfOk, OnOk};
 ghost use Rattle.std.specs.List.{flat_map};
 ghost use Rattle.rls_value.specs.{Giving.Gives, declared.verb.Privilege.Privilege as Kind};
 ghost use Rattle.rls_verdict.specs.rls_catalog.specs.{GrantOptions.GoesBack, declared.grant.Grant.Grant as Given};
 ghost use Rattle.rls_role.specs.rls_source.specs.{Answering.Answers, Sequences.each_or_refused};
 ghost use Rattle.rls_grant.specs.Granting as spec;
-ghost use Rattle.rls_grant.specs.Granting.{goes_back, grant_on, granted, grants_by, grants_made, grants_with};
+ghost use Rattle.rls_grant.specs.Granting.{goes_back, grant_on, grant_to, granted, grants_by, grants_made, grants_on, grants_with};
 
+use crate::columns::{column_place, granted_on, require_columns, require_whole};
 use crate::grantors::{Grantor, grantors_of};
 use crate::optioning::options_without;
 use crate::placing::put_grants;
@@ -16,13 +17,13 @@ use rls_role::rls_statement::GrantPrivileges;
 use rls_role::{EffectiveRoles, noted_effective_roles};
 use rls_value::{GrantFault, Items, Name, Privilege, Refusal};
 use rls_verdict::rls_catalog::{Change, Delta, Grant, Grants};
-use rls_verdict::rls_expr::{Grantee, TableDef};
+use rls_verdict::rls_expr::{Column, Grantee, TableDef};
 use std::alloc::{AllocError, Global};
 
 /// What it takes that the role grants the privileges to each grantee: all grants on the table (PostgreSQL manual, GRANT).
-/// Refused are, in this order: a table or grantee that isn't there; the first privilege that nobody may grant for the
-/// role; and, WITH GRANT OPTION, PUBLIC, or a grantee whose own option the grantor's stands on. In every state that agrees
-/// on what is read it is the same.
+/// Refused are, in this order: a table, column or grantee that isn't there; a grant option on columns; the first privilege that
+/// nobody may grant for the role; and, WITH GRANT OPTION, PUBLIC, or a grantee whose own option the grantor's stands on. In
+/// every state that agrees on what is read it is the same.
 #[tactic(auto, using(crate::proofs::GrantLaws::goes_back_is))]
 pub fn grant<'c, S: RowSource<'c>>(
     alloc: Global,
@@ -35,7 +36,23 @@ pub fn grant<'c, S: RowSource<'c>>(
     ensures back { (owner : List ℕ) (grants : List Given) (privilege : Kind) (grantor grantee : List ℕ) → (goes_back owner grants privilege grantor grantee ≡ true) ↔ GoesBack owner grants privilege grantor grantee }
 {
     let table = table_named(alloc, source, read_set, &grant.table)?;
+    require_columns(table, &grant.privileges)?;
+    grant_named(alloc, source, read_set, role, table, grant)
+}
+
+#[tactic(auto, unfolding(crate::specs::Granting::grant_to))]
+fn grant_named<'c, S: RowSource<'c>>(
+    alloc: Global,
+    source: &mut S,
+    read_set: &mut Reads,
+    role: &Name,
+    table: &TableDef,
+    grant: &GrantPrivileges,
+) -> Result<Delta, Refusal>
+    ensures { Answers S.state S.after (grant_to role.now table.now grant.now) source.old source.new read_set.old read_set.new result }
+{
     require_grantees(alloc, source, read_set, grant.to.as_slice())?;
+    require_whole(grant.with_option, &grant.privileges)?;
     grant_for(alloc, source, read_set, role, table, grant)
 }
 
@@ -95,7 +112,7 @@ fn grant_by(
 {
     let to = grant.to.as_slice();
     require_options(alloc, grant.with_option, &table.owner, grants, grantors, to)?;
-    Ok(written(alloc, grants, grantors, grant)?)
+    Ok(written(alloc, table, grants, grantors, grant)?)
 }
 
 fn require_options(
@@ -194,13 +211,14 @@ fn is_back(
 
 fn written(
     alloc: Global,
+    table: &TableDef,
     grants: &Grants,
     grantors: &[Grantor],
     grant: &GrantPrivileges,
 ) -> Result<Delta, AllocError>
-    ensures { IfOk result (λ delta. delta ≡ grants_with grants.now grantors.now grant.now) }
+    ensures { IfOk result (λ delta. delta ≡ grants_with table.now.columns grants.now grantors.now grant.now) }
 {
-    let new = new_grants(alloc, grant.with_option, grantors, grant.to.as_slice())?;
+    let new = new_grants(alloc, table.columns.as_slice(), grantors, grant)?;
     let all = with_new(alloc, grants, new)?;
     write_grants(alloc, &grant.table, all)
 }
@@ -238,52 +256,97 @@ fn one_change(alloc: Global, change: Change) -> Result<Delta, AllocError>
     Ok(delta)
 }
 
-/// Each privilege to each grantee.
+/// Each privilege to each grantee, on all that it is named for.
 fn new_grants(
     alloc: Global,
-    option: bool,
+    columns: &[Column],
     grantors: &[Grantor],
-    grantees: &[Grantee],
+    grant: &GrantPrivileges,
 ) -> Result<Items<Grant>, AllocError>
-    ensures { IfOk result (λ grants. grants ≡ flat_map (grants_by option grantees.now) grantors.now) }
+    ensures { IfOk result (λ grants. grants ≡ flat_map (grants_by columns.now grant.now) grantors.now) }
 {
     let mut grants = Items::new(alloc);
     for grantor in grantors {
-        add_grants(&mut grants, option, grantor, grantees)?;
+        add_grants(alloc, &mut grants, columns, grantor, grant)?;
     }
     Ok(grants)
 }
 
 fn add_grants(
+    alloc: Global,
     grants: &mut Items<Grant>,
+    columns: &[Column],
+    grantor: &Grantor,
+    grant: &GrantPrivileges,
+) -> Result<(), AllocError>
+    ensures { OnOk result (grants.new ≡ grants.old ++ grants_by columns.now grant.now grantor.now) }
+{
+    let on = granted_on(alloc, &grant.privileges, grantor.privilege)?;
+    let (option, to) = (grant.with_option, grant.to.as_slice());
+    let added = add_each(grants, columns, option, grantor, to, on.as_slice());
+    drop(on);
+    added
+}
+
+fn add_each(
+    grants: &mut Items<Grant>,
+    columns: &[Column],
     option: bool,
     grantor: &Grantor,
     grantees: &[Grantee],
+    on: &[Option<Name>],
 ) -> Result<(), AllocError>
-    ensures { OnOk result (grants.new ≡ grants.old ++ grants_by option grantees.now grantor.now) }
+    ensures { OnOk result (grants.new ≡ grants.old ++ grants_on columns.now option grantor.now grantees.now on.now) }
 {
     for grantee in grantees {
-        grants.push(new_grant(option, grantor.privilege, grantee.copy()?, &grantor.name)?)?;
+        add_on(grants, columns, option, grantor, grantee, on)?;
+    }
+    Ok(())
+}
+
+fn add_on(
+    grants: &mut Items<Grant>,
+    columns: &[Column],
+    option: bool,
+    grantor: &Grantor,
+    grantee: &Grantee,
+    on: &[Option<Name>],
+) -> Result<(), AllocError>
+    ensures { OnOk result (grants.new ≡ grants.old ++ map (spec.new_grant columns.now option grantor.now grantee.now) on.now) }
+{
+    for column in on {
+        grants.push(new_grant(columns, option, grantor, grantee, column)?)?;
     }
     Ok(())
 }
 
 fn new_grant(
+    columns: &[Column],
     option: bool,
-    privilege: Privilege,
-    grantee: Grantee,
-    grantor: &Name,
+    grantor: &Grantor,
+    grantee: &Grantee,
+    column: &Option<Name>,
 ) -> Result<Grant, AllocError>
-    ensures { IfOk result (λ grant. grant ≡ spec.new_grant option privilege grantee grantor.now) }
+    ensures { IfOk result (λ grant. grant ≡ spec.new_grant columns.now option grantor.now grantee.now column.now) }
 {
+    let place = column_place(columns, column);
     Ok(Grant {
-        privilege,
-        grantee,
-        grantor: grantor.copy()?,
+        privilege: grantor.privilege,
+        grantee: grantee.copy()?,
+        grantor: grantor.name.copy()?,
         option,
-        column: None,
-        place: 0,
+        column: copy_column(column)?,
+        place,
     })
+}
+
+fn copy_column(column: &Option<Name>) -> Result<Option<Name>, AllocError>
+    ensures { IfOk result (λ copied. copied ≡ column.now) }
+{
+    match column {
+        None => Ok(None),
+        Some(name) => Ok(Some(name.copy()?)),
+    }
 }
 
 /// The owner's own grants of the four privileges, which a table has from the start.
@@ -301,5 +364,12 @@ pub fn own_grants(alloc: Global, owner: &Name) -> Result<Items<Grant>, AllocErro
 fn own_grant(privilege: Privilege, owner: &Name) -> Result<Grant, AllocError>
     ensures { IfOk result (λ grant. grant ≡ spec.own_grant owner.now privilege) }
 {
-    new_grant(false, privilege, Grantee::Role(owner.copy()?), owner)
+    Ok(Grant {
+        privilege,
+        grantee: Grantee::Role(owner.copy()?),
+        grantor: owner.copy()?,
+        option: false,
+        column: None,
+        place: 0,
+    })
 }

@@ -1,13 +1,14 @@
-//! REVOKE of privileges on a table.
+//! REVOKE of privileges on a table, or on columns of it.
 
 ghost use Rattle.std.specs.Prelude.{◌≡◌, ◌↔◌, ℕ, List, true, not, map, filter, IfOk};
 ghost use Rattle.std.specs.{BTreeSet.contains, List.list_any};
 ghost use Rattle.rls_value.specs.{Giving.Gives, Names.one_of, declared.verb.Privilege.Privilege as Kind};
 ghost use Rattle.rls_verdict.specs.rls_catalog.specs.{GrantOptions.HasDependents, GrantOptions.LeftAfterRevoke, GrantOptions.is_grant_of, State.name_order, declared.grant.Grant.Grant as Given};
 ghost use Rattle.rls_role.specs.rls_source.specs.Answering.{Answers};
-ghost use Rattle.rls_grant.specs.{Holders.holders_of, Revoking.grants_revoked, Revoking.is_by, Revoking.is_taken, Revoking.left_after, Revoking.left_or_refused, Revoking.revoke_on, Revoking.without_grant_option, Revoking.without_taken};
+ghost use Rattle.rls_grant.specs.{Holders.holders_of, Revoking.grants_revoked, Revoking.is_by, Revoking.is_taken, Revoking.left_after, Revoking.left_or_refused, Revoking.revoke_from, Revoking.revoke_on, Revoking.without_grant_option, Revoking.without_taken};
 ghost use Rattle.rls_grant.specs.Revoking as spec;
 
+use crate::columns::{require_columns, require_whole, takes_from};
 use crate::granted::{is_same_grantee, is_same_privilege};
 use crate::granting::write_grants;
 use crate::grantors::{Grantor, grantors_of};
@@ -23,9 +24,10 @@ use std::alloc::{AllocError, Global};
 use std::collections::BTreeSet;
 
 /// What it takes that the role revokes the privileges, or their grant options, from each grantee: all grants that are left
-/// on the table (PostgreSQL manual, REVOKE). Refused are, in this order: a table or grantee that isn't there; the first
-/// privilege that nobody may revoke for the role; and, without CASCADE, what leaves a grant whose grantor doesn't hold the
-/// grant option any more. In every state that agrees on what is read it is the same.
+/// on the table (PostgreSQL manual, REVOKE). What is revoked on the whole table is revoked on its columns too. Refused are, in
+/// this order: a table, column or grantee that isn't there; grant options on columns; the first privilege that nobody may revoke
+/// for the role; and, without CASCADE, what leaves a grant whose grantor doesn't hold the grant option any more. In every
+/// state that agrees on what is read it is the same.
 #[tactic(auto, using(crate::proofs::GrantLaws::left_is, crate::proofs::GrantLaws::dependents_are))]
 pub fn revoke<'c, S: RowSource<'c>>(
     alloc: Global,
@@ -39,7 +41,23 @@ pub fn revoke<'c, S: RowSource<'c>>(
     ensures dependents { (owner : List ℕ) (grants : List Given) (privilege : Kind) → (list_any (λ grant. not (spec.stays (one_of (holders_of owner grants privilege)) privilege grant)) grants ≡ true) ↔ HasDependents owner grants privilege }
 {
     let table = table_named(alloc, source, read_set, &revoke.table)?;
+    require_columns(table, &revoke.privileges)?;
+    revoke_named(alloc, source, read_set, role, table, revoke)
+}
+
+#[tactic(auto, unfolding(crate::specs::Revoking::revoke_from))]
+fn revoke_named<'c, S: RowSource<'c>>(
+    alloc: Global,
+    source: &mut S,
+    read_set: &mut Reads,
+    role: &Name,
+    table: &TableDef,
+    revoke: &RevokePrivileges,
+) -> Result<Delta, Refusal>
+    ensures { Answers S.state S.after (revoke_from role.now table.now revoke.now) source.old source.new read_set.old read_set.new result }
+{
     require_grantees(alloc, source, read_set, revoke.from.as_slice())?;
+    require_whole(revoke.option_only, &revoke.privileges)?;
     revoke_for(alloc, source, read_set, role, table, revoke)
 }
 
@@ -97,40 +115,45 @@ fn revoke_by(
 ) -> Result<Delta, Refusal>
     ensures { Gives result (spec.revoked table.now grants.now grantors.now revoke.now) }
 {
-    let (cascade, from) = (revoke.cascade, revoke.from.as_slice());
-    let rest = rest_of(alloc, revoke.option_only, grantors, from, grants)?;
-    let left = leave_after(alloc, cascade, &revoke.table, &table.owner, grantors, rest)?;
+    let rest = rest_of(alloc, revoke, grantors, grants)?;
+    let left = leave_after(
+        alloc,
+        revoke.cascade,
+        &revoke.table,
+        &table.owner,
+        grantors,
+        rest,
+    )?;
     Ok(write_grants(alloc, &revoke.table, left)?)
 }
 
 /// The grants without those that are taken, or without their grant options.
 fn rest_of(
     alloc: Global,
-    option_only: bool,
+    revoke: &RevokePrivileges,
     grantors: &[Grantor],
-    grantees: &[Grantee],
     grants: &Grants,
 ) -> Result<Grants, AllocError>
-    ensures { IfOk result (λ rest. rest ≡ without_taken option_only grantors.now grantees.now grants.now) }
+    ensures { IfOk result (λ rest. rest ≡ without_taken revoke.now grantors.now grants.now) }
 {
-    if option_only {
-        revoke_options(alloc, grantors, grantees, grants)
+    if revoke.option_only {
+        revoke_options(alloc, revoke, grantors, grants)
     } else {
-        drop_taken(alloc, grantors, grantees, grants)
+        drop_taken(alloc, revoke, grantors, grants)
     }
 }
 
 fn revoke_options(
     alloc: Global,
+    revoke: &RevokePrivileges,
     grantors: &[Grantor],
-    grantees: &[Grantee],
     grants: &Grants,
 ) -> Result<Grants, AllocError>
-    ensures { IfOk result (λ rest. rest ≡ map (without_grant_option grantors.now grantees.now) grants.now) }
+    ensures { IfOk result (λ rest. rest ≡ map (without_grant_option revoke.now grantors.now) grants.now) }
 {
     let mut rest = grants.copy()?;
     for grant in grants.iter() {
-        if takes(grantors, grantees, grant) {
+        if takes(revoke, grantors, grant) {
             revoke_option(alloc, &mut rest, grant)?;
         }
     }
@@ -139,32 +162,39 @@ fn revoke_options(
 
 fn drop_taken(
     alloc: Global,
+    revoke: &RevokePrivileges,
     grantors: &[Grantor],
-    grantees: &[Grantee],
     grants: &Grants,
 ) -> Result<Grants, AllocError>
-    ensures { IfOk result (λ rest. rest ≡ filter (λ grant. not (is_taken grantors.now grantees.now grant)) grants.now) }
+    ensures { IfOk result (λ rest. rest ≡ filter (λ grant. not (is_taken revoke.now grantors.now grant)) grants.now) }
 {
     let mut rest = grants.copy()?;
     for grant in grants.iter() {
-        if takes(grantors, grantees, grant) {
+        if takes(revoke, grantors, grant) {
             remove_grant(alloc, &mut rest, grant)?;
         }
     }
     Ok(rest)
 }
 
-/// Whether the grant is by one of the grantors, of its privilege and to one of the grantees.
-fn takes(grantors: &[Grantor], grantees: &[Grantee], grant: &Grant) -> bool
-    ensures { result ≡ is_taken grantors.now grantees.now grant.now }
+/// Whether the grant is by one of the grantors, and of what is revoked of its privilege from one of the grantees.
+fn takes(revoke: &RevokePrivileges, grantors: &[Grantor], grant: &Grant) -> bool
+    ensures { result ≡ is_taken revoke.now grantors.now grant.now }
 {
     grantors
         .iter()
-        .any(|grantor| takes_by(grantees, grant, grantor))
+        .any(|grantor| takes_by(revoke, grant, grantor))
 }
 
-fn takes_by(grantees: &[Grantee], grant: &Grant, grantor: &Grantor) -> bool
-    ensures { result ≡ is_by grantees.now grant.now grantor.now }
+fn takes_by(revoke: &RevokePrivileges, grant: &Grant, grantor: &Grantor) -> bool
+    ensures { result ≡ is_by revoke.now grant.now grantor.now }
+{
+    takes_from(&revoke.privileges, grantor.privilege, &grant.column)
+        && is_grant_to_one(grant, grantor, revoke.from.as_slice())
+}
+
+fn is_grant_to_one(grant: &Grant, grantor: &Grantor, grantees: &[Grantee]) -> bool
+    ensures { result ≡ list_any (λ grantee. is_grant_of grantor.now.privilege grantee grantor.now.name grant.now) grantees.now }
 {
     grantees
         .iter()

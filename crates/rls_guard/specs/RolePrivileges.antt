@@ -1,14 +1,15 @@
 -- What the current role may do with a table, by its attributes and whose privileges it has.
-use Rattle.std.specs.Prelude.{ℕ, List, ◌∷◌, Bool, ◌&&◌, ◌||◌, Result, Ok, Err, if◌then◌else◌}
-use Rattle.std.specs.List.{list_any}
-use Rattle.rls_expr.specs.rls_value.specs.{Names.one_of, declared.object.Object.Object, declared.verb.Privilege.Privilege, declared.refusal.Refusal.Refusal, declared.refusal.Refusal.TheVariants.Denied}
+use Rattle.std.specs.Prelude.{ℕ, List, ◌∷◌, Bool, ◌||◌, Option, Some, None, Result, Ok, Err, if◌then◌else◌}
+use Rattle.rls_expr.specs.rls_value.specs.{Names.one_of, declared.object.Object.Object, declared.refusal.Refusal.Refusal, declared.refusal.Refusal.TheVariants.Denied, declared.refusal.Why.Why}
 use Rattle.rls_expr.specs.rls_value.specs.declared.object.Object.TheVariants as o
 use Rattle.rls_expr.specs.rls_value.specs.declared.refusal.Why.TheVariants as why
 use Rattle.rls_expr.specs.declared.table.TableDef.{TableDef}
-use Rattle.rls_evaluation.specs.rls_catalog.specs.{declared.grant.Grant.Grant, State.State, Privileges.includes, Privileges.is_same_privilege, Privileges.is_whole}
+use Rattle.rls_evaluation.specs.rls_catalog.specs.State.{State}
+use Rattle.rls_grant.specs.Missing.{missing_in}
 use Rattle.rls_evaluation.specs.rls_catalog.specs.Membership.{attributes_of, walked_by, effective_roles_reads}
 use Rattle.rls_evaluation.specs.rls_catalog.proofs.Frames.{attributes_frame, walked_frame, effective_roles_reads_frame}
 use Rattle.rls_guard.specs.declared.role_privileges.RolePrivileges.{RolePrivileges}
+use Rattle.rls_guard.specs.declared.permission_check.PermissionCheck.{PermissionCheck}
 use Rattle.rls_evaluation.specs.rls_source.specs.Askings.{Asking, IsFramed, known, asked_if, followed_by}
 use Rattle.rls_evaluation.specs.rls_source.specs.Asked.{asked_grants}
 
@@ -38,15 +39,16 @@ role_privileges_of role = record { in_state = λ s. record { gives = Ok (role_pr
 abbrev pub has_owner : RolePrivileges → TableDef → Bool
 has_owner role_privileges table = role_privileges.effective_roles.superuser || one_of role_privileges.effective_roles.names table.owner
 
--- some of the grants is of the privilege on the whole table, and to PUBLIC or a role whose privileges the role has
-abbrev pub is_granted : RolePrivileges → Privilege → List Grant → Bool
-is_granted role_privileges privilege grants = list_any (λ grant. is_whole grant && (is_same_privilege grant.privilege privilege && includes role_privileges.effective_roles.superuser role_privileges.effective_roles.names grant.grantee)) grants
+-- what is lacked is refused
+abbrev pub refused_for : Option Why → Result (Unit {0}) Refusal
+refused_for None = Ok tt
+refused_for (Some why) = Err (Denied why)
 
--- the privilege has to be held: a superuser holds each, another role what is granted to it
-abbrev pub privilege_or_denied : RolePrivileges → Privilege → List ℕ → Asking (Unit {0})
-privilege_or_denied role_privileges privilege table =
+-- the privilege has to be held for these columns: a superuser holds each, another role what is granted to it
+abbrev pub permission_or_denied : RolePrivileges → PermissionCheck → Asking (Unit {0})
+permission_or_denied role_privileges check =
     asked_if role_privileges.effective_roles.superuser (known (Ok tt))
-    (followed_by (asked_grants table) (λ grants. known (if is_granted role_privileges privilege grants then Ok tt else Err (Denied (why.Privilege privilege table)))))
+    (followed_by (asked_grants check.table) (λ grants. known (refused_for (missing_in role_privileges.effective_roles.superuser role_privileges.effective_roles.names grants check.privilege check.table check.columns))))
 
 -- the role has to have the owner's privileges
 abbrev pub owner_or_denied : RolePrivileges → List ℕ → TableDef → Result (Unit {0}) Refusal

@@ -1,24 +1,25 @@
 //! Laws of the definitions, each a clause of a function that does nothing.
 
-ghost use Rattle.std.specs.Prelude.{◌≡◌, ◌≤◌, ◌||◌, ℕ, List, [], Bool, true, false, Some, IfOk, length};
+ghost use Rattle.std.specs.Prelude.{◌≡◌, ◌≤◌, ℕ, List, [], Bool, true, false, Some, IfOk, length};
 ghost use Rattle.std.specs.Option.{is_some};
 ghost use Rattle.rls_expr.specs.rls_value.specs.{declared.verb.Kind.Kind, declared.verb.Privilege.Privilege};
 ghost use Rattle.rls_expr.specs.{declared.expr.FromItem.FromItem, declared.expr.Selects.Selects, Naming.Step, Scopes.InScope, declared.table.TableDef.TableDef};
 ghost use Rattle.rls_expr.specs.Resolving.{Names, definition_of, resolved, query_resolved};
 ghost use Rattle.rls_expr.specs.Terms.{Query, Term, Terms, Scalar, Select};
-ghost use Rattle.rls_evaluation.specs.rls_catalog.specs.{declared.verdict.Side.Side, Privileges.holds, SoundRows.RowsAreSound, Membership.attributes_of, Membership.has_privileges_of};
+ghost use Rattle.rls_evaluation.specs.rls_catalog.specs.{declared.verdict.Side.Side, Privileges.missing, SoundRows.RowsAreSound, Membership.has_privileges_of};
 ghost use Rattle.rls_evaluation.specs.rls_catalog.specs.State.{State, grants_of, policies_of, table_of};
 ghost use Rattle.rls_evaluation.specs.rls_catalog.specs.Verdict.{exempts, is_exempt, chosen, applying_of};
 ghost use Rattle.rls_evaluation.specs.{declared.relation.SecuredRelation.SecuredRelation, Environments.Environment, Eval.ranged_over, Keys.key_of, Plain.IsPlainly, Showing.shows, Tableless.value_in};
+ghost use Rattle.rls_grant.specs.Missing.{missing_in};
 ghost use Rattle.rls_guard.specs.{Checks.is_unsupported_item, Naming.AreTablesOf, Naming.named, Support.is_unsupported, Support.pins_key};
-ghost use Rattle.rls_guard.specs.RolePrivileges.{role_privileges_in, has_owner, is_granted};
+ghost use Rattle.rls_guard.specs.RolePrivileges.{role_privileges_in, has_owner};
 
-/// What a role's privileges tell is what the rules over a state say: whose privileges it has, which privileges it
-/// holds, where it is exempt, which policies apply.
-#[tactic(auto, using(crate::proofs::RolePrivilegesLaws::owner_means, crate::proofs::RolePrivilegesLaws::granted_means, crate::proofs::RolePrivilegesLaws::exempt_means, crate::proofs::RolePrivilegesLaws::applying_means))]
+/// What a role's privileges tell is what the rules over a state say: whose privileges it has, what it lacks
+/// of a privilege, where it is exempt, which policies apply.
+#[tactic(auto, using(crate::proofs::RolePrivilegesLaws::owner_means, crate::proofs::RolePrivilegesLaws::missing_means, crate::proofs::RolePrivilegesLaws::exempt_means, crate::proofs::RolePrivilegesLaws::applying_means))]
 pub fn role_privileges_means()
     ensures owner { (s : State) (role : List ℕ) (table : TableDef) → has_owner (role_privileges_in s role) table ≡ has_privileges_of s role table.owner }
-    ensures granted { (s : State) (role : List ℕ) (privilege : Privilege) (table : List ℕ) → ((attributes_of s role).superuser || is_granted (role_privileges_in s role) privilege (grants_of s table)) ≡ holds s role privilege table }
+    ensures missing { (s : State) (role : List ℕ) (privilege : Privilege) (table : List ℕ) (columns : List (List ℕ)) → missing_in (role_privileges_in s role).effective_roles.superuser (role_privileges_in s role).effective_roles.names (grants_of s table) privilege table columns ≡ missing s role privilege table columns }
     ensures exempt { (s : State) (role : List ℕ) (table : TableDef) → exempts (role_privileges_in s role).attributes table (has_owner (role_privileges_in s role) table) ≡ is_exempt s role table }
     ensures applying { (s : State) (role table : List ℕ) (kind : Kind) (which : Side) → chosen (role_privileges_in s role).effective_roles.superuser (role_privileges_in s role).effective_roles.names kind which (policies_of s table) ≡ applying_of s role table kind which }
 {}

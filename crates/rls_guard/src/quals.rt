@@ -120,7 +120,11 @@ pub fn conditions_of<'c, 'x>(
 }
 
 /// A policy's expression with its columns resolved. A name that means none is null.
-fn condition_of<'x>(alloc: Global, expr: &Expr, scope: PolicyScope<'x>) -> Result<Expr, AllocError>
+pub fn condition_of<'x>(
+    alloc: Global,
+    expr: &Expr,
+    scope: PolicyScope<'x>,
+) -> Result<Expr, AllocError>
     ensures { IfOk result (λ condition. condition ≡ resolved expr.now (names_over (in_scope scope.entry.from) scope.entry.found.now)) }
 {
     let tables = [NamedTable::new(scope.from.name, scope.from.table)?];

@@ -4,13 +4,15 @@ ghost use Rattle.std.specs.Prelude.{◌≡◌};
 ghost use Rattle.rls_expr.specs.rls_value.specs.Giving.{Gives};
 ghost use Rattle.rls_evaluation.specs.rls_catalog.specs.Verdict.{exempts};
 ghost use Rattle.rls_evaluation.specs.rls_source.specs.Answering.{Answers, Tells};
+ghost use Rattle.rls_grant.specs.Missing.{missing_in};
 ghost use Rattle.rls_guard.specs.RolePrivileges as spec;
 
-use rls_evaluation::rls_catalog::RoleDef;
+use crate::permission_check::PermissionCheck;
+use rls_evaluation::rls_catalog::{Grants, RoleDef};
 use rls_evaluation::rls_source::{Reads, RowSource, noted_grants, noted_role};
 use rls_expr::TableDef;
-use rls_expr::rls_value::{Name, Privilege, Refusal, Why};
-use rls_grant::is_granted;
+use rls_expr::rls_value::{Name, Refusal, Why};
+use rls_grant::missing_in;
 use rls_policy::exempt;
 use rls_policy::rls_role::{EffectiveRoles, noted_effective_roles};
 use std::alloc::{AllocError, Global};
@@ -59,25 +61,43 @@ pub fn require_ownership<'c, S: RowSource<'c>>(
 }
 
 impl RolePrivileges {
-    /// Denied where the role lacks the privilege on the table. It reads the grants, unless the role is a superuser.
-    pub fn require_privilege<'c, S: RowSource<'c>>(
+    /// Denied where the role lacks the privilege for some of the columns. It reads the grants, unless the role is a superuser.
+    pub fn require_permission<'c, S: RowSource<'c>>(
         &self,
         alloc: Global,
         source: &mut S,
         read_set: &mut Reads,
-        privilege: Privilege,
-        table: &Name,
+        check: &PermissionCheck,
     ) -> Result<(), Refusal>
-        ensures { Answers S.state S.after (spec.privilege_or_denied self.now privilege table.now) source.old source.new read_set.old read_set.new result }
+        ensures { Answers S.state S.after (spec.permission_or_denied self.now check.now) source.old source.new read_set.old read_set.new result }
     {
         if self.effective_roles.superuser {
             return Ok(());
         }
-        let grants = noted_grants(alloc, source, read_set, table)?;
-        if is_granted(grants, privilege, &self.effective_roles)? {
-            Ok(())
-        } else {
-            Err(Refusal::Denied(Why::Privilege(privilege, table.copy()?)))
+        let grants = noted_grants(alloc, source, read_set, &check.table)?;
+        self.require_granted(alloc, grants, check)
+    }
+
+    /// Denied where these grants lack the privilege for some of the columns.
+    fn require_granted(
+        &self,
+        alloc: Global,
+        grants: &Grants,
+        check: &PermissionCheck,
+    ) -> Result<(), Refusal>
+        ensures { Gives result (spec.refused_for (missing_in self.now.effective_roles.superuser self.now.effective_roles.names grants.now check.now.privilege check.now.table check.now.columns)) }
+    {
+        let missing = missing_in(
+            alloc,
+            grants,
+            &self.effective_roles,
+            check.privilege,
+            &check.table,
+            check.columns.as_slice(),
+        )?;
+        match missing {
+            None => Ok(()),
+            Some(why) => Err(Refusal::Denied(why)),
         }
     }
 

@@ -6,8 +6,8 @@ use Rattle.std.proofs.lemmas.{Cmp.nat_cmp_total, Cmp.nat_list_cmp_total, Cmp.on_
 use Rattle.rls_expr.specs.declared.policy.Grantee.{Grantee}
 use Rattle.rls_catalog.specs.{GrantOptions.not_grantable, declared.grant.Grant.Grant}
 use Rattle.rls_source.specs.Sequences.{put_before}
-use Rattle.rls_guard.specs.rls_grant.specs.{declared.grantors.Grantor.Grantor, Granting.grant_order, Granting.grantee_order, Granting.place_of}
-use Rattle.rls_check.specs.rls_meaning.specs.Grants.{is_taken, put_grant}
+use Rattle.rls_guard.specs.rls_grant.specs.{Granting.grant_order, Granting.grantee_order, Granting.place_of}
+use Rattle.rls_check.specs.rls_meaning.specs.Grants.{put_grant}
 use Rattle.rls_laws.specs.InOrder.{GrantsAscend}
 use Rattle.rls_laws.proofs.Ascending.{mapped_ascends, put_ascends}
 
@@ -67,8 +67,8 @@ put_grants_ascend grants (grant ∷ more) up = put_grants_ascend (put_grant gran
 -- ---- REVOKE
 
 -- without those that are taken, or without their grant options
-pub without_taken_ascend : (option_only : Bool) (by : List Grantor) (grantees : List Grantee) (grants : List Grant) → GrantsAscend grants
-    → GrantsAscend (if option_only then map (λ grant. if is_taken by grantees grant then not_grantable grant else grant) grants else filter (λ grant. not (is_taken by grantees grant)) grants)
-without_taken_ascend true by grantees grants up =
-    mapped_ascends grant_order (λ grant. if is_taken by grantees grant then not_grantable grant else grant) (λ x y. marked_alike (is_taken by grantees x) (is_taken by grantees y) x y false false) grants up
-without_taken_ascend false by grantees grants up = IsStrictlySortedBy-filter grant_order (λ grant. not (is_taken by grantees grant)) grants up
+pub without_taken_ascend : (option_only : Bool) (is_taken : Grant → Bool) (grants : List Grant) → GrantsAscend grants
+    → GrantsAscend (if option_only then map (λ grant. if is_taken grant then not_grantable grant else grant) grants else filter (λ grant. not (is_taken grant)) grants)
+without_taken_ascend true is_taken grants up =
+    mapped_ascends grant_order (λ grant. if is_taken grant then not_grantable grant else grant) (λ x y. marked_alike (is_taken x) (is_taken y) x y false false) grants up
+without_taken_ascend false is_taken grants up = IsStrictlySortedBy-filter grant_order (λ grant. not (is_taken grant)) grants up

@@ -1,21 +1,21 @@
 -- What GRANT and REVOKE come to, of privileges and of roles.
-use Rattle.std.specs.Prelude.{ℕ, List, [], ◌∷◌, None, Bool, true, false, not, ◌||◌, Result, Ok, filter, fold, if◌then◌else◌, map}
+use Rattle.std.specs.Prelude.{ℕ, List, [], ◌∷◌, Bool, true, false, not, ◌&&◌, ◌||◌, Result, Ok, filter, fold, if◌then◌else◌, map}
 use Rattle.std.specs.List.{AllByRecursion, flat_map, list_all}
 use Rattle.std.proofs.lemmas.List.Kept.{IsStrictlySortedBy-filter}
-use Rattle.rls_value.specs.{Names.one_of, declared.refusal.Refusal.Refusal, declared.verb.Privilege.Privilege}
+use Rattle.rls_value.specs.{Giving.and_then, Names.one_of, declared.refusal.Refusal.Refusal, declared.verb.Privilege.Privilege}
 use Rattle.rls_value.specs.declared.refusal.Refusal.TheVariants as r
 use Rattle.rls_value.specs.declared.refusal.GrantFault.TheVariants as fault
 use Rattle.rls_value.specs.declared.refusal.Why.TheVariants as why
-use Rattle.rls_expr.specs.{declared.policy.Grantee.Grantee, declared.table.TableDef.TableDef}
+use Rattle.rls_expr.specs.{declared.policy.Grantee.Grantee, declared.table.Column.Column, declared.table.TableDef.TableDef}
 use Rattle.rls_catalog.specs.{Changed.changed, GrantOptions.grantor_of, GrantOptions.not_grantable, Membership.fresh, Paths.closes_circle, Paths.may_grant, State.State, State.grants_of, State.members_of, declared.change.Change.Change, declared.grant.Grant.Grant}
 use Rattle.rls_catalog.specs.declared.change.Change.TheVariants as c
 use Rattle.rls_source.specs.Sequences.{each_or_refused}
-use Rattle.rls_statement.specs.{declared.statement.GrantPrivileges.GrantPrivileges, declared.statement.GrantRoles.GrantRoles, declared.statement.MembershipOptions.MembershipOptions, declared.privileges.Privileges.Privileges, Extents.is_named, declared.statement.RevokePrivileges.RevokePrivileges, declared.statement.RevokeRoles.RevokeRoles}
-use Rattle.rls_guard.specs.rls_grant.specs.{declared.grantors.Grantor.Grantor, Granting.goes_back, Granting.grant_order, Grantors.all_privileges, Holders.holders_of, Revoking.stays}
+use Rattle.rls_statement.specs.{declared.statement.GrantPrivileges.GrantPrivileges, declared.statement.GrantRoles.GrantRoles, declared.statement.MembershipOptions.MembershipOptions, declared.privileges.Privileges.Privileges, Extents.extent_of, Extents.granted_on, Extents.has_columns, Extents.is_named, declared.statement.RevokePrivileges.RevokePrivileges, declared.statement.RevokeRoles.RevokeRoles}
+use Rattle.rls_guard.specs.rls_grant.specs.{declared.grantors.Grantor.Grantor, Columns.column_place, Granting.goes_back, Granting.grant_order, Grantors.all_privileges, Holders.holders_of, Revoking.stays}
 use Rattle.rls_guard.specs.Effects.{writes}
-use Rattle.rls_check.specs.rls_meaning.specs.{Grants.is_taken, Grants.left_in, Grants.option_in, Grants.put_grant, Meaning.written, Memberships.grant_roles_in, Memberships.in_turn, Memberships.joined_in, Memberships.managed_in, Memberships.memberships_left, Memberships.put_membership, Memberships.revoke_roles_in, Naming.provided, Privileges.grant_in, Privileges.grantor_in, Privileges.grantors_in, Privileges.revoke_in}
+use Rattle.rls_check.specs.rls_meaning.specs.{Analysing.place_in, Grants.is_taken, Grants.left_in, Grants.option_in, Grants.put_grant, Meaning.written, Memberships.grant_roles_in, Memberships.in_turn, Memberships.joined_in, Memberships.managed_in, Memberships.memberships_left, Memberships.put_membership, Memberships.revoke_roles_in, Naming.provided, Privileges.columns_in, Privileges.grant_in, Privileges.grantor_in, Privileges.grantors_in, Privileges.option_of_whole, Privileges.revoke_in}
 use Rattle.rls_laws.specs.InOrder.{GrantsAscend, IsInOrder}
-use Rattle.rls_laws.proofs.{Defining.grantees_give, Defining.roles_give, Defining.table_gives, Fitting.Fits, Fitting.changed_in_order, GrantsAscending.put_grants_ascend, GrantsAscending.without_taken_ascend, MembershipsAscending.memberships_left_ascend, MembershipsAscending.put_membership_ascends}
+use Rattle.rls_laws.proofs.{Defining.place_gives, Defining.grantees_give, Defining.roles_give, Defining.table_gives, Fitting.Fits, Fitting.changed_in_order, GrantsAscending.put_grants_ascend, GrantsAscending.without_taken_ascend, MembershipsAscending.memberships_left_ascend, MembershipsAscending.put_membership_ascends}
 use Rattle.rls_laws.proofs.Giving.{Any, Ends, Gives, after, each_gives, each_passes, found_gives, gives, provided_gives, weaker}
 
 -- the changes are written
@@ -23,6 +23,15 @@ pub written_gives : (Known : Type 0) (s : State) (changes : Result (List Change)
 written_gives Known s changes one = after one (λ delta fit. gives (Ends (Fits s Known)) (writes delta) fit)
 
 -- ---- privileges
+
+column_passes : (columns : List Column) (name : List ℕ) → Gives Any (and_then (place_in columns name) (λ _. Ok tt))
+column_passes columns name = after (place_gives columns name) (λ _ _. gives Any tt tt)
+
+columns_give : (table : TableDef) (named : Privileges) → Gives Any (columns_in table named)
+columns_give table named = each_passes (λ name. and_then (place_in table.columns name) (λ _. Ok tt)) (column_passes table.columns) (flat_map (λ privilege. (extent_of named privilege).columns) all_privileges)
+
+whole_gives : (option : Bool) (named : Privileges) → Gives Any (option_of_whole option named)
+whole_gives option named = provided_gives (not (option && has_columns named)) r.Unsupported tt
 
 grantor_gives : (s : State) (role name : List ℕ) (table : TableDef) (privilege : Privilege) → Gives Any (grantor_in s role name table privilege)
 grantor_gives s role name table privilege =
@@ -44,12 +53,15 @@ options_give false owner grants by grantees = record { is = tt }
 pub grant_gives : (Known : Type 0) (s : State) (role : List ℕ) (asked : GrantPrivileges) → Gives (AllByRecursion (Fits s Known)) (grant_in s role asked)
 grant_gives Known s role asked =
     after (table_gives s asked.table) (λ table _.
+    after (columns_give table asked.privileges) (λ _ _.
     after (grantees_give s asked.to) (λ _ _.
+    after (whole_gives asked.with_option asked.privileges) (λ _ _.
     after (grantors_give s role asked.table table asked.privileges) (λ by _.
     after (options_give asked.with_option table.owner (grants_of s asked.table) by asked.to) (λ _ _.
-    let new : List Grant = flat_map (λ grantor. map (λ grantee. record { privilege = grantor.privilege; grantee = grantee; grantor = grantor.name; option = asked.with_option; column = None; place = 0 }) asked.to) by in
+    let new : List Grant = flat_map (λ grantor. flat_map (λ grantee. map (λ column. record { privilege = grantor.privilege; grantee = grantee; grantor = grantor.name; option = asked.with_option; column = column; place = column_place table.columns column })
+    (granted_on (extent_of asked.privileges grantor.privilege))) asked.to) by in
     gives (AllByRecursion (Fits s Known)) (c.Grants asked.table (fold put_grant (grants_of s asked.table) new) ∷ [])
-    (record { ordered = λ is. put_grants_ascend (grants_of s asked.table) new (is.grants asked.table); told = λ _. tt; spelled = λ _ _ _. tt }, tt)))))
+    (record { ordered = λ is. put_grants_ascend (grants_of s asked.table) new (is.grants asked.table); told = λ _. tt; spelled = λ _ _ _. tt }, tt)))))))
 
 -- what is left of grants that ascend ascends
 abbrev StillAscend : List Grant → List Grant → Type 0
@@ -65,14 +77,16 @@ left_gives cascade table owner (grantor ∷ by) grants =
 pub revoke_gives : (Known : Type 0) (s : State) (role : List ℕ) (asked : RevokePrivileges) → Gives (AllByRecursion (Fits s Known)) (revoke_in s role asked)
 revoke_gives Known s role asked =
     after (table_gives s asked.table) (λ table _.
+    after (columns_give table asked.privileges) (λ _ _.
     after (grantees_give s asked.from) (λ _ _.
+    after (whole_gives asked.option_only asked.privileges) (λ _ _.
     after (grantors_give s role asked.table table asked.privileges) (λ by _.
     let there : List Grant = grants_of s asked.table in
-    let rest : List Grant = if asked.option_only then map (λ grant. if is_taken by asked.from grant then not_grantable grant else grant) there
-    else filter (λ grant. not (is_taken by asked.from grant)) there in
+    let rest : List Grant = if asked.option_only then map (λ grant. if is_taken asked by grant then not_grantable grant else grant) there
+    else filter (λ grant. not (is_taken asked by grant)) there in
     after (left_gives asked.cascade asked.table table.owner by rest) (λ left still.
     gives (AllByRecursion (Fits s Known)) (c.Grants asked.table left ∷ [])
-    (record { ordered = λ is. still (without_taken_ascend asked.option_only by asked.from there (is.grants asked.table)); told = λ _. tt; spelled = λ _ _ _. tt }, tt)))))
+    (record { ordered = λ is. still (without_taken_ascend asked.option_only (is_taken asked by) there (is.grants asked.table)); told = λ _. tt; spelled = λ _ _ _. tt }, tt)))))))
 
 -- ---- roles
 

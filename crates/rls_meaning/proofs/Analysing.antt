@@ -9,7 +9,6 @@ use Rattle.rls_value.specs.Names.{one_of}
 use Rattle.rls_value.specs.declared.refusal.Limit.TheVariants as limit
 use Rattle.rls_value.specs.declared.refusal.NameKind.TheVariants as kind
 use Rattle.rls_expr.specs.{declared.table.Column.Column, declared.table.TableDef.TableDef, Naming.Step, Naming.names_all, Scopes.InScope, Tables.category_of, Tables.column_named, Terms.Term, Terms.terms_of, Typing.type_of}
-use Rattle.rls_expr.specs.Parts as machine
 use Rattle.rls_expr.specs.Resolving as resolving
 use Rattle.rls_catalog.specs.{Membership.Within, State.State}
 use Rattle.rls_source.specs.{Named.found_or, Sequences.each_of}
@@ -18,12 +17,12 @@ use Rattle.rls_statement.specs.declared.statement.Selected.TheVariants as select
 use Rattle.rls_guard.specs.{declared.context.Ctx.Ctx, Checks.is_unsupported}
 use Rattle.rls_depth.proofs.{Resolving.over_known, Tables.within_first, Tables.within_last}
 use Rattle.rls_access.specs.rls_dml.specs.{declared.analysed_insert.AnalysedInsert.AnalysedInsert, declared.analysed_update.AnalysedUpdate.AnalysedUpdate, declared.deleting.AnalysedDelete.AnalysedDelete, declared.selecting.AnalysedSelect.AnalysedSelect}
-use Rattle.rls_access.specs.rls_dml.specs.{Checking.fitting_or_fault, Checking.found_or_undefined, Checking.goes_into_column, Checking.returning_fits, Checking.returning_names, Checking.returning_reads, Checking.returning_resolved, Checking.returning_unsupported, Checking.selection_fits, Checking.selection_names, Checking.selection_resolved, Checking.selection_unsupported, Checking.supported_or_refused, Checking.where_fits, Checking.where_names, Checking.where_reads, Checking.where_unsupported}
-use Rattle.rls_access.specs.rls_dml.specs.{Deleting.analysed_delete_checked, Deleting.analysed_delete_in, Deleting.analysed_delete_names, Deleting.analysed_delete_reads, Selecting.analysed_select_in, Selecting.analysed_select_names, Selecting.analysed_select_or_refused, Selecting.qualifier_of}
-use Rattle.rls_access.specs.rls_dml.specs.{Inserting.analysed_insert_in, Inserting.analysed_insert_or_refused, Inserting.places_from, Inserting.places_of, Inserting.room_or_limit, Inserting.tuple_fits, Inserting.tuples_names, Inserting.tuples_tables, Updating.analysed_update_in, Updating.analysed_update_names, Updating.analysed_update_or_refused, Updating.analysed_update_reads, Updating.analysed_update_tables, Updating.assignment_resolved, Updating.assignments_fit, Updating.assignments_unsupported}
-use Rattle.rls_meaning.specs.{Analysing.checked, Analysing.items_of, Analysing.items_resolved, Analysing.of_both, Analysing.of_condition, Analysing.of_item, Analysing.of_value, Analysing.place_in, Analysing.reads_in, Deleting.delete_parts, Inserting.insert_parts, Inserting.of_tuple, Inserting.places_in, Naming.named_in, Naming.provided, Parts.found_in, Parts.mentions, Parts.names_in, Parts.tables_of, Resolving.resolved, Selecting.select_parts, Typing.fits, Updating.set_and_where, Updating.update_parts}
-use Rattle.rls_meaning.proofs.{Listing.flat_append, NamedParts.all_names_told, NamedParts.assigned_terms, NamedParts.assignments_names_told, NamedParts.found_in-append, NamedParts.names-append, NamedParts.tuples_names_told, NamedParts.where_names_told}
-use Rattle.rls_meaning.proofs.{Parts.all_tables_told, Parts.item_told, Parts.mentions_told, Parts.tables_if_told, Parts.unsupported_told, Resolving.each_resolved_told, Resolving.resolved_if_told, Resolving.resolved_told, Typing.boolean_told, Typing.column_told, Typing.typed_told}
+use Rattle.rls_access.specs.rls_dml.specs.{Checking.fitting_or_fault, Checking.found_or_undefined, Checking.goes_into_column, Checking.returning_fits, Checking.returning_names, Checking.returning_resolved, Checking.returning_unsupported, Checking.selection_fits, Checking.selection_names, Checking.selection_resolved, Checking.selection_unsupported, Checking.supported_or_refused, Checking.where_fits, Checking.where_names, Checking.where_unsupported}
+use Rattle.rls_access.specs.rls_dml.specs.{Deleting.analysed_delete_checked, Deleting.analysed_delete_in, Deleting.analysed_delete_names, Selecting.analysed_select_in, Selecting.analysed_select_names, Selecting.analysed_select_or_refused, Selecting.qualifier_of}
+use Rattle.rls_access.specs.rls_dml.specs.{Inserting.analysed_insert_in, Inserting.analysed_insert_or_refused, Inserting.places_from, Inserting.places_of, Inserting.room_or_limit, Inserting.tuple_fits, Inserting.tuples_names, Updating.analysed_update_in, Updating.analysed_update_names, Updating.analysed_update_or_refused, Updating.assignment_resolved, Updating.assignments_fit, Updating.assignments_unsupported}
+use Rattle.rls_meaning.specs.{Analysing.checked, Analysing.items_of, Analysing.items_resolved, Analysing.of_both, Analysing.of_condition, Analysing.of_item, Analysing.of_value, Analysing.place_in, Deleting.delete_parts, Inserting.insert_parts, Inserting.of_tuple, Inserting.places_in, Naming.named_in, Naming.provided, Parts.found_in, Parts.names_in, Parts.tables_of, Resolving.resolved, Selecting.select_parts, Typing.fits, Updating.update_parts}
+use Rattle.rls_meaning.proofs.{NamedParts.all_names_told, NamedParts.assigned_terms, NamedParts.assignments_names_told, NamedParts.found_in-append, NamedParts.names-append, NamedParts.tuples_names_told, NamedParts.where_names_told}
+use Rattle.rls_meaning.proofs.{Parts.item_told, Parts.unsupported_told, Resolving.each_resolved_told, Resolving.resolved_if_told, Resolving.resolved_told, Typing.boolean_told, Typing.column_told, Typing.typed_told}
 
 -- ---- names
 
@@ -112,10 +111,6 @@ and_turned true b = sym (and_true b)
 and_turned false true = refl
 and_turned false false = refl
 
-or_assoc : (a b c : Bool) → (a || (b || c)) ≡ ((a || b) || c)
-or_assoc true b c = refl
-or_assoc false b c = refl
-
 or_turned : (a b : Bool) → (a || b) ≡ (b || a)
 or_turned true b = sym (or_true b)
 or_turned false b = sym (or_false b)
@@ -174,24 +169,6 @@ inserts_then (Err refusal) support room done = refl
 inserts_then (Ok _) (Err refusal) room done = refl
 inserts_then (Ok _) (Ok _) room done = refl
 
--- ---- reading
-
-mentioned : (terms : List Term) → list_any machine.reads_target terms ≡ list_any (mentions (λ _. true) 0) terms
-mentioned terms = λ i. list_any (λ term. mentions_told (λ _. true) 0 term i) terms
-
-both_mentioned : (terms items : List Term) → (list_any machine.reads_target terms || list_any machine.reads_target items) ≡ list_any (mentions (λ _. true) 0) (terms ++ items)
-both_mentioned terms items = sym (list_any-append machine.reads_target terms items) ∙ mentioned (terms ++ items)
-
-reads_told : (terms : List Term) (returning : Option Selected) → (list_any machine.reads_target terms || returning_reads returning) ≡ reads_in terms returning
-reads_told terms None = both_mentioned terms []
-reads_told terms (Some selected.All) = or_true (list_any machine.reads_target terms)
-reads_told terms (Some (selected.Items items)) = both_mentioned terms items
-reads_told terms (Some selected.Count) = both_mentioned terms []
-
-where_read : (condition : Option Term) → where_reads condition ≡ list_any machine.reads_target (option_to_list condition)
-where_read None = refl
-where_read (Some term) = sym (or_false (machine.reads_target term))
-
 -- ---- SELECT
 
 select_fits : (parts : AnalysedSelect) → list_all is_fit (of_both parts.condition (Some parts.items)) ≡ (selection_fits parts.items && where_fits parts.condition)
@@ -202,7 +179,7 @@ select_lacks parts = both_lack parts.condition (Some parts.items) ∙ or_turned 
 
 -- the parts, with resolved columns
 abbrev select_resolved : State → List InScope → Select → AnalysedSelect
-select_resolved s tables asked = record { items = items_resolved s tables asked.items; condition = option_map (resolved s tables) asked.condition }
+select_resolved s tables asked = record { items = items_resolved s tables asked.items; condition = option_map (resolved s tables) asked.condition; found = found_in s (items_of (Some asked.items) ++ option_to_list asked.condition) }
 
 -- the terms, in the order of the text
 abbrev select_terms : Select → List Term
@@ -215,6 +192,7 @@ select_checked s asked from parts same =
     ((λ i. record {
       items = items_told s (from ∷ []) (select_terms asked) asked.items (among_first (items_of (Some asked.items)) (option_to_list asked.condition)) i;
       condition = resolved_if_told s (from ∷ []) (select_terms asked) asked.condition (among_last (items_of (Some asked.items)) (option_to_list asked.condition)) i;
+      found = found_in s (select_terms asked);
     })
     ∙ same)
     ∙ ap (λ given. and_then given (λ _. Ok parts)) (checked_told (of_both parts.condition (Some parts.items)) (selection_fits parts.items && where_fits parts.condition) (selection_unsupported parts.items || where_unsupported parts.condition) (select_fits parts) (select_lacks parts))
@@ -233,7 +211,7 @@ select_analysed s asked table =
 
 -- the parts, with resolved columns
 abbrev delete_resolved : State → List InScope → Delete → AnalysedDelete
-delete_resolved s tables asked = record { condition = option_map (resolved s tables) asked.condition; returning = option_map (items_resolved s tables) asked.returning }
+delete_resolved s tables asked = record { condition = option_map (resolved s tables) asked.condition; returning = option_map (items_resolved s tables) asked.returning; found = found_in s (option_to_list asked.condition ++ items_of asked.returning) }
 
 -- the terms, in the order of the text
 abbrev delete_terms : Delete → List Term
@@ -246,6 +224,7 @@ delete_checked s asked from parts same =
     ((λ i. record {
       condition = resolved_if_told s (from ∷ []) (delete_terms asked) asked.condition (among_first (option_to_list asked.condition) (items_of asked.returning)) i;
       returning = returning_told s (from ∷ []) (delete_terms asked) asked.returning (among_last (option_to_list asked.condition) (items_of asked.returning)) i;
+      found = found_in s (delete_terms asked);
     })
     ∙ same)
     ∙ ap (λ given. and_then given (λ _. Ok parts)) (checked_told (of_both parts.condition parts.returning) (where_fits parts.condition && returning_fits parts.returning) (where_unsupported parts.condition || returning_unsupported parts.returning) (both_fit parts.condition parts.returning) (both_lack parts.condition parts.returning))
@@ -256,9 +235,6 @@ delete_analysed s asked table =
     let from : InScope = (asked.table, table) in
     named_then s (analysed_delete_names asked) (from ∷ []) (delete_terms asked) (analysed_delete_in asked from) (both_named asked.condition asked.returning)
     ∙ ap (λ rest. and_then (names_in s (from ∷ []) (delete_terms asked)) (λ _. rest)) (delete_checked s asked from (delete_resolved s (from ∷ []) asked) refl)
-
-pub delete_reads : (parts : AnalysedDelete) → analysed_delete_reads parts ≡ reads_in (option_to_list parts.condition) parts.returning
-delete_reads parts = ap (λ b. b || returning_reads parts.returning) (where_read parts.condition) ∙ reads_told (option_to_list parts.condition) parts.returning
 
 -- ---- UPDATE
 
@@ -315,7 +291,7 @@ set_told s tables terms columns (assignment ∷ assignments) within =
 
 -- the parts, with resolved columns
 abbrev update_resolved : State → List InScope → Update → List (ℕ × Term) → AnalysedUpdate
-update_resolved s tables asked assignments = record { assignments = assignments; condition = option_map (resolved s tables) asked.condition; returning = option_map (items_resolved s tables) asked.returning }
+update_resolved s tables asked assignments = record { assignments = assignments; condition = option_map (resolved s tables) asked.condition; returning = option_map (items_resolved s tables) asked.returning; found = found_in s (update_terms asked) }
 
 update_parts_checked : (columns : List Column) (parts : AnalysedUpdate)
     → and_then (analysed_update_or_refused columns parts) (λ _. ok_parts parts) ≡ and_then (checked (map (of_assignment columns) parts.assignments ++ of_both parts.condition parts.returning)) (λ _. ok_parts parts)
@@ -334,13 +310,14 @@ update_checked s asked from =
     let rest : List Term = option_to_list asked.condition ++ items_of asked.returning in
     let resolved_condition : Option Term = option_map (λ term. resolving.resolved term (over_known tables (found_in s terms))) asked.condition in
     then_assoc (each_of (assignment_resolved from.1.columns (over_known tables (found_in s terms))) asked.assignments)
-    (λ assignments. ok_parts (record { assignments = assignments; condition = resolved_condition; returning = returning_resolved (over_known tables (found_in s terms)) asked.returning }))
+    (λ assignments. ok_parts (record { assignments = assignments; condition = resolved_condition; returning = returning_resolved (over_known tables (found_in s terms)) asked.returning; found = found_in s terms }))
     (λ parts. and_then (analysed_update_or_refused from.1.columns parts) (λ _. ok_parts parts))
     ∙ (λ i. and_then (set_told s tables terms from.1.columns asked.assignments (among_first set rest) i) (λ assignments.
     (ap (λ parts. and_then (analysed_update_or_refused from.1.columns parts) (λ _. ok_parts parts)) (λ i. record {
       assignments = assignments;
       condition = resolved_if_told s tables terms asked.condition (λ name is. among_last set rest name (among_first (option_to_list asked.condition) (items_of asked.returning) name is)) i;
       returning = returning_told s tables terms asked.returning (λ name is. among_last set rest name (among_last (option_to_list asked.condition) (items_of asked.returning) name is)) i;
+      found = found_in s terms;
     })
     ∙ update_parts_checked from.1.columns (update_resolved s tables asked assignments)) i))
 
@@ -350,19 +327,6 @@ update_analysed s asked table =
     let from : InScope = (asked.table, table) in
     named_then s (analysed_update_names asked) (from ∷ []) (update_terms asked) (analysed_update_in asked from) (update_named asked)
     ∙ ap (λ rest. and_then (names_in s (from ∷ []) (update_terms asked)) (λ _. rest)) (update_checked s asked from)
-
-pub update_reads : (parts : AnalysedUpdate) → analysed_update_reads parts ≡ reads_in (set_and_where parts) parts.returning
-update_reads parts =
-    let values : List Term = map (λ assignment. assignment.1) parts.assignments in
-    (λ i. sym (any_map machine.reads_target (λ assignment. assignment.1) parts.assignments) i || (where_read parts.condition i || returning_reads parts.returning))
-    ∙ or_assoc (list_any machine.reads_target values) (list_any machine.reads_target (option_to_list parts.condition)) (returning_reads parts.returning)
-    ∙ ap (λ b. b || returning_reads parts.returning) (sym (list_any-append machine.reads_target values (option_to_list parts.condition)))
-    ∙ reads_told (set_and_where parts) parts.returning
-
-pub update_tables : (parts : AnalysedUpdate) → analysed_update_tables parts ≡ flat_map tables_of (set_and_where parts)
-update_tables parts =
-    (λ i. all_tables_told (map (λ assignment. assignment.1) parts.assignments) i ++ tables_if_told parts.condition i)
-    ∙ sym (flat_append tables_of (map (λ assignment. assignment.1) parts.assignments) (option_to_list parts.condition))
 
 -- ---- INSERT
 
@@ -411,16 +375,17 @@ insert_checked : (s : State) (next : ℕ) (asked : Insert) (from : InScope) (pla
     → map (map (resolved s [])) asked.tuples ≡ tuples → option_map (items_resolved s (from ∷ [])) asked.returning ≡ returning
     → analysed_insert_in next asked from places (found_in s (insert_terms asked))
     ≡ and_then (checked (flat_map (of_tuple from.1.columns places) tuples ++ of_both None returning)) (λ _.
-    and_then (provided (nat_le (next + length tuples) 4294967295) (Limit limit.Inserts)) (λ _. Ok (record { places = places; tuples = tuples; returning = returning })))
+    and_then (provided (nat_le (next + length tuples) 4294967295) (Limit limit.Inserts)) (λ _. Ok (record { places = places; tuples = tuples; returning = returning; found = found_in s (insert_terms asked) })))
 insert_checked s next asked from places tuples returning one other =
     ap (λ parts. and_then (analysed_insert_or_refused next from.1.columns parts) (λ _. Ok parts)) (λ i. record {
       places = places;
       tuples = (tuples_told s [] (insert_terms asked) asked.tuples (among_first (flat_map (λ tuple. tuple) asked.tuples) (items_of asked.returning)) ∙ one) i;
       returning = (returning_told s (from ∷ []) (insert_terms asked) asked.returning (among_last (flat_map (λ tuple. tuple) asked.tuples) (items_of asked.returning)) ∙ other) i;
+      found = found_in s (insert_terms asked);
     })
     ∙ inserts_then (fitting_or_fault (list_all (tuple_fits from.1.columns places) tuples && returning_fits returning)) (supported_or_refused (list_any (list_any is_unsupported) tuples || returning_unsupported returning))
-    (room_or_limit next (length tuples)) (Ok (record { places = places; tuples = tuples; returning = returning }))
-    ∙ ap (λ given. and_then given (λ _. and_then (room_or_limit next (length tuples)) (λ _. Ok (record { places = places; tuples = tuples; returning = returning }))))
+    (room_or_limit next (length tuples)) (Ok (record { places = places; tuples = tuples; returning = returning; found = found_in s (insert_terms asked) }))
+    ∙ ap (λ given. and_then given (λ _. and_then (room_or_limit next (length tuples)) (λ _. Ok (record { places = places; tuples = tuples; returning = returning; found = found_in s (insert_terms asked) }))))
     (checked_told (flat_map (of_tuple from.1.columns places) tuples ++ of_both None returning) (list_all (tuple_fits from.1.columns places) tuples && returning_fits returning) (list_any (list_any is_unsupported) tuples || returning_unsupported returning) (insert_fits from.1.columns places tuples returning) (insert_lacks from.1.columns places tuples returning))
 
 -- the names of the tuples, and then those of RETURNING
@@ -450,10 +415,3 @@ insert_analysed s ctx asked table =
     (insert_named s asked from (analysed_insert_in ctx.next asked from places)
     ∙ ap (λ rest. and_then (names_in s [] (flat_map (λ tuple. tuple) asked.tuples)) (λ _. and_then (names_in s (from ∷ []) (items_of asked.returning)) (λ _. rest)))
     (insert_checked s ctx.next asked from places (map (map (resolved s [])) asked.tuples) (option_map (items_resolved s (from ∷ [])) asked.returning) refl refl)) i)
-
-pub insert_reads : (parts : AnalysedInsert) → returning_reads parts.returning ≡ reads_in [] parts.returning
-insert_reads parts = reads_told [] parts.returning
-
-pub insert_tables : (tuples : List (List Term)) → tuples_tables tuples ≡ flat_map (flat_map tables_of) tuples
-insert_tables [] = refl
-insert_tables (tuple ∷ tuples) = λ i. all_tables_told tuple i ++ insert_tables tuples i

@@ -12,11 +12,11 @@ use Rattle.rls_value.specs.declared.verb.PolicyKind.TheVariants as pk
 use Rattle.rls_expr.specs.{declared.policy.Policy.Policy, Terms.Term}
 use Rattle.rls_catalog.specs.{Membership.fresh, Membership.Within, State.State, State.policies_of, Verdict.check_or_using, Verdict.expression_of, Verdict.is_exempt, Verdict.is_for_kind, Verdict.is_to}
 use Rattle.rls_catalog.specs.declared.verdict.Side.TheVariants as side
-use Rattle.rls_catalog.proofs.Walks.{among_first}
+use Rattle.rls_catalog.proofs.Inheriting.{fresh_within}
 use Rattle.rls_recursion.specs.Searching.{or_next, first_closed}
 use Rattle.rls_depth.specs.rls_expansion.specs.{Expanding.asks_of, Used.is_for_check, Used.is_for_using, Used.tables_asked, Used.tables_if, Used.tables_where, Used.using_stands_in}
 use Rattle.rls_depth.proofs.Walking.{fresh_all}
-use Rattle.rls_meaning.specs.{Commands.Command, Commands.own_of, Commands.tables_for, Parts.tables_of}
+use Rattle.rls_meaning.specs.{Commands.Command, Commands.own_of, Commands.reads, Commands.tables_for, Parts.tables_of}
 use Rattle.rls_meaning.proofs.{Listing.fresh_append, Listing.fresh_none, Listing.last_cases, Parts.tables_if_told}
 
 -- both name the same tables, in the order of their first places
@@ -25,6 +25,10 @@ Alike one other = (seen : List (List ℕ)) → fresh seen one ≡ fresh seen oth
 
 pub alike_append : (a b c d : List (List ℕ)) → Alike a b → Alike c d → Alike (a ++ c) (b ++ d)
 alike_append a b c d one two seen = fresh_append seen a c ∙ (λ i. one seen i ++ two (seen ++ one seen i) i) ∙ sym (fresh_append seen b d)
+
+-- tables that are named alike are among each other
+pub alike_within : (one other : List (List ℕ)) → Alike one other → Within one other
+alike_within one other alike t is = fresh_within [] other t (ap (λ all. one_of all t) (sym (alike [])) ∙ fresh_all [] one t is)
 
 -- what is seen adds nothing
 fresh_seen : (seen xs ys : List (List ℕ)) → Within xs seen → fresh seen (xs ++ ys) ≡ fresh seen ys
@@ -111,25 +115,25 @@ for_command k.Delete policy = for_using (is_for_kind policy.kind k.Delete) polic
 
 -- ---- and where it reads
 
-also_once : (a p : Bool) → (a || (p || false)) ≡ (p || ((a && true) || false))
+pub also_once : (a p : Bool) → (a || (p || false)) ≡ (p || ((a && true) || false))
 also_once true true = refl
 also_once true false = refl
 also_once false true = refl
 also_once false false = refl
 
-also_twice : (a p r : Bool) → (a || (p || (r || false))) ≡ (p || ((a && true) || (r || ((a && true) || false))))
+pub also_twice : (a p r : Bool) → (a || (p || (r || false))) ≡ (p || ((a && true) || (r || ((a && true) || false))))
 also_twice true true r = refl
 also_twice false true r = refl
 also_twice true false r = refl
 also_twice false false true = refl
 also_twice false false false = refl
 
-never_once : (a p : Bool) → (p || false) ≡ (p || ((a && false) || false))
+pub never_once : (a p : Bool) → (p || false) ≡ (p || ((a && false) || false))
 never_once a true = refl
 never_once true false = refl
 never_once false false = refl
 
-never_twice : (a p r : Bool) → (p || (r || false)) ≡ (p || ((a && false) || (r || ((a && false) || false))))
+pub never_twice : (a p r : Bool) → (p || (r || false)) ≡ (p || ((a && false) || (r || ((a && false) || false))))
 never_twice a true r = refl
 never_twice true false r = refl
 never_twice false false true = refl
@@ -172,11 +176,11 @@ flat_alike one other same (policy ∷ policies) seen = alike_append (one policy)
 
 -- the tables that the command's policies are asked for
 abbrev pub asked_in : State → Command → List (List ℕ)
-asked_in s c = if is_exempt s c.role c.table then [] else flat_map (tables_asked (asks_of c.kind c.reads)) (filter (is_to s c.role) (policies_of s c.name))
+asked_in s c = if is_exempt s c.role c.table then [] else flat_map (tables_asked (asks_of c.kind (reads c))) (filter (is_to s c.role) (policies_of s c.name))
 
-own_if : (exempt : Bool) (c : Command) (policies : List Policy) → Alike (if exempt then [] else flat_map (λ policy. (if c.reads then tables_for k.Select policy else []) ++ tables_for c.kind policy) policies) (if exempt then [] else flat_map (tables_asked (asks_of c.kind c.reads)) policies)
+own_if : (exempt : Bool) (c : Command) (policies : List Policy) → Alike (if exempt then [] else flat_map (λ policy. (if reads c then tables_for k.Select policy else []) ++ tables_for c.kind policy) policies) (if exempt then [] else flat_map (tables_asked (asks_of c.kind (reads c))) policies)
 own_if true c policies = λ seen. refl
-own_if false c policies = flat_alike (λ policy. (if c.reads then tables_for k.Select policy else []) ++ tables_for c.kind policy) (tables_asked (asks_of c.kind c.reads)) (for_policy c.reads c.kind) policies
+own_if false c policies = flat_alike (λ policy. (if reads c then tables_for k.Select policy else []) ++ tables_for c.kind policy) (tables_asked (asks_of c.kind (reads c))) (for_policy (reads c) c.kind) policies
 
 pub own_alike : (s : State) (c : Command) → Alike (own_of s c) (asked_in s c)
 own_alike s c = own_if (is_exempt s c.role c.table) c (filter (is_to s c.role) (policies_of s c.name))
@@ -199,22 +203,3 @@ first_fresh closes seen (t ∷ ts) never =
 pub first_alike : (closes : List ℕ → Option (List ℕ)) (one other : List (List ℕ)) → Alike one other → first_closed closes one ≡ first_closed closes other
 first_alike closes one other alike =
     first_fresh closes [] one (λ t is. absurd (true≢false (sym is))) ∙ ap (first_closed closes) (alike []) ∙ sym (first_fresh closes [] other (λ t is. absurd (true≢false (sym is))))
-
--- what they need
-need_if : (b : Bool) (need : List ℕ → List (List ℕ)) (have : List (List ℕ)) (t : List ℕ) (rest some other : List (List ℕ)) → (b ≡ true → Within (need t) have) → (b ≡ true → fresh have (flat_map need rest) ≡ fresh have (flat_map need some))
-    → (b ≡ false → fresh (have ++ fresh have (need t)) (flat_map need rest) ≡ fresh (have ++ fresh have (need t)) (flat_map need other)) → fresh have (flat_map need (t ∷ rest)) ≡ fresh have (flat_map need (if b then some else (t ∷ other)))
-need_if true need have t rest some other within seen new = fresh_seen have (need t) (flat_map need rest) (within refl) ∙ seen refl
-need_if false need have t rest some other within seen new =
-    fresh_append have (need t) (flat_map need rest) ∙ ap (λ all. fresh have (need t) ++ all) (new refl) ∙ sym (fresh_append have (need t) (flat_map need other))
-
-needs_fresh : (need : List ℕ → List (List ℕ)) (seen have ts : List (List ℕ)) → ((t : List ℕ) → one_of seen t ≡ true → Within (need t) have) → fresh have (flat_map need ts) ≡ fresh have (flat_map need (fresh seen ts))
-needs_fresh need seen have [] within = refl
-needs_fresh need seen have (t ∷ ts) within =
-    need_if (one_of seen t) need have t ts (fresh seen ts) (fresh (seen ++ t ∷ []) ts) (within t) (λ was. needs_fresh need seen have ts within)
-    (λ new. needs_fresh need (seen ++ t ∷ []) (have ++ fresh have (need t)) ts (λ u is. last_cases seen t u is
-    (λ before name among. among_first have (fresh have (need t)) name (within u before name among))
-    (λ same. subst (λ u. Within (need u) (have ++ fresh have (need t))) same (fresh_all have (need t)))))
-
-pub needs_alike : (need : List ℕ → List (List ℕ)) (one other : List (List ℕ)) → Alike one other → fresh [] (flat_map need one) ≡ fresh [] (flat_map need other)
-needs_alike need one other alike =
-    needs_fresh need [] [] one (λ t is. absurd (true≢false (sym is))) ∙ ap (λ ts. fresh [] (flat_map need ts)) (alike []) ∙ sym (needs_fresh need [] [] other (λ t is. absurd (true≢false (sym is))))

@@ -1,6 +1,6 @@
 -- The dependencies of a statement are always read, and are few; and chains of dependencies are those of the state.
 use Rattle.std.specs.Prelude.{◌≡◌, refl, ℕ, zero, suc, ◌+◌, ◌≤◌, ◌<◌, List, [], ◌∷◌, ◌++◌, Bool, true, false, Option, Some, None, Result, Ok, filter_map, length, slice_get, if◌then◌else◌}
-use Rattle.std.specs.List.{cons_option, flat_map}
+use Rattle.std.specs.List.{cons_option}
 use Rattle.std.proofs.Common.{arith, ap, sym, ◌∙◌, subst}
 use Rattle.std.proofs.lemmas.{Bool.true≢false}
 use Rattle.rls_value.specs.{declared.refusal.Refusal.Refusal, Giving.and_then, Names.one_of}
@@ -11,8 +11,8 @@ use Rattle.rls_recursion.specs.{declared.dependency.PolicyDependency.PolicyDepen
 use Rattle.rls_recursion.proofs.Closing.{one_first, one_further, not_true}
 use Rattle.rls_depth.specs.rls_expansion.specs.{Enough.collect, Enough.collect_end, Enough.collect_step, Enough.visits, Leading.named, Dependencies.dependency_of, Dependencies.dependencies_of}
 use Rattle.rls_depth.proofs.{Walking.AreRead, Walking.subquery_tables_within, Walking.dependency_at, Walking.dependency_found, Walking.dependency_told}
-use Rattle.rls_meaning.specs.{Chains.closes, Chains.has_subquery_in, Chains.subquery_tables_in, Needing.leads_of, Needing.needed_by, Needing.needs}
-use Rattle.rls_meaning.proofs.{Listing.last_cases, States.has_subquery_same, States.subquery_tables_same, States.leaf_leads}
+use Rattle.rls_meaning.specs.{Chains.closes, Chains.has_subquery_in, Chains.subquery_tables_in}
+use Rattle.rls_meaning.proofs.{Listing.last_cases, States.has_subquery_same, States.subquery_tables_same}
 
 -- ---- they are read
 
@@ -113,32 +113,6 @@ pub closing_same : (n : ℕ) (s : State) (role : List ℕ) (dependencies : List 
 closing_same n s role dependencies all target own queries same first second =
     λ i. or_next (closed_same (dependency_closes n dependencies (target ∷ [])) (closes n s role (target ∷ [])) all own first (closes_same n s role dependencies all (target ∷ []) same) i)
     (closed_same (dependency_closes n dependencies []) (closes n s role []) all queries second (closes_same n s role dependencies all [] same) i)
-
--- ---- needs
-
-leads_if : (b : Bool) (next other : List (List ℕ)) → next ≡ other → (b ≡ false → other ≡ []) → (if b then next else []) ≡ other
-leads_if true next other same none = same
-leads_if false next other same none = sym (none refl)
-
-leads_same : (s : State) (role : List ℕ) (dependencies : List PolicyDependency) (all : List (List ℕ)) → Same s role dependencies all → (t : List ℕ) → one_of all t ≡ true → leads_of dependencies t ≡ subquery_tables_in s role t
-leads_same s role dependencies all same t is = leads_if (has_subquery_of dependencies t) (subquery_tables_of dependencies t) (subquery_tables_in s role t) (same.next t is) (λ leaf. leaf_leads s role t (sym (same.inner t is) ∙ leaf))
-
-flat_same : (one other : List ℕ → List (List ℕ)) (all ts : List (List ℕ)) → Within ts all → ((t : List ℕ) → one_of all t ≡ true → one t ≡ other t) → flat_map one ts ≡ flat_map other ts
-flat_same one other all [] within same = refl
-flat_same one other all (t ∷ ts) within same = λ i. same t (within t (one_first t ts)) i ++ flat_same one other all ts (λ u is. within u (one_further t ts u is)) same i
-
-needed_same : (n : ℕ) (s : State) (role : List ℕ) (dependencies : List PolicyDependency) (all : List (List ℕ)) → Same s role dependencies all → (t : List ℕ) → one_of all t ≡ true → needed_by n (leads_of dependencies) t ≡ needed_by n (subquery_tables_in s role) t
-needed_same zero s role dependencies all same t is = refl
-needed_same (suc n) s role dependencies all same t is =
-    let leads : leads_of dependencies t ≡ subquery_tables_in s role t = leads_same s role dependencies all same t is in
-    ap (λ rest. t ∷ rest)
-    (flat_same (needed_by n (leads_of dependencies)) (needed_by n (subquery_tables_in s role)) all (leads_of dependencies t)
-    (subst (λ ts. Within ts all) (same.next t is ∙ sym leads) (same.stays t))
-    (λ u among. needed_same n s role dependencies all same u among)
-    ∙ ap (flat_map (needed_by n (subquery_tables_in s role))) leads)
-
-pub needs_same : (n : ℕ) (s : State) (role : List ℕ) (dependencies : List PolicyDependency) (all ts : List (List ℕ)) → Same s role dependencies all → Within ts all → needs n (leads_of dependencies) ts ≡ needs n (subquery_tables_in s role) ts
-needs_same n s role dependencies all ts same within = flat_same (needed_by n (leads_of dependencies)) (needed_by n (subquery_tables_in s role)) all ts within (needed_same n s role dependencies all same)
 
 -- ---- tables that come in order are no more than those that they are among
 

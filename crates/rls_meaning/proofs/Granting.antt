@@ -1,17 +1,18 @@
 -- GRANT and REVOKE of privileges come to what they mean.
-use Rattle.std.specs.Prelude.{◌≡◌, refl, ℕ, List, [], ◌∷◌, Bool, true, false, not, ◌&&◌, ◌||◌, Option, Some, None, Result, Ok, Err, cond, filter, fold, if◌then◌else◌}
+use Rattle.std.specs.Prelude.{◌≡◌, refl, ℕ, List, [], ◌∷◌, Bool, true, false, not, ◌&&◌, ◌||◌, ◌++◌, Option, Some, None, Result, Ok, Err, cond, filter, fold, is_some, if◌then◌else◌}
 use Rattle.std.specs.List.{flat_map, list_all, list_any}
-use Rattle.std.proofs.Common.{ap, sym, ◌∙◌}
+use Rattle.std.proofs.Common.{ap, sym, append-nil, ◌∙◌}
 use Rattle.std.proofs.lemmas.Bool.{true≢false}
-use Rattle.rls_value.specs.{declared.refusal.Refusal.Refusal, declared.refusal.GrantFault.TheVariants.Back, declared.refusal.Refusal.TheVariants.Denied, declared.refusal.Refusal.TheVariants.Dependent, declared.refusal.Refusal.TheVariants.GrantOp, declared.refusal.Why.TheVariants.GrantOption, declared.verb.Privilege.Privilege, Giving.and_then, Names.one_of}
-use Rattle.rls_expr.specs.{declared.policy.Grantee.Grantee, declared.policy.Grantee.TheVariants.Public, declared.policy.Grantee.TheVariants.Role, declared.table.TableDef.TableDef}
+use Rattle.rls_value.specs.{declared.refusal.Refusal.Refusal, declared.refusal.GrantFault.TheVariants.Back, declared.refusal.Refusal.TheVariants.Denied, declared.refusal.Refusal.TheVariants.Dependent, declared.refusal.Refusal.TheVariants.GrantOp, declared.refusal.Refusal.TheVariants.Undefined, declared.refusal.Refusal.TheVariants.Unsupported, declared.refusal.Why.TheVariants.GrantOption, declared.verb.Privilege.Privilege, Giving.and_then, Names.one_of}
+use Rattle.rls_value.specs.declared.refusal.NameKind.TheVariants as kind
+use Rattle.rls_expr.specs.{declared.policy.Grantee.Grantee, declared.policy.Grantee.TheVariants.Public, declared.policy.Grantee.TheVariants.Role, declared.table.Column.Column, declared.table.TableDef.TableDef, Tables.column_named}
 use Rattle.rls_catalog.specs.declared.change.Change.TheVariants as change
 use Rattle.rls_catalog.specs.{declared.grant.Grant.Grant, GrantOptions.grantor_of, State.State, State.grants_of}
 use Rattle.rls_source.specs.{Asked.grants_at, Named.found_or, Sequences.each_of, Sequences.each_or_refused}
-use Rattle.rls_statement.specs.{declared.statement.GrantPrivileges.GrantPrivileges, declared.privileges.Privileges.Privileges, declared.statement.RevokePrivileges.RevokePrivileges, Extents.is_named}
+use Rattle.rls_statement.specs.{declared.statement.GrantPrivileges.GrantPrivileges, declared.privileges.Privileges.Privileges, declared.statement.RevokePrivileges.RevokePrivileges, Extents.extent_of, Extents.has_columns, Extents.is_named}
 use Rattle.rls_guard.specs.rls_role.specs.Reaching.{effective_roles_in}
-use Rattle.rls_guard.specs.rls_grant.specs.{declared.grantors.Grantor.Grantor, Granting.goes_back, Granting.grant, Granting.grant_on, Granting.granted, Granting.grants_by, Granting.grants_made, Granting.optioned_or_refused, Granting.options_or_refused, Granting.with_grants, Grantors.all_privileges, Grantors.granted_by, Grantors.grantor_by, Grantors.grantor_or_denied, Grantors.grantors, Holders.holders_of, Revoking.grants_revoked, Revoking.left_after, Revoking.revoke, Revoking.revoke_on, Revoking.revoked, Revoking.stays, Revoking.without_taken}
-use Rattle.rls_meaning.specs.{Grants.left_in, Grants.option_in, Grants.put_grant, Naming.provided, Privileges.grant_in, Privileges.grantor_in, Privileges.grantors_in, Privileges.revoke_in}
+use Rattle.rls_guard.specs.rls_grant.specs.{declared.grantors.Grantor.Grantor, Columns.column_or_undefined, Columns.columns_or_undefined, Columns.columns_written, Granting.goes_back, Granting.grant, Granting.grant_on, Granting.grant_to, Granting.granted, Granting.grants_by, Granting.grants_made, Granting.optioned_or_refused, Granting.options_or_refused, Granting.with_grants, Grantors.all_privileges, Grantors.granted_by, Grantors.grantor_by, Grantors.grantor_or_denied, Grantors.grantors, Holders.holders_of, Revoking.grants_revoked, Revoking.left_after, Revoking.revoke, Revoking.revoke_from, Revoking.revoke_on, Revoking.revoked, Revoking.stays, Revoking.without_taken}
+use Rattle.rls_meaning.specs.{Analysing.place_in, Grants.left_in, Grants.option_in, Grants.put_grant, Naming.provided, Privileges.columns_in, Privileges.grant_in, Privileges.grantor_in, Privileges.grantors_in, Privileges.revoke_in}
 use Rattle.rls_meaning.proofs.Naming.{grantees_told, table_told}
 
 -- who is chosen by whose privileges a role has is who the rule over a state says
@@ -39,6 +40,21 @@ grantors_told means s role name table named =
     each_same (granted_by (effective_roles_in s role) role name table (grants_of s name)) (grantor_in s role name table) (filter (is_named named) all_privileges)
     (λ privilege. ap (grantor_or_denied name privilege) (means s role table.owner (holders_of table.owner (grants_of s name) privilege))
     ∙ grantor_there name privilege (grantor_of s role table.owner (holders_of table.owner (grants_of s name) privilege)))
+
+-- ---- the columns
+
+place_if : (found : Option ℕ) (refusal : Refusal) → (if is_some found then ok else Err refusal) ≡ and_then (found_or refusal found) (λ _. ok)
+place_if (Some place) refusal = refl
+place_if None refusal = refl
+
+column_told : (columns : List Column) (name : List ℕ) → column_or_undefined columns name ≡ and_then (place_in columns name) (λ _. ok)
+column_told columns name = place_if (column_named columns name) (Undefined kind.Column name)
+
+written_told : (named : Privileges) → columns_written named ≡ flat_map (λ privilege. (extent_of named privilege).columns) all_privileges
+written_told named = ap (λ rest. named.select.columns ++ (named.insert.columns ++ rest)) (sym (append-nil named.update.columns))
+
+columns_told : (table : TableDef) (named : Privileges) → columns_or_undefined table.columns named ≡ columns_in table named
+columns_told table named i = each_or_refused (λ name. column_told table.columns name i) (written_told named i)
 
 -- ---- what is granted
 
@@ -96,19 +112,23 @@ left_told cascade table owner (grantor ∷ by) grants =
 -- ---- the statements
 
 pub grant_told : GrantorMeans → (s : State) (role : List ℕ) (asked : GrantPrivileges) → ((grant role asked).in_state s).gives ≡ grant_in s role asked
-unfolding grant_on grants_made granted grants_at
+unfolding grant_to grant_on grants_made granted grants_at
 grant_told means s role asked =
     λ i. and_then (table_told s asked.table i) (λ table.
+    and_then (columns_told table asked.privileges i) (λ _.
     and_then (grantees_told s asked.to i) (λ _.
+    and_then (forth_told (asked.with_option && has_columns asked.privileges) Unsupported i) (λ _.
     and_then (grantors_told means s role asked.table table asked.privileges i) (λ by.
     and_then (options_told asked.with_option table.owner (grants_of s asked.table) by asked.to i) (λ _.
-    Ok (change.Grants asked.table (put_told (grants_of s asked.table) (flat_map (grants_by asked.with_option asked.to) by) i) ∷ [])))))
+    Ok (change.Grants asked.table (put_told (grants_of s asked.table) (flat_map (grants_by table.columns asked) by) i) ∷ [])))))))
 
 pub revoke_told : GrantorMeans → (s : State) (role : List ℕ) (asked : RevokePrivileges) → ((revoke role asked).in_state s).gives ≡ revoke_in s role asked
-unfolding revoke_on grants_revoked revoked grants_at
+unfolding revoke_from revoke_on grants_revoked revoked grants_at
 revoke_told means s role asked =
     λ i. and_then (table_told s asked.table i) (λ table.
+    and_then (columns_told table asked.privileges i) (λ _.
     and_then (grantees_told s asked.from i) (λ _.
+    and_then (forth_told (asked.option_only && has_columns asked.privileges) Unsupported i) (λ _.
     and_then (grantors_told means s role asked.table table asked.privileges i) (λ by.
-    and_then (left_told asked.cascade asked.table table.owner by (without_taken asked.option_only by asked.from (grants_of s asked.table)) i) (λ left.
-    Ok (change.Grants asked.table left ∷ [])))))
+    and_then (left_told asked.cascade asked.table table.owner by (without_taken asked by (grants_of s asked.table)) i) (λ left.
+    Ok (change.Grants asked.table left ∷ [])))))))

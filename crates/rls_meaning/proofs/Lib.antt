@@ -7,6 +7,10 @@ pub mod Listing
 pub mod Asking
 pub mod States
 pub mod Dependencies
+pub mod Selected
+pub mod Orders
+pub mod AskingSelected
+pub mod Needing
 pub mod Expanding
 pub mod Evaluating
 pub mod Questions
@@ -15,6 +19,7 @@ pub mod Replying
 pub mod Qualifying
 pub mod Constraining
 pub mod Analysing
+pub mod Columns
 pub mod Selecting
 pub mod Inserting
 pub mod Updating

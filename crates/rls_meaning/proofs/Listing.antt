@@ -1,18 +1,20 @@
--- A search meets the tables in the order in which they are needed.
-use Rattle.std.specs.Prelude.{◌≡◌, refl, ℕ, zero, suc, ◌<◌, List, [], ◌∷◌, ◌++◌, Bool, true, false, ◌||◌, Result, Ok, Err, length, if◌then◌else◌}
+-- A walk that goes through the policies of each table once lists what passes as all that is needed.
+use Rattle.std.specs.Prelude.{◌≡◌, refl, ℕ, zero, suc, ◌<◌, ◌≤◌, List, [], ◌∷◌, ◌++◌, Bool, true, false, Result, Ok, Err, fold, length, map, if◌then◌else◌}
 use Rattle.std.specs.List.{flat_map}
 use Rattle.std.specs.Str.{bytes_eq}
 use Rattle.std.proofs.Common.{arith, ap, sym, ◌∙◌, subst, append-nil, append_assoc}
 use Rattle.std.proofs.lemmas.Bool.{true≢false}
-use Rattle.rls_value.specs.{declared.refusal.Refusal.Refusal, Names.one_of}
-use Rattle.rls_catalog.proofs.Walks.{one_of-append, one_of_last, among_first}
+use Rattle.rls_value.specs.{declared.refusal.Refusal.Refusal, Giving.and_then, Names.one_of}
+use Rattle.rls_expr.specs.declared.columns.SelectedTable.{SelectedTable}
+use Rattle.rls_catalog.proofs.Walks.{one_of-append}
 use Rattle.rls_catalog.specs.Membership.{fresh, Within}
-use Rattle.rls_recursion.specs.{declared.dependency.PolicyDependency.PolicyDependency, declared.progress.Progress.Progress, declared.searching.Reached.Reached}
-use Rattle.rls_recursion.specs.Searching.{has_subquery_of, subquery_tables_of, nothing_yet, put_listed, put_done, Found, Fits, Loops, Deep, found_then, visit_all, visit, searched_from, told_by, IsEnough}
-use Rattle.rls_recursion.proofs.Closing.{or_cases, one_cases, one_first, one_further, not_true}
-use Rattle.rls_recursion.proofs.Listing.{Lists, Keeps, visits_keep}
-use Rattle.rls_recursion.proofs.Ending.{IsTold, told_then, all_told, visit_told, visits_same, left_most}
-use Rattle.rls_meaning.specs.Needing.{needed_by, needs, leads_of, ChecksInOrder}
+use Rattle.rls_recursion.specs.{declared.dependency.PolicyDependency.PolicyDependency, declared.listings.Listing.Listing}
+use Rattle.rls_recursion.specs.Listings.{list_from, no_listing, put_gone_through, put_selected}
+use Rattle.rls_recursion.specs.Searching.{nothing_yet, visit_all, visit, searched_from}
+use Rattle.rls_recursion.proofs.Closing.{or_cases, one_cases, one_first, one_further}
+use Rattle.rls_recursion.proofs.Ending.{IsTold, told_then, all_told, visit_told, left_most}
+use Rattle.rls_source.specs.Sequences.{each_or_refused}
+use Rattle.rls_meaning.specs.Needing.{Follows, ListedIsNeeded, needed_by}
 
 -- ---- those that aren't seen yet
 
@@ -38,228 +40,12 @@ pub flat_append : {A B : Type 0} (f : A → List B) (xs ys : List A) → flat_ma
 flat_append f [] ys = refl
 flat_append f (x ∷ xs) ys = ap (λ rest. f x ++ rest) (flat_append f xs ys) ∙ sym (append_assoc (f x) (flat_map f xs) (flat_map f ys))
 
--- ---- what is needed of tables that are done
-
-both_within : (xs ys all : List (List ℕ)) → Within xs all → Within ys all → Within (xs ++ ys) all
-both_within xs ys all one other name is = or_cases (one_of xs name) (one_of ys name) (sym (one_of-append xs ys name) ∙ is) (one name) (λ no. other name)
-
-flat_within : (f : List ℕ → List (List ℕ)) (ts all : List (List ℕ)) → ((t : List ℕ) → one_of ts t ≡ true → Within (f t) all) → Within (flat_map f ts) all
-flat_within f [] all each = λ name is. absurd (true≢false (sym is))
-flat_within f (t ∷ ts) all each = both_within (f t) (flat_map f ts) all (each t (one_first t ts)) (flat_within f ts all (λ u is. each u (one_further t ts u is)))
-
--- what is done leads to what is done
-abbrev Closed : List PolicyDependency → List (List ℕ) → Type 0
-Closed dependencies done = (t : List ℕ) → one_of done t ≡ true → Within (leads_of dependencies t) done
-
-need_within : (n : ℕ) (dependencies : List PolicyDependency) (done : List (List ℕ)) → Closed dependencies done → (t : List ℕ) → one_of done t ≡ true → Within (needed_by n (leads_of dependencies) t) done
-need_within zero dependencies done closed t is = λ name never. absurd (true≢false (sym never))
-need_within (suc n) dependencies done closed t is =
-    both_within (t ∷ []) (flat_map (needed_by n (leads_of dependencies)) (leads_of dependencies t)) done
-    (λ name among. one_cases t [] name among (λ same. subst (λ u. one_of done u ≡ true) same is) (λ never. absurd (true≢false (sym never))))
-    (flat_within (needed_by n (leads_of dependencies)) (leads_of dependencies t) done (λ u among. need_within n dependencies done closed u (closed t is u among)))
-
--- ---- what a visit adds
-
-record Good (dependencies : List PolicyDependency) (chain : List (List ℕ)) (p : Progress) : Type 0 where
-  pub on : (t : List ℕ) → one_of p.listed t ≡ true → one_of p.done t ≡ false → (one_of chain t ≡ true) × (has_subquery_of dependencies t ≡ true)
-  pub met : Within p.done p.listed
-  pub closed : Closed dependencies p.done
-
-record Added (dependencies : List PolicyDependency) (chain : List (List ℕ)) (need : List ℕ → List (List ℕ)) (before : Progress) (ts : List (List ℕ)) (after : Progress) : Type 0 where
-  pub listed : after.listed ≡ before.listed ++ fresh before.listed (flat_map need ts)
-  pub good : Good dependencies chain after
-  pub kept : Within before.done after.done
-  pub there : Within ts after.done
-
-abbrev Adds : List PolicyDependency → List (List ℕ) → (List ℕ → List (List ℕ)) → Progress → List (List ℕ) → Found → Type 0
-Adds dependencies chain need before ts (Fits after) = Added dependencies chain need before ts after
-Adds dependencies chain need before ts (Loops t) = Unit {0}
-Adds dependencies chain need before ts Deep = Unit {0}
-
-adds_both : (dependencies : List PolicyDependency) (chain : List (List ℕ)) (need : List ℕ → List (List ℕ)) (before between : Progress) (ts us : List (List ℕ)) (found : Found) → Added dependencies chain need before ts between
-    → Adds dependencies chain need between us found → Adds dependencies chain need before (ts ++ us) found
-adds_both dependencies chain need before between ts us (Fits after) one other = record {
-  listed = other.listed
-      ∙ ap (λ all. all ++ fresh all (flat_map need us)) one.listed
-      ∙ append_assoc before.listed (fresh before.listed (flat_map need ts)) (fresh (before.listed ++ fresh before.listed (flat_map need ts)) (flat_map need us))
-      ∙ ap (λ all. before.listed ++ all) (sym (fresh_append before.listed (flat_map need ts) (flat_map need us)))
-      ∙ ap (λ all. before.listed ++ fresh before.listed all) (sym (flat_append need ts us));
-  good = other.good;
-  kept = λ name is. other.kept name (one.kept name is);
-  there = both_within ts us after.done (λ name is. other.kept name (one.there name is)) other.there;
-}
-adds_both dependencies chain need before between ts us (Loops t) one other = tt
-adds_both dependencies chain need before between ts us Deep one other = tt
-
-adds_then : (dependencies : List PolicyDependency) (chain : List (List ℕ)) (need : List ℕ → List (List ℕ)) (before : Progress) (ts us : List (List ℕ)) (found : Found) (next : Progress → Found) → Adds dependencies chain need before ts found
-    → ((between : Progress) → Good dependencies chain between → Adds dependencies chain need between us (next between)) → Adds dependencies chain need before (ts ++ us) (found_then found next)
-adds_then dependencies chain need before ts us (Fits between) next one further = adds_both dependencies chain need before between ts us (next between) one (further between one.good)
-adds_then dependencies chain need before ts us (Loops t) next one further = tt
-adds_then dependencies chain need before ts us Deep next one further = tt
-
-all_add : (dependencies : List PolicyDependency) (chain : List (List ℕ)) (need : List ℕ → List (List ℕ)) (step : Progress → List ℕ → Found) → ((p : Progress) (t : List ℕ) → Good dependencies chain p → Adds dependencies chain need p (t ∷ []) (step p t))
-    → (ts : List (List ℕ)) (p : Progress) → Good dependencies chain p → Adds dependencies chain need p ts (visit_all step p ts)
-all_add dependencies chain need step each [] p good = record { listed = sym (append-nil p.listed); good = good; kept = λ name is. is; there = λ name is. absurd (true≢false (sym is)) }
-all_add dependencies chain need step each (t ∷ ts) p good =
-    adds_then dependencies chain need p (t ∷ []) ts (step p t) (λ more. visit_all step more ts) (each p t good) (λ between further. all_add dependencies chain need step each ts between further)
-
--- a table that is done adds nothing
-done_adds : (n : ℕ) (dependencies : List PolicyDependency) (chain : List (List ℕ)) (p : Progress) (t : List ℕ) → Good dependencies chain p → one_of p.done t ≡ true → Added dependencies chain (needed_by n (leads_of dependencies)) p (t ∷ []) p
-done_adds n dependencies chain p t good is =
-    let all : Within (needed_by n (leads_of dependencies) t ++ []) p.listed = both_within (needed_by n (leads_of dependencies) t) [] p.listed (λ name among. good.met name (need_within n dependencies p.done good.closed t is name among)) (λ name never. absurd (true≢false (sym never))) in
-    record {
-      listed = sym (append-nil p.listed) ∙ ap (λ all. p.listed ++ all) (sym (fresh_none p.listed (needed_by n (leads_of dependencies) t ++ []) all));
-      good = good;
-      kept = λ name among. among;
-      there = λ name among. one_cases t [] name among (λ same. subst (λ u. one_of p.done u ≡ true) same is) (λ never. absurd (true≢false (sym never)));
-    }
-
-off_either : (a b : Bool) → (a || b) ≡ false → (a ≡ false) × (b ≡ false)
-off_either true b is = absurd (true≢false is)
-off_either false b is = (refl, is)
-
--- a table that was met, whose own tables are done, and which is done now
-finished : (need : List ℕ → List (List ℕ)) (n : ℕ) (dependencies : List PolicyDependency) (chain : List (List ℕ)) (p after : Progress) (t : List ℕ) (below : List (List ℕ)) → one_of p.listed t ≡ false → leads_of dependencies t ≡ below
-    → Added dependencies (t ∷ chain) (needed_by n (leads_of dependencies)) (put_listed p t) below after → Added dependencies chain (needed_by (suc n) (leads_of dependencies)) p (t ∷ []) (put_done after t)
-finished need n dependencies chain p after t below new leads added = record {
-  listed = added.listed
-      ∙ append_assoc p.listed (t ∷ []) (fresh (p.listed ++ t ∷ []) (flat_map (needed_by n (leads_of dependencies)) below))
-      ∙ ap (λ all. p.listed ++ t ∷ fresh (p.listed ++ t ∷ []) all) (ap (flat_map (needed_by n (leads_of dependencies))) (sym leads) ∙ sym (append-nil (flat_map (needed_by n (leads_of dependencies)) (leads_of dependencies t))))
-      ∙ ap (λ b. p.listed ++ (if b then fresh p.listed (flat_map (needed_by n (leads_of dependencies)) (leads_of dependencies t) ++ []) else (t ∷ fresh (p.listed ++ t ∷ []) (flat_map (needed_by n (leads_of dependencies)) (leads_of dependencies t) ++ [])))) (sym new);
-  good = record {
-    on = λ u is not_done.
-        let off : (bytes_eq t u ≡ false) × (one_of after.done u ≡ false) = off_either (bytes_eq t u) (one_of after.done u) not_done in
-        let both : (one_of (t ∷ chain) u ≡ true) × (has_subquery_of dependencies u ≡ true) = added.good.on u is off.1 in
-        (or_cases (bytes_eq t u) (one_of chain u) both.0 (λ same. absurd (true≢false (sym same ∙ off.0))) (λ other further. further), both.1);
-    met = λ u is. one_cases t after.done u is
-        (λ same. subst (λ v. one_of after.listed v ≡ true) same (ap (λ all. one_of all t) added.listed ∙ among_first (p.listed ++ t ∷ []) (fresh (p.listed ++ t ∷ []) (flat_map (needed_by n (leads_of dependencies)) below)) t (one_of_last p.listed t)))
-        (λ further. added.good.met u further);
-    closed = λ u is name among. one_further t after.done name (one_cases t after.done u is
-        (λ same. added.there name (ap (λ all. one_of all name) (sym leads ∙ ap (leads_of dependencies) same) ∙ among))
-        (λ further. added.good.closed u further name among));
-  };
-  kept = λ name is. one_further t after.done name (added.kept name is);
-  there = λ name is. one_cases t [] name is (λ same. subst (λ u. one_of (t ∷ after.done) u ≡ true) same (one_first t after.done)) (λ never. absurd (true≢false (sym never)));
-}
-
 pub last_cases : {P : Type 0} (ts : List (List ℕ)) (t u : List ℕ) → one_of (ts ++ t ∷ []) u ≡ true → (one_of ts u ≡ true → P) → (t ≡ u → P) → P
 last_cases ts t u is here last =
     or_cases (one_of ts u) (one_of (t ∷ []) u) (sym (one_of-append ts (t ∷ []) u) ∙ is) here
     (λ no further. one_cases t [] u further last (λ never. absurd (true≢false (sym never))))
 
--- a table that is met now
-met_now : (dependencies : List PolicyDependency) (chain : List (List ℕ)) (p : Progress) (t : List ℕ) → has_subquery_of dependencies t ≡ true → Good dependencies chain p → Good dependencies (t ∷ chain) (put_listed p t)
-met_now dependencies chain p t inner good = record {
-  on = λ u is not_done. last_cases p.listed t u is
-      (λ among. (one_further t chain u (good.on u among not_done).0, (good.on u among not_done).1))
-      (λ same. (subst (λ v. one_of (t ∷ chain) v ≡ true) same (one_first t chain), ap (has_subquery_of dependencies) (sym same) ∙ inner));
-  met = λ u is. among_first p.listed (t ∷ []) u (good.met u is);
-  closed = good.closed;
-}
-
-further_adds : (n : ℕ) (dependencies : List PolicyDependency) (chain : List (List ℕ)) (p : Progress) (t : List ℕ) (found : Found) → one_of p.listed t ≡ false → leads_of dependencies t ≡ subquery_tables_of dependencies t
-    → Adds dependencies (t ∷ chain) (needed_by n (leads_of dependencies)) (put_listed p t) (subquery_tables_of dependencies t) found → Adds dependencies chain (needed_by (suc n) (leads_of dependencies)) p (t ∷ []) (found_then found (λ more. Fits (put_done more t)))
-further_adds n dependencies chain p t (Fits after) new leads added = finished (needed_by n (leads_of dependencies)) n dependencies chain p after t (subquery_tables_of dependencies t) new leads added
-further_adds n dependencies chain p t (Loops u) new leads added = tt
-further_adds n dependencies chain p t Deep new leads added = tt
-
-leaf_adds : (n : ℕ) (dependencies : List PolicyDependency) (chain : List (List ℕ)) (p : Progress) (t : List ℕ) → Good dependencies chain p → one_of p.listed t ≡ false → has_subquery_of dependencies t ≡ false
-    → Added dependencies chain (needed_by (suc n) (leads_of dependencies)) p (t ∷ []) (put_done (put_listed p t) t)
-leaf_adds n dependencies chain p t good new leaf =
-    let leads : leads_of dependencies t ≡ [] = ap (λ b. if b then subquery_tables_of dependencies t else []) leaf in
-    record {
-      listed = ap (λ all. p.listed ++ t ∷ fresh (p.listed ++ t ∷ []) all) (ap (flat_map (needed_by n (leads_of dependencies))) (sym leads) ∙ sym (append-nil (flat_map (needed_by n (leads_of dependencies)) (leads_of dependencies t))))
-          ∙ ap (λ b. p.listed ++ (if b then fresh p.listed (flat_map (needed_by n (leads_of dependencies)) (leads_of dependencies t) ++ []) else (t ∷ fresh (p.listed ++ t ∷ []) (flat_map (needed_by n (leads_of dependencies)) (leads_of dependencies t) ++ [])))) (sym new);
-      good = record {
-        on = λ u is not_done.
-            let off : (bytes_eq t u ≡ false) × (one_of p.done u ≡ false) = off_either (bytes_eq t u) (one_of p.done u) not_done in
-            last_cases p.listed t u is (λ among. good.on u among off.1)
-            (λ same. absurd (true≢false (sym (subst (λ v. one_of (t ∷ p.done) v ≡ true) same (one_first t p.done)) ∙ not_done)));
-        met = λ u is. one_cases t p.done u is
-            (λ same. subst (λ v. one_of (p.listed ++ t ∷ []) v ≡ true) same (one_of_last p.listed t))
-            (λ further. among_first p.listed (t ∷ []) u (good.met u further));
-        closed = λ u is name among. one_further t p.done name (one_cases t p.done u is
-            (λ same. absurd (true≢false (sym among ∙ ap (λ all. one_of all name) (ap (leads_of dependencies) (sym same) ∙ leads))))
-            (λ further. good.closed u further name among));
-      };
-      kept = λ name is. one_further t p.done name is;
-      there = λ name is. one_cases t [] name is (λ same. subst (λ u. one_of (t ∷ p.done) u ≡ true) same (one_first t p.done)) (λ never. absurd (true≢false (sym never)));
-    }
-
-adds_if : (is_done inner on : Bool) (dependencies : List PolicyDependency) (chain : List (List ℕ)) (need : List ℕ → List (List ℕ)) (p : Progress) (t : List ℕ) (one three : Found)
-    → (is_done ≡ true → Adds dependencies chain need p (t ∷ []) (Fits p))
-    → (is_done ≡ false → inner ≡ true → on ≡ false → Adds dependencies chain need p (t ∷ []) one)
-    → (is_done ≡ false → inner ≡ false → Adds dependencies chain need p (t ∷ []) three)
-    → Adds dependencies chain need p (t ∷ []) (if is_done then Fits p else (if inner then (if on then Loops t else one) else three))
-adds_if true inner on dependencies chain need p t one three was further leaf = was refl
-adds_if false true true dependencies chain need p t one three was further leaf = tt
-adds_if false true false dependencies chain need p t one three was further leaf = further refl refl refl
-adds_if false false on dependencies chain need p t one three was further leaf = leaf refl refl
-
-visit_adds : (n : ℕ) (dependencies : List PolicyDependency) (chain : List (List ℕ)) (p : Progress) (t : List ℕ) → Good dependencies chain p → Adds dependencies chain (needed_by n (leads_of dependencies)) p (t ∷ []) (visit n dependencies chain p t)
-visit_adds zero dependencies chain p t good = tt
-visit_adds (suc n) dependencies chain p t good =
-    let below : Found = visit_all (visit n dependencies (t ∷ chain)) (put_listed p t) (subquery_tables_of dependencies t) in
-    adds_if (one_of p.done t) (has_subquery_of dependencies t) (one_of chain t) dependencies chain (needed_by (suc n) (leads_of dependencies)) p t (found_then below (λ more. Fits (put_done more t))) (Fits (put_done (put_listed p t) t))
-    (λ was. done_adds (suc n) dependencies chain p t good was)
-    (λ new inner off. further_adds n dependencies chain p t below
-    (not_true (one_of p.listed t) (λ is. true≢false (sym (good.on t is new).0 ∙ off)))
-    (ap (λ b. if b then subquery_tables_of dependencies t else []) inner)
-    (all_add dependencies (t ∷ chain) (needed_by n (leads_of dependencies)) (visit n dependencies (t ∷ chain)) (λ more u further. visit_adds n dependencies (t ∷ chain) more u further) (subquery_tables_of dependencies t) (put_listed p t) (met_now dependencies chain p t inner good)))
-    (λ new leaf. leaf_adds n dependencies chain p t good (not_true (one_of p.listed t) (λ is. true≢false (sym (good.on t is new).1 ∙ leaf))) leaf)
-
-visits_add : (n : ℕ) (dependencies : List PolicyDependency) (chain ts : List (List ℕ)) (p : Progress) → Good dependencies chain p → Adds dependencies chain (needed_by n (leads_of dependencies)) p ts (visit_all (visit n dependencies chain) p ts)
-visits_add n dependencies chain ts p good = all_add dependencies chain (needed_by n (leads_of dependencies)) (visit n dependencies chain) (λ more t further. visit_adds n dependencies chain more t further) ts p good
-
 -- ---- the search
-
-abbrev ListsAll : List PolicyDependency → ℕ → List (List ℕ) → Found → Type 0
-ListsAll dependencies n ts (Fits more) = more.listed ≡ fresh [] (needs n (leads_of dependencies) ts)
-ListsAll dependencies n ts (Loops t) = Unit {0}
-ListsAll dependencies n ts Deep = Unit {0}
-
--- nothing that was met is left open
-good_alone : (dependencies : List PolicyDependency) (chain : List (List ℕ)) (more : Progress) → Lists nothing_yet more → Good dependencies chain more → Good dependencies [] more
-good_alone dependencies chain more lists good = record {
-  on = λ t is not_done. absurd (true≢false (sym (lists.listed_done t is refl) ∙ not_done));
-  met = good.met;
-  closed = good.closed;
-}
-
-lists_both : (n : ℕ) (dependencies : List PolicyDependency) (chain own queries : List (List ℕ)) (between : Progress) (found : Found) → Added dependencies chain (needed_by n (leads_of dependencies)) nothing_yet own between
-    → Adds dependencies [] (needed_by n (leads_of dependencies)) between queries found → ListsAll dependencies n (own ++ queries) found
-lists_both n dependencies chain own queries between (Fits after) one other =
-    other.listed ∙ ap (λ all. all ++ fresh all (needs n (leads_of dependencies) queries)) one.listed
-    ∙ sym (fresh_append [] (needs n (leads_of dependencies) own) (needs n (leads_of dependencies) queries))
-    ∙ ap (fresh []) (sym (flat_append (needed_by n (leads_of dependencies)) own queries))
-lists_both n dependencies chain own queries between (Loops t) one other = tt
-lists_both n dependencies chain own queries between Deep one other = tt
-
-lists_then : (n : ℕ) (dependencies : List PolicyDependency) (chain own queries : List (List ℕ)) (found : Found) (next : Progress → Found) → Keeps dependencies chain nothing_yet found → Adds dependencies chain (needed_by n (leads_of dependencies)) nothing_yet own found
-    → ((between : Progress) → Good dependencies [] between → Adds dependencies [] (needed_by n (leads_of dependencies)) between queries (next between)) → ListsAll dependencies n (own ++ queries) (found_then found next)
-lists_then n dependencies chain own queries (Fits between) next keeps one further = lists_both n dependencies chain own queries between (next between) one (further between (good_alone dependencies chain between keeps.1 one.good))
-lists_then n dependencies chain own queries (Loops t) next keeps one further = tt
-lists_then n dependencies chain own queries Deep next keeps one further = tt
-
-search_lists : (n : ℕ) (dependencies : List PolicyDependency) (target : List ℕ) (own queries : List (List ℕ)) → ListsAll dependencies n (own ++ queries) (searched_from n dependencies nothing_yet target own queries)
-search_lists n dependencies target own queries =
-    lists_then n dependencies (target ∷ []) own queries (visit_all (visit n dependencies (target ∷ [])) nothing_yet own) (λ more. visit_all (visit n dependencies []) more queries)
-    (visits_keep n dependencies (target ∷ []) own nothing_yet (record { once = tt; opened = λ t is not_done. absurd (true≢false (sym is)) }))
-    (visits_add n dependencies (target ∷ []) own nothing_yet (record { on = λ t is not_done. absurd (true≢false (sym is)); met = λ t is. is; closed = λ t is. absurd (true≢false (sym is)) }))
-    (λ between good. visits_add n dependencies [] queries between good)
-
-abbrev reached_or : Reached → Result Reached Refusal → Reached
-reached_or d (Ok reached) = reached
-reached_or d (Err refusal) = d
-
-abbrev is_refused : Result Reached Refusal → Bool
-is_refused (Err refusal) = true
-is_refused (Ok reached) = false
-
-lists_if : (found : Found) (n : ℕ) (dependencies : List PolicyDependency) (ts queries : List (List ℕ)) (reached : Reached) → ListsAll dependencies n ts found → IsTold found → told_by queries found ≡ Ok reached → reached.permission_checks ≡ queries ++ fresh [] (needs n (leads_of dependencies) ts)
-lists_if (Fits more) n dependencies ts queries reached lists told is = ap (λ result. (reached_or reached result).permission_checks) (sym is) ∙ ap (λ all. queries ++ all) lists
-lists_if (Loops t) n dependencies ts queries reached lists told is = absurd (true≢false (ap is_refused is))
-lists_if Deep n dependencies ts queries reached lists told is = absurd told
 
 pub search_told : (n : ℕ) (dependencies : List PolicyDependency) (target : List ℕ) (own queries : List (List ℕ)) → length dependencies < n → IsTold (searched_from n dependencies nothing_yet target own queries)
 search_told n dependencies target own queries more =
@@ -267,16 +53,133 @@ search_told n dependencies target own queries more =
     (all_told (visit n dependencies (target ∷ [])) (λ far t. visit_told n dependencies (target ∷ []) far t (omega (arith, more, left_most dependencies (target ∷ [])))) nothing_yet own)
     (λ far. all_told (visit n dependencies []) (λ further t. visit_told n dependencies [] further t (omega (arith, more, left_most dependencies []))) far queries)
 
-enough_for : (dependencies : List PolicyDependency) (chain : List (List ℕ)) (n : ℕ) → length dependencies < n → IsEnough dependencies chain n
-enough_for dependencies chain n more = omega (arith, more, left_most dependencies chain)
+-- ---- lists of what is asked
 
-search_same : (n m : ℕ) (dependencies : List PolicyDependency) (target : List ℕ) (own queries : List (List ℕ)) → length dependencies < n → length dependencies < m
-    → searched_from n dependencies nothing_yet target own queries ≡ searched_from m dependencies nothing_yet target own queries
-search_same n m dependencies target own queries more also =
-    ap (λ found. found_then found (λ far. visit_all (visit n dependencies []) far queries)) (visits_same n m dependencies (target ∷ []) nothing_yet own (enough_for dependencies (target ∷ []) n more) (enough_for dependencies (target ∷ []) m also))
-    ∙ (λ i. found_then (visit_all (visit m dependencies (target ∷ [])) nothing_yet own) (λ far. visits_same n m dependencies [] far queries (enough_for dependencies [] n more) (enough_for dependencies [] m also) i))
+-- a test that may refuse
+abbrev pub Test : Type 0
+Test = SelectedTable → Result (Unit {0}) Refusal
 
-pub checks_in_order : ChecksInOrder
-checks_in_order dependencies target own queries reached n more is =
-    lists_if (searched_from n dependencies nothing_yet target own queries) n dependencies (own ++ queries) queries reached (search_lists n dependencies target own queries) (search_told n dependencies target own queries more)
-    (ap (told_by queries) (search_same n (suc (length dependencies)) dependencies target own queries more (omega arith)) ∙ is)
+pub then_assoc : (one : Result (Unit {0}) Refusal) (two three : Result (Unit {0}) Refusal) → and_then (and_then one (λ _. two)) (λ _. three) ≡ and_then one (λ _. and_then two (λ _. three))
+then_assoc (Ok a) two three = refl
+then_assoc (Err refusal) two three = refl
+
+pub each_append : {A : Type 0} (test : A → Result (Unit {0}) Refusal) (xs ys : List A) → each_or_refused test (xs ++ ys) ≡ and_then (each_or_refused test xs) (λ _. each_or_refused test ys)
+each_append test [] ys = refl
+each_append test (x ∷ xs) ys = ap (λ rest. and_then (test x) (λ _. rest)) (each_append test xs ys) ∙ sym (then_assoc (test x) (each_or_refused test xs) (each_or_refused test ys))
+
+abbrev passed : Result (Unit {0}) Refusal → Bool
+passed (Ok a) = true
+passed (Err refusal) = false
+
+-- both pass
+then_first : (one two : Result (Unit {0}) Refusal) → passed (and_then one (λ _. two)) ≡ true → passed one ≡ true
+then_first (Ok a) two is = refl
+then_first (Err refusal) two is = is
+
+then_second : (one two : Result (Unit {0}) Refusal) → passed (and_then one (λ _. two)) ≡ true → passed two ≡ true
+then_second (Ok a) two is = is
+then_second (Err refusal) two is = absurd (true≢false (sym is))
+
+-- what passes changes nothing behind another
+nothing_more : (one rest : Result (Unit {0}) Refusal) → passed rest ≡ true → and_then one (λ _. Ok tt) ≡ and_then one (λ _. rest)
+nothing_more one (Ok tt) is = refl
+nothing_more one (Err refusal) is = absurd (true≢false (sym is))
+
+-- where what is before passes, the two are the same
+then_same : (before one other : Result (Unit {0}) Refusal) → (passed before ≡ true → one ≡ other) → and_then before (λ _. one) ≡ and_then before (λ _. other)
+then_same (Ok a) one other same = same refl
+then_same (Err refusal) one other same = refl
+
+pub then_nothing : (one : Result (Unit {0}) Refusal) → one ≡ and_then one (λ _. Ok tt)
+then_nothing (Ok tt) = refl
+then_nothing (Err refusal) = refl
+
+-- ---- tables in an order
+
+abbrev pub tables : List SelectedTable → List (List ℕ)
+tables selected = map (λ one. one.table) selected
+
+pub flat_selected_same : (one other : SelectedTable → List SelectedTable) (ts : List (List ℕ)) (xs : List SelectedTable) → Within (tables xs) ts → ((x : SelectedTable) → one_of ts x.table ≡ true → one x ≡ other x) → flat_map one xs ≡ flat_map other xs
+flat_selected_same one other ts [] within same = refl
+flat_selected_same one other ts (x ∷ xs) within same =
+    λ i. same x (within x.table (one_first x.table (tables xs))) i ++ flat_selected_same one other ts xs (λ name is. within name (one_further x.table (tables xs) name is)) same i
+
+-- from as many steps on as there are tables nothing changes
+settled : (leads : List ℕ → List SelectedTable) (ts : List (List ℕ)) → Follows leads ts → (n m : ℕ) → length ts ≤ n → length ts ≤ m → (one : SelectedTable) → one_of ts one.table ≡ true → needed_by n leads one ≡ needed_by m leads one
+settled leads [] follows n m few fewer one is = absurd (true≢false (sym is))
+settled leads (t ∷ ts) follows zero m few fewer one is = absurd (omega (arith, few))
+settled leads (t ∷ ts) follows (suc n) zero few fewer one is = absurd (omega (arith, fewer))
+settled leads (t ∷ ts) follows (suc n) (suc m) few fewer one is =
+    one_cases t ts one.table is
+    (λ same. ap (λ rest. one ∷ rest) (flat_selected_same (needed_by n leads) (needed_by m leads) ts (leads one.table) (subst (λ u. Within (tables (leads u)) ts) same follows.0)
+    (λ x among. settled leads ts follows.1 n m (omega (arith, few)) (omega (arith, fewer)) x among)))
+    (λ further. settled leads ts follows.1 (suc n) (suc m) (omega (arith, few)) (omega (arith, fewer)) one further)
+
+-- ---- what the walk adds
+
+-- where all that was listed passes, so does what a table that is done leads to
+abbrev Good : Test → (SelectedTable → List SelectedTable) → (List ℕ → List SelectedTable) → Listing → Type 0
+Good test need leads listing = (t : List ℕ) → one_of listing.done t ≡ true → passed (each_or_refused test listing.listed) ≡ true → passed (each_or_refused test (flat_map need (leads t))) ≡ true
+
+-- what is listed afterwards passes as what was, and then these
+record Adds (test : Test) (need : SelectedTable → List SelectedTable) (leads : List ℕ → List SelectedTable) (before : Listing) (added : List SelectedTable) (after : Listing) : Type 0 where
+  pub told : each_or_refused test after.listed ≡ and_then (each_or_refused test before.listed) (λ _. each_or_refused test added)
+  pub good : Good test need leads after
+
+all_add : (test : Test) (need : SelectedTable → List SelectedTable) (leads : List ℕ → List SelectedTable) (step : Listing → SelectedTable → Listing) (ts : List (List ℕ))
+    → ((listing : Listing) → Good test need leads listing → (one : SelectedTable) → one_of ts one.table ≡ true → Adds test need leads listing (need one) (step listing one))
+    → (xs : List SelectedTable) → Within (tables xs) ts → (listing : Listing) → Good test need leads listing → Adds test need leads listing (flat_map need xs) (fold step listing xs)
+all_add test need leads step ts each [] within listing good = record { told = then_nothing (each_or_refused test listing.listed); good = good }
+all_add test need leads step ts each (x ∷ xs) within listing good =
+    let one : Adds test need leads listing (need x) (step listing x) = each listing good x (within x.table (one_first x.table (tables xs))) in
+    let rest : Adds test need leads (step listing x) (flat_map need xs) (fold step (step listing x) xs) = all_add test need leads step ts each xs (λ name is. within name (one_further x.table (tables xs) name is)) (step listing x) one.good in
+    record {
+      told = rest.told
+          ∙ ap (λ found. and_then found (λ _. each_or_refused test (flat_map need xs))) one.told
+          ∙ then_assoc (each_or_refused test listing.listed) (each_or_refused test (need x)) (each_or_refused test (flat_map need xs))
+          ∙ sym (ap (λ found. and_then (each_or_refused test listing.listed) (λ _. found)) (each_append test (need x) (flat_map need xs)));
+      good = rest.good;
+    }
+
+good_listed : (test : Test) (need : SelectedTable → List SelectedTable) (leads : List ℕ → List SelectedTable) (listing : Listing) (one : SelectedTable) → Good test need leads listing → Good test need leads (put_selected listing one)
+good_listed test need leads listing one good t is pass =
+    good t is (then_first (each_or_refused test listing.listed) (each_or_refused test (one ∷ [])) (ap passed (sym (each_append test listing.listed (one ∷ []))) ∙ pass))
+
+adds_if : (b : Bool) (test : Test) (need : SelectedTable → List SelectedTable) (leads : List ℕ → List SelectedTable) (listing rest : Listing) (one : SelectedTable) → Good test need leads listing → one_of listing.done one.table ≡ b
+    → need one ≡ one ∷ flat_map need (leads one.table) → Adds test need leads (put_selected listing one) (flat_map need (leads one.table)) rest
+    → Adds test need leads listing (need one) (if b then put_selected listing one else put_gone_through rest one.table)
+adds_if true test need leads listing rest one good is unfolds adds = record {
+  told = each_append test listing.listed (one ∷ [])
+      ∙ then_same (each_or_refused test listing.listed) (and_then (test one) (λ _. Ok tt)) (each_or_refused test (need one))
+      (λ pass. nothing_more (test one) (each_or_refused test (flat_map need (leads one.table))) (good one.table is pass) ∙ sym (ap (each_or_refused test) unfolds));
+  good = good_listed test need leads listing one good;
+}
+adds_if false test need leads listing rest one good is unfolds adds = record {
+  told = adds.told
+      ∙ ap (λ found. and_then found (λ _. each_or_refused test (flat_map need (leads one.table)))) (each_append test listing.listed (one ∷ []))
+      ∙ then_assoc (each_or_refused test listing.listed) (and_then (test one) (λ _. Ok tt)) (each_or_refused test (flat_map need (leads one.table)))
+      ∙ ap (λ found. and_then (each_or_refused test listing.listed) (λ _. found)) (then_assoc (test one) (Ok tt) (each_or_refused test (flat_map need (leads one.table))) ∙ sym (ap (each_or_refused test) unfolds));
+  good = λ t among pass. one_cases one.table rest.done t among
+      (λ same. subst (λ u. passed (each_or_refused test (flat_map need (leads u))) ≡ true) same
+      (then_second (each_or_refused test (put_selected listing one).listed) (each_or_refused test (flat_map need (leads one.table))) (ap passed (sym adds.told) ∙ pass)))
+      (λ further. adds.good t further pass);
+}
+
+from_adds : (test : Test) (need : SelectedTable → List SelectedTable) (leads : List ℕ → List SelectedTable) (ts : List (List ℕ)) → Follows leads ts → ((one : SelectedTable) → one_of ts one.table ≡ true → need one ≡ one ∷ flat_map need (leads one.table))
+    → (n : ℕ) → length ts ≤ n → (listing : Listing) → Good test need leads listing → (one : SelectedTable) → one_of ts one.table ≡ true → Adds test need leads listing (need one) (list_from n leads listing one)
+from_adds test need leads [] follows unfolds n few listing good one is = absurd (true≢false (sym is))
+from_adds test need leads (t ∷ ts) follows unfolds zero few listing good one is = absurd (omega (arith, few))
+from_adds test need leads (t ∷ ts) follows unfolds (suc n) few listing good one is =
+    one_cases t ts one.table is
+    (λ same. adds_if (one_of listing.done one.table) test need leads listing (fold (list_from n leads) (put_selected listing one) (leads one.table)) one good refl (unfolds one is)
+    (all_add test need leads (list_from n leads) ts
+    (λ more fine x among. from_adds test need leads ts follows.1 (λ y there. unfolds y (one_further t ts y.table there)) n (omega (arith, few)) more fine x among)
+    (leads one.table) (subst (λ u. Within (tables (leads u)) ts) same follows.0) (put_selected listing one) (good_listed test need leads listing one good)))
+    (λ further. from_adds test need leads ts follows.1 (λ y there. unfolds y (one_further t ts y.table there)) (suc n) (omega (arith, few)) listing good one further)
+
+-- what the walk lists passes just as what is needed
+pub listed_is_needed : ListedIsNeeded
+listed_is_needed leads order n m asked test follows few fewer within =
+    (all_add test (needed_by m leads) leads (list_from n leads) order
+    (λ listing good one is. from_adds test (needed_by m leads) leads order follows (λ x among. settled leads order follows m (suc m) fewer (omega (arith, fewer)) x among) n few listing good one is)
+    asked within no_listing (λ t is. absurd (true≢false (sym is)))).told

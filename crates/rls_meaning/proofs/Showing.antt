@@ -15,7 +15,7 @@ use Rattle.rls_guard.specs.rls_evaluation.specs.Showing.{allows, asked_for, is_a
 use Rattle.rls_guard.specs.{declared.quals.RowCheck.RowCheck, declared.reply.Decision.Decision, SecurityQuals.conditions_of, SecurityQuals.with_condition}
 use Rattle.rls_depth.specs.Deep.{ruled, shown_by, shows_deep}
 use Rattle.rls_access.specs.rls_judging.specs.{Judging.are_allowed, Judging.decision_by, Judging.decisions_on as machine_decisions_on, Judging.judged_old, Judging.qualifies_if, Judging.row_if_qualifying, Judging.with_judged, Valuing.values_on}
-use Rattle.rls_meaning.specs.{Commands.Command, Commands.depth_of, Evaluating.Shown, Evaluating.is_met, Evaluating.value, Expanding.check, Expanding.checks, Expanding.sees, Expanding.select_quals, Resolving.resolved}
+use Rattle.rls_meaning.specs.{Commands.Command, Commands.depth_of, Commands.reads, Evaluating.Shown, Evaluating.is_met, Evaluating.value, Expanding.check, Expanding.checks, Expanding.sees, Expanding.select_quals, Resolving.resolved}
 use Rattle.rls_meaning.specs.{Rows.decisions, Rows.kinds_of, Rows.qualifying, Rows.scanned, Rows.shown_to, Rows.verdict, Showing.allowed_rows, Showing.rows_at_key, Showing.shows, Showing.verdict_in}
 use Rattle.rls_meaning.proofs.Questions.{decisions_in, put_values, qualifying_rows_in, row_values, set_values, tuple_values}
 use Rattle.rls_meaning.proofs.Resolving.{state_resolved_told}
@@ -161,7 +161,7 @@ checked_if false s c which id row = λ i. record { id = id; side = which; kind =
 -- the decisions on a row of a command
 row_told : (s : State) (c : Command) (which : Side) (stored : Stored)
     → ((machine_decisions_on (checks s c which) (sees s c) c.role stored.id stored.row).in_state s).gives ≡ Ok (map (decision_for s c which stored.id stored.row) (kinds_of c))
-row_told s c which stored = decisions_on_told s (sees s c) (shown_to s c) (sees_told s c) (checks s c which) c.role stored.id stored.row ∙ ap Ok (checked_if c.reads s c which stored.id stored.row)
+row_told s c which stored = decisions_on_told s (sees s c) (shown_to s c) (sees_told s c) (checks s c which) c.role stored.id stored.row ∙ ap Ok (checked_if (reads c) s c which stored.id stored.row)
 
 all_allow : (s : State) (c : Command) (which : Side) (id : RowId) (row : List Value) (kinds : List Kind) → are_allowed (map (decision_for s c which id row) kinds) ≡ list_all (λ kind. allows (verdict s c which row kind)) kinds
 all_allow s c which id row [] = refl

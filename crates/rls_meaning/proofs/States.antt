@@ -14,7 +14,7 @@ use Rattle.rls_recursion.proofs.Closing.{one_first}
 use Rattle.rls_depth.specs.rls_expansion.specs.{Expanding.asks_of, Expanding.own_tables, Dependencies.reading, Dependencies.dependency_by, Used.Ask, Used.has_query_if, Used.holds_subquery, Used.tables_asked, Used.tables_if, Used.tables_used, Used.tables_where}
 use Rattle.rls_depth.specs.{Deep.policies_in, Leading.using_tables}
 use Rattle.rls_depth.proofs.{DependencyLaws.by_leads, Walking.dependency_at, Walking.dependency_for}
-use Rattle.rls_meaning.specs.{Chains.has_subquery_in, Chains.select_policies, Chains.subquery_tables_in, Commands.Command, Parts.has_query, Parts.tables_of}
+use Rattle.rls_meaning.specs.{Chains.has_subquery_in, Chains.select_policies, Chains.subquery_tables_in, Commands.Command, Commands.reads, Parts.has_query, Parts.tables_of}
 use Rattle.rls_meaning.proofs.{Asking.asked_in, Parts.has_query_if_told, Parts.tables_if_told}
 
 -- ---- the tables that policies use
@@ -58,9 +58,9 @@ own_if true role_privileges kind reads policies = refl
 own_if false role_privileges kind reads policies = used_by role_privileges.effective_roles.superuser role_privileges.effective_roles.names (asks_of kind reads) policies
 
 -- the tables that the policies of the statement's table lead to
-pub own_told : (s : State) (c : Command) → own_tables (role_privileges_in s c.role) c.kind c.reads (policies_in s (role_privileges_in s c.role) c.name c.table) ≡ asked_in s c
+pub own_told : (s : State) (c : Command) → own_tables (role_privileges_in s c.role) c.kind (reads c) (policies_in s (role_privileges_in s c.role) c.name c.table) ≡ asked_in s c
 unfolding role_privileges_in
-own_told s c = own_if (exempts (role_privileges_in s c.role).attributes c.table (has_owner (role_privileges_in s c.role) c.table)) (role_privileges_in s c.role) c.kind c.reads (policies_of s c.name)
+own_told s c = own_if (exempts (role_privileges_in s c.role).attributes c.table (has_owner (role_privileges_in s c.role) c.table)) (role_privileges_in s c.role) c.kind (reads c) (policies_of s c.name)
 
 -- ---- a dependency
 
@@ -111,7 +111,7 @@ policies_told : (policies : List Policy) → list_any holds_subquery policies �
 policies_told policies = λ i. list_any (λ policy. holds_told policy.using policy.check i) policies
 
 -- the tables that policies lead to
-lead_told : (policies : List Policy) → flat_map using_tables policies ≡ flat_map (λ policy. flat_map tables_of (option_to_list policy.using)) policies
+pub lead_told : (policies : List Policy) → flat_map using_tables policies ≡ flat_map (λ policy. flat_map tables_of (option_to_list policy.using)) policies
 lead_told policies = λ i. flat_map (λ policy. tables_if_told policy.using i) policies
 
 pub leaf_leads : (s : State) (role name : List ℕ) → has_subquery_in s role name ≡ false → subquery_tables_in s role name ≡ []

@@ -1,6 +1,6 @@
 -- The parts of a statement on rows, checked (PostgreSQL manual, 4.1 and 4.2): first the names of all parts, in text order,
 -- then the types of all, then that nothing stands in them that isn't supported.
-use Rattle.std.specs.Prelude.{ℕ, List, [], ◌++◌, Bool, true, false, not, ◌||◌, Option, Some, Result, map}
+use Rattle.std.specs.Prelude.{ℕ, List, [], ◌++◌, Bool, true, false, not, ◌||◌, Option, Some, Result, map, if◌then◌else◌}
 use Rattle.std.specs.List.{list_all, list_any}
 use Rattle.std.specs.Option.{option_map_or, option_to_list}
 use Rattle.rls_value.specs.{declared.refusal.Refusal.Refusal, declared.refusal.Refusal.TheVariants.TypeFault, declared.refusal.Refusal.TheVariants.Undefined, declared.refusal.Refusal.TheVariants.Unsupported, Giving.and_then}
@@ -11,7 +11,7 @@ use Rattle.rls_catalog.specs.State.{State}
 use Rattle.rls_source.specs.Named.{found_or}
 use Rattle.rls_statement.specs.declared.statement.Selected.{Selected}
 use Rattle.rls_statement.specs.declared.statement.Selected.TheVariants as selected
-use Rattle.rls_meaning.specs.{Naming.provided, Parts.is_unsupported, Parts.is_unsupported_item, Parts.mentions, Resolving.resolved, Typing.fits, Typing.some_type}
+use Rattle.rls_meaning.specs.{Naming.provided, Parts.is_unsupported, Parts.is_unsupported_item, Parts.columns_of, Resolving.resolved, Typing.fits, Typing.some_type}
 
 -- ---- what is selected or returned
 
@@ -30,9 +30,9 @@ abbrev pub items_resolved : State → List InScope → Selected → Selected
 items_resolved s tables (selected.Items items) = selected.Items (map (resolved s tables) items)
 items_resolved s tables other = other
 
--- the table is read: `*` is returned, or one of these expressions or an item mentions a column
-abbrev pub reads_in : List Term → Option Selected → Bool
-reads_in terms returning = is_all returning || list_any (mentions (λ _. true) 0) (terms ++ items_of returning)
+-- the columns that one of these expressions or an item mentions, in the table's order; `*` mentions all
+abbrev pub columns_in : List Column → List Term → Option Selected → List (List ℕ)
+columns_in columns terms items = if is_all items then map (λ column. column.name) columns else columns_of columns (terms ++ items_of items)
 
 -- ---- columns that are written
 

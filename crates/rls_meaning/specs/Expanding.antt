@@ -5,18 +5,19 @@ use Rattle.std.specs.Prelude.{◌≡◌, ℕ, List, [], ◌∷◌, Bool, Option,
 use Rattle.rls_value.specs.{declared.refusal.Refusal.Refusal, declared.verb.Kind.Kind}
 use Rattle.rls_value.specs.declared.verb.Kind.TheVariants as k
 use Rattle.rls_value.specs.declared.refusal.Refusal.TheVariants.{Recursion}
-use Rattle.rls_expr.specs.Terms.{Term}
+use Rattle.rls_expr.specs.{declared.columns.SelectedTable.SelectedTable, Terms.Term}
+use Rattle.rls_source.specs.Sequences.{each_or_refused}
 use Rattle.rls_catalog.specs.{declared.verdict.Side.Side, Membership.Within, State.State, State.table_of}
 use Rattle.rls_catalog.specs.declared.verdict.Side.TheVariants as side
 use Rattle.rls_guard.specs.rls_evaluation.specs.{declared.relation.SecurityQuals.SecurityQuals, Environments.Environment, Eval.Shows, Eval.value_of, Showing.shows}
 use Rattle.rls_guard.specs.{declared.quals.RowCheck.RowCheck, RolePrivileges.role_privileges_in}
-use Rattle.rls_depth.specs.rls_expansion.specs.{declared.expansion.PolicyExpansion.PolicyExpansion, Expanding.judges_new, Expanding.judges_old, Expanding.expansion_of, Used.tables_of}
+use Rattle.rls_depth.specs.rls_expansion.specs.{declared.expansion.PolicyExpansion.PolicyExpansion, Expanding.judges_new, Expanding.judges_old, Expanding.expansion_of, Expanding.permission_checks, Used.tables_of}
 use Rattle.rls_depth.specs.Deep.{JudgeAlike, ruled, shows_deep}
-use Rattle.rls_meaning.specs.{Commands.Command, Commands.closing_in, Commands.depth_of, Commands.needed_in}
+use Rattle.rls_meaning.specs.{Commands.Command, Commands.closing_in, Commands.depth_of, Commands.needed_in, Commands.own_of, Commands.query_tables, Commands.reads}
 
 -- the command's policy expansion
 abbrev pub expansion_in : State → Command → Result PolicyExpansion Refusal
-expansion_in s c = ((expansion_of (role_privileges_in s c.role) c.name c.table c.kind c.reads c.queries).in_state s).gives
+expansion_in s c = ((expansion_of (role_privileges_in s c.role) c.name c.table c.kind (reads c) (query_tables c)).in_state s).gives
 
 -- the security quals of each table that subqueries look at
 abbrev pub select_quals : State → List ℕ → List ℕ → Option SecurityQuals
@@ -28,7 +29,7 @@ check s c which kind = record { kind = kind; side = which; quals = ruled s c.rol
 
 -- what a row is checked for: the command and, where it reads the table, SELECT
 abbrev pub checks : State → Command → Side → List RowCheck
-checks s c which = check s c which c.kind ∷ (if c.reads then check s c which k.Select ∷ [] else [])
+checks s c which = check s c which c.kind ∷ (if reads c then check s c which k.Select ∷ [] else [])
 
 -- what tables show to the role, in its subqueries and in those of policies, as a question of the state
 abbrev pub sees : State → Command → Shows
@@ -38,13 +39,15 @@ sees s c = shows_deep (depth_of s c) (select_quals s c.role) c.role
 abbrev pub checks_if : Bool → State → Command → Side → List RowCheck
 checks_if judges s c which = if judges then checks s c which else []
 
--- it says what the state says: whose privilege is asked, in order; what rows are checked for; what expressions come to over
--- the tables that are asked for; and what the checks say of each row
+-- it says what the state says: what SELECT is asked for passes just where all that is needed does, and is refused for the same one;
+-- what rows are checked for; what expressions come to over the tables that subqueries look at; and what the checks say of each row
 pub record IsExpansionIn (s : State) (c : Command) (p : PolicyExpansion) : Type 0 where
-  pub permission_checks : p.permission_checks ≡ needed_in s c
+  pub asked : (test : SelectedTable → Result (Unit {0}) Refusal) → each_or_refused test (permission_checks p c.queries) ≡ each_or_refused test (needed_in s c)
+  pub own_looked : Within (own_of s c) p.tables
+  pub looked : Within (query_tables c) p.tables
   pub old : p.old ≡ checks_if (judges_old c.kind) s c side.Old
   pub new : p.new ≡ checks_if (judges_new c.kind) s c side.New
-  pub value : (t : Term) (env : Environment) → Within (tables_of t) p.permission_checks → (value_of t (shows p.relations c.role) env).in_state s ≡ (value_of t (sees s c) env).in_state s
+  pub value : (t : Term) (env : Environment) → Within (tables_of t) p.tables → (value_of t (shows p.relations c.role) env).in_state s ≡ (value_of t (sees s c) env).in_state s
   pub judged_old : JudgeAlike s c.role (shows p.relations c.role) (sees s c) p.old
   pub judged_new : JudgeAlike s c.role (shows p.relations c.role) (sees s c) p.new
 

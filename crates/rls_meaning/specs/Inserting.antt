@@ -5,7 +5,7 @@ use Rattle.std.specs.List.{flat_map, range_with_len}
 use Rattle.std.specs.Option.{option_map}
 use Rattle.rls_value.specs.{declared.refusal.Refusal.Refusal, declared.value.Value.Value, declared.tag.Tag.Tag, Giving.and_then, declared.refusal.Refusal.TheVariants.Limit}
 use Rattle.rls_value.specs.declared.verb.Kind.TheVariants as k
-use Rattle.rls_expr.specs.{declared.table.TableDef.TableDef, Terms.Term, declared.table.Column.Column}
+use Rattle.rls_expr.specs.{declared.table.TableDef.TableDef, Selecting.selected_of, Terms.Term, declared.table.Column.Column}
 use Rattle.rls_catalog.specs.{declared.change.Change.Change, declared.stored.Stored.Stored, State.State}
 use Rattle.rls_catalog.specs.declared.verdict.Side.TheVariants as side
 use Rattle.rls_source.specs.{Sequences.each_of}
@@ -13,9 +13,9 @@ use Rattle.rls_statement.specs.{declared.statement.Insert.Insert, declared.state
 use Rattle.rls_statement.specs.declared.statement.Statement.TheVariants as statement
 use Rattle.rls_guard.specs.rls_evaluation.specs.{Environments.alone}
 use Rattle.rls_guard.specs.{declared.context.Ctx.Ctx, declared.effect.Effect.Effect, declared.reply.Decision.Decision, Effects.shown}
-use Rattle.rls_access.specs.rls_dml.specs.{declared.analysed_insert.AnalysedInsert.AnalysedInsert, Inserting.nulls, Inserting.numbered, Writing.assigned, Writing.order_of}
+use Rattle.rls_access.specs.rls_dml.specs.{declared.analysed_insert.AnalysedInsert.AnalysedInsert, Checking.columns_at, Inserting.is_given, Inserting.nulls, Inserting.numbered, Writing.assigned, Writing.order_of}
 use Rattle.rls_access.specs.{Statements.effect_in, Statements.mode_or_refused}
-use Rattle.rls_meaning.specs.{Commands.Command, Commands.permitted_in, Constraints.allowed_in, Evaluating.value, Naming.table_in, Replies.done_or_refused, Replies.kept, Replies.reply_of, Replies.row_change, Rows.decisions, Rows.shown_to, Analysing.checked, Analysing.items_of, Analysing.items_resolved, Analysing.of_both, Analysing.of_value, Analysing.place_in, Analysing.reads_in, Naming.provided, Resolving.resolved, Parts.names_in, Parts.tables_of}
+use Rattle.rls_meaning.specs.{Commands.Command, Commands.permitted_in, Constraints.allowed_in, Evaluating.value, Naming.table_in, Replies.done_or_refused, Replies.kept, Replies.reply_of, Replies.row_change, Rows.decisions, Rows.shown_to, Analysing.checked, Analysing.items_of, Analysing.items_resolved, Analysing.of_both, Analysing.of_value, Analysing.place_in, Analysing.columns_in, Naming.provided, Resolving.resolved, Parts.found_in, Parts.names_in}
 use Rattle.rls_value.specs.declared.refusal.Limit.TheVariants as limit
 
 -- the places that are written: those of the columns in the list or, without one, all
@@ -40,7 +40,7 @@ insert_parts s ctx asked table =
     let returning : Option Selected = option_map (items_resolved s ((asked.table, table) ∷ [])) asked.returning in
     and_then (checked (flat_map (of_tuple table.columns places) tuples ++ of_both None returning)) (λ _.
     and_then (provided (nat_le (ctx.next + length tuples) 4294967295) (Limit limit.Inserts)) (λ _.
-    Ok (record { places = places; tuples = tuples; returning = returning }))))))
+    Ok (record { places = places; tuples = tuples; returning = returning; found = found_in s (flat_map (λ tuple. tuple) asked.tuples ++ items_of asked.returning) }))))))
 
 -- the row of a tuple: its values, over no row, at their places, null at the others
 abbrev pub row_of_tuple : State → Command → List ℕ → List Term → Result (List Value) Refusal
@@ -64,7 +64,7 @@ abbrev pub insert_in : State → Ctx → Insert → Result Effect Refusal
 insert_in s ctx asked =
     and_then (table_in s asked.table) (λ table.
     and_then (insert_parts s ctx asked table) (λ parts.
-    insert_rows s ctx parts (record { role = ctx.role; name = asked.table; table = table; kind = k.Insert; reads = reads_in [] parts.returning; queries = flat_map (flat_map tables_of) parts.tuples })))
+    insert_rows s ctx parts (record { role = ctx.role; name = asked.table; table = table; kind = k.Insert; own = columns_at (is_given parts.places parts.tuples) table.columns; read = columns_in table.columns [] parts.returning; queries = flat_map (flat_map (selected_of parts.found)) parts.tuples })))
 
 -- what INSERT means, once its transaction may run it
 abbrev pub effect_of_insert : State → Ctx → Insert → Effect

@@ -3,7 +3,8 @@ use Rattle.std.specs.Prelude.{ℕ, ◌+◌, List, [], ◌∷◌, ◌++◌, Bool,
 use Rattle.std.specs.List.{filter_map, flat_map, list_any}
 use Rattle.std.specs.Option.{option_map}
 use Rattle.rls_value.specs.{declared.refusal.Refusal.Refusal, Giving.and_then}
-use Rattle.rls_expr.specs.{declared.expr.FromItem.FromItem, declared.expr.Selects.Selects, Scopes.InScope, Scopes.var_in}
+use Rattle.rls_expr.specs.declared.table.Column.{Column as ColumnOf}
+use Rattle.rls_expr.specs.{declared.expr.FromItem.FromItem, Selecting.names_where, declared.expr.Selects.Selects, Scopes.InScope, Scopes.var_in}
 use Rattle.rls_expr.specs.declared.expr.Selects.TheVariants as s
 use Rattle.rls_expr.specs.Terms.{Term, Terms, Query, Column, Var, Compare, And, Or, Not, IsNull, IsNotNull, InList, NotInList, Exists, InSubquery, NotInSubquery, Scalar, Sum, End, More, Select, qualifier_of}
 use Rattle.rls_catalog.specs.State.{State, table_of}
@@ -69,6 +70,10 @@ is_column_of is_wanted table _ = false
 -- such a column stands in it
 abbrev pub mentions : (ℕ → Bool) → ℕ → Term → Bool
 mentions is_wanted table t = list_any (is_column_of is_wanted table) (parts [] t)
+
+-- the columns of the table nearest to the expressions that stand in them, in the table's order
+abbrev pub columns_of : List ColumnOf → List Term → List (List ℕ)
+columns_of columns terms = names_where (λ place. list_any (mentions (nat_eq place) 0) terms) 0 columns
 
 -- ---- what isn't supported
 

@@ -10,7 +10,7 @@ use Rattle.rls_catalog.specs.declared.verdict.Side.TheVariants as side
 use Rattle.rls_guard.specs.rls_evaluation.specs.{Environments.over, Showing.allows}
 use Rattle.rls_guard.specs.declared.reply.Decision.{Decision}
 use Rattle.rls_access.specs.rls_judging.specs.ScannedRows.{pinned_key}
-use Rattle.rls_meaning.specs.{Commands.Command, Commands.depth_of, Evaluating.Shown, Evaluating.is_met, Showing.rows_at_key, Showing.shows, Showing.verdict_in}
+use Rattle.rls_meaning.specs.{Commands.Command, Commands.depth_of, Commands.reads, Evaluating.Shown, Evaluating.is_met, Showing.rows_at_key, Showing.shows, Showing.verdict_in}
 
 -- what tables show to its role
 abbrev pub shown_to : State → Command → Shown
@@ -18,7 +18,7 @@ shown_to s c = shows (depth_of s c) s c.role
 
 -- the types of command that its rows are checked for: its own and, where it reads the table, SELECT
 abbrev pub kinds_of : Command → List Kind
-kinds_of c = c.kind ∷ (if c.reads then k.Select ∷ [] else [])
+kinds_of c = c.kind ∷ (if reads c then k.Select ∷ [] else [])
 
 -- what the policies say of a row for one of them
 abbrev pub verdict : State → Command → Side → List Value → Kind → Verdict

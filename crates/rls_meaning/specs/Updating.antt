@@ -5,7 +5,7 @@ use Rattle.std.specs.List.{flat_map}
 use Rattle.std.specs.Option.{option_map, option_to_list}
 use Rattle.rls_value.specs.{declared.refusal.Refusal.Refusal, declared.tag.Tag.Tag, Giving.and_then}
 use Rattle.rls_value.specs.declared.verb.Kind.TheVariants as k
-use Rattle.rls_expr.specs.{declared.table.TableDef.TableDef, Terms.Column, Terms.Term, Scopes.InScope}
+use Rattle.rls_expr.specs.{declared.table.TableDef.TableDef, Selecting.selected_of, Terms.Column, Terms.Term, Scopes.InScope}
 use Rattle.rls_catalog.specs.{declared.change.Change.Change, declared.stored.Stored.Stored, State.State}
 use Rattle.rls_catalog.specs.declared.verdict.Side.TheVariants as side
 use Rattle.rls_source.specs.{Sequences.each_of}
@@ -13,9 +13,9 @@ use Rattle.rls_statement.specs.{declared.changing.Update.Update}
 use Rattle.rls_statement.specs.declared.statement.Statement.TheVariants as statement
 use Rattle.rls_guard.specs.rls_evaluation.specs.{Environments.over}
 use Rattle.rls_guard.specs.{declared.context.Ctx.Ctx, declared.effect.Effect.Effect, declared.reply.Decision.Decision, Effects.shown}
-use Rattle.rls_access.specs.rls_dml.specs.{declared.analysed_update.AnalysedUpdate.AnalysedUpdate, Updating.places_set, Writing.assigned, Writing.key_at, Writing.order_of}
+use Rattle.rls_access.specs.rls_dml.specs.{declared.analysed_update.AnalysedUpdate.AnalysedUpdate, Checking.columns_at, Updating.places_set, Writing.assigned, Writing.is_written, Writing.key_at, Writing.order_of}
 use Rattle.rls_access.specs.{Statements.effect_in, Statements.mode_or_refused}
-use Rattle.rls_meaning.specs.{Commands.Command, Commands.permitted_in, Constraints.allowed_in, Evaluating.value, Naming.table_in, Replies.done_or_refused, Replies.kept, Replies.reply_of, Replies.row_change, Rows.decisions, Rows.qualifying, Rows.scanned, Rows.shown_to, Analysing.checked, Analysing.items_of, Analysing.items_resolved, Analysing.of_both, Analysing.of_value, Analysing.place_in, Analysing.reads_in, Resolving.resolved, Parts.names_in, Parts.tables_of}
+use Rattle.rls_meaning.specs.{Commands.Command, Commands.permitted_in, Constraints.allowed_in, Evaluating.value, Naming.table_in, Replies.done_or_refused, Replies.kept, Replies.reply_of, Replies.row_change, Rows.decisions, Rows.qualifying, Rows.scanned, Rows.shown_to, Analysing.checked, Analysing.items_of, Analysing.items_resolved, Analysing.of_both, Analysing.of_value, Analysing.place_in, Analysing.columns_in, Resolving.resolved, Parts.found_in, Parts.names_in}
 
 -- the parts of the statement: names, then types, then support
 abbrev pub update_parts : State → Update → TableDef → Result AnalysedUpdate Refusal
@@ -24,7 +24,7 @@ update_parts s asked table =
     let set : List Term = flat_map (λ assignment. Column (record { qualifier = None; name = assignment.column }) ∷ assignment.value ∷ []) asked.assignments in
     and_then (names_in s from (set ++ (option_to_list asked.condition ++ items_of asked.returning))) (λ _.
     and_then (each_of (λ assignment. and_then (place_in table.columns assignment.column) (λ place. Ok (place, resolved s from assignment.value))) asked.assignments) (λ assignments.
-    let parts : AnalysedUpdate = record { assignments = assignments; condition = option_map (resolved s from) asked.condition; returning = option_map (items_resolved s from) asked.returning } in
+    let parts : AnalysedUpdate = record { assignments = assignments; condition = option_map (resolved s from) asked.condition; returning = option_map (items_resolved s from) asked.returning; found = found_in s (set ++ (option_to_list asked.condition ++ items_of asked.returning)) } in
     and_then (checked (map (λ assignment. of_value true (slice_get table.columns assignment.0) assignment.1) assignments ++ of_both parts.condition parts.returning)) (λ _. Ok parts)))
 
 -- what columns are set to, and WHERE
@@ -57,7 +57,7 @@ abbrev pub update_in : State → Ctx → Update → Result Effect Refusal
 update_in s ctx asked =
     and_then (table_in s asked.table) (λ table.
     and_then (update_parts s asked table) (λ parts.
-    update_rows s parts (record { role = ctx.role; name = asked.table; table = table; kind = k.Update; reads = reads_in (set_and_where parts) parts.returning; queries = flat_map tables_of (set_and_where parts) })))
+    update_rows s parts (record { role = ctx.role; name = asked.table; table = table; kind = k.Update; own = columns_at (is_written (places_set parts.assignments)) table.columns; read = columns_in table.columns (set_and_where parts) parts.returning; queries = flat_map (selected_of parts.found) (set_and_where parts) })))
 
 -- what UPDATE means, once its transaction may run it
 abbrev pub effect_of_update : State → Ctx → Update → Effect

@@ -7,7 +7,7 @@ ghost use Rattle.rls_catalog.specs.{declared.grant.Grant.Grant, State.State, Has
 ghost use Rattle.rls_catalog.specs.Paths.{IsMember, MayGrant, MaySet, can_set, closes_circle, may_grant};
 ghost use Rattle.rls_catalog.specs.GrantOptions.{GoesBack, HasDependents, LeftAfterRevoke};
 ghost use Rattle.rls_guard.specs.rls_grant.specs.{Granting.goes_back, Holders.holders_of, Revoking.stays};
-ghost use Rattle.rls_meaning.specs.{Commands.Command, Needing.ChecksInOrder, Expanding.IsExpanded};
+ghost use Rattle.rls_meaning.specs.{Commands.Command, Needing.ListedIsNeeded, Expanding.IsExpanded};
 ghost use Rattle.rls_meaning.specs.{Deleting.DeleteMeans, Inserting.InsertMeans, Meaning.StatementMeans, Selecting.SelectMeans, Updating.UpdateMeans};
 
 use rls_depth::{policy_expansion_means, role_means};
@@ -65,10 +65,10 @@ pub fn expansion_means()
     role_means()
 }
 
-/// The privilege is asked of each table that is needed, in order.
-#[tactic(auto, using(crate::proofs::Listing::checks_in_order))]
+/// What is listed for the privileges passes just as all that is needed.
+#[tactic(auto, using(crate::proofs::Listing::listed_is_needed))]
 pub fn needed_means()
-    ensures { ChecksInOrder }
+    ensures { ListedIsNeeded }
 {}
 
 /// The tests that the meaning asks of a state are the rules of the manual, as least relations: whose privileges a role has,

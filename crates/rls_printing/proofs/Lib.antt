@@ -1,4 +1,5 @@
 pub mod OutputLemmas
+pub mod Naming
 pub mod Reading
 pub mod Writing
 pub mod Stating

@@ -2,10 +2,10 @@
 use Rattle.std.proofs.{Common.◌≡◌, Common.ℕ, Common.◌+◌, Common.◌-◌, Common.◌*◌, Common.◌≤◌, Common.Bool, Common.true, Common.false, Common.◌&&◌, Common.length, Common.nat_le, Common.nat_lt, Common.if◌then◌else◌, Common.List, Common.[], Common.◌∷◌, Common.◌++◌, Common.Option, Common.Some, Common.None, Common.Result, Common.Ok, Common.Err, Common.refl, Common.ap, Common.sym, Common.◌∙◌, Common.append_assoc, Common.append-nil, Common.arith, lemmas.Bool.and_parts, lemmas.Bool.and_from, lemmas.Bool.leb-true, lemmas.Bool.ltb-false, lemmas.Bool.le-ltb, lemmas.Bool.lt-leb, lemmas.List.length-map}
 use Rattle.std.specs.Prelude.{codes, is_some, max, ℤ, pos, negsuc, suc, ◌^◌, ◌||◌}
 use Rattle.std.specs.Char.{to_ascii_lowercase}
-use Rattle.rls_value.specs.{Names.folded, Names.is_name_text, Names.is_word, declared.refusal.Limit.Limit, declared.refusal.Refusal.Refusal, declared.value.ColType.ColType, declared.value.Value.Value, declared.verb.PolicyKind.PolicyKind, declared.verb.Kind.Kind}
+use Rattle.rls_value.specs.{Names.folded, Names.is_name_text, Names.is_word, declared.refusal.Limit.Limit, declared.refusal.Refusal.Refusal, declared.value.ColType.ColType, declared.value.Value.Value, declared.verb.PolicyKind.PolicyKind, declared.verb.Privilege.Privilege, declared.verb.Kind.Kind}
 use Rattle.rls_expr.specs.{Terms.Term, Terms.Terms, Terms.Query, Terms.Literal, Terms.Column, Terms.Var, Terms.CurrentUser, Terms.Compare, Terms.And, Terms.Or, Terms.Not, Terms.IsNull, Terms.IsNotNull, Terms.InList, Terms.NotInList, Terms.Exists, Terms.InSubquery, Terms.NotInSubquery, Terms.Scalar, Terms.Sum, Terms.End, Terms.More, Terms.Select, Terms.terms_of, Terms.maybe_term, declared.expr.Comparison.Comparison, declared.expr.Selects.Selects, declared.expr.Sign.Sign, declared.policy.Grantee.Grantee, declared.policy.Policy.Policy}
 use Rattle.rls_statement.specs.{declared.changing.Assignment.Assignment, declared.statement.Attributes.Attributes, declared.statement.MarkedColumn.MarkedColumn, declared.statement.MembershipOption.MembershipOption, declared.statement.MembershipOptions.MembershipOptions, declared.privileges.Privileges.Privileges, declared.statement.RowSecurity.RowSecurity, declared.statement.Selected.Selected, declared.statement.SetRole.SetRole, declared.statement.Statement.Statement}
-use Rattle.rls_text.specs.{declared.token.Symbol.Symbol, declared.token.Token.Token, Grammar.Spells, Nested.subqueries_of, Writes.joined, Writes.some_is, ParseResults.limit_from, ParseResults.first_limit, ParseResults.or_next, ParseResults.limited, ParseResults.columns_of, Heights.height, Heights.heights, Heights.query_height, Heights.height_if, Heights.highest, Heights.set_values, Heights.height_of}
+use Rattle.rls_text.specs.{Values.NamedPrivilege, WaysBack.are_all, WaysBack.named_of, declared.token.Symbol.Symbol, declared.token.Token.Token, Grammar.Spells, Nested.subqueries_of, Writes.joined, Writes.some_is, ParseResults.limit_from, ParseResults.first_limit, ParseResults.or_next, ParseResults.limited, ParseResults.columns_of, Heights.height, Heights.heights, Heights.query_height, Heights.height_if, Heights.highest, Heights.set_values, Heights.height_of}
 use Rattle.rls_printing.specs.{declared.buffer.Mark.Mark, Outputs.is_fit, Outputs.are_fit, OutputTokens.OutputToken, OutputTokens.Word, OutputTokens.Qualified, OutputTokens.Number, OutputTokens.Text, OutputTokens.Marked, OutputTokens.Count, OutputTokens.tokens_read_of, OutputTokens.tokens_of, OutputTokens.word_token}
 use Rattle.rls_printing.specs.ExprForms as expr_form
 use Rattle.rls_printing.specs.StatementForms as form
@@ -487,27 +487,23 @@ comma_low : (room : ℕ) (x : Bool) → StaysLow room (form.comma_if x)
 comma_low room true = mark_low room Mark.Comma refl
 comma_low room false = none_low room
 
-privilege_low : (room : ℕ) (there before : Bool) (w : List ℕ) → StaysLow room (form.privilege_if there before w)
-privilege_low room true before w = both_low room (form.comma_if before) (Word w ∷ []) (comma_low room before) (word_low room w)
-privilege_low room false before w = none_low room
+privilege_low : (room : ℕ) (x : Privilege) → StaysLow room (form.privilege_word x ∷ [])
+privilege_low room Privilege.Select = word_low room (codes "SELECT")
+privilege_low room Privilege.Insert = word_low room (codes "INSERT")
+privilege_low room Privilege.Update = word_low room (codes "UPDATE")
+privilege_low room Privilege.Delete = word_low room (codes "DELETE")
 
-some_privileges_low : (room : ℕ) (x : Privileges) → StaysLow room (form.some_privileges x)
-some_privileges_low room x =
-    both_low room (form.privilege_if x.select.whole false (codes "SELECT"))
-    (form.privilege_if x.insert.whole x.select.whole (codes "INSERT") ++ (form.privilege_if x.update.whole (x.select.whole || x.insert.whole) (codes "UPDATE") ++ form.privilege_if x.delete (x.select.whole || (x.insert.whole || x.update.whole)) (codes "DELETE")))
-    (privilege_low room x.select.whole false (codes "SELECT"))
-    (both_low room (form.privilege_if x.insert.whole x.select.whole (codes "INSERT")) (form.privilege_if x.update.whole (x.select.whole || x.insert.whole) (codes "UPDATE") ++ form.privilege_if x.delete (x.select.whole || (x.insert.whole || x.update.whole)) (codes "DELETE"))
-    (privilege_low room x.insert.whole x.select.whole (codes "INSERT"))
-    (both_low room (form.privilege_if x.update.whole (x.select.whole || x.insert.whole) (codes "UPDATE")) (form.privilege_if x.delete (x.select.whole || (x.insert.whole || x.update.whole)) (codes "DELETE"))
-    (privilege_low room x.update.whole (x.select.whole || x.insert.whole) (codes "UPDATE")) (privilege_low room x.delete (x.select.whole || (x.insert.whole || x.update.whole)) (codes "DELETE"))))
+named_privilege_low : (room : ℕ) → 1 ≤ room → (x : NamedPrivilege) → StaysLow room (form.named_privilege x)
+named_privilege_low room le (privilege, columns) = both_low room (form.privilege_word privilege ∷ []) (form.columns_if_any columns) (privilege_low room privilege) (columns_low room columns le)
 
 -- one of two, by a test
 if_low : (room : ℕ) (b : Bool) (ps qs : List OutputToken) → StaysLow room ps → StaysLow room qs → StaysLow room (if b then ps else qs)
 if_low room true ps qs h k = h
 if_low room false ps qs h k = k
 
-privileges_low : (room : ℕ) (x : Privileges) → StaysLow room (form.privileges x)
-privileges_low room x = if_low room (form.are_all x) (Word (codes "ALL") ∷ []) (form.some_privileges x) (word_low room (codes "ALL")) (some_privileges_low room x)
+privileges_low : (room : ℕ) (x : Privileges) → 1 ≤ room → StaysLow room (form.privileges x)
+privileges_low room x le =
+    if_low room (are_all x) (Word (codes "ALL") ∷ []) (form.listed form.named_privilege (named_of x)) (word_low room (codes "ALL")) (listed_low room form.named_privilege (named_privilege_low room le) (named_of x))
 
 with_option_low : (room : ℕ) (x : Bool) → StaysLow room (form.with_option x)
 with_option_low room true = behind_word room (codes "WITH") (Word (codes "GRANT") ∷ Word (codes "OPTION") ∷ []) (behind_word room (codes "GRANT") (Word (codes "OPTION") ∷ []) (word_low room (codes "OPTION")))
@@ -601,13 +597,13 @@ statement_low (Statement.AlterPolicy x) room le flat =
 statement_low (Statement.DropPolicy x) room le flat = behind_two room (codes "DROP") (codes "POLICY") (form.policy_on x.name x.table) (policy_on_low room x.name x.table)
 statement_low (Statement.Grant x) room le flat =
     behind_word room (codes "GRANT") (form.privileges x.privileges ++ Word (codes "ON") ∷ Word x.table ∷ Word (codes "TO") ∷ (form.listed form.grantee x.to ++ form.with_option x.with_option))
-    (both_low room (form.privileges x.privileges) (Word (codes "ON") ∷ Word x.table ∷ Word (codes "TO") ∷ (form.listed form.grantee x.to ++ form.with_option x.with_option)) (privileges_low room x.privileges)
+    (both_low room (form.privileges x.privileges) (Word (codes "ON") ∷ Word x.table ∷ Word (codes "TO") ∷ (form.listed form.grantee x.to ++ form.with_option x.with_option)) (privileges_low room x.privileges (omega (arith, le)))
     (behind_three room (codes "ON") x.table (codes "TO") (form.listed form.grantee x.to ++ form.with_option x.with_option)
     (both_low room (form.listed form.grantee x.to) (form.with_option x.with_option) (grantees_low room x.to) (with_option_low room x.with_option))))
 statement_low (Statement.Revoke x) room le flat =
     behind_word room (codes "REVOKE") (form.option_only x.option_only ++ (form.privileges x.privileges ++ Word (codes "ON") ∷ Word x.table ∷ Word (codes "FROM") ∷ (form.listed form.grantee x.from ++ form.cascade x.cascade)))
     (both_low room (form.option_only x.option_only) (form.privileges x.privileges ++ Word (codes "ON") ∷ Word x.table ∷ Word (codes "FROM") ∷ (form.listed form.grantee x.from ++ form.cascade x.cascade)) (option_only_low room x.option_only)
-    (both_low room (form.privileges x.privileges) (Word (codes "ON") ∷ Word x.table ∷ Word (codes "FROM") ∷ (form.listed form.grantee x.from ++ form.cascade x.cascade)) (privileges_low room x.privileges)
+    (both_low room (form.privileges x.privileges) (Word (codes "ON") ∷ Word x.table ∷ Word (codes "FROM") ∷ (form.listed form.grantee x.from ++ form.cascade x.cascade)) (privileges_low room x.privileges (omega (arith, le)))
     (behind_three room (codes "ON") x.table (codes "FROM") (form.listed form.grantee x.from ++ form.cascade x.cascade)
     (both_low room (form.listed form.grantee x.from) (form.cascade x.cascade) (grantees_low room x.from) (cascade_low room x.cascade)))))
 statement_low (Statement.GrantRoles x) room le flat =

@@ -1,16 +1,16 @@
 -- What is spelled is written: roles, tables, privileges and memberships, which have no expressions.
 use Rattle.std.proofs.Common.{◌≡◌, ℕ, Bool, true, false, ◌||◌, if◌then◌else◌, List, [], ◌∷◌, ◌++◌, map, Option, Some, None, refl, ap, sym, ◌∙◌, inl, inr, subst}
-use Rattle.std.specs.Prelude.{codes, is_some}
+use Rattle.std.specs.Prelude.{codes, is_some, slice_get}
 use Rattle.rls_value.specs.{declared.value.ColType.ColType, declared.verb.PolicyKind.PolicyKind, declared.verb.Privilege.Privilege, declared.verb.Kind.Kind}
 use Rattle.rls_expr.specs.declared.policy.Grantee.{Grantee}
-use Rattle.rls_statement.specs.{declared.statement.Attributes.Attributes, declared.statement.MarkedColumn.MarkedColumn, declared.statement.MembershipOption.MembershipOption, declared.statement.MembershipOptions.MembershipOptions, declared.statement.RowSecurity.RowSecurity, declared.statement.SetRole.SetRole, declared.statement.Statement.Statement}
-use Rattle.rls_text.specs.{declared.attributes.RoleAttribute.RoleAttribute, declared.granting.TablePrivileges.TablePrivileges, declared.tables.TableElement.TableElement, declared.tables.TableElements.TableElements, declared.token.Token.Token, Elements.key_if, Lang.only, Lang.Perhaps, Lang.After, Lang.Before, Lang.put_in, Rule.with_comma, Rule.in_parentheses, Writes.joined, Writes.many_writes, declared.token.Symbol.Symbol}
+use Rattle.rls_statement.specs.{declared.statement.Attributes.Attributes, declared.statement.MarkedColumn.MarkedColumn, declared.statement.MembershipOption.MembershipOption, declared.statement.MembershipOptions.MembershipOptions, declared.privileges.Extent.Extent, declared.privileges.Privileges.Privileges, Extents.names_some, declared.statement.RowSecurity.RowSecurity, declared.statement.SetRole.SetRole, declared.statement.Statement.Statement}
+use Rattle.rls_text.specs.{declared.attributes.RoleAttribute.RoleAttribute, declared.tables.TableElement.TableElement, declared.tables.TableElements.TableElements, declared.token.Token.Token, Elements.key_if, Lang.only, Lang.Perhaps, Lang.After, Lang.Before, Lang.Many, Lang.put_in, Rule.with_comma, Rule.in_parentheses, Writes.Writer, Writes.joined, Writes.or_else, Writes.many_writes, declared.token.Symbol.Symbol}
 use Rattle.rls_text.specs.declared.token.Token.TheVariants as t
 use Rattle.rls_text.specs.Grammar as g
 use Rattle.rls_text.specs.Values as values
 use Rattle.rls_text.specs.WaysBack as back
 use Rattle.rls_text.specs.TablesBack as tables
-use Rattle.rls_printing.proofs.{Writing.There, Writing.there_both, Writing.parens, SpelledExprs.there_parens, SpelledExprs.Says, SpelledExprs.If, SpelledExprs.Each, SpelledExprs.after_says, SpelledExprs.many_say, SpelledExprs.perhaps_says, Spelled.Full, Spelled.there_first, Spelled.there_if, Spelled.each_full, Spelled.only_full, Spelled.both_full, Spelled.after_full, Spelled.before_full, Spelled.mapped_full, Spelled.either_full, Spelled.perhaps_full, Spelled.listed_full, Spelled.name_full, Spelled.names_full, Spelled.distinct_full}
+use Rattle.rls_printing.proofs.{Writing.There, Writing.there_both, Writing.there_parts, Writing.parens, SpelledExprs.there_parens, SpelledExprs.Says, SpelledExprs.If, SpelledExprs.Each, SpelledExprs.after_says, SpelledExprs.many_say, SpelledExprs.perhaps_says, Spelled.Full, Spelled.there_first, Spelled.there_last, Spelled.there_if, Spelled.each_full, Spelled.only_full, Spelled.both_full, Spelled.after_full, Spelled.before_full, Spelled.mapped_full, Spelled.either_full, Spelled.perhaps_full, Spelled.checked_full, Spelled.listed_full, Spelled.name_full, Spelled.names_full, Spelled.distinct_full}
 
 -- ---- words and parentheses
 
@@ -288,54 +288,204 @@ dropped_full = mapped_full values.dropping_policy_of tables.as_dropping_policy _
 
 -- ---- privileges
 
--- there is one at least
-abbrev has_privilege : TablePrivileges → Bool
-has_privilege b = b.select || (b.insert || (b.update || b.delete))
+-- each name is written, behind a comma
+abbrev are_there : List (List ℕ) → Type 0
+are_there xs = There (many_writes (with_comma g.name).spells (with_comma g.name).prints xs)
 
-has_it : (b : TablePrivileges) (x : Privilege) → has_privilege (values.with_privilege b x) ≡ true
+-- and there is one
+abbrev some_there : List (List ℕ) → Type 0
+some_there [] = ⊥
+some_there (x ∷ xs) = are_there (x ∷ xs)
+
+-- the columns are written, if some are listed
+abbrev columns_said : Option (List (List ℕ)) → Type 0
+columns_said None = Unit {0}
+columns_said (Some columns) = some_there columns
+
+first_there : (x : List ℕ) (xs : List (List ℕ)) → There (g.names.prints.writes (x ∷ xs)) → are_there (x ∷ xs)
+unfolding g.names with_comma
+first_there x xs h =
+    let a = there_parts (g.name.prints.writes x) (many_writes (with_comma g.name).spells (with_comma g.name).prints xs) h in
+    there_both (joined (Some (t.Symbol Symbol.Comma ∷ [])) (g.name.prints.writes x)) (many_writes (with_comma g.name).spells (with_comma g.name).prints xs) (there_both (Some (t.Symbol Symbol.Comma ∷ [])) (g.name.prints.writes x) tt a.0) a.1
+
+names_there : (x : List ℕ) (xs : List (List ℕ)) → are_there (x ∷ xs) → There (g.names.prints.writes (x ∷ xs))
+unfolding g.names with_comma
+names_there x xs h =
+    let a = there_parts (joined (Some (t.Symbol Symbol.Comma ∷ [])) (g.name.prints.writes x)) (many_writes (with_comma g.name).spells (with_comma g.name).prints xs) h in
+    let b = there_parts (Some (t.Symbol Symbol.Comma ∷ [])) (g.name.prints.writes x) a.0 in
+    there_both (g.name.prints.writes x) (many_writes (with_comma g.name).spells (with_comma g.name).prints xs) b.1 a.1
+
+no_names : There (g.names.prints.writes []) → ⊥
+unfolding g.names
+no_names h = h
+
+spelled_there : (ts : List Token) (xs : List (List ℕ)) → g.names.spells ts xs → some_there xs
+spelled_there ts [] h = no_names (names_full.written ts [] h)
+spelled_there ts (x ∷ xs) h = first_there x xs (names_full.written ts (x ∷ xs) h)
+
+columns_spelled : (ts : List Token) (x : Option (List (List ℕ))) → g.column_list.spells ts x → columns_said x
+unfolding g.column_list
+columns_spelled ts None h = tt
+columns_spelled ts (Some columns) h =
+    let inner = h.spelled.other in
+    subst (λ z. some_there z) (sym (h.value ∙ inner.value)) (spelled_there inner.spelled.front inner.source.0 inner.spelled.one)
+
+privilege_spelled : (ts : List Token) (x : values.NamedPrivilege) → g.privilege.spells ts x → columns_said x.1
+unfolding g.privilege
+privilege_spelled ts x h = elim h [
+  | inl y ↦ columns_spelled y.rest x.1 y.other
+  | inr y ↦ subst (λ z. columns_said z.1) (sym y.value) tt
+]
+
+-- there is a privilege at least
+abbrev has_privilege : Privileges → Bool
+has_privilege b = names_some b.select || (names_some b.insert || (names_some b.update || b.delete))
+
+-- and the columns of each are written
+record Sayable (b : Privileges) : Type 0 where
+  select : are_there b.select.columns
+  insert : are_there b.insert.columns
+  update : are_there b.update.columns
+
+there_append : {A : Type 0} (p : List Token → A → Type 0) (W : Writer p) (xs ys : List A) → There (many_writes p W xs) → There (many_writes p W ys) → There (many_writes p W (xs ++ ys))
+there_append p W [] ys h k = k
+there_append p W (x ∷ xs) ys h k =
+    let a = there_parts (W.writes x) (many_writes p W xs) h in
+    there_both (W.writes x) (many_writes p W (xs ++ ys)) a.0 (there_append p W xs ys a.1 k)
+
+further_there : (e : Extent) (columns : Option (List (List ℕ))) → are_there e.columns → columns_said columns → are_there (values.extended e columns).columns
+further_there e None h k = h
+further_there e (Some []) h k = absurd k
+further_there e (Some (x ∷ xs)) h k = there_append (with_comma g.name).spells (with_comma g.name).prints e.columns (x ∷ xs) h k
+
+some_behind : (xs : List (List ℕ)) (y : List ℕ) (ys : List (List ℕ)) → is_some (slice_get (xs ++ y ∷ ys) 0) ≡ true
+some_behind [] y ys = refl
+some_behind (x ∷ xs) y ys = refl
+
+names_further : (e : Extent) (columns : Option (List (List ℕ))) → columns_said columns → names_some (values.extended e columns) ≡ true
+names_further e None k = refl
+names_further e (Some []) k = absurd k
+names_further e (Some (x ∷ xs)) k = or_true e.whole (is_some (slice_get (e.columns ++ x ∷ xs) 0)) (some_behind e.columns x xs)
+
+or_first : (b c : Bool) → b ≡ true → (b || c) ≡ true
+or_first true c h = refl
+or_first false c h = cc
+
+has_it : (b : Privileges) (x : values.NamedPrivilege) → columns_said x.1 → has_privilege (values.with_privilege b x) ≡ true
 unfolding values.with_privilege
-has_it b Privilege.Select = refl
-has_it b Privilege.Insert = or_true b.select true refl
-has_it b Privilege.Update = or_true b.select (b.insert || true) (or_true b.insert true refl)
-has_it b Privilege.Delete = or_true b.select (b.insert || (b.update || true)) (or_true b.insert (b.update || true) (or_true b.update true refl))
+has_it b (Privilege.Select, columns) k = or_first (names_some (values.extended b.select columns)) _ (names_further b.select columns k)
+has_it b (Privilege.Insert, columns) k = or_true (names_some b.select) _ (or_first (names_some (values.extended b.insert columns)) _ (names_further b.insert columns k))
+has_it b (Privilege.Update, columns) k = or_true (names_some b.select) _ (or_true (names_some b.insert) _ (or_first (names_some (values.extended b.update columns)) _ (names_further b.update columns k)))
+has_it b (Privilege.Delete, columns) k = or_true (names_some b.select) _ (or_true (names_some b.insert) _ (or_true (names_some b.update) true refl))
 
-still_has_it : (b : TablePrivileges) (xs : List Privilege) → has_privilege b ≡ true → has_privilege (put_in values.with_privilege b xs) ≡ true
-still_has_it b [] h = h
-still_has_it b (x ∷ xs) h = still_has_it (values.with_privilege b x) xs (has_it b x)
+stays_sayable : (b : Privileges) (x : values.NamedPrivilege) → columns_said x.1 → Sayable b → Sayable (values.with_privilege b x)
+unfolding values.with_privilege
+stays_sayable b (Privilege.Select, columns) k h = record { select = further_there b.select columns h.select k; insert = h.insert; update = h.update }
+stays_sayable b (Privilege.Insert, columns) k h = record { select = h.select; insert = further_there b.insert columns h.insert k; update = h.update }
+stays_sayable b (Privilege.Update, columns) k h = record { select = h.select; insert = h.insert; update = further_there b.update columns h.update k }
+stays_sayable b (Privilege.Delete, columns) k h = record { select = h.select; insert = h.insert; update = h.update }
 
-privileges_there : (s i u d : Bool) → has_privilege record { select = s; insert = i; update = u; delete = d } ≡ true → There (g.table_privileges.prints.writes record { select = s; insert = i; update = u; delete = d })
-unfolding g.table_privileges g.named_privileges g.privilege with_comma
-privileges_there true true true true h = tt
-privileges_there true true true false h = tt
-privileges_there true true false true h = tt
-privileges_there true true false false h = tt
-privileges_there true false true true h = tt
-privileges_there true false true false h = tt
-privileges_there true false false true h = tt
-privileges_there true false false false h = tt
-privileges_there false true true true h = tt
-privileges_there false true true false h = tt
-privileges_there false true false true h = tt
-privileges_there false true false false h = tt
-privileges_there false false true true h = tt
-privileges_there false false true false h = tt
-privileges_there false false false true h = tt
-privileges_there false false false false h = cc
+-- privileges that are put in one by one, of which there is one at least
+put_sayable : (ts : List Token) (b : Privileges) (xs : List values.NamedPrivilege) → Many (with_comma g.privilege).spells ts xs → has_privilege b ≡ true → Sayable b
+    → (has_privilege (put_in values.with_privilege b xs) ≡ true) × Sayable (put_in values.with_privilege b xs)
+unfolding with_comma
+put_sayable ts b [] h some k = (some, k)
+put_sayable ts b (x ∷ xs) h some k =
+    let there : columns_said x.1 = subst (λ z. columns_said z.1) (sym h.3.value) (privilege_spelled h.3.spelled.rest h.3.source.1 h.3.spelled.other) in
+    put_sayable h.1 (values.with_privilege b x) xs h.4 (has_it b x there) (stays_sayable b x there k)
+
+-- ---- they are written
+
+whole_there : (x : Privilege) → There ((with_comma g.privilege).prints.writes (values.on_whole x))
+unfolding with_comma g.privilege g.column_privilege g.column_list
+whole_there Privilege.Select = tt
+whole_there Privilege.Insert = tt
+whole_there Privilege.Update = tt
+whole_there Privilege.Delete = tt
+
+if_whole_there : (x : Privilege) (b : Bool) → There (many_writes (with_comma g.privilege).spells (with_comma g.privilege).prints (back.where_whole x b))
+if_whole_there x true = there_both ((with_comma g.privilege).prints.writes (values.on_whole x)) (Some []) (whole_there x) tt
+if_whole_there x false = tt
+
+columns_there : (x : Privilege) (column : List ℕ) (columns : List (List ℕ)) → There (g.column_privilege.prints.writes x) → are_there (column ∷ columns) → There ((with_comma g.privilege).prints.writes (x, Some (column ∷ columns)))
+unfolding with_comma g.privilege g.column_list
+columns_there x column columns h k =
+    let words = joined (g.column_privilege.prints.writes x) (parens (g.names.prints.writes (column ∷ columns))) in
+    let there : There words = there_both (g.column_privilege.prints.writes x) (parens (g.names.prints.writes (column ∷ columns))) h (there_parens (g.names.prints.writes (column ∷ columns)) (names_there column columns k)) in
+    there_both (Some (t.Symbol Symbol.Comma ∷ [])) (or_else words None) tt (there_first words None there)
+
+if_listed_there : (x : Privilege) (columns : List (List ℕ)) → There (g.column_privilege.prints.writes x) → are_there columns → There (many_writes (with_comma g.privilege).spells (with_comma g.privilege).prints (back.where_listed x columns))
+if_listed_there x [] h k = tt
+if_listed_there x (column ∷ columns) h k = there_both ((with_comma g.privilege).prints.writes (x, Some (column ∷ columns))) (Some []) (columns_there x column columns h k) tt
+
+naming_there : (x : Privilege) (e : Extent) → There (g.column_privilege.prints.writes x) → are_there e.columns → There (many_writes (with_comma g.privilege).spells (with_comma g.privilege).prints (back.naming x e))
+naming_there x e h k =
+    there_append (with_comma g.privilege).spells (with_comma g.privilege).prints (back.where_whole x e.whole) (back.where_listed x e.columns) (if_whole_there x e.whole) (if_listed_there x e.columns h k)
+
+all_named_there : (b : Privileges) → Sayable b → There (many_writes (with_comma g.privilege).spells (with_comma g.privilege).prints (back.named_of b))
+unfolding g.column_privilege
+all_named_there b h =
+    let delete = back.where_whole Privilege.Delete b.delete in
+    let update = back.naming Privilege.Update b.update in
+    let insert = back.naming Privilege.Insert b.insert in
+    let select = back.naming Privilege.Select b.select in
+    there_append (with_comma g.privilege).spells (with_comma g.privilege).prints select (insert ++ (update ++ delete)) (naming_there Privilege.Select b.select tt h.select)
+    (there_append (with_comma g.privilege).spells (with_comma g.privilege).prints insert (update ++ delete) (naming_there Privilege.Insert b.insert tt h.insert)
+    (there_append (with_comma g.privilege).spells (with_comma g.privilege).prints update delete (naming_there Privilege.Update b.update tt h.update) (if_whole_there Privilege.Delete b.delete)))
+
+some_list_there : (xs : List values.NamedPrivilege) → (xs ≡ [] → ⊥) → There (many_writes (with_comma g.privilege).spells (with_comma g.privilege).prints xs) → There (g.privilege_list.prints.writes xs)
+unfolding g.privilege_list with_comma
+some_list_there [] some h = absurd (some refl)
+some_list_there (x ∷ xs) some h =
+    let a = there_parts (joined (Some (t.Symbol Symbol.Comma ∷ [])) (g.privilege.prints.writes x)) (many_writes (with_comma g.privilege).spells (with_comma g.privilege).prints xs) h in
+    let b = there_parts (Some (t.Symbol Symbol.Comma ∷ [])) (g.privilege.prints.writes x) a.0 in
+    there_both (g.privilege.prints.writes x) (many_writes (with_comma g.privilege).spells (with_comma g.privilege).prints xs) b.1 a.1
+
+never_both : (b : Bool) → b ≡ true → b ≡ false → ⊥
+never_both b h k = cc
+
+some_named : (b : Privileges) → has_privilege b ≡ true → back.named_of b ≡ [] → ⊥
+some_named b h e = never_both (has_privilege b) h (ap has_privilege (sym (back.named_back b) ∙ ap values.privileges_of e))
+
+named_there : (b : Privileges) → has_privilege b ≡ true → Sayable b → There (g.named_privileges.prints.writes b)
+unfolding g.named_privileges
+named_there b some h = some_list_there (back.named_of b) (some_named b some) (all_named_there b h)
+
+named_full : Full g.named_privileges.spells g.named_privileges.prints.writes
+unfolding g.named_privileges g.privilege_list
+named_full = record {
+  written = λ ts b h.
+      let list = h.spelled in
+      let all = list.spelled in
+      let there = privilege_spelled all.front list.source.0 all.one in
+      let none : Sayable values.no_privileges = record { select = tt; insert = tt; update = tt } in
+      let said = put_sayable all.rest (values.with_privilege values.no_privileges list.source.0) list.source.1 all.other (has_it values.no_privileges list.source.0 there) (stays_sayable values.no_privileges list.source.0 there none) in
+      subst (λ z. There (g.named_privileges.prints.writes z)) (sym (h.value ∙ ap values.privileges_of list.value)) (named_there (values.privileges_of (list.source.0 ∷ list.source.1)) said.0 said.1);
+}
+
+all_there : (columns : Option (List (List ℕ))) → columns_said columns → There (g.table_privileges.prints.writes (values.all_of columns))
+unfolding g.table_privileges g.all_privileges g.column_list
+all_there None h = tt
+all_there (Some []) h = absurd h
+all_there (Some (x ∷ xs)) h =
+    let all = values.all_of (Some (x ∷ xs)) in
+    there_last (g.all_privileges.prints.writes all) (g.named_privileges.prints.writes all) (named_there all refl record { select = h; insert = h; update = h })
 
 table_privileges_full : Full g.table_privileges.spells g.table_privileges.prints.writes
-unfolding g.table_privileges g.named_privileges
+unfolding g.table_privileges g.all_privileges
 table_privileges_full = record {
-  written = λ ts x h.
-      let some : has_privilege x ≡ true = elim h [
-        | inl y ↦ rw (y.value) refl
-        | inr y ↦ rw (y.value) (still_has_it (values.with_privilege values.no_privileges y.source.0) y.source.1 (has_it values.no_privileges y.source.0))
-      ] in
-      privileges_there x.select x.insert x.update x.delete some;
+  written = λ ts b h. elim h [
+    | inl y ↦
+        let inner = y.spelled.spelled.other in
+        let columns = columns_spelled inner.spelled.rest inner.source.1 inner.spelled.other in
+        subst (λ z. There (g.table_privileges.prints.writes z)) (sym (y.value ∙ ap values.all_of (y.spelled.value ∙ inner.value))) (all_there inner.source.1 columns)
+    | inr y ↦ there_last (g.all_privileges.prints.writes b) (g.named_privileges.prints.writes b) (named_full.written ts b y)
+  ];
 }
 
 privileges_full : Full g.privileges.spells g.privileges.prints.writes
 unfolding g.privileges
-privileges_full = mapped_full values.whole_privileges back.as_table_privileges _ _ (λ r. refl) table_privileges_full
+privileges_full = checked_full values.columns_are_distinct g.table_privileges.spells g.table_privileges.prints.writes table_privileges_full
 
 table_name_full : Full g.table_name.spells g.table_name.prints.writes
 unfolding g.table_name

@@ -1,9 +1,9 @@
 -- What the grammar writes for a statement are the tokens of the words of which it is printed.
-use Rattle.std.{proofs.Common.◌≡◌, proofs.Common.ℕ, proofs.Common.Bool, proofs.Common.true, proofs.Common.false, proofs.Common.List, proofs.Common.[], proofs.Common.◌∷◌, proofs.Common.◌++◌, proofs.Common.map, proofs.Common.Option, proofs.Common.Some, proofs.Common.None, proofs.Common.refl, proofs.Common.ap, proofs.Common.sym, proofs.Common.◌∙◌, proofs.Common.append_assoc, proofs.Common.append-nil, proofs.Common.subst, specs.Prelude.codes, specs.Prelude.is_some, specs.Prelude.not}
-use Rattle.rls_value.specs.{declared.value.ColType.ColType, declared.verb.PolicyKind.PolicyKind, declared.verb.Kind.Kind}
+use Rattle.std.{proofs.Common.◌≡◌, proofs.Common.ℕ, proofs.Common.Bool, proofs.Common.true, proofs.Common.false, proofs.Common.if◌then◌else◌, proofs.Common.List, proofs.Common.[], proofs.Common.◌∷◌, proofs.Common.◌++◌, proofs.Common.map, proofs.Common.Option, proofs.Common.Some, proofs.Common.None, proofs.Common.refl, proofs.Common.ap, proofs.Common.sym, proofs.Common.◌∙◌, proofs.Common.append_assoc, proofs.Common.append-nil, proofs.Common.subst, specs.Prelude.codes, specs.Prelude.is_some}
+use Rattle.rls_value.specs.{declared.value.ColType.ColType, declared.verb.PolicyKind.PolicyKind, declared.verb.Privilege.Privilege, declared.verb.Kind.Kind}
 use Rattle.rls_expr.specs.{Terms.Term, Terms.terms_of, Terms.maybe_term, declared.policy.Grantee.Grantee}
-use Rattle.rls_statement.specs.{declared.changing.Assignment.Assignment, declared.statement.AlterPolicy.AlterPolicy, declared.statement.AlterRole.AlterRole, declared.statement.AlterTable.AlterTable, declared.statement.CreatePolicy.CreatePolicy, declared.statement.CreateRole.CreateRole, declared.statement.CreateTable.CreateTable, declared.statement.DropPolicy.DropPolicy, declared.statement.GrantPrivileges.GrantPrivileges, declared.statement.GrantRoles.GrantRoles, declared.statement.Insert.Insert, declared.changing.Update.Update, declared.changing.Delete.Delete, declared.statement.MarkedColumn.MarkedColumn, declared.statement.MembershipOption.MembershipOption, declared.privileges.Privileges.Privileges, Extents.has_columns, declared.statement.RevokePrivileges.RevokePrivileges, declared.statement.RevokeRoles.RevokeRoles, declared.statement.RowSecurity.RowSecurity, declared.statement.Select.Select, declared.statement.Selected.Selected, declared.statement.SetRole.SetRole, declared.statement.Statement.Statement}
-use Rattle.rls_text.specs.{declared.granting.TablePrivileges.TablePrivileges, declared.token.Symbol.Symbol, declared.token.Token.Token, Cut.Cut, Cutting.tree_of, Elements.key_if, Printing.IsWritten, Rule.with_comma, Rule.given_if, FirstSets.expr_heads, FirstSets.expr_more, Writes.Writer, Writes.joined, Writes.or_else, Writes.many_writes, Writes.written_if, declared.tables.TableElement.TableElement, WaysBack.list_of as way_back_of_list}
+use Rattle.rls_statement.specs.{declared.changing.Assignment.Assignment, declared.statement.AlterPolicy.AlterPolicy, declared.statement.AlterRole.AlterRole, declared.statement.AlterTable.AlterTable, declared.statement.CreatePolicy.CreatePolicy, declared.statement.CreateRole.CreateRole, declared.statement.CreateTable.CreateTable, declared.statement.DropPolicy.DropPolicy, declared.statement.GrantPrivileges.GrantPrivileges, declared.statement.GrantRoles.GrantRoles, declared.statement.Insert.Insert, declared.changing.Update.Update, declared.changing.Delete.Delete, declared.statement.MarkedColumn.MarkedColumn, declared.statement.MembershipOption.MembershipOption, declared.privileges.Privileges.Privileges, declared.statement.RevokePrivileges.RevokePrivileges, declared.statement.RevokeRoles.RevokeRoles, declared.statement.RowSecurity.RowSecurity, declared.statement.Select.Select, declared.statement.Selected.Selected, declared.statement.SetRole.SetRole, declared.statement.Statement.Statement}
+use Rattle.rls_text.specs.{Values.NamedPrivilege, declared.token.Symbol.Symbol, declared.token.Token.Token, Cut.Cut, Cutting.tree_of, Elements.key_if, Printing.IsWritten, Rule.with_comma, Rule.given_if, Rule.word, Rule.word_for, Rule.after, Rule.after_as, Rule.perhaps, FirstSets.expr_heads, FirstSets.expr_more, Writes.Writer, Writes.joined, Writes.or_else, Writes.many_writes, Writes.written_if, declared.tables.TableElement.TableElement, WaysBack.list_of as way_back_of_list}
 use Rattle.rls_text.specs.Cut as cut
 use Rattle.rls_text.specs.Grammar as g
 use Rattle.rls_text.specs.Values as values
@@ -434,34 +434,57 @@ module _ (inner : Cut tree_of expr_heads expr_more false) (ih : (x : Term) → H
 
 -- ---- GRANT and REVOKE
 
-table_privileges_tell : (x y z u : Bool) → HasTokens (g.table_privileges.prints.writes record { select = x; insert = y; update = z; delete = u }) (form.privileges (values.whole_privileges record { select = x; insert = y; update = z; delete = u }))
-unfolding g.table_privileges g.named_privileges g.privilege with_comma
-table_privileges_tell true true true true = λ ts e. e
-table_privileges_tell true true true false = λ ts e. e
-table_privileges_tell true true false true = λ ts e. e
-table_privileges_tell true true false false = λ ts e. e
-table_privileges_tell true false true true = λ ts e. e
-table_privileges_tell true false true false = λ ts e. e
-table_privileges_tell true false false true = λ ts e. e
-table_privileges_tell true false false false = λ ts e. e
-table_privileges_tell false true true true = λ ts e. e
-table_privileges_tell false true true false = λ ts e. e
-table_privileges_tell false true false true = λ ts e. e
-table_privileges_tell false true false false = λ ts e. e
-table_privileges_tell false false true true = λ ts e. e
-table_privileges_tell false false true false = λ ts e. e
-table_privileges_tell false false false true = λ ts e. e
-table_privileges_tell false false false false = λ ts e. cc
+column_list_tells : (x : Option (List (List ℕ))) → HasTokens (g.column_list.prints.writes x) (form.columns_if_any x)
+unfolding g.column_list
+column_list_tells None = λ ts e. e
+column_list_tells (Some xs) = enclosed_tells (g.names.prints.writes xs) (form.listed form.name xs) (names_tell xs)
 
--- what is written where a test says so
-given_tells : (b : Bool) (named : TablePrivileges) (writes : TablePrivileges → Option (List Token)) (ps : List OutputToken) → HasTokens (writes named) ps → HasTokens (written_if writes (given_if b named)) ps
-given_tells true named writes ps h = h
-given_tells false named writes ps h = none_tells ps
+column_privilege_tells : (x : Privilege) → HasTokens (g.column_privilege.prints.writes x) (form.privilege_word x ∷ [])
+unfolding g.column_privilege
+column_privilege_tells Privilege.Select = λ ts e. e
+column_privilege_tells Privilege.Insert = λ ts e. e
+column_privilege_tells Privilege.Update = λ ts e. e
+column_privilege_tells Privilege.Delete = λ ts e. cc
 
--- a statement with a list of columns is spelled by no text; without one each privilege is on the whole table
+-- DELETE
+abbrev deletes : Privilege → Option (List Token)
+deletes x = (word_for back.privilege_names Privilege.Delete (codes "delete")).prints.writes x
+
+delete_word_tells : (x : Privilege) → HasTokens (deletes x) (form.privilege_word x ∷ [])
+delete_word_tells Privilege.Select = λ ts e. cc
+delete_word_tells Privilege.Insert = λ ts e. cc
+delete_word_tells Privilege.Update = λ ts e. cc
+delete_word_tells Privilege.Delete = λ ts e. e
+
+delete_privilege_tells : (x : NamedPrivilege) → HasTokens (written_if deletes (back.as_on_whole x)) (form.named_privilege x)
+delete_privilege_tells (privilege, None) = delete_word_tells privilege
+delete_privilege_tells (privilege, Some columns) = none_tells (form.named_privilege (privilege, Some columns))
+
+privilege_tells : (x : NamedPrivilege) → HasTokens (g.privilege.prints.writes x) (form.named_privilege x)
+unfolding g.privilege
+privilege_tells x =
+    either_tells (joined (g.column_privilege.prints.writes x.0) (g.column_list.prints.writes x.1)) (written_if deletes (back.as_on_whole x)) (form.named_privilege x)
+    (both_tell (g.column_privilege.prints.writes x.0) (g.column_list.prints.writes x.1) (form.privilege_word x.0 ∷ []) (form.columns_if_any x.1) (column_privilege_tells x.0) (column_list_tells x.1)) (delete_privilege_tells x)
+
+comma_privilege : (x : NamedPrivilege) → HasTokens ((with_comma g.privilege).prints.writes x) (Marked Mark.Comma ∷ form.named_privilege x)
+unfolding with_comma
+comma_privilege x = comma_tells (g.privilege.prints.writes x) (form.named_privilege x) (privilege_tells x)
+
+named_tell : (xs : List NamedPrivilege) → HasTokens (g.privilege_list.prints.writes xs) (form.listed form.named_privilege xs)
+unfolding g.privilege_list
+named_tell [] = λ ts e. cc
+named_tell (x ∷ xs) =
+    both_tell (g.privilege.prints.writes x) (many_writes (with_comma g.privilege).spells (with_comma g.privilege).prints xs) (form.named_privilege x) (form.also form.named_privilege xs) (privilege_tells x)
+    (also_tells (with_comma g.privilege).spells (with_comma g.privilege).prints form.named_privilege comma_privilege xs)
+
 privileges_tell : (p : Privileges) → HasTokens (g.privileges.prints.writes p) (form.privileges p)
-unfolding g.privileges
-privileges_tell p = given_tells (not (has_columns p)) (back.are_named p) g.table_privileges.prints.writes (form.privileges p) (table_privileges_tell p.select.whole p.insert.whole p.update.whole p.delete)
+unfolding g.privileges g.table_privileges g.all_privileges g.named_privileges g.column_list
+privileges_tell p = if_tells (values.columns_are_distinct p) (g.table_privileges.prints.writes p) (form.privileges p) (go (back.are_all p))
+  where
+    go : (b : Bool) → HasTokens (or_else (written_if (after (word (codes "all")) (after_as None (perhaps (word (codes "privileges"))) g.column_list refl) refl).prints.writes (given_if b None)) (g.privilege_list.prints.writes (back.named_of p)))
+        (if b then Word (codes "ALL") ∷ [] else form.listed form.named_privilege (back.named_of p))
+    go true = λ ts e. e
+    go false = named_tell (back.named_of p)
 
 privileges_on_tell : (p : Privileges) (table : List ℕ) → HasTokens (g.privileges_on.prints.writes (p, table)) (form.privileges p ++ Word (codes "ON") ∷ Word table ∷ [])
 unfolding g.privileges_on g.table_name

@@ -1,6 +1,6 @@
 -- The words of which a statement is printed.
-use Rattle.std.specs.Prelude.{ℕ, Bool, true, false, ◌&&◌, ◌||◌, if◌then◌else◌, List, [], ◌∷◌, ◌++◌, Option, Some, None, is_some, codes}
-use Rattle.rls_value.specs.{declared.value.ColType.ColType, declared.verb.PolicyKind.PolicyKind, declared.verb.Kind.Kind}
+use Rattle.std.specs.Prelude.{ℕ, Bool, true, false, ◌||◌, if◌then◌else◌, List, [], ◌∷◌, ◌++◌, Option, Some, None, is_some, codes}
+use Rattle.rls_value.specs.{declared.value.ColType.ColType, declared.verb.PolicyKind.PolicyKind, declared.verb.Privilege.Privilege, declared.verb.Kind.Kind}
 use Rattle.rls_expr.specs.{Terms.Term, Terms.terms_of, Terms.maybe_term, declared.policy.Grantee.Grantee, declared.policy.Policy.Policy}
 use Rattle.rls_expr.specs.declared.policy.Grantee.TheVariants as to
 use Rattle.rls_statement.specs.{declared.changing.Assignment.Assignment, declared.statement.Attributes.Attributes, declared.statement.MarkedColumn.MarkedColumn, declared.statement.MembershipOption.MembershipOption, declared.statement.MembershipOptions.MembershipOptions, declared.privileges.Privileges.Privileges, declared.statement.RowSecurity.RowSecurity, declared.statement.Selected.Selected, declared.statement.SetRole.SetRole, declared.statement.Statement.Statement}
@@ -9,6 +9,7 @@ use Rattle.rls_statement.specs.declared.statement.RowSecurity.TheVariants as cha
 use Rattle.rls_statement.specs.declared.statement.Selected.TheVariants as selected
 use Rattle.rls_statement.specs.declared.statement.SetRole.TheVariants as sr
 use Rattle.rls_statement.specs.declared.statement.Statement.TheVariants as st
+use Rattle.rls_text.specs.{Values.NamedPrivilege, WaysBack.are_all, WaysBack.named_of}
 use Rattle.rls_printing.specs.declared.buffer.Mark.TheVariants as m
 use Rattle.rls_printing.specs.{ExprForms.expr, ExprForms.list, ExprForms.where_, ExprForms.enclosed, ExprForms.from_, OutputTokens.OutputToken, OutputTokens.Word, OutputTokens.Marked, OutputTokens.Count}
 
@@ -23,6 +24,11 @@ also form (x ∷ xs) = Marked m.Comma ∷ (form x ++ also form xs)
 abbrev pub listed : {A : Type 0} → (A → List OutputToken) → List A → List OutputToken
 listed form [] = []
 listed form (x ∷ xs) = form x ++ also form xs
+
+-- the same, behind a comma where something stands before
+abbrev pub listed_behind : {A : Type 0} → (before : Bool) → (A → List OutputToken) → List A → List OutputToken
+listed_behind true form xs = also form xs
+listed_behind false form xs = listed form xs
 
 -- a name
 abbrev pub name : List ℕ → List OutputToken
@@ -156,24 +162,20 @@ abbrev pub comma_if : Bool → List OutputToken
 comma_if true = Marked m.Comma ∷ []
 comma_if false = []
 
--- a privilege, if it is there
-abbrev pub privilege_if : (there before : Bool) → List ℕ → List OutputToken
-privilege_if true before word = comma_if before ++ Word word ∷ []
-privilege_if false before word = []
+-- a privilege's word
+abbrev pub privilege_word : Privilege → OutputToken
+privilege_word Privilege.Select = Word (codes "SELECT")
+privilege_word Privilege.Insert = Word (codes "INSERT")
+privilege_word Privilege.Update = Word (codes "UPDATE")
+privilege_word Privilege.Delete = Word (codes "DELETE")
 
--- the four
-abbrev pub are_all : Privileges → Bool
-are_all x = x.select.whole && (x.insert.whole && (x.update.whole && x.delete))
+-- a privilege as it is named, and the columns that are listed behind it
+abbrev pub named_privilege : NamedPrivilege → List OutputToken
+named_privilege x = privilege_word x.0 ∷ columns_if_any x.1
 
--- those that are there
-abbrev pub some_privileges : Privileges → List OutputToken
-some_privileges x =
-    privilege_if x.select.whole false (codes "SELECT") ++ (privilege_if x.insert.whole x.select.whole (codes "INSERT")
-    ++ (privilege_if x.update.whole (x.select.whole || x.insert.whole) (codes "UPDATE") ++ privilege_if x.delete (x.select.whole || (x.insert.whole || x.update.whole)) (codes "DELETE")))
-
--- privileges
+-- privileges: ALL for the four where no columns are listed, or else each that is named, for the whole table before its columns
 abbrev pub privileges : Privileges → List OutputToken
-privileges x = if are_all x then Word (codes "ALL") ∷ [] else some_privileges x
+privileges x = if are_all x then Word (codes "ALL") ∷ [] else listed named_privilege (named_of x)
 
 -- WITH GRANT OPTION
 abbrev pub with_option : Bool → List OutputToken

@@ -8,6 +8,7 @@ mod laws;
 mod lists;
 mod policies;
 mod printing;
+mod privileges;
 mod statements;
 mod words;
 

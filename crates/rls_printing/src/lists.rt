@@ -1,7 +1,7 @@
 //! Lists, printed.
 
 ghost use Rattle.std.specs.Prelude.{◌≡◌, Some, OnOk};
-ghost use Rattle.rls_printing.specs.Outputs.{put_all, output_of};
+ghost use Rattle.rls_printing.specs.{ExprForms.enclosed, Outputs.put_all, Outputs.output_of};
 ghost use Rattle.rls_printing.specs.StatementForms as form;
 
 use crate::buffer::{Mark, OutputBuffer};
@@ -33,6 +33,15 @@ fn put_more_names(buffer: &mut OutputBuffer, names: &[Name]) -> Result<(), Alloc
         put_name(buffer, name)?;
     }
     Ok(())
+}
+
+/// Names in parentheses.
+pub fn put_enclosed_names(buffer: &mut OutputBuffer, names: &[Name]) -> Result<(), AllocError>
+    ensures { OnOk result (put_all (Some (output_of buffer.old)) (enclosed (form.listed form.name names.now)) ≡ Some (output_of buffer.new)) }
+{
+    buffer.mark(Mark::Open)?;
+    put_names(buffer, names)?;
+    buffer.mark(Mark::Close)
 }
 
 /// Grantees with commas between them.

@@ -8,9 +8,10 @@ ghost use Rattle.rls_statement.specs.declared.statement.Statement.TheVariants as
 use crate::buffer::OutputBuffer;
 use crate::expression::put_enclosed;
 use crate::lists::{put_grantees, put_names};
+use crate::privileges::put_privileges;
 use crate::words::{
     put_cascade, put_option_for, put_option_only, put_options, put_permissive, put_policy_kind,
-    put_privileges, put_with_option,
+    put_with_option,
 };
 use rls_expr::{Expr, Grantee, Policy};
 use rls_statement::{

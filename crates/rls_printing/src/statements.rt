@@ -9,7 +9,7 @@ ghost use Rattle.rls_statement.specs.declared.statement.Statement.TheVariants as
 
 use crate::buffer::{Mark, OutputBuffer};
 use crate::expression::{put_list, put_table, put_where};
-use crate::lists::{put_assignments, put_columns, put_names, put_tuples};
+use crate::lists::{put_assignments, put_columns, put_enclosed_names, put_tuples};
 use crate::words::{put_attributes, put_row_change};
 use rls_statement::{
     AlterRole, AlterTable, CreateRole, CreateTable, Delete, Insert, MarkedColumn, Select, Selected,
@@ -38,14 +38,6 @@ fn put_returning(buffer: &mut OutputBuffer, returning: &Option<Selected>) -> Res
             put_selected_items(buffer, selected)
         }
     }
-}
-
-fn put_enclosed_names(buffer: &mut OutputBuffer, names: &[Name]) -> Result<(), AllocError>
-    ensures { OnOk result (put_all (Some (output_of buffer.old)) (enclosed (form.listed form.name names.now)) ≡ Some (output_of buffer.new)) }
-{
-    buffer.mark(Mark::Open)?;
-    put_names(buffer, names)?;
-    buffer.mark(Mark::Close)
 }
 
 fn put_columns_if_any(

@@ -7,7 +7,7 @@ ghost use Rattle.rls_printing.specs.StatementForms as form;
 ghost use Rattle.rls_statement.specs.declared.statement.RowSecurity.TheVariants as change;
 
 use crate::buffer::{Mark, OutputBuffer};
-use rls_statement::{Attributes, MembershipOption, MembershipOptions, Privileges, RowSecurity};
+use rls_statement::{Attributes, MembershipOption, MembershipOptions, RowSecurity};
 use rls_value::{ColType, Kind, PolicyKind};
 use std::alloc::AllocError;
 
@@ -111,7 +111,7 @@ pub fn put_policy_kind(buffer: &mut OutputBuffer, kind: PolicyKind) -> Result<()
     }
 }
 
-fn put_comma_if(buffer: &mut OutputBuffer, before: bool) -> Result<(), AllocError>
+pub fn put_comma_if(buffer: &mut OutputBuffer, before: bool) -> Result<(), AllocError>
     ensures { OnOk result (put_all (Some (output_of buffer.old)) (form.comma_if before) ≡ Some (output_of buffer.new)) }
 {
     if before {
@@ -121,61 +121,11 @@ fn put_comma_if(buffer: &mut OutputBuffer, before: bool) -> Result<(), AllocErro
     }
 }
 
-fn put_privilege_if(
-    buffer: &mut OutputBuffer,
-    there: bool,
-    before: bool,
-    word: &str,
-) -> Result<(), AllocError>
-    requires { is_word word.now ≡ true }
-    ensures { OnOk result (put_all (Some (output_of buffer.old)) (form.privilege_if there before word.now) ≡ Some (output_of buffer.new)) }
-{
-    if there {
-        put_comma_if(buffer, before)?;
-        buffer.word(word)
-    } else {
-        Ok(())
-    }
-}
-
-pub fn put_privileges(buffer: &mut OutputBuffer, privileges: &Privileges) -> Result<(), AllocError>
-    ensures { OnOk result (put_all (Some (output_of buffer.old)) (form.privileges privileges.now) ≡ Some (output_of buffer.new)) }
-{
-    if are_all(privileges) {
-        buffer.word("ALL")
-    } else {
-        put_some_privileges(buffer, privileges)
-    }
-}
-
-fn are_all(privileges: &Privileges) -> bool
-    ensures { result ≡ form.are_all privileges.now }
-{
-    privileges.select.whole
-        && privileges.insert.whole
-        && privileges.update.whole
-        && privileges.delete
-}
-
-fn either(left: bool, right: bool) -> bool
+/// Whether one of them is so.
+pub fn either(left: bool, right: bool) -> bool
     ensures { result ≡ (left || right) }
 {
     left || right
-}
-
-fn put_some_privileges(buffer: &mut OutputBuffer, privileges: &Privileges) -> Result<(), AllocError>
-    ensures { OnOk result (put_all (Some (output_of buffer.old)) (form.some_privileges privileges.now) ≡ Some (output_of buffer.new)) }
-{
-    let select = privileges.select.whole;
-    let insert = privileges.insert.whole;
-    let update = privileges.update.whole;
-    let before_update = either(select, insert);
-    let more = either(insert, update);
-    let before_delete = either(select, more);
-    put_privilege_if(buffer, select, false, "SELECT")?;
-    put_privilege_if(buffer, insert, select, "INSERT")?;
-    put_privilege_if(buffer, update, before_update, "UPDATE")?;
-    put_privilege_if(buffer, privileges.delete, before_delete, "DELETE")
 }
 
 pub fn put_with_option(buffer: &mut OutputBuffer, with_option: bool) -> Result<(), AllocError>

@@ -5,3 +5,4 @@ pub mod Listing
 pub mod Steps
 pub mod SearchLaws
 pub mod SearchExamples
+pub mod ListingSteps

@@ -29,7 +29,7 @@ circle_from_outside : ordered_by (leading (codes "t") (codes "u" ∷ []) ∷ lea
 circle_from_outside = refl
 
 -- the policy that is asked for reads t again, whose policies hold no subquery: then the chain ends there
-back_to_plain : ordered_by (plain (codes "t") ∷ []) (codes "t") (codes "t" ∷ []) [] ≡ Ok (record { secured = codes "t" ∷ []; permission_checks = codes "t" ∷ [] })
+back_to_plain : ordered_by (plain (codes "t") ∷ []) (codes "t") (codes "t" ∷ []) [] ≡ Ok (record { secured = codes "t" ∷ []; tables = codes "t" ∷ [] })
 back_to_plain = refl
 
 -- a, which leads to b and to c, and b
@@ -37,7 +37,7 @@ abbrev diamond : List PolicyDependency
 diamond = leading (codes "a") (codes "b" ∷ codes "c" ∷ []) ∷ plain (codes "b") ∷ plain (codes "c") ∷ []
 
 -- t leads to a and b, a to b and c: b is met below a, and in its own place nothing more is done for it
-each_once : ordered_by diamond (codes "t") (codes "a" ∷ codes "b" ∷ []) [] ≡ Ok (record { secured = codes "a" ∷ codes "c" ∷ codes "b" ∷ []; permission_checks = codes "a" ∷ codes "b" ∷ codes "c" ∷ [] })
+each_once : ordered_by diamond (codes "t") (codes "a" ∷ codes "b" ∷ []) [] ≡ Ok (record { secured = codes "a" ∷ codes "c" ∷ codes "b" ∷ []; tables = codes "a" ∷ codes "b" ∷ codes "c" ∷ [] })
 each_once = refl
 
 -- no chain closes there: b is met twice, and by no chain twice
@@ -45,7 +45,7 @@ diamond_by_chains : first_closing 4 diamond (codes "t") (codes "a" ∷ codes "b"
 diamond_by_chains = refl
 
 -- a subquery of a statement on a ranges over a: it begins a chain, which the target isn't on
-new_chain : ordered_by diamond (codes "a") (codes "b" ∷ codes "c" ∷ []) (codes "a" ∷ []) ≡ Ok (record { secured = codes "a" ∷ codes "c" ∷ codes "b" ∷ []; permission_checks = codes "a" ∷ codes "b" ∷ codes "c" ∷ codes "a" ∷ [] })
+new_chain : ordered_by diamond (codes "a") (codes "b" ∷ codes "c" ∷ []) (codes "a" ∷ []) ≡ Ok (record { secured = codes "a" ∷ codes "c" ∷ codes "b" ∷ []; tables = codes "a" ∷ codes "b" ∷ codes "c" ∷ codes "a" ∷ [] })
 new_chain = refl
 
 -- the first chain in order is named: the target's before the subqueries'

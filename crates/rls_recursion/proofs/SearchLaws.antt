@@ -5,7 +5,7 @@ use Rattle.std.proofs.lemmas.Bool.{true≢false}
 use Rattle.rls_value.specs.{declared.refusal.Refusal.Refusal, declared.refusal.Refusal.TheVariants.Recursion}
 use Rattle.rls_catalog.specs.Membership.{Within}
 use Rattle.rls_recursion.specs.{declared.dependency.PolicyDependency.PolicyDependency, declared.progress.Progress.Progress, declared.searching.Reached.Reached}
-use Rattle.rls_recursion.specs.Searching.{or_next, first_closed, closes, first_closing, nothing_yet, Found, Fits, Loops, Deep, found_then, visit_all, visit, searched_from, searched, told_by, ordered_by, InOrder, IsOnce, ChecksEach, IsEnough}
+use Rattle.rls_recursion.specs.Searching.{or_next, first_closed, closes, first_closing, nothing_yet, Found, Fits, Loops, Deep, found_then, visit_all, visit, searched_from, searched, told_by, ordered_by, InOrder, IsOnce, ListsEach, IsEnough}
 use Rattle.rls_recursion.proofs.Closing.{IsOpen, Says, visits_say}
 use Rattle.rls_recursion.proofs.Listing.{Stands, Lists, Keeps, both_list, visits_keep}
 use Rattle.rls_recursion.proofs.Ending.{IsTold, told_then, all_told, visit_told, visits_same, left_most}
@@ -170,8 +170,8 @@ search_tells n dependencies target own queries =
     (visits_keep n dependencies (target ∷ []) own nothing_yet (nothing_stands dependencies (target ∷ [])))
     (λ more stands. visits_keep n dependencies [] queries more stands)
 
-asks_if : (found : Found) (queries : List (List ℕ)) (reached : Reached) → Finds found → IsTold found → told_by queries found ≡ Ok reached → ChecksEach queries reached
-asks_if (Fits more) queries reached tells told is = subst (λ all. ChecksEach queries all) (ap (reached_or reached) is) (record {
+asks_if : (found : Found) (queries : List (List ℕ)) (reached : Reached) → Finds found → IsTold found → told_by queries found ≡ Ok reached → ListsEach queries reached
+asks_if (Fits more) queries reached tells told is = subst (λ all. ListsEach queries all) (ap (reached_or reached) is) (record {
   listed = more.listed;
   behind = refl;
   once = tells.0;
@@ -182,6 +182,6 @@ asks_if (Loops t) queries reached tells told is = absurd (true≢false (ap is_re
 asks_if Deep queries reached tells told is = absurd told
 
 -- the privilege is asked of the tables of the subqueries, then of each that is reached, once
-pub permission_checks_mean : (dependencies : List PolicyDependency) (target : List ℕ) (own queries : List (List ℕ)) (reached : Reached) → ordered_by dependencies target own queries ≡ Ok reached → ChecksEach queries reached
-permission_checks_mean dependencies target own queries reached is =
+pub tables_mean : (dependencies : List PolicyDependency) (target : List ℕ) (own queries : List (List ℕ)) (reached : Reached) → ordered_by dependencies target own queries ≡ Ok reached → ListsEach queries reached
+tables_mean dependencies target own queries reached is =
     asks_if (searched dependencies target own queries) queries reached (search_tells (suc (length dependencies)) dependencies target own queries) (search_told (suc (length dependencies)) dependencies target own queries (omega arith)) is

@@ -1,3 +1,4 @@
 pub mod Searching
 pub mod Chains
+pub mod Listings
 pub use Rattle.rls_catalog

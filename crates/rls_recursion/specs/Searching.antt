@@ -113,9 +113,9 @@ searched dependencies target own queries = searched_from (suc (length dependenci
 
 -- what is told of a search: the tables in their two orders, or the refusal; it is never cut off
 abbrev pub told_by : List (List ℕ) → Found → Result Reached Refusal
-told_by queries (Fits progress) = Ok (record { secured = progress.done; permission_checks = queries ++ progress.listed })
+told_by queries (Fits progress) = Ok (record { secured = progress.done; tables = queries ++ progress.listed })
 told_by queries (Loops t) = Err (Recursion t)
-told_by queries Deep = Ok (record { secured = []; permission_checks = [] })
+told_by queries Deep = Ok (record { secured = []; tables = [] })
 
 -- the tables that a statement reaches, in their two orders, or the table that a chain closes on
 abbrev pub ordered_by : List PolicyDependency → List ℕ → List (List ℕ) → List (List ℕ) → Result Reached Refusal
@@ -133,10 +133,10 @@ abbrev pub IsOnce : List (List ℕ) → Type 0
 IsOnce [] = Unit {0}
 IsOnce (t ∷ ts) = (one_of ts t ≡ false) × IsOnce ts
 
--- those of the subqueries are asked of, and behind them each table that is reached, once
-pub record ChecksEach (queries : List (List ℕ)) (reached : Reached) : Type 0 where
+-- those of the subqueries are there, and behind them each table that is reached, once
+pub record ListsEach (queries : List (List ℕ)) (reached : Reached) : Type 0 where
   pub listed : List (List ℕ)
-  pub behind : reached.permission_checks ≡ queries ++ listed
+  pub behind : reached.tables ≡ queries ++ listed
   pub once : IsOnce listed
   pub all : Within reached.secured listed
   pub only : Within listed reached.secured

@@ -18,8 +18,8 @@ use std::alloc::{AllocError, Global};
 pub struct Reached {
     /// Each once, in front of those that its policies lead to.
     pub secured: Items<Name>,
-    /// In the order in which the SELECT privilege is asked: those of the statement's subqueries, then each as it is met.
-    pub permission_checks: Items<Name>,
+    /// Those of the statement's subqueries, then each as it is met.
+    pub tables: Items<Name>,
 }
 
 /// The tables of a chain, the last first.
@@ -215,10 +215,10 @@ fn both_orders(alloc: Global, progress: Progress, queries: &[Name]) -> Result<Re
     ensures { Gives result (told_by queries.now (spec.Fits progress)) }
 {
     let Progress { done, listed } = progress;
-    let permission_checks = in_front(alloc, queries, listed)?;
+    let tables = in_front(alloc, queries, listed)?;
     Ok(Reached {
         secured: done.into_items(),
-        permission_checks,
+        tables,
     })
 }
 

@@ -108,6 +108,14 @@ fn statements_are_the_same(rt: HostRuntime) {
             "GRANT ALL ON t TO a",
             "GRANT DELETE, SELECT, UPDATE, INSERT, SELECT ON TABLE t TO a",
         ),
+        (
+            "GRANT ALL (a) ON t TO a",
+            "GRANT INSERT (a), SELECT (a), UPDATE (A) ON t TO a",
+        ),
+        (
+            "GRANT SELECT (b), SELECT (a) ON t TO a",
+            "GRANT SELECT (b, a) ON t TO a",
+        ),
         ("REVOKE r, s FROM a", "REVOKE r, s FROM a RESTRICT"),
         (
             "CREATE POLICY p ON t USING (a)",
@@ -160,6 +168,11 @@ fn statements_are_told_apart(rt: HostRuntime) {
             "GRANT SELECT ON t TO a WITH GRANT OPTION",
         ),
         ("REVOKE SELECT ON t FROM a", "REVOKE UPDATE ON t FROM a"),
+        ("GRANT SELECT ON t TO a", "GRANT SELECT (a) ON t TO a"),
+        (
+            "GRANT SELECT (a, b) ON t TO a",
+            "GRANT SELECT (b, a) ON t TO a",
+        ),
         (
             "REVOKE SELECT ON t FROM a",
             "REVOKE SELECT ON t FROM a CASCADE",

@@ -12,6 +12,8 @@ mod coded_texts;
 mod coded_values;
 mod coded_words;
 #[cfg(test)]
+mod columns;
+#[cfg(test)]
 mod equalities;
 #[cfg(test)]
 mod expressions;

@@ -48,6 +48,22 @@ fn prints_statements(rt: HostRuntime) {
             "REVOKE ALL ON t FROM a",
         ),
         (
+            "grant insert(B,a), select on t to a",
+            "GRANT SELECT, INSERT (b, a) ON t TO a",
+        ),
+        (
+            "grant select(a), delete, select, update, insert, select(b) on t to a",
+            "GRANT SELECT, SELECT (a, b), INSERT, UPDATE, DELETE ON t TO a",
+        ),
+        (
+            "grant all privileges (a) on t to a",
+            "GRANT SELECT (a), INSERT (a), UPDATE (a) ON t TO a",
+        ),
+        (
+            "revoke grant option for update (b), select on t from public",
+            "REVOKE GRANT OPTION FOR SELECT, UPDATE (b) ON t FROM PUBLIC",
+        ),
+        (
             "grant a,b to c with set option, admin false",
             "GRANT a, b TO c WITH ADMIN FALSE, SET TRUE",
         ),

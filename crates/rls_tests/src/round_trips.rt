@@ -1,4 +1,4 @@
-//! Statements of the repository's conformance scripts, printed and read again.
+//! Statements, most of them of the repository's conformance scripts, printed and read again.
 
 use crate::states::says;
 use rls_equality::Same;
@@ -48,6 +48,10 @@ fn reads_roles_and_memberships_again(rt: HostRuntime) {
         "REVOKE SELECT ON t FROM ben RESTRICT",
         "REVOKE SELECT ON t FROM ben CASCADE",
         "REVOKE GRANT OPTION FOR SELECT ON t FROM a CASCADE",
+        "GRANT SELECT (b), SELECT (a) ON t TO r",
+        "GRANT UPDATE (a), SELECT, SELECT (a) ON t TO r, public",
+        "GRANT ALL PRIVILEGES (a, b) ON TABLE t TO r",
+        "REVOKE INSERT (a), DELETE ON t FROM r CASCADE",
         "SET ROLE o",
         "RESET ROLE",
     ] {

@@ -72,6 +72,27 @@ fn refuses_items(rt: HostRuntime) {
     }
 }
 
+/// Privileges on columns outside the grammar.
+#[test]
+fn refuses_privileges(rt: HostRuntime) {
+    for text in [
+        "GRANT DELETE (a) ON t TO r",
+        "GRANT SELECT () ON t TO r",
+        "GRANT SELECT a ON t TO r",
+        "GRANT SELECT (a ON t TO r",
+        "GRANT SELECT (a, a) ON t TO r",
+        "GRANT SELECT (a), INSERT (a), SELECT (b, A) ON t TO r",
+        "GRANT ALL (b, b) ON t TO r",
+        "GRANT ALL, SELECT ON t TO r",
+        "REVOKE SELECT (a), ALL ON t FROM r",
+        "REVOKE ALL (a) PRIVILEGES ON t FROM r",
+        "REVOKE SELECT (on) ON t FROM r",
+        "GRANT insert (a) TO r",
+    ] {
+        assert!(rt; answers(rt.alloc(), text, "42601"), "{text}");
+    }
+}
+
 /// Subqueries, each with the tag of its statement.
 #[test]
 fn reads_subqueries(rt: HostRuntime) {

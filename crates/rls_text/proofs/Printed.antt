@@ -265,25 +265,43 @@ dropped_policy_written = refl
 -- GRANT INSERT, DELETE ON t TO r, PUBLIC
 grant_written : (g.statement 1).rule.prints.writes (st.Grant record { privileges = record { select = record { whole = false; columns = [] }; insert = record { whole = true; columns = [] }; update = record { whole = false; columns = [] }; delete = true }; table = codes "t"; to = Grantee.Role (codes "r") ∷ Grantee.Public ∷ []; with_option = false }) ≡ Some
     (Word (codes "grant") ∷ Word (codes "insert") ∷ t.Symbol s.Comma ∷ Word (codes "delete") ∷ Word (codes "on") ∷ Word (codes "t") ∷ Word (codes "to") ∷ Word (codes "r") ∷ t.Symbol s.Comma ∷ Word (codes "public") ∷ [])
-unfolding reserved g.statement g.body g.select g.insert g.update g.delete g.create g.role g.table g.policy g.alter g.altered_role g.altered_table g.altered_policy g.flat_body g.dropped_policy g.grant g.granted_privileges g.privileges_on g.privileges g.table_privileges g.named_privileges g.privilege g.table_name g.granted_to g.to_grantees g.grantees g.grantee g.with_option with_comma g.name
+unfolding reserved g.statement g.body g.select g.insert g.update g.delete g.create g.role g.table g.policy g.alter g.altered_role g.altered_table g.altered_policy g.flat_body g.dropped_policy g.grant g.granted_privileges g.privileges_on g.privileges g.table_privileges g.all_privileges g.named_privileges g.privilege_list g.privilege g.column_privilege g.column_list g.table_name g.granted_to g.to_grantees g.grantees g.grantee g.with_option with_comma g.name
 grant_written = refl
 
 -- GRANT ALL ON t TO r WITH GRANT OPTION
 grant_option_written : (g.statement 1).rule.prints.writes (st.Grant record { privileges = record { select = record { whole = true; columns = [] }; insert = record { whole = true; columns = [] }; update = record { whole = true; columns = [] }; delete = true }; table = codes "t"; to = Grantee.Role (codes "r") ∷ []; with_option = true }) ≡ Some
     (Word (codes "grant") ∷ Word (codes "all") ∷ Word (codes "on") ∷ Word (codes "t") ∷ Word (codes "to") ∷ Word (codes "r") ∷ Word (codes "with") ∷ Word (codes "grant") ∷ Word (codes "option") ∷ [])
-unfolding reserved g.statement g.body g.select g.insert g.update g.delete g.create g.role g.table g.policy g.alter g.altered_role g.altered_table g.altered_policy g.flat_body g.dropped_policy g.grant g.granted_privileges g.privileges_on g.privileges g.table_privileges g.named_privileges g.privilege g.table_name g.granted_to g.to_grantees g.grantees g.grantee g.with_option with_comma g.name
+unfolding reserved g.statement g.body g.select g.insert g.update g.delete g.create g.role g.table g.policy g.alter g.altered_role g.altered_table g.altered_policy g.flat_body g.dropped_policy g.grant g.granted_privileges g.privileges_on g.privileges g.table_privileges g.all_privileges g.named_privileges g.privilege_list g.privilege g.column_privilege g.column_list g.table_name g.granted_to g.to_grantees g.grantees g.grantee g.with_option with_comma g.name
 grant_option_written = refl
+
+-- GRANT SELECT, SELECT (b, a), INSERT (a), DELETE ON t TO r: the whole table before the columns, which stand as they are written
+grant_columns_written : (g.statement 1).rule.prints.writes (st.Grant record { privileges = record { select = record { whole = true; columns = codes "b" ∷ codes "a" ∷ [] }; insert = record { whole = false; columns = codes "a" ∷ [] }; update = record { whole = false; columns = [] }; delete = true }; table = codes "t"; to = Grantee.Role (codes "r") ∷ []; with_option = false }) ≡ Some
+    (Word (codes "grant") ∷ Word (codes "select") ∷ t.Symbol s.Comma ∷ Word (codes "select") ∷ t.Symbol s.LParen ∷ Word (codes "b") ∷ t.Symbol s.Comma ∷ Word (codes "a") ∷ t.Symbol s.RParen ∷ t.Symbol s.Comma ∷ Word (codes "insert") ∷ t.Symbol s.LParen ∷ Word (codes "a") ∷ t.Symbol s.RParen ∷ t.Symbol s.Comma ∷ Word (codes "delete") ∷ Word (codes "on") ∷ Word (codes "t") ∷ Word (codes "to") ∷ Word (codes "r") ∷ [])
+unfolding reserved g.statement g.body g.select g.insert g.update g.delete g.create g.role g.table g.policy g.alter g.altered_role g.altered_table g.altered_policy g.flat_body g.dropped_policy g.grant g.granted_privileges g.privileges_on g.privileges g.table_privileges g.all_privileges g.named_privileges g.privilege_list g.privilege g.column_privilege g.column_list g.table_name g.granted_to g.to_grantees g.grantees g.grantee g.with_option with_comma g.names g.name
+grant_columns_written = refl
+
+-- GRANT ALL (a) ON t TO r is written as the three
+grant_all_columns_written : (g.statement 1).rule.prints.writes (st.Grant record { privileges = record { select = record { whole = false; columns = codes "a" ∷ [] }; insert = record { whole = false; columns = codes "a" ∷ [] }; update = record { whole = false; columns = codes "a" ∷ [] }; delete = false }; table = codes "t"; to = Grantee.Role (codes "r") ∷ []; with_option = false }) ≡ Some
+    (Word (codes "grant") ∷ Word (codes "select") ∷ t.Symbol s.LParen ∷ Word (codes "a") ∷ t.Symbol s.RParen ∷ t.Symbol s.Comma ∷ Word (codes "insert") ∷ t.Symbol s.LParen ∷ Word (codes "a") ∷ t.Symbol s.RParen ∷ t.Symbol s.Comma ∷ Word (codes "update") ∷ t.Symbol s.LParen ∷ Word (codes "a") ∷ t.Symbol s.RParen ∷ Word (codes "on") ∷ Word (codes "t") ∷ Word (codes "to") ∷ Word (codes "r") ∷ [])
+unfolding reserved g.statement g.body g.select g.insert g.update g.delete g.create g.role g.table g.policy g.alter g.altered_role g.altered_table g.altered_policy g.flat_body g.dropped_policy g.grant g.granted_privileges g.privileges_on g.privileges g.table_privileges g.all_privileges g.named_privileges g.privilege_list g.privilege g.column_privilege g.column_list g.table_name g.granted_to g.to_grantees g.grantees g.grantee g.with_option with_comma g.names g.name
+grant_all_columns_written = refl
+
+-- beside a list of columns ALL isn't written
+grant_all_beside_columns_written : (g.statement 1).rule.prints.writes (st.Grant record { privileges = record { select = record { whole = true; columns = codes "a" ∷ [] }; insert = record { whole = true; columns = [] }; update = record { whole = true; columns = [] }; delete = true }; table = codes "t"; to = Grantee.Role (codes "r") ∷ []; with_option = false }) ≡ Some
+    (Word (codes "grant") ∷ Word (codes "select") ∷ t.Symbol s.Comma ∷ Word (codes "select") ∷ t.Symbol s.LParen ∷ Word (codes "a") ∷ t.Symbol s.RParen ∷ t.Symbol s.Comma ∷ Word (codes "insert") ∷ t.Symbol s.Comma ∷ Word (codes "update") ∷ t.Symbol s.Comma ∷ Word (codes "delete") ∷ Word (codes "on") ∷ Word (codes "t") ∷ Word (codes "to") ∷ Word (codes "r") ∷ [])
+unfolding reserved g.statement g.body g.select g.insert g.update g.delete g.create g.role g.table g.policy g.alter g.altered_role g.altered_table g.altered_policy g.flat_body g.dropped_policy g.grant g.granted_privileges g.privileges_on g.privileges g.table_privileges g.all_privileges g.named_privileges g.privilege_list g.privilege g.column_privilege g.column_list g.table_name g.granted_to g.to_grantees g.grantees g.grantee g.with_option with_comma g.names g.name
+grant_all_beside_columns_written = refl
 
 -- REVOKE SELECT ON t FROM r; RESTRICT isn't written
 revoke_written : (g.statement 1).rule.prints.writes (st.Revoke record { option_only = false; privileges = record { select = record { whole = true; columns = [] }; insert = record { whole = false; columns = [] }; update = record { whole = false; columns = [] }; delete = false }; table = codes "t"; from = Grantee.Role (codes "r") ∷ []; cascade = false }) ≡ Some
     (Word (codes "revoke") ∷ Word (codes "select") ∷ Word (codes "on") ∷ Word (codes "t") ∷ Word (codes "from") ∷ Word (codes "r") ∷ [])
-unfolding reserved g.statement g.body g.select g.insert g.update g.delete g.create g.role g.table g.policy g.alter g.altered_role g.altered_table g.altered_policy g.flat_body g.dropped_policy g.grant g.granted_privileges g.granted_roles g.revoke g.revoked_privileges g.option_only g.privileges_on g.privileges g.table_privileges g.named_privileges g.privilege g.table_name g.revoked_from g.grantees g.grantee g.cascade with_comma g.name
+unfolding reserved g.statement g.body g.select g.insert g.update g.delete g.create g.role g.table g.policy g.alter g.altered_role g.altered_table g.altered_policy g.flat_body g.dropped_policy g.grant g.granted_privileges g.granted_roles g.revoke g.revoked_privileges g.option_only g.privileges_on g.privileges g.table_privileges g.all_privileges g.named_privileges g.privilege_list g.privilege g.column_privilege g.column_list g.table_name g.revoked_from g.grantees g.grantee g.cascade with_comma g.name
 revoke_written = refl
 
 -- REVOKE GRANT OPTION FOR UPDATE ON t FROM PUBLIC CASCADE
 revoke_option_written : (g.statement 1).rule.prints.writes (st.Revoke record { option_only = true; privileges = record { select = record { whole = false; columns = [] }; insert = record { whole = false; columns = [] }; update = record { whole = true; columns = [] }; delete = false }; table = codes "t"; from = Grantee.Public ∷ []; cascade = true }) ≡ Some
     (Word (codes "revoke") ∷ Word (codes "grant") ∷ Word (codes "option") ∷ Word (codes "for") ∷ Word (codes "update") ∷ Word (codes "on") ∷ Word (codes "t") ∷ Word (codes "from") ∷ Word (codes "public") ∷ Word (codes "cascade") ∷ [])
-unfolding reserved g.statement g.body g.select g.insert g.update g.delete g.create g.role g.table g.policy g.alter g.altered_role g.altered_table g.altered_policy g.flat_body g.dropped_policy g.grant g.granted_privileges g.granted_roles g.revoke g.revoked_privileges g.option_only g.privileges_on g.privileges g.table_privileges g.named_privileges g.privilege g.table_name g.revoked_from g.grantees g.grantee g.cascade with_comma g.name
+unfolding reserved g.statement g.body g.select g.insert g.update g.delete g.create g.role g.table g.policy g.alter g.altered_role g.altered_table g.altered_policy g.flat_body g.dropped_policy g.grant g.granted_privileges g.granted_roles g.revoke g.revoked_privileges g.option_only g.privileges_on g.privileges g.table_privileges g.all_privileges g.named_privileges g.privilege_list g.privilege g.column_privilege g.column_list g.table_name g.revoked_from g.grantees g.grantee g.cascade with_comma g.name
 revoke_option_written = refl
 
 -- ALTER ROLE x LOGIN NOBYPASSRLS
@@ -314,6 +332,31 @@ reset_role_written : (g.statement 1).rule.prints.writes (st.SetRole SetRole.Rese
 unfolding reserved g.statement g.body g.select g.insert g.update g.delete g.create g.role g.table g.policy g.alter g.altered_role g.altered_table g.altered_policy g.flat_body g.dropped_policy g.grant g.granted_privileges g.granted_roles g.revoke g.revoked_privileges g.revoked_memberships g.revoked_option g.revoked_roles g.set_role g.role_change g.role_set g.role_reset g.chosen_role g.name
 reset_role_written = refl
 
+-- SELECT (b), INSERT, SELECT (a) is of b and a, in this order
+lists_are_joined : g.privileges_on.parses.read (Word (codes "select") ∷ t.Symbol s.LParen ∷ Word (codes "b") ∷ t.Symbol s.RParen ∷ t.Symbol s.Comma ∷ Word (codes "insert") ∷ t.Symbol s.Comma ∷ Word (codes "select") ∷ t.Symbol s.LParen ∷ Word (codes "a") ∷ t.Symbol s.RParen ∷ Word (codes "on") ∷ Word (codes "t") ∷ []) ≡ Some ((record { select = record { whole = false; columns = codes "b" ∷ codes "a" ∷ [] }; insert = record { whole = true; columns = [] }; update = record { whole = false; columns = [] }; delete = false }, codes "t"), [])
+unfolding reserved read_many g.privileges_on g.privileges g.table_privileges g.all_privileges g.named_privileges g.privilege_list g.privilege g.column_privilege g.column_list g.table_name with_privilege with_comma g.names g.name
+lists_are_joined = refl
+
+-- ALL PRIVILEGES (a) is of the three
+all_of_columns : g.privileges_on.parses.read (Word (codes "all") ∷ Word (codes "privileges") ∷ t.Symbol s.LParen ∷ Word (codes "a") ∷ t.Symbol s.RParen ∷ Word (codes "on") ∷ Word (codes "t") ∷ []) ≡ Some ((record { select = record { whole = false; columns = codes "a" ∷ [] }; insert = record { whole = false; columns = codes "a" ∷ [] }; update = record { whole = false; columns = codes "a" ∷ [] }; delete = false }, codes "t"), [])
+unfolding reserved read_many g.privileges_on g.privileges g.table_privileges g.all_privileges g.named_privileges g.privilege_list g.privilege g.column_privilege g.column_list g.table_name with_privilege with_comma g.names g.name
+all_of_columns = refl
+
+-- SELECT (a), SELECT (a) is nothing
+column_twice : g.privileges_on.parses.read (Word (codes "select") ∷ t.Symbol s.LParen ∷ Word (codes "a") ∷ t.Symbol s.RParen ∷ t.Symbol s.Comma ∷ Word (codes "select") ∷ t.Symbol s.LParen ∷ Word (codes "a") ∷ t.Symbol s.RParen ∷ Word (codes "on") ∷ Word (codes "t") ∷ []) ≡ None
+unfolding reserved read_many g.privileges_on g.privileges g.table_privileges g.all_privileges g.named_privileges g.privilege_list g.privilege g.column_privilege g.column_list g.table_name with_privilege with_comma g.names g.name
+column_twice = refl
+
+-- DELETE (a) is nothing,
+delete_of_columns : g.privileges_on.parses.read (Word (codes "delete") ∷ t.Symbol s.LParen ∷ Word (codes "a") ∷ t.Symbol s.RParen ∷ Word (codes "on") ∷ Word (codes "t") ∷ []) ≡ None
+unfolding reserved read_many g.privileges_on g.privileges g.table_privileges g.all_privileges g.named_privileges g.privilege_list g.privilege g.column_privilege g.column_list g.table_name with_privilege with_comma g.names g.name
+delete_of_columns = refl
+
+-- nor is ALL, SELECT
+all_beside_others : g.privileges_on.parses.read (Word (codes "all") ∷ t.Symbol s.Comma ∷ Word (codes "select") ∷ Word (codes "on") ∷ Word (codes "t") ∷ []) ≡ None
+unfolding reserved read_many g.privileges_on g.privileges g.table_privileges g.all_privileges g.named_privileges g.privilege_list g.privilege g.column_privilege g.column_list g.table_name with_privilege with_comma g.names g.name
+all_beside_others = refl
+
 -- GRANT insert TO r WITH INHERIT OPTION is of a role called insert, and OPTION is TRUE.
 insert_is_a_role : g.grant.parses.read (Word (codes "grant") ∷ Word (codes "insert") ∷ Word (codes "to") ∷ Word (codes "r") ∷ Word (codes "with") ∷ Word (codes "inherit") ∷ Word (codes "option") ∷ []) ≡ Some
     (st.GrantRoles record { roles = codes "insert" ∷ []; to = codes "r" ∷ []; options = record { admin = None; inherit = Some true; set = None } }, [])
@@ -334,7 +377,7 @@ select_is_no_role = refl
 -- REVOKE DELETE ON TABLE t FROM restrict RESTRICT is from a role called restrict, without CASCADE.
 restrict_is_a_role : g.revoke.parses.read (Word (codes "revoke") ∷ Word (codes "delete") ∷ Word (codes "on") ∷ Word (codes "table") ∷ Word (codes "t") ∷ Word (codes "from") ∷ Word (codes "restrict") ∷ Word (codes "restrict") ∷ []) ≡ Some
     (st.Revoke record { option_only = false; privileges = record { select = record { whole = false; columns = [] }; insert = record { whole = false; columns = [] }; update = record { whole = false; columns = [] }; delete = true }; table = codes "t"; from = Grantee.Role (codes "restrict") ∷ []; cascade = false }, [])
-unfolding reserved read_many g.revoke g.revoked_privileges g.option_only g.privileges_on g.privileges g.table_privileges g.named_privileges g.privilege g.table_name g.revoked_from g.grantees g.grantee g.cascade with_privilege with_comma g.name
+unfolding reserved read_many g.revoke g.revoked_privileges g.option_only g.privileges_on g.privileges g.table_privileges g.all_privileges g.named_privileges g.privilege_list g.privilege g.column_privilege g.column_list g.table_name g.revoked_from g.grantees g.grantee g.cascade with_privilege with_comma g.name
 restrict_is_a_role = refl
 
 -- SELECT count selects a column of that name, and COUNT (a) is nothing.

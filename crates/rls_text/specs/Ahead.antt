@@ -34,6 +34,10 @@ module _ {A B : Type 0} (test : List Token → Bool) (f : A → B) (p : List Tok
   pub mapped_skips : Skips test (Mapped f p)
   mapped_skips = record { passes = λ ts rest b h. P.passes ts rest h.source h.spelled }
 
+module _ {A : Type 0} (test : List Token → Bool) (passing : A → Bool) (p : List Token → A → Type 0) (P : Skips test p) where
+  pub checked_skips : Skips test (Checked passing p)
+  checked_skips = record { passes = λ ts rest a h. P.passes ts rest a h.spelled }
+
 module _ {A : Type 0} (test : List Token → Bool) (p q : List Token → A → Type 0) (P : Skips test p) (Q : Skips test q) where
   pub either_skips : Skips test (Either p q)
   either_skips = record { passes = λ ts rest a h. elim h [ inl x ↦ P.passes ts rest a x | inr x ↦ Q.passes ts rest a x ] }

@@ -113,9 +113,13 @@ create_more = attribute_heads ++ policy_more
 abbrev pub alter_more : List Head
 alter_more = attribute_heads ++ change_more
 
+-- a privilege that may be of columns
+abbrev pub column_privilege_heads : List Head
+column_privilege_heads = Keyword (codes "select") ∷ Keyword (codes "insert") ∷ Keyword (codes "update") ∷ []
+
 -- a privilege
 abbrev pub privilege_heads : List Head
-privilege_heads = Keyword (codes "select") ∷ Keyword (codes "insert") ∷ Keyword (codes "update") ∷ Keyword (codes "delete") ∷ []
+privilege_heads = column_privilege_heads ++ Keyword (codes "delete") ∷ []
 
 -- an option of a membership
 abbrev pub option_heads : List Head
@@ -124,6 +128,10 @@ option_heads = Keyword (codes "admin") ∷ Keyword (codes "inherit") ∷ Keyword
 -- privileges
 abbrev pub privileges_heads : List Head
 privileges_heads = Keyword (codes "all") ∷ privilege_heads
+
+-- behind privileges
+abbrev pub privileges_more : List Head
+privileges_more = Keyword (codes "privileges") ∷ Sign s.LParen ∷ Sign s.Comma ∷ []
 
 -- behind what is granted
 abbrev pub granted_more : List Head

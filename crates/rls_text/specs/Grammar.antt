@@ -7,7 +7,7 @@ use Rattle.rls_value.specs.{declared.value.Value.Value, declared.value.ColType.C
 use Rattle.rls_expr.specs.{Terms.Term, Terms.terms_of, declared.column_name.ColumnName.ColumnName, declared.expr.Comparison.Comparison, declared.expr.Sign.Sign as PartSign, declared.policy.Grantee.Grantee}
 use Rattle.rls_expr.specs.Terms as e
 use Rattle.rls_statement.specs.{declared.statement.Attributes.Attributes, declared.statement.MarkedColumn.MarkedColumn, declared.statement.MembershipOption.MembershipOption, declared.statement.MembershipOptions.MembershipOptions, declared.privileges.Privileges.Privileges, declared.statement.RowSecurity.RowSecurity, declared.statement.Selected.Selected, declared.statement.SetRole.SetRole, declared.statement.Statement.Statement}
-use Rattle.rls_text.specs.{declared.token.Symbol.Symbol, declared.token.Token.Token, declared.token.Token.TheVariants.Word, declared.attributes.RoleAttribute.RoleAttribute, declared.columns.ColumnMark.ColumnMark, declared.granting.TablePrivileges.TablePrivileges, declared.tables.TableElement.TableElement, declared.tables.TableElements.TableElements, Elements.elements_of, Parses.unseen_parts, declared.tree.Choices.TheVariants.Listed, declared.tree.Choices.TheVariants.Queried, Heights.height, Heights.heights, Cut.Cut, Cut.of_some, Heads.Names, Heads.Numbers, Heads.Texts, Heads.Keyword, Heads.Sign, Heads.begins, Heads.sees, Lang.only, Lang.Both, Lang.Mapped, Lang.Perhaps, Lang.Many, Lang.put_in, Writes.through, Writes.without_second, Writes.without_first, FirstSets.constant_heads, FirstSets.literal_heads, FirstSets.item_heads, FirstSets.item_more, FirstSets.items_more, FirstSets.prim_heads, FirstSets.sign_heads, FirstSets.sum_more, FirstSets.in_heads, FirstSets.memb_more, FirstSets.comparison_heads, FirstSets.cmp_more, FirstSets.is_more, FirstSets.expr_heads, FirstSets.expr_more, FirstSets.alias_heads, FirstSets.condition_more, FirstSets.select_more, FirstSets.inserted_more, FirstSets.changed_more, FirstSets.attribute_heads, FirstSets.role_more, FirstSets.mark_heads, FirstSets.change_more, FirstSets.policy_more, FirstSets.create_more, FirstSets.alter_more, FirstSets.privilege_heads, FirstSets.privileges_heads, FirstSets.option_heads, FirstSets.granted_more, FirstSets.revoked_more, FirstSets.flat_heads, FirstSets.flat_more, FirstSets.body_heads, FirstSets.body_more, FirstSets.literal_apart, FirstSets.name_apart, FirstSets.exists_apart, FirstSets.select_apart, FirstSets.not_apart, FirstSets.as_apart, FirstSets.alias_apart, FirstSets.public_apart, FirstSets.primary_apart, FirstSets.table_apart, FirstSets.none_apart, FirstSets.on_apart, FirstSets.to_apart, Ahead.on_comes_first, Ahead.second_is, Ahead.Skips, Ahead.both_skips, Ahead.mapped_skips, Ahead.either_skips, Ahead.perhaps_skips, Ahead.many_skips, Ahead.token_skips, Ahead.one_skips, Ahead.decided_at, Ahead.decided_before, Ahead.decided_behind, Ahead.Begins, Ahead.only_begins, Ahead.one_begins, Ahead.mapped_begins, Ahead.checked_begins, Ahead.either_begins, Ahead.both_begins, Ahead.perhaps_begins, Ahead.no_second, Ahead.Alone, Ahead.only_alone, Ahead.mapped_alone, Ahead.either_alone, Rule.Rule, Rule.word, Rule.sign, Rule.one, Rule.both, Rule.mapped, Rule.after_as, Rule.after, Rule.before, Rule.in_parentheses, Rule.either, Rule.either_by, Rule.perhaps, Rule.many, Rule.checked, Rule.widened, Rule.with_comma, Rule.as_list, Rule.list_law, Rule.listed, Rule.spelled_as, Rule.standing_for, Rule.word_for, Rule.sign_for, Cutting.tree_of, Cutting.selected_kept, Cutting.select_kept, Cutting.choices_kept, Cutting.in_kept, Cutting.exists_kept, Cutting.scalar_kept, Cutting.tuple_kept, Cutting.tuples_kept, Cutting.rows_kept, Cutting.set_column_kept, Cutting.set_columns_kept, Cutting.ending_kept, Cutting.tree_with_depth_of, Cutting.signed_kept, Cutting.sum_kept, Cutting.among_kept, Cutting.compared_kept, Cutting.tested_kept, Cutting.negated_kept, Cutting.and_kept, Cutting.or_kept, Cutting.tuple_is_kept, Cutting.tuples_are_kept, Cutting.set_columns_are_kept, Cutting.even_kept, Cutting.long_kept, Cutting.distinct_kept, Cutting.conditions_kept, Cutting.description_kept, Cutting.change_kept, Cutting.is_policy_kept, Cutting.is_change_kept}
+use Rattle.rls_text.specs.{declared.token.Symbol.Symbol, declared.token.Token.Token, declared.token.Token.TheVariants.Word, declared.attributes.RoleAttribute.RoleAttribute, declared.columns.ColumnMark.ColumnMark, declared.tables.TableElement.TableElement, declared.tables.TableElements.TableElements, Elements.elements_of, Parses.unseen_parts, declared.tree.Choices.TheVariants.Listed, declared.tree.Choices.TheVariants.Queried, Heights.height, Heights.heights, Cut.Cut, Cut.of_some, Heads.Names, Heads.Numbers, Heads.Texts, Heads.Keyword, Heads.Sign, Heads.begins, Heads.sees, Lang.only, Lang.Both, Lang.Mapped, Lang.Perhaps, Lang.Many, Lang.put_in, Writes.through, Writes.without_second, Writes.without_first, FirstSets.constant_heads, FirstSets.literal_heads, FirstSets.item_heads, FirstSets.item_more, FirstSets.items_more, FirstSets.prim_heads, FirstSets.sign_heads, FirstSets.sum_more, FirstSets.in_heads, FirstSets.memb_more, FirstSets.comparison_heads, FirstSets.cmp_more, FirstSets.is_more, FirstSets.expr_heads, FirstSets.expr_more, FirstSets.alias_heads, FirstSets.condition_more, FirstSets.select_more, FirstSets.inserted_more, FirstSets.changed_more, FirstSets.attribute_heads, FirstSets.role_more, FirstSets.mark_heads, FirstSets.change_more, FirstSets.policy_more, FirstSets.create_more, FirstSets.alter_more, FirstSets.column_privilege_heads, FirstSets.privilege_heads, FirstSets.privileges_heads, FirstSets.privileges_more, FirstSets.option_heads, FirstSets.granted_more, FirstSets.revoked_more, FirstSets.flat_heads, FirstSets.flat_more, FirstSets.body_heads, FirstSets.body_more, FirstSets.literal_apart, FirstSets.name_apart, FirstSets.exists_apart, FirstSets.select_apart, FirstSets.not_apart, FirstSets.as_apart, FirstSets.alias_apart, FirstSets.public_apart, FirstSets.primary_apart, FirstSets.table_apart, FirstSets.none_apart, FirstSets.on_apart, FirstSets.to_apart, Ahead.on_comes_first, Ahead.second_is, Ahead.Skips, Ahead.both_skips, Ahead.mapped_skips, Ahead.checked_skips, Ahead.either_skips, Ahead.perhaps_skips, Ahead.many_skips, Ahead.token_skips, Ahead.one_skips, Ahead.decided_at, Ahead.decided_before, Ahead.decided_behind, Ahead.Begins, Ahead.only_begins, Ahead.one_begins, Ahead.mapped_begins, Ahead.checked_begins, Ahead.either_begins, Ahead.both_begins, Ahead.perhaps_begins, Ahead.no_second, Ahead.Alone, Ahead.only_alone, Ahead.mapped_alone, Ahead.either_alone, Rule.Rule, Rule.word, Rule.sign, Rule.one, Rule.both, Rule.mapped, Rule.after_as, Rule.after, Rule.before, Rule.in_parentheses, Rule.either, Rule.either_by, Rule.perhaps, Rule.many, Rule.checked, Rule.widened, Rule.with_comma, Rule.as_list, Rule.list_law, Rule.listed, Rule.spelled_as, Rule.standing_for, Rule.word_for, Rule.sign_for, Cutting.tree_of, Cutting.selected_kept, Cutting.select_kept, Cutting.choices_kept, Cutting.in_kept, Cutting.exists_kept, Cutting.scalar_kept, Cutting.tuple_kept, Cutting.tuples_kept, Cutting.rows_kept, Cutting.set_column_kept, Cutting.set_columns_kept, Cutting.ending_kept, Cutting.tree_with_depth_of, Cutting.signed_kept, Cutting.sum_kept, Cutting.among_kept, Cutting.compared_kept, Cutting.tested_kept, Cutting.negated_kept, Cutting.and_kept, Cutting.or_kept, Cutting.tuple_is_kept, Cutting.tuples_are_kept, Cutting.set_columns_are_kept, Cutting.even_kept, Cutting.long_kept, Cutting.distinct_kept, Cutting.conditions_kept, Cutting.description_kept, Cutting.change_kept, Cutting.is_policy_kept, Cutting.is_change_kept}
 use Rattle.rls_text.specs.Elements as elements
 use Rattle.rls_text.specs.Trees as t
 use Rattle.rls_text.specs.Cut as cut
@@ -601,22 +601,37 @@ module _ (inner : Cut tree_of expr_heads expr_more false) where
 
 -- ---- GRANT and REVOKE of privileges
 
--- SELECT | INSERT | UPDATE | DELETE
-unfoldable pub privilege : Rule Privilege privilege_heads [] false
-privilege = either (word_for back.privilege_names Privilege.Select (codes "select")) (either (word_for back.privilege_names Privilege.Insert (codes "insert"))
-    (either (word_for back.privilege_names Privilege.Update (codes "update")) (word_for back.privilege_names Privilege.Delete (codes "delete")) refl) refl) refl
+-- SELECT | INSERT | UPDATE
+unfoldable pub column_privilege : Rule Privilege column_privilege_heads [] false
+column_privilege = either (word_for back.privilege_names Privilege.Select (codes "select")) (either (word_for back.privilege_names Privilege.Insert (codes "insert")) (word_for back.privilege_names Privilege.Update (codes "update")) refl) refl
+
+-- ["(" names ")"]
+unfoldable pub column_list : Rule (Option (List (List ℕ))) (Sign Symbol.LParen ∷ []) (Sign Symbol.LParen ∷ []) true
+column_list = perhaps (in_parentheses names refl)
+
+-- (SELECT | INSERT | UPDATE) ["(" names ")"] | DELETE
+unfoldable pub privilege : Rule g.NamedPrivilege privilege_heads (Sign Symbol.LParen ∷ []) false
+privilege = either (both column_privilege column_list refl) (mapped g.on_whole back.as_on_whole back.on_whole_law (word_for back.privilege_names Privilege.Delete (codes "delete"))) refl
 
 -- privilege {"," privilege}
-unfoldable pub named_privileges : Rule TablePrivileges privilege_heads (Sign Symbol.Comma ∷ []) false
-named_privileges = mapped g.privileges_of back.as_privileges back.privileges_law (both privilege (many (with_comma privilege) refl) refl)
+unfoldable pub privilege_list : Rule (List g.NamedPrivilege) privilege_heads (Sign Symbol.LParen ∷ Sign Symbol.Comma ∷ []) false
+privilege_list = widened (mapped (λ r. r.0 ∷ r.1) as_list list_law (both privilege (many (with_comma privilege) refl) refl)) refl refl
 
--- ALL [PRIVILEGES] | privilege {"," privilege}; PRIVILEGES isn't written
-unfoldable pub table_privileges : Rule TablePrivileges privileges_heads (Keyword (codes "privileges") ∷ Sign Symbol.Comma ∷ []) false
-table_privileges = either (mapped (λ _. g.all_privileges) back.as_all_privileges back.all_privileges_law (both (word (codes "all")) (perhaps (word (codes "privileges"))) refl)) named_privileges refl
+-- privilege {"," privilege}, together
+unfoldable pub named_privileges : Rule Privileges privilege_heads (Sign Symbol.LParen ∷ Sign Symbol.Comma ∷ []) false
+named_privileges = mapped g.privileges_of back.as_privileges back.privileges_law privilege_list
 
--- the same, each on the whole table
-unfoldable pub privileges : Rule Privileges privileges_heads (Keyword (codes "privileges") ∷ Sign Symbol.Comma ∷ []) false
-privileges = mapped g.whole_privileges back.as_table_privileges back.table_privileges_law table_privileges
+-- ALL [PRIVILEGES] ["(" names ")"]; PRIVILEGES isn't written, and the list neither: with columns the three are named
+unfoldable pub all_privileges : Rule Privileges (Keyword (codes "all") ∷ []) (Sign Symbol.LParen ∷ Keyword (codes "privileges") ∷ []) false
+all_privileges = mapped g.all_of back.as_all_privileges back.all_privileges_law (after (word (codes "all")) (after_as None (perhaps (word (codes "privileges"))) column_list refl) refl)
+
+-- ALL [PRIVILEGES] ["(" names ")"] | privilege {"," privilege}
+unfoldable pub table_privileges : Rule Privileges privileges_heads privileges_more false
+table_privileges = widened (either all_privileges named_privileges refl) refl refl
+
+-- the same, where no column is named twice for a privilege
+unfoldable pub privileges : Rule Privileges privileges_heads privileges_more false
+privileges = checked g.columns_are_distinct table_privileges
 
 -- [TABLE] name; TABLE isn't written
 unfoldable pub table_name : Rule (List ℕ) (Keyword (codes "table") ∷ Names ∷ []) [] false
@@ -692,28 +707,45 @@ granted_roles = widened (mapped g.granting_of back.as_granting back.granting_law
 word_skips : (w : List ℕ) → begins (Keyword (codes "on") ∷ []) (Word w) ≡ false → begins (Keyword (codes "to") ∷ Keyword (codes "from") ∷ []) (Word w) ≡ false → Skips on_comes_first (only (Word w))
 word_skips w on to = token_skips (Keyword (codes "on") ∷ []) (Keyword (codes "to") ∷ Keyword (codes "from") ∷ []) (Word w) on to
 
-comma_skips : Skips on_comes_first (only (Token.Symbol Symbol.Comma))
-comma_skips = token_skips (Keyword (codes "on") ∷ []) (Keyword (codes "to") ∷ Keyword (codes "from") ∷ []) (Token.Symbol Symbol.Comma) refl refl
-
-privilege_skips : Skips on_comes_first privilege.spells
-unfolding privilege
-privilege_skips = either_skips _ _ _ (mapped_skips _ _ _ (word_skips (codes "select") refl refl)) (either_skips _ _ _ (mapped_skips _ _ _ (word_skips (codes "insert") refl refl))
-    (either_skips _ _ _ (mapped_skips _ _ _ (word_skips (codes "update") refl refl)) (mapped_skips _ _ _ (word_skips (codes "delete") refl refl))))
-
--- in looking for ON, TO and FROM privileges are passed over
-privileges_skip : Skips on_comes_first privileges.spells
-unfolding privileges table_privileges named_privileges with_comma
-privileges_skip = mapped_skips _ _ _ (either_skips _ _ _ (mapped_skips _ _ _ (both_skips _ _ _ (word_skips (codes "all") refl refl) (perhaps_skips _ _ (word_skips (codes "privileges") refl refl))))
-    (mapped_skips _ _ _ (both_skips _ _ _ privilege_skips (many_skips _ _ (mapped_skips _ _ _ (both_skips _ _ _ comma_skips privilege_skips))))))
+-- nor is a sign
+sign_skips : (x : Symbol) → Skips on_comes_first (only (Token.Symbol x))
+sign_skips x = token_skips (Keyword (codes "on") ∷ []) (Keyword (codes "to") ∷ Keyword (codes "from") ∷ []) (Token.Symbol x) refl refl
 
 name_skips : Skips on_comes_first name.spells
 unfolding name
 name_skips = one_skips (Keyword (codes "on") ∷ []) (Keyword (codes "to") ∷ Keyword (codes "from") ∷ []) g.name_of (Names ∷ []) back.name_begins on_apart to_apart
 
--- so are names
+-- in looking for ON, TO and FROM names are passed over
 names_skip : Skips on_comes_first names.spells
 unfolding names with_comma
-names_skip = mapped_skips _ _ _ (both_skips _ _ _ name_skips (many_skips _ _ (mapped_skips _ _ _ (both_skips _ _ _ comma_skips name_skips))))
+names_skip = mapped_skips _ _ _ (both_skips _ _ _ name_skips (many_skips _ _ (mapped_skips _ _ _ (both_skips _ _ _ (sign_skips Symbol.Comma) name_skips))))
+
+columns_skip : Skips on_comes_first column_list.spells
+unfolding column_list
+columns_skip = perhaps_skips _ _ (mapped_skips _ _ _ (both_skips _ _ _ (sign_skips Symbol.LParen) (mapped_skips _ _ _ (both_skips _ _ _ names_skip (sign_skips Symbol.RParen)))))
+
+column_privilege_skips : Skips on_comes_first column_privilege.spells
+unfolding column_privilege
+column_privilege_skips = either_skips _ _ _ (mapped_skips _ _ _ (word_skips (codes "select") refl refl))
+    (either_skips _ _ _ (mapped_skips _ _ _ (word_skips (codes "insert") refl refl)) (mapped_skips _ _ _ (word_skips (codes "update") refl refl)))
+
+privilege_skips : Skips on_comes_first privilege.spells
+unfolding privilege
+privilege_skips = either_skips _ _ _ (both_skips _ _ _ column_privilege_skips columns_skip) (mapped_skips _ _ _ (mapped_skips _ _ _ (word_skips (codes "delete") refl refl)))
+
+-- so are privileges
+named_skip : Skips on_comes_first named_privileges.spells
+unfolding named_privileges privilege_list with_comma
+named_skip = mapped_skips _ _ _ (mapped_skips _ _ _ (both_skips _ _ _ privilege_skips (many_skips _ _ (mapped_skips _ _ _ (both_skips _ _ _ (sign_skips Symbol.Comma) privilege_skips)))))
+
+all_skip : Skips on_comes_first all_privileges.spells
+unfolding all_privileges
+all_skip = mapped_skips _ _ _ (mapped_skips _ _ _ (both_skips _ _ _ (word_skips (codes "all") refl refl)
+    (mapped_skips _ _ _ (both_skips _ _ _ (perhaps_skips _ _ (word_skips (codes "privileges") refl refl)) columns_skip))))
+
+privileges_skip : Skips on_comes_first privileges.spells
+unfolding privileges table_privileges
+privileges_skip = checked_skips _ _ _ (either_skips _ _ _ all_skip named_skip)
 
 -- behind privileges ON comes first
 on_decides : (front rest : List Token) (r : Privileges × List ℕ) → privileges_on.spells front r → on_comes_first (front ++ rest) ≡ true

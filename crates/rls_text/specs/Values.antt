@@ -1,12 +1,12 @@
 -- What the phrases of the grammar stand for, each by what its parts stand for.
-use Rattle.std.specs.Prelude.{ℕ, zero, suc, nat_le, nat_eq, pos, ◌-ℤ◌, ◌-◌, ◌^◌, Bool, true, false, not, ◌&&◌, ◌||◌, if◌then◌else◌, List, [], ◌∷◌, length, map, ◌⊎◌, Option, Some, None, is_some}
+use Rattle.std.specs.Prelude.{ℕ, zero, suc, nat_le, nat_eq, pos, ◌-ℤ◌, ◌-◌, ◌^◌, Bool, true, false, not, ◌&&◌, ◌||◌, if◌then◌else◌, List, [], ◌∷◌, ◌++◌, length, map, ◌⊎◌, Option, Some, None, is_some}
 use Rattle.std.specs.{List.list_any, Str.bytes_eq}
 use Rattle.std.proofs.Common.{inl, inr}
 use denote.Enum.Bare.{sameb}
 use Rattle.rls_value.specs.{Names.reserved, Names.spells_name, Names.folded, declared.value.Value.Value, declared.value.ColType.ColType, declared.verb.Privilege.Privilege, declared.verb.PolicyKind.PolicyKind, declared.verb.Kind.Kind}
 use Rattle.rls_expr.specs.{Terms.Term, Terms.Query, Terms.terms_of, Terms.maybe_term, declared.column_name.ColumnName.ColumnName, declared.expr.Comparison.Comparison, declared.expr.Selects.Selects, declared.expr.Sign.Sign, declared.policy.Grantee.Grantee}
 use Rattle.rls_expr.specs.Terms as e
-use Rattle.rls_text.specs.{declared.token.Token.Token, declared.attributes.RoleAttribute.RoleAttribute, declared.columns.ColumnMark.ColumnMark, declared.granting.TablePrivileges.TablePrivileges, declared.tables.TableElements.TableElements, Lang.put_in, declared.token.Token.TheVariants.Word, declared.token.Token.TheVariants.Number, declared.token.Token.TheVariants.Text}
+use Rattle.rls_text.specs.{declared.token.Token.Token, declared.attributes.RoleAttribute.RoleAttribute, declared.columns.ColumnMark.ColumnMark, declared.tables.TableElements.TableElements, Lang.put_in, declared.token.Token.TheVariants.Word, declared.token.Token.TheVariants.Number, declared.token.Token.TheVariants.Text}
 use Rattle.rls_text.specs.contracts.columns.ColumnMark as column_mark
 use Rattle.rls_statement.specs.declared.changing.Assignment as changing
 use Rattle.rls_statement.specs.{declared.statement.Attributes.Attributes, declared.statement.MembershipOption.MembershipOption, declared.statement.MarkedColumn.MarkedColumn, declared.statement.MembershipOptions.MembershipOptions, declared.privileges.Privileges.Privileges, declared.privileges.Extent.Extent, declared.statement.RowSecurity.RowSecurity, declared.statement.Selected.Selected, declared.statement.Statement.Statement}
@@ -342,32 +342,46 @@ dropping_policy_of r = Statement.DropPolicy record { name = r.0; table = r.1 }
 
 -- ---- GRANT and REVOKE of privileges
 
--- none of the four
-abbrev pub no_privileges : TablePrivileges
-no_privileges = record { select = false; insert = false; update = false; delete = false }
+-- a privilege as it is named: for the whole table, or for the columns that are listed behind it
+abbrev pub NamedPrivilege : Type 0
+NamedPrivilege = Privilege × Option (List (List ℕ))
 
--- the four
-abbrev pub all_privileges : TablePrivileges
-all_privileges = record { select = true; insert = true; update = true; delete = true }
+-- for the whole table
+abbrev pub on_whole : Privilege → NamedPrivilege
+on_whole privilege = (privilege, None)
+
+-- for nothing
+abbrev pub nothing : Extent
+nothing = record { whole = false; columns = [] }
+
+-- for the whole too, or for these columns too, behind those that are there
+abbrev pub extended : Extent → Option (List (List ℕ)) → Extent
+extended extent None = record { whole = true; columns = extent.columns }
+extended extent (Some columns) = record { whole = extent.whole; columns = extent.columns ++ columns }
+
+-- none of the four
+abbrev pub no_privileges : Privileges
+no_privileges = record { select = nothing; insert = nothing; update = nothing; delete = false }
 
 -- with this one too
-unfoldable pub with_privilege : TablePrivileges → Privilege → TablePrivileges
-with_privilege all Privilege.Select = record all { select = true }
-with_privilege all Privilege.Insert = record all { insert = true }
-with_privilege all Privilege.Update = record all { update = true }
-with_privilege all Privilege.Delete = record all { delete = true }
+unfoldable pub with_privilege : Privileges → NamedPrivilege → Privileges
+with_privilege all (Privilege.Select, columns) = record all { select = extended all.select columns }
+with_privilege all (Privilege.Insert, columns) = record all { insert = extended all.insert columns }
+with_privilege all (Privilege.Update, columns) = record all { update = extended all.update columns }
+with_privilege all (Privilege.Delete, columns) = record all { delete = true }
 
--- those that are named; one may be named twice
-abbrev pub privileges_of : Privilege × List Privilege → TablePrivileges
-privileges_of r = put_in with_privilege (with_privilege no_privileges r.0) r.1
+-- those that are named; one may be named again, for the whole table or for further columns
+abbrev pub privileges_of : List NamedPrivilege → Privileges
+privileges_of = put_in with_privilege no_privileges
 
--- a privilege on the whole table, or on nothing
-abbrev pub whole_if : Bool → Extent
-whole_if whole = record { whole = whole; columns = [] }
+-- ALL: the four for the whole table, or for columns the three that may be
+abbrev pub all_of : Option (List (List ℕ)) → Privileges
+all_of None = record { select = extended nothing None; insert = extended nothing None; update = extended nothing None; delete = true }
+all_of (Some columns) = record { select = extended nothing (Some columns); insert = extended nothing (Some columns); update = extended nothing (Some columns); delete = false }
 
--- privileges on the whole table; no list of columns is written
-abbrev pub whole_privileges : TablePrivileges → Privileges
-whole_privileges named = record { select = whole_if named.select; insert = whole_if named.insert; update = whole_if named.update; delete = named.delete }
+-- for no privilege a column is named twice
+abbrev pub columns_are_distinct : Privileges → Bool
+columns_are_distinct x = are_distinct x.select.columns && (are_distinct x.insert.columns && are_distinct x.update.columns)
 
 -- whether words that may be left out are there
 abbrev pub are_written : Option (Unit {0}) → Bool

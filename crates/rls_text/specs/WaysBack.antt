@@ -7,7 +7,7 @@ use Rattle.rls_expr.specs.{Terms.Term, Terms.Terms, Terms.Query, Terms.terms_of,
 use Rattle.rls_expr.specs.Terms as e
 use Rattle.rls_statement.specs.declared.changing.Assignment as changing
 use Rattle.rls_statement.specs.{declared.statement.Attributes.Attributes, declared.statement.MembershipOption.MembershipOption, declared.statement.MembershipOptions.MembershipOptions, declared.privileges.Extent.Extent, declared.privileges.Privileges.Privileges, Extents.has_list, Extents.has_columns, declared.statement.Selected.Selected, declared.statement.SetRole.SetRole, declared.statement.Statement.Statement, contracts.statement.MembershipOption.the_type as option_type}
-use Rattle.rls_text.specs.{declared.token.Token.Token, declared.attributes.RoleAttribute.RoleAttribute, declared.granting.TablePrivileges.TablePrivileges, Lang.put_in, Writes.some_is, declared.token.Token.TheVariants.Word, declared.token.Token.TheVariants.Number, declared.token.Token.TheVariants.Text, Heads.Names, Heads.Numbers, Heads.Texts, Heads.begins, Rule.Telling, Rule.given_if, Rule.given_was, Rule.as_list}
+use Rattle.rls_text.specs.{declared.token.Token.Token, declared.attributes.RoleAttribute.RoleAttribute, Lang.put_in, Writes.some_is, declared.token.Token.TheVariants.Word, declared.token.Token.TheVariants.Number, declared.token.Token.TheVariants.Text, Heads.Names, Heads.Numbers, Heads.Texts, Heads.begins, Rule.Telling, Rule.given_if, Rule.given_was}
 use Rattle.rls_text.specs.Values as g
 
 pub both_true : (a b : Bool) → (a && b) ≡ true → (a ≡ true) × (b ≡ true)
@@ -550,74 +550,30 @@ altering_law _ a h = cc
 abbrev pub privilege_names : Telling Privilege
 privilege_names = record { are_same = sameb privilege_type; same_is = same_true privilege_type tt }
 
--- the four
-abbrev pub are_all : TablePrivileges → Bool
-are_all b = b.select && (b.insert && (b.update && b.delete))
+-- for the whole table
+abbrev pub as_on_whole : g.NamedPrivilege → Option Privilege
+as_on_whole (privilege, None) = Some privilege
+as_on_whole (privilege, Some columns) = None
 
--- all four, without PRIVILEGES
-abbrev pub as_all_privileges : TablePrivileges → Option (Unit {0} × Option (Unit {0}))
-as_all_privileges b = given_if (are_all b) (tt, None)
+pub on_whole_law : (b : g.NamedPrivilege) (a : Privilege) → as_on_whole b ≡ Some a → b ≡ g.on_whole a
+on_whole_law (privilege, None) a h = ap g.on_whole (some_is privilege a h)
+on_whole_law (privilege, Some columns) a h = cc
 
-all_back : (s i u d : Bool) → are_all record { select = s; insert = i; update = u; delete = d } ≡ true → record { select = s; insert = i; update = u; delete = d } ≡ g.all_privileges
-all_back true true true true h = refl
-all_back false i u d h = cc
-all_back true false u d h = cc
-all_back true true false d h = cc
-all_back true true true false h = cc
+-- the four for the whole table, and no list of columns
+abbrev pub are_all : Privileges → Bool
+are_all b = (b.select.whole && (b.insert.whole && (b.update.whole && b.delete))) && not (has_columns b)
 
-pub all_privileges_law : (b : TablePrivileges) (a : Unit {0} × Option (Unit {0})) → as_all_privileges b ≡ Some a → b ≡ g.all_privileges
-all_privileges_law b a h = all_back b.select b.insert b.update b.delete (given_was (are_all b) (tt, None) a h).0
+-- ALL, without PRIVILEGES; with columns the three are written
+abbrev pub as_all_privileges : Privileges → Option (Option (List (List ℕ)))
+as_all_privileges b = given_if (are_all b) None
 
--- the privilege, if it is there
-abbrev pub where_there : Bool → Privilege → List Privilege
-where_there true x = x ∷ []
-where_there false x = []
-
--- those that are there, in the order SELECT, INSERT, UPDATE, DELETE
-abbrev pub as_privileges : TablePrivileges → Option (Privilege × List Privilege)
-as_privileges b = as_list (where_there b.select Privilege.Select ++ where_there b.insert Privilege.Insert ++ where_there b.update Privilege.Update ++ where_there b.delete Privilege.Delete)
-
--- this one, and the others
-abbrev pub are_privileges : TablePrivileges → Option (Privilege × List Privilege) → Type 0
-are_privileges b None = Unit {0}
-are_privileges b (Some a) = b ≡ g.privileges_of a
-
-privileges_back : (s i u d : Bool) → are_privileges record { select = s; insert = i; update = u; delete = d } (as_privileges record { select = s; insert = i; update = u; delete = d })
-unfolding g.with_privilege
-privileges_back true true true true = refl
-privileges_back true true true false = refl
-privileges_back true true false true = refl
-privileges_back true true false false = refl
-privileges_back true false true true = refl
-privileges_back true false true false = refl
-privileges_back true false false true = refl
-privileges_back true false false false = refl
-privileges_back false true true true = refl
-privileges_back false true true false = refl
-privileges_back false true false true = refl
-privileges_back false true false false = refl
-privileges_back false false true true = refl
-privileges_back false false true false = refl
-privileges_back false false false true = refl
-privileges_back false false false false = tt
-
-pub privileges_law : (b : TablePrivileges) (a : Privilege × List Privilege) → as_privileges b ≡ Some a → b ≡ g.privileges_of a
-privileges_law b a h = subst (are_privileges b) h (privileges_back b.select b.insert b.update b.delete)
-
--- whether each is named for the whole table
-abbrev pub are_named : Privileges → TablePrivileges
-are_named b = record { select = b.select.whole; insert = b.insert.whole; update = b.update.whole; delete = b.delete }
-
--- privileges on the whole table, where no list of columns is written
-abbrev pub as_table_privileges : Privileges → Option TablePrivileges
-as_table_privileges b = given_if (not (has_columns b)) (are_named b)
-
-no_list : (e : Extent) → has_list e ≡ false → e ≡ g.whole_if e.whole
-no_list e h = go e.whole e.columns h
+no_list : (e : Extent) → e.whole ≡ true → has_list e ≡ false → e ≡ g.extended g.nothing None
+no_list e w h = go e.whole e.columns w h
   where
-    go : (whole : Bool) (columns : List (List ℕ)) → has_list record { whole = whole; columns = columns } ≡ false → record { whole = whole; columns = columns } ≡ g.whole_if whole
-    go whole [] k = refl
-    go whole (column ∷ columns) k = cc
+    go : (whole : Bool) (columns : List (List ℕ)) → whole ≡ true → has_list record { whole = whole; columns = columns } ≡ false → record { whole = whole; columns = columns } ≡ g.extended g.nothing None
+    go true [] w h = refl
+    go true (column ∷ columns) w h = cc
+    go false columns w h = cc
 
 no_lists : (s i u : Bool) → not (s || (i || u)) ≡ true → (s ≡ false) × ((i ≡ false) × (u ≡ false))
 no_lists false false false h = (refl, (refl, refl))
@@ -625,11 +581,98 @@ no_lists true i u h = cc
 no_lists false true u h = cc
 no_lists false false true h = cc
 
-pub table_privileges_law : (b : Privileges) (a : TablePrivileges) → as_table_privileges b ≡ Some a → b ≡ g.whole_privileges a
-table_privileges_law b a h =
-    let is = given_was (not (has_columns b)) (are_named b) a h in
-    let none = no_lists (has_list b.select) (has_list b.insert) (has_list b.update) is.0 in
-    (λ j. record { select = no_list b.select none.0 j; insert = no_list b.insert none.1.0 j; update = no_list b.update none.1.1 j; delete = b.delete }) ∙ ap g.whole_privileges is.1
+all_back : (b : Privileges) → are_all b ≡ true → b ≡ g.all_of None
+all_back b h =
+    let x = both_true (b.select.whole && (b.insert.whole && (b.update.whole && b.delete))) (not (has_columns b)) h in
+    let s = both_true b.select.whole (b.insert.whole && (b.update.whole && b.delete)) x.0 in
+    let i = both_true b.insert.whole (b.update.whole && b.delete) s.1 in
+    let u = both_true b.update.whole b.delete i.1 in
+    let none = no_lists (has_list b.select) (has_list b.insert) (has_list b.update) x.1 in
+    (λ j. record { select = no_list b.select s.0 none.0 j; insert = no_list b.insert i.0 none.1.0 j; update = no_list b.update u.0 none.1.1 j; delete = u.1 j })
+
+pub all_privileges_law : (b : Privileges) (a : Option (List (List ℕ))) → as_all_privileges b ≡ Some a → b ≡ g.all_of a
+all_privileges_law b a h = let is = given_was (are_all b) None a h in all_back b is.0 ∙ ap g.all_of is.1
+
+-- the privilege for the whole table, where it is so
+abbrev pub where_whole : Privilege → Bool → List g.NamedPrivilege
+where_whole privilege true = g.on_whole privilege ∷ []
+where_whole privilege false = []
+
+-- for columns, where there are some
+abbrev pub where_listed : Privilege → List (List ℕ) → List g.NamedPrivilege
+where_listed privilege [] = []
+where_listed privilege (column ∷ columns) = (privilege, Some (column ∷ columns)) ∷ []
+
+-- as a privilege is named for this: the whole table first
+abbrev pub naming : Privilege → Extent → List g.NamedPrivilege
+naming privilege extent = where_whole privilege extent.whole ++ where_listed privilege extent.columns
+
+-- privileges as they are named, in the order SELECT, INSERT, UPDATE, DELETE
+abbrev pub named_of : Privileges → List g.NamedPrivilege
+named_of b = naming Privilege.Select b.select ++ (naming Privilege.Insert b.insert ++ (naming Privilege.Update b.update ++ where_whole Privilege.Delete b.delete))
+
+-- those
+abbrev pub as_privileges : Privileges → Option (List g.NamedPrivilege)
+as_privileges b = Some (named_of b)
+
+put_all_in : {A B : Type 0} (step : B → A → B) (into : B) (xs ys : List A) → put_in step into (xs ++ ys) ≡ put_in step (put_in step into xs) ys
+put_all_in step into [] ys = refl
+put_all_in step into (x ∷ xs) ys = put_all_in step (step into x) xs ys
+
+select_back : (e i u : Extent) (d : Bool) → put_in g.with_privilege record { select = g.nothing; insert = i; update = u; delete = d } (naming Privilege.Select e) ≡ record { select = e; insert = i; update = u; delete = d }
+unfolding g.with_privilege
+select_back e i u d = go e.whole e.columns
+  where
+    go : (whole : Bool) (columns : List (List ℕ)) → put_in g.with_privilege record { select = g.nothing; insert = i; update = u; delete = d } (naming Privilege.Select record { whole = whole; columns = columns })
+        ≡ record { select = record { whole = whole; columns = columns }; insert = i; update = u; delete = d }
+    go true [] = refl
+    go true (column ∷ columns) = refl
+    go false [] = refl
+    go false (column ∷ columns) = refl
+
+insert_back : (s e u : Extent) (d : Bool) → put_in g.with_privilege record { select = s; insert = g.nothing; update = u; delete = d } (naming Privilege.Insert e) ≡ record { select = s; insert = e; update = u; delete = d }
+unfolding g.with_privilege
+insert_back s e u d = go e.whole e.columns
+  where
+    go : (whole : Bool) (columns : List (List ℕ)) → put_in g.with_privilege record { select = s; insert = g.nothing; update = u; delete = d } (naming Privilege.Insert record { whole = whole; columns = columns })
+        ≡ record { select = s; insert = record { whole = whole; columns = columns }; update = u; delete = d }
+    go true [] = refl
+    go true (column ∷ columns) = refl
+    go false [] = refl
+    go false (column ∷ columns) = refl
+
+update_back : (s i e : Extent) (d : Bool) → put_in g.with_privilege record { select = s; insert = i; update = g.nothing; delete = d } (naming Privilege.Update e) ≡ record { select = s; insert = i; update = e; delete = d }
+unfolding g.with_privilege
+update_back s i e d = go e.whole e.columns
+  where
+    go : (whole : Bool) (columns : List (List ℕ)) → put_in g.with_privilege record { select = s; insert = i; update = g.nothing; delete = d } (naming Privilege.Update record { whole = whole; columns = columns })
+        ≡ record { select = s; insert = i; update = record { whole = whole; columns = columns }; delete = d }
+    go true [] = refl
+    go true (column ∷ columns) = refl
+    go false [] = refl
+    go false (column ∷ columns) = refl
+
+delete_back : (s i u : Extent) (d : Bool) → put_in g.with_privilege record { select = s; insert = i; update = u; delete = false } (where_whole Privilege.Delete d) ≡ record { select = s; insert = i; update = u; delete = d }
+unfolding g.with_privilege
+delete_back s i u true = refl
+delete_back s i u false = refl
+
+-- what is named for these privileges are these privileges
+pub named_back : (b : Privileges) → g.privileges_of (named_of b) ≡ b
+named_back b =
+    let delete = where_whole Privilege.Delete b.delete in
+    let update = naming Privilege.Update b.update ++ delete in
+    let insert = naming Privilege.Insert b.insert ++ update in
+    put_all_in g.with_privilege g.no_privileges (naming Privilege.Select b.select) insert
+    ∙ ap (λ z. put_in g.with_privilege z insert) (select_back b.select g.nothing g.nothing false)
+    ∙ put_all_in g.with_privilege record { select = b.select; insert = g.nothing; update = g.nothing; delete = false } (naming Privilege.Insert b.insert) update
+    ∙ ap (λ z. put_in g.with_privilege z update) (insert_back b.select b.insert g.nothing false)
+    ∙ put_all_in g.with_privilege record { select = b.select; insert = b.insert; update = g.nothing; delete = false } (naming Privilege.Update b.update) delete
+    ∙ ap (λ z. put_in g.with_privilege z delete) (update_back b.select b.insert b.update false)
+    ∙ delete_back b.select b.insert b.update b.delete
+
+pub privileges_law : (b : Privileges) (a : List g.NamedPrivilege) → as_privileges b ≡ Some a → b ≡ g.privileges_of a
+privileges_law b a h = sym (named_back b) ∙ ap g.privileges_of (some_is (named_of b) a h)
 
 -- words that are written where it is so
 abbrev pub as_words : Bool → Option (Option (Unit {0}))

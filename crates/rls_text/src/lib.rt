@@ -11,6 +11,7 @@ mod granting;
 mod items;
 mod limits;
 mod memberships;
+mod naming;
 mod parsing;
 mod phrase;
 mod policies;

@@ -291,7 +291,7 @@ pub fn distinct_names(alloc: Global, tokens: &[Token]) -> Result<(Items<Name>, &
 }
 
 /// Whether no name stands twice. It sorts them, since there may be thousands.
-fn are_distinct_names(alloc: Global, mut names: &[Name]) -> Result<bool, AllocError>
+pub fn are_distinct_names(alloc: Global, mut names: &[Name]) -> Result<bool, AllocError>
     ensures { IfOk result (λ distinct. distinct ≡ values.are_distinct names.entry.now) }
 {
     let mut seen = BTreeSet::new(alloc);

@@ -14,15 +14,15 @@ pub returns-clause-new : goal.returns-clause-new
 returns-clause-new c role_privileges s name table kind reads queries expansion is =
     made_new s role_privileges name table kind reads queries expansion (is_made s role_privileges name table kind reads queries expansion is) c.expression_taken.ensures
 
-pub returns-clause-permission_checks : goal.returns-clause-permission_checks
-returns-clause-permission_checks c role_privileges s name table kind reads queries expansion is =
+pub returns-clause-tables : goal.returns-clause-tables
+returns-clause-tables c role_privileges s name table kind reads queries expansion is =
     let made : IsMade s role_privileges name table kind reads queries expansion = is_made s role_privileges name table kind reads queries expansion is in
     let own : List (List ℕ) = own_of s role_privileges name table kind reads in
     made_queries s role_privileges name table kind reads queries expansion made (record {
       order = c.search_means.ensures.ordered made.dependencies name own queries made.reached made.ordered;
       own_in = c.search_means.ensures.own made.dependencies name own queries made.reached made.ordered;
       queries_in = c.search_means.ensures.queries made.dependencies name own queries made.reached made.ordered;
-      asks = c.search_means.ensures.permission_checks made.dependencies name own queries made.reached made.ordered;
+      asks = c.search_means.ensures.tables made.dependencies name own queries made.reached made.ordered;
     })
 
 pub returns-clause-shows : goal.returns-clause-shows
@@ -33,12 +33,12 @@ returns-clause-shows c role_privileges s name table kind reads queries expansion
       order = c.search_means.ensures.ordered made.dependencies name own queries made.reached made.ordered;
       own_in = c.search_means.ensures.own made.dependencies name own queries made.reached made.ordered;
       queries_in = c.search_means.ensures.queries made.dependencies name own queries made.reached made.ordered;
-      asks = c.search_means.ensures.permission_checks made.dependencies name own queries made.reached made.ordered;
+      asks = c.search_means.ensures.tables made.dependencies name own queries made.reached made.ordered;
     }) n user enough
 
 pub returns-clause-value : goal.returns-clause-value
 returns-clause-value c role_privileges s name table kind reads queries expansion n user is enough t env within =
-    value_same t (shows expansion.relations user) (shows_deep n (state_quals s role_privileges) user) expansion.permission_checks env s
+    value_same t (shows expansion.relations user) (shows_deep n (state_quals s role_privileges) user) expansion.tables env s
     (returns-clause-shows c role_privileges s name table kind reads queries expansion n user is enough) within
 
 pub returns-clause-judged_old : goal.returns-clause-judged_old
@@ -49,7 +49,7 @@ returns-clause-judged_old c role_privileges s name table kind reads queries expa
       order = c.search_means.ensures.ordered made.dependencies name own queries made.reached made.ordered;
       own_in = c.search_means.ensures.own made.dependencies name own queries made.reached made.ordered;
       queries_in = c.search_means.ensures.queries made.dependencies name own queries made.reached made.ordered;
-      asks = c.search_means.ensures.permission_checks made.dependencies name own queries made.reached made.ordered;
+      asks = c.search_means.ensures.tables made.dependencies name own queries made.reached made.ordered;
     }) n user enough
 
 pub returns-clause-judged_new : goal.returns-clause-judged_new
@@ -60,7 +60,7 @@ returns-clause-judged_new c role_privileges s name table kind reads queries expa
       order = c.search_means.ensures.ordered made.dependencies name own queries made.reached made.ordered;
       own_in = c.search_means.ensures.own made.dependencies name own queries made.reached made.ordered;
       queries_in = c.search_means.ensures.queries made.dependencies name own queries made.reached made.ordered;
-      asks = c.search_means.ensures.permission_checks made.dependencies name own queries made.reached made.ordered;
+      asks = c.search_means.ensures.tables made.dependencies name own queries made.reached made.ordered;
     }) n user enough
 
 pub returns-clause-target : goal.returns-clause-target
@@ -71,5 +71,5 @@ returns-clause-target c role_privileges s name table reads queries expansion n u
       order = c.search_means.ensures.ordered made.dependencies name own queries made.reached made.ordered;
       own_in = c.search_means.ensures.own made.dependencies name own queries made.reached made.ordered;
       queries_in = c.search_means.ensures.queries made.dependencies name own queries made.reached made.ordered;
-      asks = c.search_means.ensures.permission_checks made.dependencies name own queries made.reached made.ordered;
+      asks = c.search_means.ensures.tables made.dependencies name own queries made.reached made.ordered;
     }) n user there enough

@@ -5,4 +5,4 @@ use Rattle.rls_grant.proofs.granting.new_grants.Given as goal
 
 -- what is left leads to the whole
 abbrev pub invariant-loop-grantor : goal.invariant-loop-grantor
-invariant-loop-grantor l = l.grants ++ flat_map (grants_by l.option l.grantees) (drop l.grantor-index l.grantors) ≡ flat_map (grants_by l.option l.grantees) l.grantors
+invariant-loop-grantor l = l.grants ++ flat_map (grants_by l.columns l.grant) (drop l.grantor-index l.grantors) ≡ flat_map (grants_by l.columns l.grant) l.grantors

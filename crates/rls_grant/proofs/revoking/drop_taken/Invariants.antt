@@ -7,4 +7,4 @@ use Rattle.rls_grant.proofs.revoking.drop_taken.Given as goal
 
 -- what is left leads to the whole
 abbrev pub invariant-loop-grant : goal.invariant-loop-grant
-invariant-loop-grant l = fold (left_at (λ grant. not (is_taken l.grantors l.grantees grant))) l.rest l.grant-iterator ≡ filter (λ grant. not (is_taken l.grantors l.grantees grant)) l.grants
+invariant-loop-grant l = fold (left_at (λ grant. not (is_taken l.revoke l.grantors grant))) l.rest l.grant-iterator ≡ filter (λ grant. not (is_taken l.revoke l.grantors grant)) l.grants

@@ -6,4 +6,4 @@ use Rattle.rls_grant.proofs.revoking.revoke_options.Given as goal
 
 -- what is left leads to the whole
 abbrev pub invariant-loop-grant : goal.invariant-loop-grant
-invariant-loop-grant l = fold (revoked_at l.grantors l.grantees) l.rest l.grant-iterator ≡ map (without_grant_option l.grantors l.grantees) l.grants
+invariant-loop-grant l = fold (revoked_at l.revoke l.grantors) l.rest l.grant-iterator ≡ map (without_grant_option l.revoke l.grantors) l.grants

@@ -1,0 +1,10 @@
+use Rattle.std.proofs.Common.{◌≡◌, ◌++◌}
+use Rattle.rls_expr.specs.Scopes.{in_scope}
+use Rattle.rls_expansion.specs.Selected as spec
+use Rattle.rls_expansion.proofs.selected.selected_used.Given as goal
+
+-- the tables so far, and those of the policies that are left, are all
+abbrev pub invariant-loop-policy : goal.invariant-loop-policy
+invariant-loop-policy l =
+    l.selected ++ spec.selected_used l.effective_roles.superuser l.effective_roles.names l.asks (in_scope l.scope.from) l.scope.found.now l.policy-iterator
+    ≡ spec.selected_used l.effective_roles.superuser l.effective_roles.names l.asks (in_scope l.scope.from) l.scope.found.now l.policies
