@@ -28,8 +28,7 @@ fn is_line(alloc: Global, statements: &[&str], wanted: &str) -> bool {
     }
 }
 
-/// A role; a table, with its owner's grants; grants on columns, in the table's order; memberships, in the order of the members; a
-/// policy as it is printed; a refusal.
+/// A role; a table, with its owner's grants; memberships, in the order of the members; a policy as it is printed.
 #[test]
 fn records_are_shown(rt: HostRuntime) {
     let role = ["CREATE ROLE x"];
@@ -44,12 +43,6 @@ fn records_are_shown(rt: HostRuntime) {
         "CREATE TABLE u (n int)",
         "create policy p on u for select using (n = 1)",
     ];
-    let columns = [
-        "CREATE ROLE x",
-        "CREATE TABLE u (b int, a int)",
-        "grant update (a), select (a, b) on table u to x",
-    ];
-    let refused = ["CREATE ROLE postgres"];
     assert!(rt;
         is_line(
             rt.alloc(),
@@ -78,6 +71,17 @@ fn records_are_shown(rt: HostRuntime) {
             "{\"changes\":[[\"policies on u\",[\"CREATE POLICY p ON u AS PERMISSIVE FOR SELECT TO PUBLIC USING (n = 1)\"]]],\"commit\":2,\"login\":\"postgres\",\"mode\":\"write\",\"role\":\"postgres\",\"snap\":1,\"statements\":[{\"decisions\":[],\"reply\":[\"done\"],\"text\":\"CREATE POLICY p ON u AS PERMISSIVE FOR SELECT TO PUBLIC USING (n = 1)\"}],\"txn\":3}"
         )
     );
+}
+
+/// Grants on columns, in the table's order; a refusal.
+#[test]
+fn columns_and_refusals_are_shown(rt: HostRuntime) {
+    let columns = [
+        "CREATE ROLE x",
+        "CREATE TABLE u (b int, a int)",
+        "grant update (a), select (a, b) on table u to x",
+    ];
+    let refused = ["CREATE ROLE postgres"];
     assert!(rt;
         is_line(
             rt.alloc(),

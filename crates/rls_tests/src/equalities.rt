@@ -163,23 +163,6 @@ fn statements_are_told_apart(rt: HostRuntime) {
             "ALTER POLICY p ON t TO a",
         ),
         ("DROP POLICY p ON t", "DROP POLICY p ON u"),
-        (
-            "GRANT SELECT ON t TO a",
-            "GRANT SELECT ON t TO a WITH GRANT OPTION",
-        ),
-        ("REVOKE SELECT ON t FROM a", "REVOKE UPDATE ON t FROM a"),
-        ("GRANT SELECT ON t TO a", "GRANT SELECT (a) ON t TO a"),
-        (
-            "GRANT SELECT (a, b) ON t TO a",
-            "GRANT SELECT (b, a) ON t TO a",
-        ),
-        (
-            "REVOKE SELECT ON t FROM a",
-            "REVOKE SELECT ON t FROM a CASCADE",
-        ),
-        ("GRANT r TO a", "GRANT r TO a WITH SET FALSE"),
-        ("REVOKE r FROM a", "REVOKE ADMIN OPTION FOR r FROM a"),
-        ("REVOKE r, s FROM a", "REVOKE r, s FROM a CASCADE"),
         ("SET ROLE NONE", "RESET ROLE"),
         (
             "INSERT INTO t VALUES (1), (2)",
@@ -198,6 +181,33 @@ fn statements_are_told_apart(rt: HostRuntime) {
             "SELECT a FROM t WHERE EXISTS (SELECT * FROM u)",
             "SELECT a FROM t WHERE EXISTS (SELECT * FROM u WHERE a)",
         ),
+    ] {
+        let is = is_same_statement(rt.alloc(), left, right);
+        assert!(rt; says(is, false), "{left}, {right}");
+    }
+}
+
+/// So are privileges and memberships that are granted or revoked.
+#[test]
+fn grants_are_told_apart(rt: HostRuntime) {
+    for (left, right) in [
+        (
+            "GRANT SELECT ON t TO a",
+            "GRANT SELECT ON t TO a WITH GRANT OPTION",
+        ),
+        ("REVOKE SELECT ON t FROM a", "REVOKE UPDATE ON t FROM a"),
+        ("GRANT SELECT ON t TO a", "GRANT SELECT (a) ON t TO a"),
+        (
+            "GRANT SELECT (a, b) ON t TO a",
+            "GRANT SELECT (b, a) ON t TO a",
+        ),
+        (
+            "REVOKE SELECT ON t FROM a",
+            "REVOKE SELECT ON t FROM a CASCADE",
+        ),
+        ("GRANT r TO a", "GRANT r TO a WITH SET FALSE"),
+        ("REVOKE r FROM a", "REVOKE ADMIN OPTION FOR r FROM a"),
+        ("REVOKE r, s FROM a", "REVOKE r, s FROM a CASCADE"),
     ] {
         let is = is_same_statement(rt.alloc(), left, right);
         assert!(rt; says(is, false), "{left}, {right}");

@@ -35,6 +35,32 @@ fn prints_statements(rt: HostRuntime) {
         ),
         ("drop policy p on t", "DROP POLICY p ON t"),
         (
+            "grant a,b to c with set option, admin false",
+            "GRANT a, b TO c WITH ADMIN FALSE, SET TRUE",
+        ),
+        ("grant a to c, d", "GRANT a TO c, d"),
+        (
+            "revoke inherit option for a from b restrict",
+            "REVOKE INHERIT OPTION FOR a FROM b",
+        ),
+        (
+            "revoke admin option for a from u cascade",
+            "REVOKE ADMIN OPTION FOR a FROM u CASCADE",
+        ),
+        ("revoke admin from b, c", "REVOKE admin FROM b, c"),
+        ("set role Alice", "SET ROLE alice"),
+        ("set role none", "SET ROLE NONE"),
+        ("reset role;", "RESET ROLE"),
+    ] {
+        assert!(rt; is_printed(rt.alloc(), text, want), "{text}");
+    }
+}
+
+/// GRANT and REVOKE of privileges, on tables and on columns.
+#[test]
+fn prints_privileges(rt: HostRuntime) {
+    for (text, want) in [
+        (
             "grant delete, select on table t to a, public with grant option",
             "GRANT SELECT, DELETE ON t TO a, PUBLIC WITH GRANT OPTION",
         ),
@@ -63,23 +89,6 @@ fn prints_statements(rt: HostRuntime) {
             "revoke grant option for update (b), select on t from public",
             "REVOKE GRANT OPTION FOR SELECT, UPDATE (b) ON t FROM PUBLIC",
         ),
-        (
-            "grant a,b to c with set option, admin false",
-            "GRANT a, b TO c WITH ADMIN FALSE, SET TRUE",
-        ),
-        ("grant a to c, d", "GRANT a TO c, d"),
-        (
-            "revoke inherit option for a from b restrict",
-            "REVOKE INHERIT OPTION FOR a FROM b",
-        ),
-        (
-            "revoke admin option for a from u cascade",
-            "REVOKE ADMIN OPTION FOR a FROM u CASCADE",
-        ),
-        ("revoke admin from b, c", "REVOKE admin FROM b, c"),
-        ("set role Alice", "SET ROLE alice"),
-        ("set role none", "SET ROLE NONE"),
-        ("reset role;", "RESET ROLE"),
     ] {
         assert!(rt; is_printed(rt.alloc(), text, want), "{text}");
     }
