@@ -1,5 +1,5 @@
 -- A step of the walk that lists tables with their columns.
-use Rattle.std.specs.Prelude.{◌≡◌, refl, ℕ, zero, suc, ◌-◌, List, Bool, true, false, fold, if◌then◌else◌}
+use Rattle.std.specs.Prelude.{◌≡◌, refl, ℕ, zero, suc, ◌-◌, List, false, fold, if◌then◌else◌}
 use Rattle.std.proofs.Common.{arith, ap, sym, ◌∙◌}
 use Rattle.rls_value.specs.Names.{one_of}
 use Rattle.rls_catalog.specs.rls_expr.specs.declared.columns.SelectedTable.{SelectedTable}
