@@ -343,9 +343,9 @@ unfolding reserved read_many g.privileges_on g.privileges g.table_privileges g.a
 all_of_columns = refl
 
 -- SELECT (a), SELECT (a) is nothing
-column_twice : g.privileges_on.parses.read (Word (codes "select") ∷ t.Symbol s.LParen ∷ Word (codes "a") ∷ t.Symbol s.RParen ∷ t.Symbol s.Comma ∷ Word (codes "select") ∷ t.Symbol s.LParen ∷ Word (codes "a") ∷ t.Symbol s.RParen ∷ Word (codes "on") ∷ Word (codes "t") ∷ []) ≡ None
+granted_twice : g.privileges_on.parses.read (Word (codes "select") ∷ t.Symbol s.LParen ∷ Word (codes "a") ∷ t.Symbol s.RParen ∷ t.Symbol s.Comma ∷ Word (codes "select") ∷ t.Symbol s.LParen ∷ Word (codes "a") ∷ t.Symbol s.RParen ∷ Word (codes "on") ∷ Word (codes "t") ∷ []) ≡ None
 unfolding reserved read_many g.privileges_on g.privileges g.table_privileges g.all_privileges g.named_privileges g.privilege_list g.privilege g.column_privilege g.column_list g.table_name with_privilege with_comma g.names g.name
-column_twice = refl
+granted_twice = refl
 
 -- DELETE (a) is nothing,
 delete_of_columns : g.privileges_on.parses.read (Word (codes "delete") ∷ t.Symbol s.LParen ∷ Word (codes "a") ∷ t.Symbol s.RParen ∷ Word (codes "on") ∷ Word (codes "t") ∷ []) ≡ None
