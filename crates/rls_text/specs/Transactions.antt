@@ -6,7 +6,7 @@ use denote.Enum.Bare.{sameb, same_true}
 use Rattle.rls_statement.specs.{declared.command.AccessMode.AccessMode, declared.command.AccessMode.TheVariants.ReadOnly, declared.command.AccessMode.TheVariants.ReadWrite, declared.command.Command.Command, contracts.command.AccessMode.the_type as access_type}
 use Rattle.rls_statement.specs.declared.command.Command.TheVariants as c
 use Rattle.rls_text.specs.declared.token.Symbol.TheVariants as s
-use Rattle.rls_text.specs.{declared.token.Token.Token, declared.transactions.TransactionMode.TransactionMode, declared.transactions.TransactionMode.TheVariants.Serializable, declared.transactions.TransactionMode.TheVariants.Access, Heads.Head, Heads.Keyword, Heads.Sign, Rule.Rule, Rule.Telling, Rule.word, Rule.sign, Rule.both, Rule.mapped, Rule.after, Rule.after_as, Rule.before, Rule.before_as, Rule.either, Rule.perhaps, Rule.many, Rule.checked, Rule.widened, Rule.as_list, Rule.list_law, Rule.standing_for, Rule.word_for, Writes.some_is}
+use Rattle.rls_text.specs.{declared.transactions.TransactionMode.TransactionMode, declared.transactions.TransactionMode.TheVariants.Serializable, declared.transactions.TransactionMode.TheVariants.Access, Heads.Head, Heads.Keyword, Heads.Sign, Rule.Rule, Rule.Telling, Rule.word, Rule.sign, Rule.both, Rule.mapped, Rule.after, Rule.after_as, Rule.before, Rule.before_as, Rule.either, Rule.perhaps, Rule.many, Rule.checked, Rule.widened, Rule.as_list, Rule.list_law, Rule.standing_for, Rule.word_for, Writes.some_is}
 
 -- ---- what the parts stand for
 
