@@ -172,7 +172,7 @@ fn mentions(alloc: Global, text: &str, want: &[&str]) -> Result<bool, Refusal> {
     let t = table(alloc, &["a", "b", "c"])?;
     let u = table(alloc, &["a", "d"])?;
     let expr = resolved(alloc, text, &t, &u)?;
-    let names = columns_of(alloc, &expr, &t)?;
+    let names = columns_of(alloc, &[&expr], t.columns.as_slice())?;
     Ok(are_named(&names, want))
 }
 
