@@ -16,12 +16,12 @@ use Rattle.rls_statement.specs.{declared.changing.Assignment.Assignment, declare
 use Rattle.rls_statement.specs.declared.statement.Selected.TheVariants as selected
 use Rattle.rls_guard.specs.{declared.context.Ctx.Ctx, Checks.is_unsupported}
 use Rattle.rls_depth.proofs.{Resolving.over_known, Tables.within_first, Tables.within_last}
-use Rattle.rls_access.specs.rls_dml.specs.{declared.analysed_insert.AnalysedInsert.AnalysedInsert, declared.analysed_update.AnalysedUpdate.AnalysedUpdate, declared.deleting.AnalysedDelete.AnalysedDelete, declared.selecting.AnalysedSelect.AnalysedSelect}
+use Rattle.rls_access.specs.rls_dml.specs.{declared.analysed_update.AnalysedUpdate.AnalysedUpdate, declared.deleting.AnalysedDelete.AnalysedDelete, declared.selecting.AnalysedSelect.AnalysedSelect}
 use Rattle.rls_access.specs.rls_dml.specs.{Checking.fitting_or_fault, Checking.found_or_undefined, Checking.goes_into_column, Checking.returning_fits, Checking.returning_names, Checking.returning_resolved, Checking.returning_unsupported, Checking.selection_fits, Checking.selection_names, Checking.selection_resolved, Checking.selection_unsupported, Checking.supported_or_refused, Checking.where_fits, Checking.where_names, Checking.where_unsupported}
 use Rattle.rls_access.specs.rls_dml.specs.{Deleting.analysed_delete_checked, Deleting.analysed_delete_in, Deleting.analysed_delete_names, Selecting.analysed_select_in, Selecting.analysed_select_names, Selecting.analysed_select_or_refused, Selecting.qualifier_of}
 use Rattle.rls_access.specs.rls_dml.specs.{Inserting.analysed_insert_in, Inserting.analysed_insert_or_refused, Inserting.places_from, Inserting.places_of, Inserting.room_or_limit, Inserting.tuple_fits, Inserting.tuples_names, Updating.analysed_update_in, Updating.analysed_update_names, Updating.analysed_update_or_refused, Updating.assignment_resolved, Updating.assignments_fit, Updating.assignments_unsupported}
 use Rattle.rls_meaning.specs.{Analysing.checked, Analysing.items_of, Analysing.items_resolved, Analysing.of_both, Analysing.of_condition, Analysing.of_item, Analysing.of_value, Analysing.place_in, Deleting.delete_parts, Inserting.insert_parts, Inserting.of_tuple, Inserting.places_in, Naming.named_in, Naming.provided, Parts.found_in, Parts.names_in, Parts.tables_of, Resolving.resolved, Selecting.select_parts, Typing.fits, Updating.update_parts}
-use Rattle.rls_meaning.proofs.{NamedParts.all_names_told, NamedParts.assigned_terms, NamedParts.assignments_names_told, NamedParts.found_in-append, NamedParts.names-append, NamedParts.tuples_names_told, NamedParts.where_names_told}
+use Rattle.rls_meaning.proofs.{Listing.flat_append, NamedParts.all_names_told, NamedParts.assigned_terms, NamedParts.assignments_names_told, NamedParts.found_in-append, NamedParts.names-append, NamedParts.tuples_names_told, NamedParts.where_names_told}
 use Rattle.rls_meaning.proofs.{Parts.item_told, Parts.unsupported_told, Resolving.each_resolved_told, Resolving.resolved_if_told, Resolving.resolved_told, Typing.boolean_told, Typing.column_told, Typing.typed_told}
 
 -- ---- names

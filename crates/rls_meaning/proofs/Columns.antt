@@ -1,14 +1,14 @@
 -- The columns that a command is asked for, and the tables of its subqueries with theirs, are those of its meaning.
-use Rattle.std.specs.Prelude.{◌≡◌, refl, ℕ, List, [], ◌∷◌, ◌++◌, Bool, Option, Some, None, map, nat_eq, if◌then◌else◌}
+use Rattle.std.specs.Prelude.{◌≡◌, refl, ℕ, List, [], ◌∷◌, ◌++◌, Option, Some, None, map, nat_eq, if◌then◌else◌}
 use Rattle.std.specs.List.{flat_map, list_any}
 use Rattle.std.specs.Option.{option_to_list}
 use Rattle.std.proofs.Common.{ap, sym, ◌∙◌, append-nil}
 use Rattle.rls_expr.specs.declared.table.Column.{Column as ColumnOf}
-use Rattle.rls_expr.specs.{declared.columns.SelectedTable.SelectedTable, Scopes.InScope, Selecting.columns_of as machine_columns, Selecting.names_where, Selecting.selected_of, Terms.Term}
+use Rattle.rls_expr.specs.{Scopes.InScope, Selecting.columns_of as machine_columns, Selecting.names_where, Selecting.selected_of, Terms.Term}
 use Rattle.rls_expr.proofs.SelectingLaws.{selected_tables}
 use Rattle.rls_statement.specs.declared.statement.Selected.{Selected}
 use Rattle.rls_statement.specs.declared.statement.Selected.TheVariants as selected
-use Rattle.rls_depth.specs.rls_expansion.specs.Used.{all_tables, tables_if, tables_of}
+use Rattle.rls_depth.specs.rls_expansion.specs.Used.{all_tables, tables_if}
 use Rattle.rls_access.specs.rls_dml.specs.{declared.analysed_update.AnalysedUpdate.AnalysedUpdate, Checking.columns_read, Checking.returning_terms, Checking.returns_all, Checking.selection_terms, Checking.selects_all, Checking.where_selected, Inserting.tuple_selected, Inserting.tuples_selected, Inserting.tuples_tables, Updating.analysed_update_tables, Updating.assignments_selected, Updating.update_selected}
 use Rattle.rls_meaning.specs.{Analysing.columns_in, Analysing.is_all, Analysing.items_of, Parts.columns_of, Updating.set_and_where}
 use Rattle.rls_meaning.proofs.{Listing.flat_append, Listing.tables, Parts.mentions_told, Selected.tables_append}

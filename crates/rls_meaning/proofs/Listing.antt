@@ -1,7 +1,6 @@
 -- A walk that goes through the policies of each table once lists what passes as all that is needed.
 use Rattle.std.specs.Prelude.{◌≡◌, refl, ℕ, zero, suc, ◌<◌, ◌≤◌, List, [], ◌∷◌, ◌++◌, Bool, true, false, Result, Ok, Err, fold, length, map, if◌then◌else◌}
 use Rattle.std.specs.List.{flat_map}
-use Rattle.std.specs.Str.{bytes_eq}
 use Rattle.std.proofs.Common.{arith, ap, sym, ◌∙◌, subst, append-nil, append_assoc}
 use Rattle.std.proofs.lemmas.Bool.{true≢false}
 use Rattle.rls_value.specs.{declared.refusal.Refusal.Refusal, Giving.and_then, Names.one_of}
@@ -90,7 +89,7 @@ then_same : (before one other : Result (Unit {0}) Refusal) → (passed before �
 then_same (Ok a) one other same = same refl
 then_same (Err refusal) one other same = refl
 
-pub then_nothing : (one : Result (Unit {0}) Refusal) → one ≡ and_then one (λ _. Ok tt)
+then_nothing : (one : Result (Unit {0}) Refusal) → one ≡ and_then one (λ _. Ok tt)
 then_nothing (Ok tt) = refl
 then_nothing (Err refusal) = refl
 

@@ -9,6 +9,7 @@ use Rattle.rls_catalog.specs.declared.change.Change.TheVariants as change
 use Rattle.rls_catalog.specs.declared.verdict.Side.TheVariants as side
 use Rattle.rls_catalog.specs.declared.verdict.Verdict.TheVariants as verdict
 use Rattle.rls_source.specs.Asked.{rows_at}
+use Rattle.rls_statement.specs.declared.privileges.Extent.{Extent}
 use Rattle.rls_statement.specs.declared.statement.Selected.TheVariants as selected
 use Rattle.rls_statement.specs.declared.statement.SetRole.TheVariants as set
 use Rattle.rls_statement.specs.declared.statement.Statement.{Statement}
@@ -93,6 +94,83 @@ no_teams = refl
 round : effect_of now (run_by (codes "bob")) (all_of (codes "here")) ≡ effect.Refused (Recursion (codes "here")) []
 unfolding reached_of
 round = refl
+
+-- ---- columns
+
+-- the same, where bob holds SELECT on that column of the teams, at that place
+abbrev with_column : List ℕ → ℕ → State
+with_column name place = record now {
+  grants = (codes "papers", record { privilege = Privilege.Select; grantee = g.Public; grantor = codes "olga"; option = false; column = None; place = 0 } ∷ [])
+      ∷ (codes "teams", record { privilege = Privilege.Select; grantee = g.Role (codes "bob"); grantor = codes "olga"; option = false; column = Some name; place = place } ∷ [])
+      ∷ [];
+}
+
+-- the policy of the papers mentions the number of a team alone; what the policy of the teams says of who leads one needs nothing
+of_his_team : effect_of (with_column (codes "id") 1) (run_by (codes "bob")) (all_of (codes "papers")) ≡ effect.Done (reply.Rows ((Int (pos 2) ∷ Int (pos 20) ∷ []) ∷ []))
+    (record { id = record { txn = 1; n = 1 }; side = side.Old; kind = Kind.Select; verdict = verdict.NoPermissive }
+    ∷ record { id = record { txn = 1; n = 2 }; side = side.Old; kind = Kind.Select; verdict = verdict.By (codes "of_team") }
+    ∷ []) [] None
+unfolding rows_at reached_of
+of_his_team = refl
+
+-- another column doesn't do
+no_number : effect_of (with_column (codes "lead") 2) (run_by (codes "bob")) (all_of (codes "papers")) ≡ effect.Refused (Denied (why.Column Privilege.Select (codes "teams") (codes "id"))) []
+unfolding rows_at reached_of
+no_number = refl
+
+-- `*` mentions each column
+no_lead : effect_of (with_column (codes "id") 1) (run_by (codes "bob")) (all_of (codes "teams")) ≡ effect.Refused (Denied (why.Column Privilege.Select (codes "teams") (codes "lead"))) []
+unfolding rows_at reached_of
+no_lead = refl
+
+-- `count(*)` mentions none, and some column does
+counts : effect_of (with_column (codes "lead") 2) (run_by (codes "bob")) (statement.Select (record { items = selected.Count; table = codes "teams"; alias = None; condition = None }))
+    ≡ effect.Done (reply.Rows ((Int (pos 1) ∷ []) ∷ []))
+    (record { id = record { txn = 1; n = 3 }; side = side.Old; kind = Kind.Select; verdict = verdict.NoPermissive }
+    ∷ record { id = record { txn = 1; n = 4 }; side = side.Old; kind = Kind.Select; verdict = verdict.By (codes "own") }
+    ∷ []) [] None
+unfolding rows_at reached_of
+counts = refl
+
+-- SET needs UPDATE, of which no grant reaches him
+no_update : effect_of (with_column (codes "id") 1) (run_by (codes "bob")) (statement.Update (record { table = codes "teams"; assignments = record { column = codes "id"; value = column (codes "id") } ∷ []; condition = None; returning = None }))
+    ≡ effect.Refused (Denied (why.Privilege Privilege.Update (codes "teams"))) []
+unfolding rows_at reached_of
+no_update = refl
+
+-- nothing of a table
+abbrev nothing : Extent
+nothing = record { whole = false; columns = [] }
+
+-- olga grants two privileges on columns of the teams: each grant in its place, by the table's order
+on_columns : effect_of now (run_by (codes "olga")) (statement.Grant (record {
+  privileges = record {
+    select = record { whole = false; columns = codes "lead" ∷ [] };
+    insert = nothing;
+    update = record { whole = false; columns = codes "lead" ∷ codes "id" ∷ [] };
+    delete = false;
+  };
+  table = codes "teams";
+  to = g.Role (codes "crew") ∷ [];
+  with_option = false;
+})) ≡ effect.Done reply.Done [] (change.Grants (codes "teams") (record { privilege = Privilege.Select; grantee = g.Role (codes "crew"); grantor = codes "olga"; option = false; column = None; place = 0 }
+    ∷ record { privilege = Privilege.Select; grantee = g.Role (codes "crew"); grantor = codes "olga"; option = false; column = Some (codes "lead"); place = 2 }
+    ∷ record { privilege = Privilege.Update; grantee = g.Role (codes "crew"); grantor = codes "olga"; option = false; column = Some (codes "id"); place = 1 }
+    ∷ record { privilege = Privilege.Update; grantee = g.Role (codes "crew"); grantor = codes "olga"; option = false; column = Some (codes "lead"); place = 2 }
+    ∷ []) ∷ []) None
+unfolding reached_of
+on_columns = refl
+
+-- REVOKE of the whole privilege takes the grant on the column too
+off_column : effect_of (with_column (codes "id") 1) (run_by (codes "olga")) (statement.Revoke (record {
+  privileges = record { select = record { whole = true; columns = [] }; insert = nothing; update = nothing; delete = false };
+  table = codes "teams";
+  from = g.Role (codes "bob") ∷ [];
+  option_only = false;
+  cascade = false;
+})) ≡ effect.Done reply.Done [] (change.Grants (codes "teams") [] ∷ []) None
+unfolding reached_of
+off_column = refl
 
 -- ---- roles
 

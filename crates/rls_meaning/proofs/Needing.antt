@@ -1,13 +1,13 @@
 -- What an expansion lists for the privileges passes just as all that the state says is needed.
-use Rattle.std.specs.Prelude.{◌≡◌, refl, ℕ, suc, ◌<◌, ◌≤◌, List, [], ◌∷◌, ◌++◌, Bool, true, false, Result, fold, length}
+use Rattle.std.specs.Prelude.{◌≡◌, refl, ℕ, suc, ◌<◌, ◌≤◌, List, [], ◌∷◌, ◌++◌, true, fold, length}
 use Rattle.std.specs.List.{flat_map}
 use Rattle.std.proofs.Common.{arith, ap, sym, ◌∙◌}
 use Rattle.rls_value.specs.{Giving.and_then, Names.one_of}
-use Rattle.rls_expr.specs.{declared.columns.SelectedTable.SelectedTable, declared.policy.Policy.Policy, Scopes.InScope}
+use Rattle.rls_expr.specs.{declared.columns.SelectedTable.SelectedTable, Scopes.InScope}
 use Rattle.rls_catalog.specs.{Membership.Within, State.State}
 use Rattle.rls_source.specs.Sequences.{each_or_refused}
-use Rattle.rls_guard.specs.{declared.role_privileges.RolePrivileges.RolePrivileges, RolePrivileges.role_privileges_in}
-use Rattle.rls_recursion.specs.{declared.dependency.PolicyDependency.PolicyDependency, declared.listings.Listing.Listing, Listings.leads_of, Listings.list_from, Listings.listed, Listings.no_listing, Searching.InOrder, Searching.has_subquery_of, Searching.subquery_tables_of, Searching.tables_in}
+use Rattle.rls_guard.specs.{RolePrivileges.role_privileges_in}
+use Rattle.rls_recursion.specs.{declared.dependency.PolicyDependency.PolicyDependency, Listings.leads_of, Listings.list_from, Listings.listed, Listings.no_listing, Searching.InOrder, Searching.subquery_tables_of, Searching.tables_in}
 use Rattle.rls_depth.specs.rls_expansion.specs.{Expanding.own_selected, Relations.known_in, Selected.subqueries_in}
 use Rattle.rls_depth.specs.{Deep.policies_in, Leading.using_tables}
 use Rattle.rls_depth.proofs.{Stating.same_known, Tables.within_all, Tables.within_first, Walking.AreRead, Walking.dependency_found}

@@ -15,7 +15,6 @@ use Rattle.rls_guard.specs.Support as support
 use Rattle.rls_guard.specs.Support.{is_pinned}
 use Rattle.rls_depth.specs.rls_expansion.specs.Used.{entered}
 use Rattle.rls_depth.specs.rls_expansion.specs.Used as used
-use Rattle.rls_access.specs.rls_dml.specs.Inserting.{tuples_tables}
 use Rattle.rls_meaning.specs.Parts.{Part, Subquery, has_query, is_column_of, is_unsupported, is_unsupported_item, mentions, lacks_support, is_unlisted, parts, parts_all, query_parts, table_of_part, tables_of}
 
 or_false : (b : Bool) → b ≡ b || false
@@ -189,17 +188,9 @@ mutual
 pub tables_told : (t : Term) → used.tables_of t ≡ tables_of t
 tables_told t = tables_in [] t
 
-pub all_tables_told : (terms : List Term) → used.all_tables terms ≡ flat_map tables_of terms
-all_tables_told [] = refl
-all_tables_told (t ∷ terms) = λ i. tables_told t i ++ all_tables_told terms i
-
 pub tables_if_told : (term : Option Term) → used.tables_if term ≡ flat_map tables_of (option_to_list term)
 tables_if_told None = refl
 tables_if_told (Some t) = sym (append-nil (used.tables_of t)) ∙ (λ i. tables_told t i ++ [])
-
-pub tuples_tables_told : (tuples : List (List Term)) → tuples_tables tuples ≡ flat_map tables_of (flat_map (λ tuple. tuple) tuples)
-tuples_tables_told [] = refl
-tuples_tables_told (tuple ∷ tuples) = (λ i. all_tables_told tuple i ++ tuples_tables_told tuples i) ∙ sym (flat_map-append tables_of tuple (flat_map (λ more. more) tuples))
 
 -- ---- subqueries
 

@@ -1,13 +1,12 @@
 -- The qualifying rows of a command are those of its meaning.
-use Rattle.std.specs.Prelude.{◌≡◌, refl, ℕ, List, [], ◌∷◌, ◌++◌, Bool, true, false, ◌||◌, Option, Some, None, Result, Ok, Err, map, if◌then◌else◌}
-use Rattle.std.specs.List.{flat_map, list_any}
+use Rattle.std.specs.Prelude.{◌≡◌, refl, ℕ, List, [], ◌∷◌, ◌++◌, Bool, true, false, Option, Some, None, Result, Ok, Err, map, if◌then◌else◌}
+use Rattle.std.specs.List.{list_any}
 use Rattle.std.specs.Option.{option_map_or}
-use Rattle.std.proofs.Common.{ap, sym, ◌∙◌, subst}
+use Rattle.std.proofs.Common.{ap, sym, ◌∙◌}
 use Rattle.rls_value.specs.{declared.refusal.Refusal.Refusal, declared.refusal.Refusal.TheVariants.Recursion, declared.row.RowId.RowId, declared.value.Value.Value, declared.verb.Privilege.Privilege, Giving.and_then, Truths.is_true, Values.is_null, Values.truth_in, Names.one_of}
-use Rattle.rls_expr.specs.{declared.table.TableDef.TableDef, Terms.Term, Terms.maybe_term}
+use Rattle.rls_expr.specs.{declared.columns.SelectedTable.SelectedTable, Terms.Term, Terms.maybe_term}
 use Rattle.rls_catalog.specs.{declared.stored.Stored.Stored, Membership.Within, Membership.attributes_of, Membership.walked_by, Privileges.missing, State.State, State.grants_of}
 use Rattle.rls_catalog.specs.declared.verdict.Side.TheVariants as side
-use Rattle.rls_expr.specs.declared.columns.SelectedTable.{SelectedTable}
 use Rattle.rls_source.specs.Sequences.{each_or_refused}
 use Rattle.rls_guard.specs.rls_grant.specs.Missing.{missing_in}
 use Rattle.rls_source.specs.{Asked.asked_grants, Asked.asked_key, Asked.grants_at, Asked.keyed_at, Asked.rows_at, Askings.Asking, Askings.asked_if, Askings.followed_by, Askings.known, Readings.read_then, Readings.unread}

@@ -1,21 +1,20 @@
 -- The tables of subqueries with their columns, as the dependencies tell them, are those of the state.
-use Rattle.std.specs.Prelude.{◌≡◌, refl, ℕ, zero, suc, List, [], ◌∷◌, ◌++◌, Bool, true, false, ◌&&◌, ◌||◌, Option, Some, None, cond, filter, map, if◌then◌else◌}
+use Rattle.std.specs.Prelude.{◌≡◌, refl, ℕ, zero, suc, List, [], ◌∷◌, ◌++◌, Bool, true, false, Option, Some, None, if◌then◌else◌}
 use Rattle.std.specs.List.{list_any, flat_map}
 use Rattle.std.specs.Option.{option_map_or, option_to_list}
 use Rattle.std.specs.Str.{bytes_eq}
-use Rattle.std.proofs.Common.{ap, sym, ◌∙◌, subst, append-nil}
-use Rattle.std.proofs.lemmas.Bool.{true≢false}
+use Rattle.std.proofs.Common.{ap, sym, ◌∙◌, append-nil}
 use Rattle.rls_value.specs.{declared.verb.Kind.Kind, Names.one_of}
 use Rattle.rls_expr.specs.{declared.columns.SelectedTable.SelectedTable, declared.policy.Policy.Policy, declared.table.TableDef.TableDef, Naming.names_all, Naming.names_of, Naming.query_names, Resolving.resolved as machine_resolved, Scopes.InScope, Selecting.names_where, Selecting.query_selected, Selecting.selected_all, Selecting.selected_of, Selecting.selects_column}
 use Rattle.rls_expr.specs.Terms.{Term, Terms, Query, Literal, Column, Var, CurrentUser, Compare, And, Or, Not, IsNull, IsNotNull, InList, NotInList, Exists, InSubquery, NotInSubquery, Scalar, Sum, End, More, Select}
 use Rattle.rls_expr.proofs.SelectingLaws.{selected_tables}
 use Rattle.rls_catalog.specs.{Applying.applying_on, declared.verdict.Side.Side, Membership.Within, Privileges.includes, State.State, State.policies_of, State.table_of, Verdict.chosen, Verdict.exempts}
 use Rattle.rls_guard.specs.{declared.role_privileges.RolePrivileges.RolePrivileges, Naming.names_over, RolePrivileges.has_owner, RolePrivileges.role_privileges_in}
-use Rattle.rls_recursion.specs.{declared.dependency.PolicyDependency.PolicyDependency, declared.listings.PolicySubqueries.PolicySubqueries, Listings.leads_of, Searching.InOrder, Searching.dependency_in, Searching.has_subquery_of, Searching.subquery_tables_of, Searching.tables_in}
-use Rattle.rls_depth.specs.rls_expansion.specs.{Dependencies.dependency_by, Expanding.asks_of, Expanding.own_selected, Expanding.own_tables, Selected.selected_asked, Selected.selected_by, Selected.selected_if, Selected.selected_of_table, Selected.selected_read, Selected.selected_used, Selected.selected_where, Selected.subqueries_in, Selected.subqueries_of, Used.Ask, Used.entered, Used.is_for_check, Used.is_for_using, Used.tables_asked, Used.tables_by, Used.tables_if, Used.tables_of, Used.tables_used, Used.tables_where}
-use Rattle.rls_depth.specs.{Deep.policies_in, Leading.using_tables}
+use Rattle.rls_recursion.specs.{declared.dependency.PolicyDependency.PolicyDependency, Listings.leads_of, Searching.dependency_in}
+use Rattle.rls_depth.specs.rls_expansion.specs.{Dependencies.dependency_by, Expanding.asks_of, Expanding.own_selected, Expanding.own_tables, Selected.selected_asked, Selected.selected_by, Selected.selected_if, Selected.selected_of_table, Selected.selected_read, Selected.selected_used, Selected.selected_where, Selected.subqueries_in, Used.Ask, Used.entered, Used.is_for_check, Used.is_for_using, Used.tables_asked, Used.tables_by, Used.tables_if, Used.tables_used, Used.tables_where}
+use Rattle.rls_depth.specs.{Leading.using_tables}
 use Rattle.rls_depth.proofs.{Resolving.SameKnown, Resolving.over_known, Resolving.resolved_same, Tables.first_part, Tables.last_part, Tables.query_condition, Tables.query_items, Tables.query_table, Tables.resolved_tables, Tables.within_append, Tables.within_first, Tables.within_last, Tables.within_nothing, Walking.dependency_at, Walking.dependency_for}
-use Rattle.rls_meaning.specs.{Chains.selected_in, Chains.selected_tables_in, Chains.select_policies, Needing.Follows, Needing.needed_by}
+use Rattle.rls_meaning.specs.{Chains.selected_in, Chains.selected_tables_in, Chains.select_policies, Needing.needed_by}
 use Rattle.rls_meaning.proofs.{Listing.flat_selected_same, Listing.tables, Resolving.state_resolved_told}
 
 -- ---- they depend on the definitions of the tables that are named, and on no others

@@ -89,15 +89,15 @@ fn taken_places(rt: HostRuntime) {
 /// A list of columns is written for SELECT, INSERT or UPDATE; the whole of all four is none.
 #[test]
 fn lists_of_columns(rt: HostRuntime) {
-    let rows: [([&[&str]; 3], bool); 5] = [
-        ([&[], &[], &[]], false),
-        ([&["a"], &[], &[]], true),
-        ([&[], &["a"], &[]], true),
-        ([&[], &[], &["a"]], true),
-        ([&["a"], &["a"], &["b"]], true),
+    let rows: [(&[&str], &[&str], &[&str], bool); 5] = [
+        (&[], &[], &[], false),
+        (&["a"], &[], &[], true),
+        (&[], &["a"], &[], true),
+        (&[], &[], &["a"], true),
+        (&["a"], &["a"], &["b"], true),
     ];
-    for (lists, want) in rows {
-        assert!(rt; says(have_columns(rt.alloc(), lists), want));
+    for (select, insert, update, want) in rows {
+        assert!(rt; says(have_columns(rt.alloc(), select, insert, update), want));
     }
 }
 
@@ -244,10 +244,15 @@ fn takes(
 }
 
 /// Whether a list is written where each privilege is named for the whole, and for these columns.
-fn have_columns(alloc: Global, lists: [&[&str]; 3]) -> Result<bool, Refusal> {
-    let select = extent(alloc, true, lists[0])?;
-    let insert = extent(alloc, true, lists[1])?;
-    let update = extent(alloc, true, lists[2])?;
+fn have_columns(
+    alloc: Global,
+    select: &[&str],
+    insert: &[&str],
+    update: &[&str],
+) -> Result<bool, Refusal> {
+    let select = extent(alloc, true, select)?;
+    let insert = extent(alloc, true, insert)?;
+    let update = extent(alloc, true, update)?;
     let privileges = Privileges {
         select,
         insert,
