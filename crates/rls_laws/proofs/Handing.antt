@@ -24,8 +24,8 @@ written_gives Known s changes one = after one (λ delta fit. gives (Ends (Fits s
 
 -- ---- privileges
 
-column_passes : (columns : List Column) (name : List ℕ) → Gives Any (and_then (place_in columns name) (λ _. Ok tt))
-column_passes columns name = after (place_gives columns name) (λ _ _. gives Any tt tt)
+column_passes : (columns : List Column) (name : List ℕ) → Gives Any (and_then (place_in columns name) (λ _. Ok (tt {0})))
+column_passes columns name = after (place_gives columns name) (λ _ _. record { is = tt })
 
 columns_give : (table : TableDef) (named : Privileges) → Gives Any (columns_in table named)
 columns_give table named = each_passes (λ name. and_then (place_in table.columns name) (λ _. Ok tt)) (column_passes table.columns) (flat_map (λ privilege. (extent_of named privilege).columns) all_privileges)

@@ -20,7 +20,7 @@ use Rattle.rls_guard.specs.declared.effect.Effect.TheVariants as effect
 use Rattle.rls_guard.specs.declared.reply.Reply.TheVariants as reply
 use Rattle.rls_check.specs.rls_dml.specs.{declared.analysed_insert.AnalysedInsert.AnalysedInsert, declared.deleting.AnalysedDelete.AnalysedDelete, declared.analysed_update.AnalysedUpdate.AnalysedUpdate, declared.selecting.AnalysedSelect.AnalysedSelect}
 use Rattle.rls_check.specs.rls_dml.specs.{Checking.columns_at, Inserting.is_given, Inserting.nulls, Inserting.numbered, Updating.places_set, Writing.assigned, Writing.given_to, Writing.has_doubles, Writing.is_written, Writing.keys_of, Writing.order_of, Writing.verdict_or_denied}
-use Rattle.rls_check.specs.rls_meaning.specs.{Analysing.columns_in, Analysing.items_of, Analysing.items_resolved, Analysing.of_both, Analysing.of_value, Analysing.place_in, Naming.provided, Resolving.resolved}
+use Rattle.rls_check.specs.rls_meaning.specs.{Analysing.columns_in, Analysing.items_of, Analysing.items_resolved, Analysing.of_both, Analysing.of_value, Analysing.place_in, Naming.provided, Parts.found_in, Resolving.resolved}
 use Rattle.rls_check.specs.rls_meaning.specs.{Commands.Command, Commands.closing_in, Commands.permitted, Commands.permitted_in, Commands.required, Constraints.allowed_in, Constraints.filled_in, Constraints.taken_in}
 use Rattle.rls_check.specs.rls_meaning.specs.{Deleting.delete_in, Deleting.delete_parts, Deleting.deleted, Evaluating.value, Inserting.insert_in, Inserting.insert_parts, Inserting.insert_rows, Inserting.inserted, Inserting.of_tuple, Inserting.places_in, Inserting.row_of_tuple, Replies.answered, Replies.done_or_refused, Replies.reply_of, Rows.decisions, Rows.qualifying, Rows.scanned, Rows.shown_to}
 use Rattle.rls_check.specs.rls_meaning.specs.{Selecting.select_in, Selecting.select_parts, Updating.new_version, Updating.set_and_where, Updating.update_in, Updating.update_parts, Updating.update_rows, Updating.updated}
@@ -32,16 +32,14 @@ use Rattle.rls_laws.proofs.Giving.{Any, Ends, Gives, after, each_gives, each_pas
 select_parts_give : (s : State) (asked : Select) (table : TableDef) → Gives Any (select_parts s asked table)
 select_parts_give s asked table =
     let from : List InScope = (unwrap_or asked.alias asked.table, table) ∷ [] in
-    let condition : Option Term = option_map (resolved s from) asked.condition in
-    let parts : AnalysedSelect = record { items = items_resolved s from asked.items; condition = condition; queries = flat_map (selected_of s.tables) (option_to_list condition) } in
+    let parts : AnalysedSelect = record { items = items_resolved s from asked.items; condition = option_map (resolved s from) asked.condition; found = found_in s (items_of (Some asked.items) ++ option_to_list asked.condition) } in
     after (names_give s from (items_of (Some asked.items) ++ option_to_list asked.condition)) (λ _ _.
     after (checked_gives (of_both parts.condition (Some parts.items))) (λ _ _. gives Any parts tt))
 
 delete_parts_give : (s : State) (asked : Delete) (table : TableDef) → Gives Any (delete_parts s asked table)
 delete_parts_give s asked table =
     let from : List InScope = (asked.table, table) ∷ [] in
-    let condition : Option Term = option_map (resolved s from) asked.condition in
-    let parts : AnalysedDelete = record { condition = condition; returning = option_map (items_resolved s from) asked.returning; queries = flat_map (selected_of s.tables) (option_to_list condition) } in
+    let parts : AnalysedDelete = record { condition = option_map (resolved s from) asked.condition; returning = option_map (items_resolved s from) asked.returning; found = found_in s (option_to_list asked.condition ++ items_of asked.returning) } in
     after (names_give s from (option_to_list asked.condition ++ items_of asked.returning)) (λ _ _.
     after (checked_gives (of_both parts.condition parts.returning)) (λ _ _. gives Any parts tt))
 
@@ -75,8 +73,7 @@ update_parts_give s asked table =
     let set : List Term = flat_map (λ assignment. term.Column (record { qualifier = None; name = assignment.column }) ∷ assignment.value ∷ []) asked.assignments in
     after (names_give s from (set ++ (option_to_list asked.condition ++ items_of asked.returning))) (λ _ _.
     after (each_gives (assignment_in s from table.columns) (assignment_gives s from table.columns) asked.assignments) (λ assignments _.
-    let condition : Option Term = option_map (resolved s from) asked.condition in
-    let parts : AnalysedUpdate = record { assignments = assignments; condition = condition; returning = option_map (items_resolved s from) asked.returning; queries = flat_map (selected_of s.tables) (map (λ assignment. assignment.1) assignments ++ option_to_list condition) } in
+    let parts : AnalysedUpdate = record { assignments = assignments; condition = option_map (resolved s from) asked.condition; returning = option_map (items_resolved s from) asked.returning; found = found_in s (set ++ (option_to_list asked.condition ++ items_of asked.returning)) } in
     after (checked_gives (map (λ assignment. of_value true (slice_get table.columns assignment.0) assignment.1) assignments ++ of_both parts.condition parts.returning)) (λ _ _. gives Any parts tt)))
 
 -- ---- who may
@@ -168,7 +165,7 @@ pub select_gives : (Known : Type 0) (s : State) (ctx : Ctx) (asked : Select) →
 select_gives Known s ctx asked =
     after (table_gives s asked.table) (λ table _.
     after (select_parts_give s asked table) (λ parts _.
-    let c : Command = record { role = ctx.role; name = asked.table; table = table; kind = k.Select; own = columns_in table.columns (option_to_list parts.condition) (Some parts.items); read = []; queries = parts.queries } in
+    let c : Command = record { role = ctx.role; name = asked.table; table = table; kind = k.Select; own = columns_in table.columns (option_to_list parts.condition) (Some parts.items); read = []; queries = flat_map (selected_of parts.found) (option_to_list parts.condition) } in
     after (permitted_gives s c) (λ _ _.
     gives (Ends (Fits s Known)) (effect.Done (reply.Rows (answered parts.items c.role (qualifying s c parts.condition))) (decisions s c side.Old (scanned s c parts.condition)) [] None) tt)))
 
@@ -176,7 +173,7 @@ pub delete_gives : (Known : Type 0) (s : State) (ctx : Ctx) (asked : Delete) →
 delete_gives Known s ctx asked =
     after (table_gives s asked.table) (λ table _.
     after (delete_parts_give s asked table) (λ parts _.
-    let c : Command = record { role = ctx.role; name = asked.table; table = table; kind = k.Delete; own = []; read = columns_in table.columns (option_to_list parts.condition) parts.returning; queries = parts.queries } in
+    let c : Command = record { role = ctx.role; name = asked.table; table = table; kind = k.Delete; own = []; read = columns_in table.columns (option_to_list parts.condition) parts.returning; queries = flat_map (selected_of parts.found) (option_to_list parts.condition) } in
     after (permitted_gives s c) (λ _ _.
     let old : List Stored = qualifying s c parts.condition in
     gives (Ends (Fits s Known)) (effect.Done (reply_of parts.returning c.role old) (decisions s c side.Old (scanned s c parts.condition)) (map (deleted c.name) old) None) (deleted_fit Known s c.name old))))
@@ -195,7 +192,7 @@ pub insert_gives : (Known : Type 0) (s : State) (ctx : Ctx) (asked : Insert) →
 insert_gives Known s ctx asked =
     after (table_gives s asked.table) (λ table _.
     after (insert_parts_give s ctx asked table) (λ parts _.
-    insert_rows_give Known s ctx parts (record { role = ctx.role; name = asked.table; table = table; kind = k.Insert; own = columns_at (is_given parts.places parts.tuples) table.columns; read = columns_in table.columns [] parts.returning; queries = parts.queries })))
+    insert_rows_give Known s ctx parts (record { role = ctx.role; name = asked.table; table = table; kind = k.Insert; own = columns_at (is_given parts.places parts.tuples) table.columns; read = columns_in table.columns [] parts.returning; queries = flat_map (flat_map (selected_of parts.found)) parts.tuples })))
 
 update_rows_give : (Known : Type 0) (s : State) (parts : AnalysedUpdate) (c : Command) → Gives (Ends (Fits s Known)) (update_rows s parts c)
 update_rows_give Known s parts c =
@@ -212,4 +209,4 @@ pub update_gives : (Known : Type 0) (s : State) (ctx : Ctx) (asked : Update) →
 update_gives Known s ctx asked =
     after (table_gives s asked.table) (λ table _.
     after (update_parts_give s asked table) (λ parts _.
-    update_rows_give Known s parts (record { role = ctx.role; name = asked.table; table = table; kind = k.Update; own = columns_at (is_written (places_set parts.assignments)) table.columns; read = columns_in table.columns (set_and_where parts) parts.returning; queries = parts.queries })))
+    update_rows_give Known s parts (record { role = ctx.role; name = asked.table; table = table; kind = k.Update; own = columns_at (is_written (places_set parts.assignments)) table.columns; read = columns_in table.columns (set_and_where parts) parts.returning; queries = flat_map (selected_of parts.found) (set_and_where parts) })))
