@@ -12,6 +12,7 @@ pub mod StoredLemmas
 pub mod KeepingLemmas
 pub mod HeadLemmas
 pub mod WholeLemmas
+pub mod WhyTextLemmas
 pub mod OneFindingLemmas
 pub mod ConvertedLemmas
 pub mod ReadLemmas

@@ -14,7 +14,6 @@ use crate::ordering::{places_of, transaction_at};
 use crate::stored::Stored;
 use crate::transaction::{Answer, Transaction};
 use rls_audit::rls_rows::State;
-use rls_explain::rls_meaning::statement_means;
 use rls_explain::{Explanation, explain_row};
 use rls_statement::Statement;
 use rls_value::RowId;
@@ -222,7 +221,6 @@ fn explain_next(
 ) -> Result<Explanation, AllocError>
     ensures { IfOk result (Explains alone.now.state alone.now.ctx statement.now row) }
 {
-    statement_means();
     let mut source = alone.state.view();
     explain_row(alloc, &mut source, &alone.ctx, statement, row)
 }

@@ -1,15 +1,24 @@
 //! The lines of an explanation.
 
+ghost use Rattle.std.specs.Prelude.{◌≡◌, ◌++◌, codes, string_bytes, IfOk, OnOk};
+ghost use Rattle.rls_value.specs.Refusals.{code_of};
+ghost use Rattle.rls_check.specs.WhyTexts.{came_text, counted_tag, decision_lines, ended_line, explained_lines, explanation_text, head_text, place_text, printed_text, row_lines, said_lines};
+ghost use Rattle.rls_audit.specs.Lines as shown;
+ghost use Rattle.rls_explain.specs.Texts.{decision_text};
+
 use crate::explaining::Why;
 use rls_audit::rls_access::{Decision, Effect, Reply};
 use rls_audit::rls_printing::print;
 use rls_explain::{DecisionText, Explained, Said};
+use rls_statement::Statement;
 use rls_value::{Refusal, Tag};
 use std::alloc::{AllocError, Global};
 
 impl Why {
     /// The lines, each with its end.
-    pub fn lines(&self, alloc: Global) -> Result<String, AllocError> {
+    pub fn lines(&self, alloc: Global) -> Result<String, AllocError>
+        ensures { IfOk result (λ text. string_bytes text ≡ explanation_text self.now) }
+    {
         let mut lines = String::new(alloc);
         self.push_head(alloc, &mut lines)?;
         push_reply(
@@ -18,22 +27,47 @@ impl Why {
             self.statement.get().tag(),
             &self.explanation.effect,
         )?;
-        if self.row.is_some() {
-            push_explained(alloc, &mut lines, self.explanation.row.as_slice())?;
-        } else {
-            push_decisions(alloc, &mut lines, decisions_of(&self.explanation.effect))?;
-        }
+        self.push_rows(alloc, &mut lines)?;
         Ok(lines)
     }
 
-    fn push_head(&self, alloc: Global, lines: &mut String) -> Result<(), AllocError> {
+    #[tactic(auto, using(crate::proofs::WhyTextLemmas::line_of_two))]
+    fn push_head(&self, alloc: Global, lines: &mut String) -> Result<(), AllocError>
+        ensures { OnOk result (string_bytes lines.new ≡ string_bytes lines.old ++ ended_line (head_text self.now)) }
+    {
+        let place = self.place(alloc)?;
+        let printed = printed(alloc, self.statement.get())?;
+        lines.push_str(place.as_str())?;
+        lines.push_str(printed.as_str())?;
+        lines.push_str("\n")
+    }
+
+    /// Which statement it is, and whose.
+    fn place(&self, alloc: Global) -> Result<String, AllocError>
+        ensures { IfOk result (λ text. string_bytes text ≡ place_text self.now) }
+    {
         let txn = self.txn;
         let number = self.number;
         let role = &self.explanation.role;
-        let printed = print(alloc, self.statement.get())?;
-        let head = format!(in alloc; "txn {txn} statement {number} role {role}: {printed}\n")?;
-        lines.push_str(head.as_str())
+        format!(in alloc; "txn {txn} statement {number} role {role}: ")
     }
+
+    fn push_rows(&self, alloc: Global, lines: &mut String) -> Result<(), AllocError>
+        ensures { OnOk result (string_bytes lines.new ≡ string_bytes lines.old ++ row_lines self.now.row self.now.explanation) }
+    {
+        match self.row {
+            Some(_) => push_explained(alloc, lines, self.explanation.row.as_slice()),
+            None => push_decisions(alloc, lines, decisions_of(&self.explanation.effect)),
+        }
+    }
+}
+
+/// The statement in its one written form.
+#[tactic(auto, using(crate::proofs::WhyTextLemmas::printed_bytes))]
+fn printed(alloc: Global, statement: &Statement) -> Result<String, AllocError>
+    ensures { IfOk result (λ text. string_bytes text ≡ printed_text statement.now) }
+{
+    print(alloc, statement)
 }
 
 fn push_reply(
@@ -41,16 +75,26 @@ fn push_reply(
     lines: &mut String,
     tag: Tag,
     effect: &Effect,
-) -> Result<(), AllocError> {
-    let reply = match effect {
-        Effect::Done(reply, _, _, _) => reply_text(alloc, tag, reply)?,
-        Effect::Refused(refusal, _) => refusal_text(alloc, refusal)?,
-    };
+) -> Result<(), AllocError>
+    ensures { OnOk result (string_bytes lines.new ≡ string_bytes lines.old ++ ended_line (codes "reply: " ++ came_text tag effect.now)) }
+{
+    let reply = came_text(alloc, tag, effect)?;
     let line = format!(in alloc; "reply: {reply}\n")?;
     lines.push_str(line.as_str())
 }
 
-fn reply_text(alloc: Global, tag: Tag, reply: &Reply) -> Result<String, AllocError> {
+fn came_text(alloc: Global, tag: Tag, effect: &Effect) -> Result<String, AllocError>
+    ensures { IfOk result (λ text. string_bytes text ≡ Rattle.rls_check.specs.WhyTexts.came_text tag effect.now) }
+{
+    match effect {
+        Effect::Done(reply, _, _, _) => reply_text(alloc, tag, reply),
+        Effect::Refused(refusal, _) => refusal_text(alloc, refusal),
+    }
+}
+
+fn reply_text(alloc: Global, tag: Tag, reply: &Reply) -> Result<String, AllocError>
+    ensures { IfOk result (λ text. string_bytes text ≡ Rattle.rls_check.specs.WhyTexts.reply_text tag reply.now) }
+{
     match reply {
         Reply::Rows(rows) => counted(alloc, tag, rows.get().len() as u64),
         Reply::Count(count) => counted(alloc, tag, *count),
@@ -58,19 +102,25 @@ fn reply_text(alloc: Global, tag: Tag, reply: &Reply) -> Result<String, AllocErr
     }
 }
 
-fn counted(alloc: Global, tag: Tag, count: u64) -> Result<String, AllocError> {
+fn counted(alloc: Global, tag: Tag, count: u64) -> Result<String, AllocError>
+    ensures { IfOk result (λ text. string_bytes text ≡ counted_tag tag count) }
+{
     match tag {
         Tag::Insert => format!(in alloc; "INSERT 0 {count}"),
         _ => format!(in alloc; "{tag} {count}"),
     }
 }
 
-fn refusal_text(alloc: Global, refusal: &Refusal) -> Result<String, AllocError> {
+fn refusal_text(alloc: Global, refusal: &Refusal) -> Result<String, AllocError>
+    ensures { IfOk result (λ text. string_bytes text ≡ codes "ERROR " ++ (code_of refusal.now ++ (codes " " ++ Rattle.rls_value.specs.Refusals.refusal_text refusal.now))) }
+{
     let code = refusal.code();
     format!(in alloc; "ERROR {code} {refusal}")
 }
 
-fn decisions_of(effect: &Effect) -> &[Decision] {
+fn decisions_of(effect: &Effect) -> &[Decision]
+    ensures { result.now ≡ shown.decisions_of effect.now }
+{
     match effect {
         Effect::Done(_, decisions, _, _) => decisions.as_slice(),
         Effect::Refused(_, decisions) => decisions.as_slice(),
@@ -80,15 +130,20 @@ fn decisions_of(effect: &Effect) -> &[Decision] {
 fn push_decisions(
     alloc: Global,
     lines: &mut String,
-    decisions: &[Decision],
-) -> Result<(), AllocError> {
-    for decision in decisions {
+    mut decisions: &[Decision],
+) -> Result<(), AllocError>
+    ensures { OnOk result (string_bytes lines.new ≡ string_bytes lines.old ++ decision_lines decisions.entry.now) }
+{
+    while let [decision, rest @ ..] = decisions {
         push_decision(alloc, lines, decision)?;
+        decisions = rest;
     }
     Ok(())
 }
 
-fn push_decision(alloc: Global, lines: &mut String, decision: &Decision) -> Result<(), AllocError> {
+fn push_decision(alloc: Global, lines: &mut String, decision: &Decision) -> Result<(), AllocError>
+    ensures { OnOk result (string_bytes lines.new ≡ string_bytes lines.old ++ ended_line (decision_text decision.now)) }
+{
     let text = DecisionText { decision };
     let line = format!(in alloc; "{text}\n")?;
     lines.push_str(line.as_str())
@@ -97,21 +152,25 @@ fn push_decision(alloc: Global, lines: &mut String, decision: &Decision) -> Resu
 fn push_explained(
     alloc: Global,
     lines: &mut String,
-    explained: &[Explained],
-) -> Result<(), AllocError> {
-    for one in explained {
+    mut explained: &[Explained],
+) -> Result<(), AllocError>
+    ensures { OnOk result (string_bytes lines.new ≡ string_bytes lines.old ++ explained_lines explained.entry.now) }
+{
+    while let [one, rest @ ..] = explained {
         push_decision(alloc, lines, &one.decision)?;
-        if let Some(said) = &one.policies {
-            push_said(alloc, lines, said.as_slice())?;
-        }
+        push_said(alloc, lines, one.policies.as_slice())?;
+        explained = rest;
     }
     Ok(())
 }
 
-fn push_said(alloc: Global, lines: &mut String, said: &[Said]) -> Result<(), AllocError> {
-    for one in said {
+fn push_said(alloc: Global, lines: &mut String, mut said: &[Said]) -> Result<(), AllocError>
+    ensures { OnOk result (string_bytes lines.new ≡ string_bytes lines.old ++ said_lines said.entry.now) }
+{
+    while let [one, rest @ ..] = said {
         let line = format!(in alloc; "{one}\n")?;
         lines.push_str(line.as_str())?;
+        said = rest;
     }
     Ok(())
 }

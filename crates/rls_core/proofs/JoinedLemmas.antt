@@ -4,7 +4,7 @@ use Rattle.std.specs.BTreeMap.{is_at}
 use Rattle.std.specs.List.{find}
 use Rattle.std.specs.Option.{option_map, is_some}
 use Rattle.std.specs.Ordering.{nat_cmp, is_eq}
-use Rattle.std.proofs.Common.{ap, sym, subst, ◌∙◌, arith, eqb-true}
+use Rattle.std.proofs.Common.{ap, sym, subst, ◌∙◌, arith, eqb-true, eq-eqb}
 use Rattle.std.proofs.lemmas.Bool.Decides.{nat_tests}
 use Rattle.std.proofs.lemmas.Option.{none-some}
 use Rattle.rls_conflict.specs.Begun.{at_number}
@@ -22,6 +22,9 @@ turned a b = grind (arith, nat_tests)
 
 pub same_number : (a b : ℕ) → is_at (nat_cmp a) b ≡ true → a ≡ b
 same_number a b is = eqb-true a b (sym (tie a b) ∙ is)
+
+pub self_number : (a : ℕ) → is_at (nat_cmp a) a ≡ true
+self_number a = tie a a ∙ eq-eqb a a refl
 
 -- the one that a number finds
 pub joined_at : (known : Known) (txn : ℕ) (opens : List (ℕ × Opened)) → at_number txn (map (joined_in known) opens) ≡ option_map (joined (running_at known txn)) (at_number txn opens)

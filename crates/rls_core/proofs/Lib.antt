@@ -13,6 +13,7 @@ pub mod GoingLemmas
 pub mod WorkLemmas
 pub mod CallLemmas
 pub mod RefusalLemmas
+pub mod RunLemmas
 mod NewLemmas
 mod DecidedLemmas
 mod PostedLemmas

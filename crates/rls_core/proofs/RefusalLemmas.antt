@@ -1,5 +1,5 @@
 -- Refusals, and what they are as events.
-use Rattle.std.specs.Prelude.{◌≡◌, refl, ℕ, suc, Bool, true, false, cond, [], ◌∷◌, ◌++◌, length, List, Option, Some, None, Result, Ok, Err, OnOk, OnErr, IfErr}
+use Rattle.std.specs.Prelude.{◌≡◌, refl, ℕ, suc, Bool, true, false, cond, [], ◌∷◌, ◌++◌, length, List, Option, Some, None, Result, Ok, Err, IfOk, OnOk, OnErr, IfErr}
 use Rattle.std.proofs.Common.{ap, sym, ◌∙◌}
 use Rattle.std.proofs.lemmas.Bool.{true≢false}
 use Rattle.rls_value.specs.declared.refusal.Refusal.{Refusal}
@@ -10,15 +10,11 @@ use Rattle.rls_value.specs.declared.refusal.Cause.TheVariants as cause
 use Rattle.rls_statement.specs.declared.statement.Statement.{Statement}
 use Rattle.rls_meaning.specs.rls_access.specs.Transactions.{Begin}
 use Rattle.rls_core.specs.Events.{Event, Running, World}
-use Rattle.rls_core.specs.Seen.{Seen, runs_at, Happens}
-use Rattle.rls_core.specs.Calls.{NotBegun, NotWorked, NotPosted, NotReady, NotCommitted, IsStopped, stops, is_serial, MayCommit}
+use Rattle.rls_core.specs.Seen.{Seen, runs_at, world_of, Happens}
+use Rattle.rls_core.specs.Calls.{NotBegun, NotWorked, NotPosted, NotReady, NotCommitted, NotRunning, is_serial, MayCommit}
+use Rattle.rls_core.specs.Happening.{IsAnswered, IsStopped, is_stop, stops}
 use Rattle.rls_core.proofs.EventLemmas.{begin_refused, post_refused, commit_refused, commit_ends, commit_is}
 use Rattle.rls_core.proofs.AdmittedLemmas.{long_push}
-
-pub stops_why : (why : Refusal) → IfErr (stops why) (λ it. IsStopped it)
-stops_why NoMemory = tt
-stops_why (Limit limit) = tt
-stops_why _ = tt
 
 pub begin_goes : (old new : Seen) (who : Begin) (why : Refusal) → NotBegun old who why → new ≡ old → OnOk (stops why) (Happens (Event.Begins who) old new)
 begin_goes old new who NoMemory is same = tt
@@ -30,6 +26,17 @@ pub begin_same : (old new : Seen) (why : Refusal) → new ≡ old → OnErr (sto
 begin_same old new NoMemory same = same
 begin_same old new (Limit limit) same = same
 begin_same old new _ same = tt
+
+pub begin_answer : (old new : Seen) (who : Begin) (why : Refusal) → NotBegun old who why → IfOk (stops why) (IsAnswered (Event.Begins who) old new)
+begin_answer old new who NoMemory is = tt
+begin_answer old new who (NoLogin login) is = (refl, is)
+begin_answer old new who (Limit what) is = tt
+begin_answer old new who _ is = absurd is
+
+pub begin_stops : (old : Seen) (who : Begin) (why : Refusal) → NotBegun old who why → IfErr (stops why) (IsStopped (world_of old) (Event.Begins who))
+begin_stops old who NoMemory is = tt
+begin_stops old who (Limit what) is = is
+begin_stops old who _ is = tt
 
 pub post_goes : (old new : Seen) (txn : ℕ) (asked : Statement) (why : Refusal) → NotPosted txn asked old new why → OnOk (stops why) (Happens (Event.Posts txn asked) old new)
 post_goes old new txn asked NoMemory is = tt
@@ -43,6 +50,18 @@ post_same old new txn asked NoMemory is = is
 post_same old new txn asked (Limit limit) is = absurd is
 post_same old new txn asked _ is = tt
 
+pub post_answer : (old new : Seen) (txn : ℕ) (asked : Statement) (why : Refusal) → NotPosted txn asked old new why → IfOk (stops why) (IsAnswered (Event.Posts txn asked) old new)
+post_answer old new txn asked NoMemory is = tt
+post_answer old new txn asked (TxnState NoneInProgress) is = (refl, is)
+post_answer old new txn asked (Serial (cause.Written object other)) is = (refl, is)
+post_answer old new txn asked (Limit what) is = tt
+post_answer old new txn asked _ is = absurd is
+
+pub post_stops : (old new : Seen) (txn : ℕ) (asked : Statement) (why : Refusal) → NotPosted txn asked old new why → IfErr (stops why) (IsStopped (world_of old) (Event.Posts txn asked))
+post_stops old new txn asked NoMemory is = tt
+post_stops old new txn asked (Limit what) is = absurd is
+post_stops old new txn asked _ is = tt
+
 pub commit_goes : (old new : Seen) (txn : ℕ) (why : Refusal) → NotCommitted txn old new why → OnOk (stops why) (Happens (Event.Commits txn) old new)
 commit_goes old new txn NoMemory is = tt
 commit_goes old new txn (TxnState NoneInProgress) is = commit_refused old new txn is.1 is.0
@@ -54,6 +73,23 @@ pub commit_same : (old new : Seen) (txn : ℕ) (why : Refusal) → NotCommitted 
 commit_same old new txn NoMemory is = is
 commit_same old new txn (Limit limit) is = absurd is
 commit_same old new txn _ is = tt
+
+pub commit_answer : (old new : Seen) (txn : ℕ) (why : Refusal) → NotCommitted txn old new why → IfOk (stops why) (IsAnswered (Event.Commits txn) old new)
+commit_answer old new txn NoMemory is = tt
+commit_answer old new txn (TxnState NoneInProgress) is = (refl, is)
+commit_answer old new txn (Serial why) is = (refl, is)
+commit_answer old new txn (Limit what) is = tt
+commit_answer old new txn _ is = absurd is
+
+pub commit_stops : (old new : Seen) (txn : ℕ) (why : Refusal) → NotCommitted txn old new why → IfErr (stops why) (IsStopped (world_of old) (Event.Commits txn))
+commit_stops old new txn NoMemory is = tt
+commit_stops old new txn (Limit what) is = absurd is
+commit_stops old new txn _ is = tt
+
+-- a refused rollback stops nothing
+pub not_ended : (seen : Seen) (txn : ℕ) (why : Refusal) → NotRunning seen txn why → is_stop why ≡ false
+not_ended seen txn (TxnState NoneInProgress) is = refl
+not_ended seen txn _ is = absurd is
 
 -- without work there is no post
 pub not_worked : (seen : Seen) (txn : ℕ) (asked : Statement) (why : Refusal) → NotWorked seen txn why → NotPosted txn asked seen seen why

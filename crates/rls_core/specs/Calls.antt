@@ -1,8 +1,10 @@
 -- What the calls of a core come to.
-use Rattle.std.specs.Prelude.{◌≡◌, ℕ, ◌<◌, ◌≤◌, ◌⊎◌, Bool, true, false, List, [], ◌∷◌, ◌++◌, length, map, Option, Some, None, Result, Ok, Err, if◌then◌else◌}
+use Rattle.std.specs.Prelude.{◌≡◌, ℕ, ◌<◌, ◌≤◌, ◌⊎◌, Bool, true, false, List, [], ◌∷◌, ◌++◌, length, map, Option, Some, None}
+use Rattle.std.specs.{List.All, List.Sorted.IsStrictlySortedBy, Option.is_some, Ordering.nat_cmp}
 use Rattle.rls_value.specs.declared.object.Object.{Object}
 use Rattle.rls_value.specs.declared.refusal.Refusal.{Refusal}
 use Rattle.rls_value.specs.declared.refusal.Refusal.TheVariants.{NoMemory, NoLogin, Limit, TxnState, Serial}
+use Rattle.rls_value.specs.declared.refusal.Limit.{Limit as Limited}
 use Rattle.rls_value.specs.declared.refusal.Limit.TheVariants as limit
 use Rattle.rls_value.specs.declared.refusal.TxnState.TheVariants.{NoneInProgress}
 use Rattle.rls_value.specs.declared.refusal.Cause.{Cause}
@@ -22,7 +24,7 @@ use Rattle.rls_conflict.specs.Commits as commits
 use Rattle.rls_core.specs.declared.work.Work.{Work}
 use Rattle.rls_core.specs.declared.ready.Ready.{Ready}
 use Rattle.rls_core.specs.Records.{Record, record_at, transaction_of, history_by, state_after}
-use Rattle.rls_core.specs.Events.{Event, Running, seen_by}
+use Rattle.rls_core.specs.Events.{Event, Running, World, seen_by}
 use Rattle.rls_core.specs.Seen.{Seen, runs_at, world_of, newest_state, Happens}
 use Rattle.rls_core.specs.Posts.{record_of}
 use Rattle.rls_core.specs.Opened.{Opened, joined}
@@ -82,12 +84,24 @@ pub record IsBarred (seen : Seen) (txn : ℕ) (why : Cause) : Type 0 where
   pub danger : is_dangerous (history_by (seen.committed ++ it.so_far ∷ [])) (length seen.committed) ≡ true
   pub named : IsCauseOf (map transaction_of (seen.committed ++ it.so_far ∷ [])) (length seen.committed) why
 
+-- so many run at once, or more, each under a number of its own
+pub record RunAtOnce (world : World) (many : ℕ) : Type 0 where
+  pub numbers : List ℕ
+  pub ascend : IsStrictlySortedBy nat_cmp numbers
+  pub count : many ≤ length numbers
+  pub run : All (λ txn. is_some (world.running txn) ≡ true) numbers
+
+-- no transaction can begin: 1,024 run, or the numbers are spent
+abbrev pub IsFull : World → Limited → Type 0
+IsFull world limit.Transactions = RunAtOnce world 1024
+IsFull world limit.Numbers = world.next ≡ 18446744073709551615
+IsFull world _ = ⊥
+
 -- what refuses a begin
 abbrev pub NotBegun : Seen → Begin → Refusal → Type 0
 NotBegun seen begin NoMemory = Unit {0}
 NotBegun seen begin (NoLogin who) = (who ≡ Some begin.login) × (may_begin (newest_state seen.committed) begin ≡ false)
-NotBegun seen begin (Limit limit.Transactions) = 1024 ≤ length seen.running
-NotBegun seen begin (Limit limit.Numbers) = seen.next ≡ 18446744073709551615
+NotBegun seen begin (Limit what) = IsFull (world_of seen) what
 NotBegun seen begin _ = ⊥
 
 -- why there is no work
@@ -156,21 +170,6 @@ pub record IsOrderBy (committed : List Record) (numbers : List ℕ) : Type 0 whe
   pub places : List ℕ
   pub keeps : IsOrder (history_by committed) places
   pub are : numbers ≡ map (λ place. (record_at committed place).txn) places
-
--- want of memory, or a limit
-abbrev pub is_stop : Refusal → Bool
-is_stop NoMemory = true
-is_stop (Limit limit) = true
-is_stop _ = false
-
--- there no event happened; every other refusal is an event too
-abbrev pub stops : Refusal → Result (Unit {0}) Refusal
-stops why = if is_stop why then Err why else Ok tt
-
-abbrev pub IsStopped : Refusal → Type 0
-IsStopped NoMemory = Unit {0}
-IsStopped (Limit limit) = Unit {0}
-IsStopped _ = ⊥
 
 -- a serialization failure
 abbrev pub is_serial : Refusal → Bool

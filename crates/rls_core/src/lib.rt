@@ -1,6 +1,7 @@
 //! Transactions over the statements of this database: events, records, committed states, and the headline.
 #![tactic(auto)]
 
+mod answer;
 mod begin;
 mod database;
 mod decisions;
@@ -16,6 +17,7 @@ mod record;
 mod rules;
 mod work;
 
+pub use answer::Answer;
 pub use begin::Begin;
 pub use decisions::{DecisionView, Decisions};
 pub use event::Event;

@@ -2,7 +2,7 @@
 
 use crate::opening::{begin_as, shared};
 use rls_audit::rls_access::Mode;
-use rls_audit::rls_core::{Core, Event, run};
+use rls_audit::rls_core::{Answer, Core, Event, run};
 use rls_value::Refusal;
 use std::alloc::Global;
 
@@ -54,17 +54,58 @@ fn two_transactions(alloc: Global) -> Result<[Event; 4], Refusal> {
 /// One commits, one is rolled back, and one of no number is asked to commit.
 fn happens(alloc: Global) -> Result<bool, Refusal> {
     let events = two_transactions(alloc)?;
-    let core = run(alloc, &events);
+    let made = run(alloc, &events);
     drop(events);
-    ends(alloc, core?)
+    match made {
+        Ok((core, answers)) => {
+            let answered = are_answered(answers.as_slice());
+            drop(answers);
+            Ok(ends(alloc, core)? && answered)
+        }
+        Err(refusal) => Err(refusal),
+    }
+}
+
+/// The number that an answer tells, or else 0.
+fn number_in(answer: &Answer) -> u64 {
+    match answer {
+        Answer::Begun(number) => *number,
+        Answer::Committed(number) => *number,
+        _ => 0,
+    }
+}
+
+fn are_answered(answers: &[Answer]) -> bool {
+    match answers {
+        [begun, posted, committed, other] => {
+            number_in(begun) == 1
+                && matches!(posted, Answer::Posted)
+                && number_in(committed) == 1
+                && number_in(other) == 2
+        }
+        _ => false,
+    }
 }
 
 fn ends(alloc: Global, core: Core) -> Result<bool, Refusal> {
     let mut core = core;
     let runs = core.is_running(2);
-    core.happen(alloc, &Event::RollsBack(2))?;
-    core.happen(alloc, &Event::Commits(9))?;
-    Ok(runs && !core.is_running(2) && has_only(&core, 1))
+    let ended = is_rolled_back(&mut core, alloc)? && is_refused(&mut core, alloc)?;
+    Ok(runs && ended && !core.is_running(2) && has_only(&core, 1))
+}
+
+fn is_rolled_back(core: &mut Core, alloc: Global) -> Result<bool, Refusal> {
+    let answer = core.happen(alloc, &Event::RollsBack(2))?;
+    let fits = matches!(answer, Answer::RolledBack);
+    drop(answer);
+    Ok(fits)
+}
+
+fn is_refused(core: &mut Core, alloc: Global) -> Result<bool, Refusal> {
+    let answer = core.happen(alloc, &Event::Commits(9))?;
+    let fits = matches!(answer, Answer::Refused(_));
+    drop(answer);
+    Ok(fits)
 }
 
 fn says(answer: Result<bool, Refusal>) -> bool {

@@ -1,5 +1,5 @@
 -- Each event keeps what lies under the lock.
-use Rattle.std.specs.Prelude.{◌≡◌, refl, ℕ, ◌+◌, true, false, Option, Some, None, List, [], ◌∷◌, ◌++◌, length, Result, Ok, Err, OnOk, OnErr}
+use Rattle.std.specs.Prelude.{◌≡◌, refl, ℕ, ◌+◌, slice_index_or, true, false, Option, Some, None, List, [], ◌∷◌, ◌++◌, length, Result, Ok, Err, OnOk, OnErr}
 use Rattle.std.proofs.Common.{ap, sym, subst, ◌∙◌, arith, length-append}
 use Rattle.rls_value.specs.declared.refusal.Refusal.{Refusal}
 use Rattle.rls_value.specs.declared.refusal.Refusal.TheVariants.{NoMemory, TxnState, Serial}
@@ -16,11 +16,18 @@ use Rattle.rls_core.specs.Calls.{NotPosted}
 use Rattle.boxcar.specs.Table.{Shelves, Where, Shows}
 use Rattle.rls_engine.specs.declared.commit.Commit.{Commit}
 use Rattle.rls_engine.specs.Stands.{Stand, begun_on, posted_on}
-use Rattle.rls_engine.specs.Places.{ArePlaced}
+use Rattle.rls_engine.specs.Places.{ArePlaced, HasPlace, IsPlaced}
 use Rattle.rls_engine.specs.Keeps.{HaveTokens, IsKept}
 use Rattle.rls_engine.specs.Steps.{Fits}
 use Rattle.rls_engine.specs.Views.{Hold}
 use Rattle.rls_engine.proofs.TokenLemmas.{begun_tokens, token_more, posted_tokens, left_tokens, ended_tokens, committed_tokens, begin_records, post_records, rollback_records, commit_records, placed_push}
+
+-- where each record has its place, the last one has
+pub last_placed : (commits : Shelves) (committed : List Record) (tokens : List (Where Commit)) → ArePlaced commits committed tokens → HasPlace commits (length committed)
+last_placed commits committed [] placed = subst (HasPlace commits) placed.count tt
+last_placed commits committed (t ∷ tokens) placed =
+    let it : IsPlaced commits committed (length tokens) (slice_index_or (t ∷ tokens) (length tokens) t) = placed.each (length tokens) t (omega arith) in
+    subst (HasPlace commits) placed.count (slice_index_or (t ∷ tokens) (length tokens) t, it.shows, it.index)
 
 module _ (commits steps : Shelves) (old : Seen) (total parts amount : ℕ) (tokens : List (Where Commit)) (running : List (ℕ × Where Stand)) (kept : IsKept commits steps old total parts amount tokens running) where
   -- with the same records

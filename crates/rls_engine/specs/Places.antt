@@ -1,5 +1,5 @@
 -- How tokens of the two vectors stand to records and transactions.
-use Rattle.std.specs.Prelude.{◌≡◌, ℕ, ◌+◌, ◌<◌, suc, List, length, Option, Some, None, slice_get, slice_index_or}
+use Rattle.std.specs.Prelude.{◌≡◌, ℕ, ◌+◌, ◌<◌, zero, suc, List, length, Option, Some, None, slice_get, slice_index_or}
 use Rattle.rls_catalog.specs.State.{State}
 use Rattle.rls_catalog.specs.Changed.{opening}
 use Rattle.rls_guard.specs.declared.context.Ctx.{Ctx}
@@ -20,6 +20,11 @@ pub record IsPlaced (commits : Shelves) (committed : List Record) (n : ℕ) (t :
 pub record ArePlaced (commits : Shelves) (committed : List Record) (tokens : List (Where Commit)) : Type 0 where
   pub count : length tokens ≡ length committed
   pub each : (n : ℕ) (d : Where Commit) → n < length tokens → IsPlaced commits committed n (slice_index_or tokens n d)
+
+-- a commit of this number has its place, or the number is none
+abbrev pub HasPlace : Shelves → ℕ → Type 0
+HasPlace commits zero = Unit {0}
+HasPlace commits (suc n) = (t : Where Commit) × Shows commits t × (t.index ≡ n)
 
 -- the place of the last commit in a snapshot, none where it has none
 abbrev pub IsBase : ℕ → Option Standing → Type 0

@@ -10,7 +10,7 @@ ghost use Rattle.rls_core.specs.Opened.{Looks};
 ghost use Rattle.rls_core.specs.Headline.{HaveOrder, AreExplained, EachFindsSnapshots};
 ghost use Rattle.rls_engine.specs.Led.{IsLed};
 ghost use Rattle.rls_engine.specs.Stands.{IsWorkOn};
-ghost use Rattle.rls_engine.specs.Places.{ArePlaced, IsBase, base_state};
+ghost use Rattle.rls_engine.specs.Places.{ArePlaced, HasPlace, IsBase, base_state};
 ghost use Rattle.boxcar.specs.Table.{Shows};
 ghost use Rattle.rls_engine.specs.Steps.{IsEvent, HasBegun, HasPosted, HasCommitted, Fits, PostStops, CommitStops};
 
@@ -86,9 +86,10 @@ impl<N: Named> Desk<N> {
         let _history = self.core.history();
     }
 
-    /// How many have committed.
+    /// How many have committed. The last one has its place.
     pub(crate) fn commits(&self) -> u64
-        ensures { result ≡ length self.now.seen.committed }
+        ensures count { result ≡ length self.now.seen.committed }
+        ensures placed { HasPlace N.commits result }
     {
         self.core.commits()
     }

@@ -1,10 +1,11 @@
 //! One core under one lock.
 
-ghost use Rattle.std.specs.Prelude.{◌≡◌, ◌≢◌, ◌≤◌, false, length, None, IfOk, IfErr, IfSome, IsOk};
+ghost use Rattle.std.specs.Prelude.{◌≡◌, ◌≢◌, ◌≤◌, false, length, None, IfOk, IfErr, IfSome, IsOk, IsSome};
 ghost use Rattle.rls_value.specs.declared.refusal.Refusal.TheVariants.{Foreign};
 ghost use Rattle.rls_core.specs.Seen.{world_of};
 ghost use Rattle.rls_core.specs.Headline.{HaveOrder, AreExplained};
 ghost use Rattle.rls_engine.specs.Led.{IsLed};
+ghost use Rattle.rls_engine.specs.Places.{HasPlace};
 ghost use Rattle.rls_engine.specs.Stands.{IsWorkOf, IsWorkOn};
 ghost use Rattle.rls_engine.specs.Drafts.{BeganAs, EndsPost, IsReceiptOf, IsStep, RefusesBegin, StopsCommit, IsNext, WhenPosted, posting_of};
 
@@ -134,7 +135,8 @@ impl<N: Named> Engine<N> {
         held: &Held<N>,
         statement: &Share<Statement>,
     ) -> Result<Pending, AllocError>
-        ensures { IfOk result (λ pending. (pending.statement ≡ statement.now) × IfSome pending.work (IsWorkOf held.now.txn held.now.stand statement.now)) }
+        ensures ok { IfOk result (λ pending. (pending.statement ≡ statement.now) × IfSome pending.work (IsWorkOf held.now.txn held.now.stand statement.now)) }
+        ensures computed { IfOk result (λ pending. IsSome pending.work) }
     {
         let work = held.work(self.alloc, statement)?;
         let statement = or_drop!(statement.copy(), work);
@@ -242,9 +244,10 @@ impl<N: Named> Engine<N> {
         self.enter(rt).rollback(txn);
     }
 
-    /// How many have committed: no fewer than receipts count in the `Seen`.
+    /// How many have committed: no fewer than receipts count in the `Seen`, and no more than have a place.
     pub fn audited<R: Wait>(&self, rt: &R, seen: &mut Seen<N>) -> u64
         ensures told { seen.new.told ≤ result }
+        ensures placed { HasPlace N.commits result }
         ensures same { seen.new ≡ seen.old }
     {
         let mut desk = self.enter(rt);

@@ -38,6 +38,13 @@ impl<N: Named> Model for Receipt<N> {
 }
 
 impl<N: Named> Receipt<N> {
+    /// The tag of its engine.
+    pub fn tag(&self) -> u64
+        ensures { result ≡ self.now.tag }
+    {
+        self.tag
+    }
+
     /// The number of the commit, from 1.
     pub fn number(&self) -> u64
         ensures { result ≡ self.now.number }

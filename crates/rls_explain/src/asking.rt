@@ -1,82 +1,38 @@
-//! The policies that apply to a role for a type of command, asked of a row.
+//! The policy expansion of a command, its rows, and those that qualify.
 
-ghost use Rattle.std.specs.Prelude.{◌≡◌, Some, map, IfOk};
+ghost use Rattle.std.specs.Prelude.{◌≡◌, IfOk};
 ghost use Rattle.rls_value.specs.Giving.{Gives};
-ghost use Rattle.rls_evaluation.specs.Showing.{shows};
-ghost use Rattle.rls_meaning.specs.Expanding.{expansion_in};
-ghost use Rattle.rls_explain.specs.Saying as spec;
+ghost use Rattle.rls_expr.specs.Scopes.{in_scope};
+ghost use Rattle.rls_guard.specs.RolePrivileges.{role_privileges_in};
+ghost use Rattle.rls_judging.specs.{Handed.rows_borrowed, ScannedRows.pinned_key};
+ghost use Rattle.rls_meaning.specs.Showing.{rows_at_key};
+ghost use Rattle.rls_meaning.specs.rls_expansion.specs.Expanding as expanding;
+ghost use Rattle.rls_explain.specs.Found as spec;
 
-use crate::explanation::Said;
-use crate::laws::expansion_says;
-use crate::saying::said_by_each;
-use rls_catalog::Side;
-use rls_evaluation::SecurityQuals;
-use rls_expr::{Expr, FromTable, Policy};
-use rls_guard::{RowCheck, role_privileges_of};
+use rls_catalog::BorrowedRow;
+use rls_expr::{Expr, FromTable};
+use rls_guard::role_privileges_of;
+use rls_judging::{CheckContext, qualifying_rows_of, scanned_rows};
 use rls_meaning::rls_expansion::{PolicyExpansion, expansion_of};
 use rls_source::{Reads, RowSource};
-use rls_value::{Items, Kind, Name, Reference, Refusal, Row};
+use rls_value::{Items, Kind, Name, Refusal};
 use std::alloc::{AllocError, Global};
 
-/// What each policy of the table says of the row that applies to the role for that type of command.
-pub fn said_on<'c, S: RowSource<'c>>(
-    alloc: Global,
-    source: &mut S,
-    role: &Name,
-    name: &Name,
-    kind: Kind,
-    side: Side,
-    row: &Row,
-) -> Result<Items<Said>, AllocError>
-    ensures said { IfOk result (λ said. said ≡ spec.said_on (S.state source.old) role.now name.now kind side row.now) }
-    ensures state { S.state source.new ≡ S.state source.old }
-{
-    match source.table(alloc, name)? {
-        Some(table) => said_in(
-            alloc,
-            source,
-            role,
-            FromTable { name, table },
-            kind,
-            side,
-            row,
-        ),
-        None => Ok(Items::new(alloc)),
-    }
-}
-
-/// The same of a table that is there.
-fn said_in<'c, 'x, S: RowSource<'c>>(
+/// The policy expansion of a command of that type on the table, whose own subqueries look at those tables; none where a chain of
+/// policies closes.
+pub fn expansion_if<'c, 'x, S: RowSource<'c>>(
     alloc: Global,
     source: &mut S,
     role: &Name,
     from: FromTable<'x>,
     kind: Kind,
-    side: Side,
-    row: &Row,
-) -> Result<Items<Said>, AllocError>
-    ensures said { IfOk result (λ said. said ≡ spec.said_at (S.state source.old) role.now from.entry.name.now (Some from.entry.table.now) kind side row.now) }
-    ensures state { S.state source.new ≡ S.state source.old }
-{
-    expansion_says();
-    let found = expansion_if(alloc, source, role, from, kind)?;
-    let said = said_found(alloc, &*source, role, &found, kind, side, row);
-    drop(found);
-    said
-}
-
-/// The policy expansion of that type of command on the table; none where a chain of policies closes.
-fn expansion_if<'c, 'x, S: RowSource<'c>>(
-    alloc: Global,
-    source: &mut S,
-    role: &Name,
-    from: FromTable<'x>,
-    kind: Kind,
+    reads: bool,
+    queries: &[Name],
 ) -> Result<Option<PolicyExpansion<'c>>, AllocError>
-    ensures given { IfOk result (λ found. found ≡ spec.unless_refused (expansion_in (S.state source.old) (spec.command_on role.now from.entry.name.now from.entry.table.now kind))) }
+    ensures given { IfOk result (λ found. found ≡ spec.expansion_found (S.state source.old) role.now (in_scope from.entry) kind reads queries.now) }
     ensures state { S.state source.new ≡ S.state source.old }
 {
-    match expansion_for(alloc, source, role, from, kind) {
+    match expansion_for(alloc, source, role, from, kind, reads, queries) {
         Ok(expansion) => Ok(Some(expansion)),
         Err(Refusal::NoMemory) => Err(AllocError),
         Err(refusal) => {
@@ -86,19 +42,30 @@ fn expansion_if<'c, 'x, S: RowSource<'c>>(
     }
 }
 
-/// The same, a chain that closes as a refusal.
+/// The same, a chain that closes as a refusal. What is read is forgotten.
 fn expansion_for<'c, 'x, S: RowSource<'c>>(
     alloc: Global,
     source: &mut S,
     role: &Name,
     from: FromTable<'x>,
     kind: Kind,
+    reads: bool,
+    queries: &[Name],
 ) -> Result<PolicyExpansion<'c>, Refusal>
-    ensures given { Gives result (expansion_in (S.state source.old) (spec.command_on role.now from.entry.name.now from.entry.table.now kind)) }
+    ensures given { Gives result ((expanding.expansion_of (role_privileges_in (S.state source.old) role.now) from.entry.name.now from.entry.table.now kind reads queries.now).in_state (S.state source.old)).gives }
     ensures state { S.state source.new ≡ S.state source.old }
 {
     let mut read_set = Reads::new(alloc);
-    let expansion = noted_expansion(alloc, source, &mut read_set, role, from, kind);
+    let expansion = noted_expansion(
+        alloc,
+        source,
+        &mut read_set,
+        role,
+        from,
+        kind,
+        reads,
+        queries,
+    );
     drop(read_set);
     expansion
 }
@@ -110,8 +77,10 @@ fn noted_expansion<'c, 'x, S: RowSource<'c>>(
     role: &Name,
     from: FromTable<'x>,
     kind: Kind,
+    reads: bool,
+    queries: &[Name],
 ) -> Result<PolicyExpansion<'c>, Refusal>
-    ensures given { Gives result (expansion_in (S.state source.old) (spec.command_on role.now from.entry.name.now from.entry.table.now kind)) }
+    ensures given { Gives result ((expanding.expansion_of (role_privileges_in (S.state source.old) role.now) from.entry.name.now from.entry.table.now kind reads queries.now).in_state (S.state source.old)).gives }
     ensures state { S.state source.new ≡ S.state source.old }
 {
     let role_privileges = role_privileges_of(alloc, source, read_set, role)?;
@@ -122,77 +91,82 @@ fn noted_expansion<'c, 'x, S: RowSource<'c>>(
         &role_privileges,
         from,
         kind,
-        false,
-        &[],
+        reads,
+        queries,
     );
     drop(role_privileges);
     expansion
 }
 
-/// What is said, where there is a policy expansion.
-fn said_found<'c, S: RowSource<'c>>(
+/// The rows that a command on the table scans.
+#[tactic(auto, using(crate::proofs::AskingLemmas::scanned_are))]
+pub fn rows_scanned<'c, 'x, S: RowSource<'c>>(
     alloc: Global,
-    source: &S,
+    source: &mut S,
     role: &Name,
-    found: &Option<PolicyExpansion<'c>>,
-    kind: Kind,
-    side: Side,
-    row: &Row,
-) -> Result<Items<Said>, AllocError>
-    ensures { IfOk result (λ said. said ≡ spec.said_found (S.state source.now) role.now kind side row.now found.now) }
+    from: FromTable<'x>,
+    condition: &Option<Expr>,
+) -> Result<Items<BorrowedRow<'c>>, AllocError>
+    ensures rows { IfOk result (λ rows. rows ≡ rows_at_key (S.state source.old) from.entry.name.now (pinned_key role.now from.entry.table.now.key condition.now)) }
+    ensures state { S.state source.new ≡ S.state source.old }
 {
-    match found {
-        Some(expansion) => said_under(alloc, source, role, expansion, kind, side, row),
-        None => Ok(Items::new(alloc)),
-    }
+    let mut read_set = Reads::new(alloc);
+    let rows = scanned_rows(alloc, source, &mut read_set, role, from, condition);
+    drop(read_set);
+    rows
 }
 
-/// What the policies of the expansion say that are asked of a row of that side.
-fn said_under<'c, S: RowSource<'c>>(
+/// Those of the scanned rows that qualify.
+#[tactic(auto, using(crate::proofs::AskingLemmas::qualifying_are))]
+pub fn rows_qualifying<'a, 'c, S: RowSource<'c>>(
     alloc: Global,
-    source: &S,
-    role: &Name,
-    expansion: &PolicyExpansion<'c>,
-    kind: Kind,
-    side: Side,
-    row: &Row,
-) -> Result<Items<Said>, AllocError>
-    ensures { IfOk result (λ said. said ≡ map (spec.said_by (S.state source.now) (shows expansion.now.relations role.now) role.now row.now) (spec.first_conditions (spec.row_checks_for expansion.now kind side))) }
+    source: &mut S,
+    role: &'a Name,
+    expansion: &'a PolicyExpansion<'c>,
+    condition: &'a Option<Expr>,
+    scanned: &'a [BorrowedRow<'c>],
+) -> Result<Vec<&'a BorrowedRow<'c>>, AllocError>
+    ensures rows { IfOk result (λ rows. rows_borrowed rows ≡ spec.qualifying_found (S.state source.old) expansion.now role.now condition.now scanned.now) }
+    ensures state { S.state source.new ≡ S.state source.old }
 {
-    let conditions = first_conditions(row_checks_for(expansion, kind, side));
-    said_by_each(
+    let mut read_set = Reads::new(alloc);
+    let judged = qualifying_rows_of(
         alloc,
         source,
-        expansion.relations.as_slice(),
-        role,
-        row,
-        conditions,
-    )
+        &mut read_set,
+        old_rows(expansion, role),
+        condition,
+        scanned,
+        0,
+    );
+    drop(read_set);
+    let (decisions, rows) = judged?;
+    drop(decisions);
+    Ok(rows)
 }
 
-fn row_checks_for<'a, 'c>(
-    expansion: &'a PolicyExpansion<'c>,
-    kind: Kind,
-    side: Side,
-) -> &'a [RowCheck<'c>]
-    ensures { result.now ≡ spec.row_checks_for expansion.now kind side }
+/// What rows are judged by as they stand.
+pub fn old_rows<'a, 'c>(expansion: &'a PolicyExpansion<'c>, role: &'a Name) -> CheckContext<'a, 'c>
+    ensures checks { result.row_checks.now ≡ expansion.now.old }
+    ensures relations { result.relations.now ≡ expansion.now.relations }
+    ensures role { result.role.now ≡ role.now }
 {
-    match (kind, side) {
-        (Kind::Select, _) | (Kind::Delete, _) | (Kind::Update, Side::Old) => {
-            expansion.old.as_slice()
-        }
-        (Kind::Insert, _) | (Kind::Update, Side::New) => expansion.new.as_slice(),
+    CheckContext {
+        row_checks: expansion.old.as_slice(),
+        relations: expansion.relations.as_slice(),
+        role,
     }
 }
 
-fn first_conditions<'a, 'c>(row_checks: &'a [RowCheck<'c>]) -> &'a [(Reference<'c, Policy>, Expr)]
-    ensures { result.now ≡ spec.first_conditions row_checks.now }
+/// What new rows are judged by.
+pub fn new_rows<'a, 'c>(expansion: &'a PolicyExpansion<'c>, role: &'a Name) -> CheckContext<'a, 'c>
+    ensures checks { result.row_checks.now ≡ expansion.now.new }
+    ensures relations { result.relations.now ≡ expansion.now.relations }
+    ensures role { result.role.now ≡ role.now }
 {
-    match row_checks {
-        [] => &[],
-        [row_check, ..] => match &row_check.quals {
-            SecurityQuals::Exempt => &[],
-            SecurityQuals::Policies(conditions) => conditions.as_slice(),
-        },
+    CheckContext {
+        row_checks: expansion.new.as_slice(),
+        relations: expansion.relations.as_slice(),
+        role,
     }
 }

@@ -17,9 +17,8 @@ pub struct Said {
 #[derive(Drop)]
 pub struct Explained {
     pub decision: Decision,
-    /// What each policy says that applies to the role for that type of command, by name; empty where the role is exempt. None
-    /// where the row isn't known: a new row of a statement that was refused, where a subquery gives a value.
-    pub policies: Option<Items<Said>>,
+    /// What each policy says that applies to the role for that type of command, by name; empty where the role is exempt.
+    pub policies: Items<Said>,
 }
 
 /// What a statement came to, and why.

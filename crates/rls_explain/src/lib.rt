@@ -4,13 +4,17 @@
 mod asking;
 mod explaining;
 mod explanation;
-mod finding;
+mod inserting;
+mod judging;
 mod laws;
-mod proposing;
-mod saying;
+mod resolving;
+mod scanning;
 mod texts;
+mod updating;
+mod writing;
 
 pub use explaining::explain_row;
 pub use explanation::{Explained, Explanation, Said};
+pub use laws::explanations_mean;
 pub use rls_meaning;
 pub use texts::DecisionText;

@@ -14,3 +14,15 @@ pub mod Ending
 pub mod Explained
 pub mod Recording
 pub mod RecordedTexts
+pub mod ExplainedTexts
+pub mod ReadLists
+pub mod WalkReads
+pub mod ExpressionReads
+pub mod ExpansionReads
+pub mod RowReads
+pub mod KeyReads
+pub mod NameReads
+pub mod CommandReads
+pub mod DefinitionReads
+pub mod MembershipReads
+pub mod StatementReads

@@ -64,11 +64,11 @@ changed_texts s (c.Policies name content) texts one = λ table.
     subst (All (IsPolicySpellable table)) (sym (policies_of_changed s name content table)) (policies_if (is_name table name) table name content (policies_of s table) (same_name table name) one (texts table))
 changed_texts s (c.Row change) texts one = texts
 
-all_changed_texts : (s : State) (changes : List Change) → PoliciesAreTexts s → AllByRecursion ArePoliciesSpellable changes → PoliciesAreTexts (changed_all s changes)
+pub all_changed_texts : (s : State) (changes : List Change) → PoliciesAreTexts s → AllByRecursion ArePoliciesSpellable changes → PoliciesAreTexts (changed_all s changes)
 all_changed_texts s [] texts all = texts
 all_changed_texts s (change ∷ changes) texts all = all_changed_texts (changed s change) changes (changed_texts s change texts all.0) all.1
 
-opening_texts : PoliciesAreTexts opening
+pub opening_texts : PoliciesAreTexts opening
 opening_texts table = All-from_recursion (IsPolicySpellable table) [] tt
 
 record_texts : (records : List Record) (place : ℕ) → AllByRecursion HasTexts records → AllByRecursion ArePoliciesSpellable (record_at records place).changes

@@ -1,6 +1,9 @@
 pub mod InOrder
 pub mod Shown
 pub mod Spelled
+pub mod Walks
+pub mod Subqueries
+pub mod Reads
 pub use Rattle.rls_check
 pub use Rattle.rls_check.specs.rls_audit
 pub use Rattle.rls_check.specs.rls_core

@@ -3,12 +3,14 @@
 
 mod holding;
 mod order;
+mod reading;
 mod refusing;
 mod spelled;
 mod spelling;
 
 pub use holding::texts_show_what_holds;
 pub use order::lists_stay_in_order;
+pub use reading::reads_mean;
 pub use refusing::effects_are_shown;
 pub use rls_check;
 pub use rls_check::rls_audit;

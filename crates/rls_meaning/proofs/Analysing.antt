@@ -330,7 +330,7 @@ update_analysed s asked table =
 
 -- ---- INSERT
 
-places_same : (place : ℕ) (columns : List Column) → places_from place columns ≡ range_with_len place (length columns)
+pub places_same : (place : ℕ) (columns : List Column) → places_from place columns ≡ range_with_len place (length columns)
 places_same place [] = refl
 places_same place (column ∷ columns) = ap (λ rest. place ∷ rest) (places_same (suc place) columns ∙ ap (λ next. range_with_len next (length columns)) (omega arith))
 
@@ -364,7 +364,7 @@ insert_lacks columns places tuples returning =
 abbrev insert_terms : Insert → List Term
 insert_terms asked = flat_map (λ tuple. tuple) asked.tuples ++ items_of asked.returning
 
-tuples_told : (s : State) (tables : List InScope) (terms : List Term) (tuples : List (List Term)) → Within (flat_map tables_of (flat_map (λ tuple. tuple) tuples)) (flat_map tables_of terms)
+pub tuples_told : (s : State) (tables : List InScope) (terms : List Term) (tuples : List (List Term)) → Within (flat_map tables_of (flat_map (λ tuple. tuple) tuples)) (flat_map tables_of terms)
     → map (map (λ term. resolving.resolved term (over_known tables (found_in s terms)))) tuples ≡ map (map (resolved s tables)) tuples
 tuples_told s tables terms [] within = refl
 tuples_told s tables terms (tuple ∷ tuples) within =

@@ -74,11 +74,11 @@ verdict_told s sees shown alike Exempt role row = refl
 verdict_told s sees shown alike (Policies conditions) role row = λ i. and_then (judgements_told s sees shown alike conditions role row i) (λ judgements. Ok (verdict_of judgements))
 
 -- what a policy comes to, by its condition
-abbrev judged_by : Shown → List ℕ → List Value → Policy × Term → Policy × Truth
+abbrev pub judged_by : Shown → List ℕ → List Value → Policy × Term → Policy × Truth
 judged_by shown role row condition = (condition.0, truth_in (value condition.1 shown (over role row)))
 
 -- the same over the tables of the state
-abbrev judged_for : State → Shown → List ℕ → InScope → List Value → Policy → Term → Policy × Truth
+abbrev pub judged_for : State → Shown → List ℕ → InScope → List Value → Policy → Term → Policy × Truth
 judged_for s shown role from row policy term = (policy, truth_in (value (resolved s (from ∷ []) term) shown (over role row)))
 
 condition_told : (s : State) (shown : Shown) (role : List ℕ) (from : InScope) (row : List Value) (policy : Policy) (found : Option Term) (rest : List (Policy × Term))
@@ -86,7 +86,7 @@ condition_told : (s : State) (shown : Shown) (role : List ℕ) (from : InScope) 
 condition_told s shown role from row policy None rest = refl
 condition_told s shown role from row policy (Some term) rest = λ i. (policy, truth_in (value (state_resolved_told s (from ∷ []) term i) shown (over role row))) ∷ map (judged_by shown role row) rest
 
-conditions_told : (s : State) (shown : Shown) (role : List ℕ) (from : InScope) (kind : Kind) (which : Side) (row : List Value) (policies : List Policy)
+pub conditions_told : (s : State) (shown : Shown) (role : List ℕ) (from : InScope) (kind : Kind) (which : Side) (row : List Value) (policies : List Policy)
     → map (judged_by shown role row) (conditions_of kind which from s.tables policies) ≡ flat_map (λ policy. map (judged_for s shown role from row policy) (option_to_list (expression_of policy kind which))) policies
 conditions_told s shown role from kind which row [] = refl
 conditions_told s shown role from kind which row (policy ∷ policies) =

@@ -34,12 +34,16 @@ delete_rows s parts c =
     let old : List Stored = qualifying s c parts.condition in
     Ok (effect.Done (reply_of parts.returning c.role old) (decisions s c side.Old (scanned s c parts.condition)) (map (deleted c.name) old) None))
 
+-- the command on the table
+abbrev pub delete_command : List ℕ → Delete → TableDef → AnalysedDelete → Command
+delete_command role asked table parts = record { role = role; name = asked.table; table = table; kind = k.Delete; own = []; read = columns_in table.columns (option_to_list parts.condition) parts.returning; queries = flat_map (selected_of parts.found) (option_to_list parts.condition) }
+
 -- the table, the parts, and then the rows
 abbrev pub delete_in : State → Ctx → Delete → Result Effect Refusal
 delete_in s ctx asked =
     and_then (table_in s asked.table) (λ table.
     and_then (delete_parts s asked table) (λ parts.
-    delete_rows s parts (record { role = ctx.role; name = asked.table; table = table; kind = k.Delete; own = []; read = columns_in table.columns (option_to_list parts.condition) parts.returning; queries = flat_map (selected_of parts.found) (option_to_list parts.condition) })))
+    delete_rows s parts (delete_command ctx.role asked table parts)))
 
 -- what DELETE means, once its transaction may run it
 abbrev pub effect_of_delete : State → Ctx → Delete → Effect

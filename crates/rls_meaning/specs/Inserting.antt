@@ -59,12 +59,16 @@ insert_rows s ctx parts c =
     let decided : List Decision = decisions s c side.New new in
     Ok (done_or_refused (allowed_in s c.name c.table.columns (order_of parts.places c.table.columns) decided [] new) (reply_of parts.returning c.role new) decided (map (inserted c.name) new))))
 
+-- the command on the table
+abbrev pub insert_command : List ℕ → Insert → TableDef → AnalysedInsert → Command
+insert_command role asked table parts = record { role = role; name = asked.table; table = table; kind = k.Insert; own = columns_at (is_given parts.places parts.tuples) table.columns; read = columns_in table.columns [] parts.returning; queries = flat_map (flat_map (selected_of parts.found)) parts.tuples }
+
 -- the table, the parts, and then the rows
 abbrev pub insert_in : State → Ctx → Insert → Result Effect Refusal
 insert_in s ctx asked =
     and_then (table_in s asked.table) (λ table.
     and_then (insert_parts s ctx asked table) (λ parts.
-    insert_rows s ctx parts (record { role = ctx.role; name = asked.table; table = table; kind = k.Insert; own = columns_at (is_given parts.places parts.tuples) table.columns; read = columns_in table.columns [] parts.returning; queries = flat_map (flat_map (selected_of parts.found)) parts.tuples })))
+    insert_rows s ctx parts (insert_command ctx.role asked table parts)))
 
 -- what INSERT means, once its transaction may run it
 abbrev pub effect_of_insert : State → Ctx → Insert → Effect

@@ -1,5 +1,5 @@
 -- SELECT (PostgreSQL manual, SELECT): names, then types, then support; then the qualifying rows, which are answered.
-use Rattle.std.specs.Prelude.{◌≡◌, List, [], ◌∷◌, None, Result, Ok, ◌++◌, Some, unwrap_or}
+use Rattle.std.specs.Prelude.{◌≡◌, ℕ, List, [], ◌∷◌, None, Result, Ok, ◌++◌, Some, unwrap_or}
 use Rattle.std.specs.List.{flat_map}
 use Rattle.std.specs.Option.{option_map, option_to_list}
 use Rattle.rls_value.specs.{declared.refusal.Refusal.Refusal, declared.tag.Tag.Tag, Giving.and_then}
@@ -30,12 +30,16 @@ select_rows s parts c =
     and_then (permitted_in s c) (λ _.
     Ok (effect.Done (reply.Rows (answered parts.items c.role (qualifying s c parts.condition))) (decisions s c side.Old (scanned s c parts.condition)) [] None))
 
+-- the command on the table
+abbrev pub select_command : List ℕ → Select → TableDef → AnalysedSelect → Command
+select_command role asked table parts = record { role = role; name = asked.table; table = table; kind = k.Select; own = columns_in table.columns (option_to_list parts.condition) (Some parts.items); read = []; queries = flat_map (selected_of parts.found) (option_to_list parts.condition) }
+
 -- the table, the parts, and then the rows
 abbrev pub select_in : State → Ctx → Select → Result Effect Refusal
 select_in s ctx asked =
     and_then (table_in s asked.table) (λ table.
     and_then (select_parts s asked table) (λ parts.
-    select_rows s parts (record { role = ctx.role; name = asked.table; table = table; kind = k.Select; own = columns_in table.columns (option_to_list parts.condition) (Some parts.items); read = []; queries = flat_map (selected_of parts.found) (option_to_list parts.condition) })))
+    select_rows s parts (select_command ctx.role asked table parts)))
 
 -- what SELECT means, once its transaction may run it
 abbrev pub effect_of_select : State → Ctx → Select → Effect

@@ -3,21 +3,24 @@
 use Rattle.std.specs.Prelude.{ℕ, zero, suc, List, [], ◌∷◌, Option, Some, None, map, filter, if◌then◌else◌}
 use Rattle.std.specs.List.{flat_map, list_any}
 use Rattle.std.specs.Option.{option_to_list}
-use Rattle.rls_value.specs.{declared.value.Value.Value, declared.verb.Kind.Kind, Values.is_null, Values.truth_in}
+use Rattle.rls_value.specs.{declared.truth.Truth.Truth, declared.value.Value.Value, declared.verb.Kind.Kind, Values.is_null, Values.truth_in}
 use Rattle.rls_value.specs.declared.verb.Kind.TheVariants as k
-use Rattle.rls_expr.specs.{declared.table.TableDef.TableDef, Scopes.InScope}
+use Rattle.rls_expr.specs.{declared.policy.Policy.Policy, declared.table.TableDef.TableDef, Scopes.InScope}
 use Rattle.rls_catalog.specs.{declared.stored.Stored.Stored, declared.verdict.Side.Side, declared.verdict.Verdict.Verdict, State.State, State.rows_of, State.rows_with_key, State.table_of, Verdict.applying_of, Verdict.expression_of, Verdict.is_exempt, Verdict.verdict_of}
 use Rattle.rls_catalog.specs.declared.verdict.Side.TheVariants as side
 use Rattle.rls_catalog.specs.declared.verdict.Verdict.TheVariants as v
 use Rattle.rls_guard.specs.rls_evaluation.specs.{Environments.over, Showing.allows}
 use Rattle.rls_meaning.specs.{Evaluating.Shown, Evaluating.value, Resolving.resolved}
 
--- what the policies that apply to the role say of a row of the table, for a type of command, as an old row or a new one; where the
--- role is exempt none is asked
+-- what each of the policies that apply to the role says of a row of the table, for a type of command, as an old row or a new one: by
+-- USING or WITH CHECK, over what tables show to the role
+abbrev pub truths_in : State → Shown → List ℕ → InScope → Kind → Side → List Value → List (Policy × Truth)
+truths_in s shown role from kind which row =
+    flat_map (λ policy. map (λ term. (policy, truth_in (value (resolved s (from ∷ []) term) shown (over role row)))) (option_to_list (expression_of policy kind which))) (applying_of s role from.0 kind which)
+
+-- what row security says of the row by them; where the role is exempt none is asked
 abbrev pub verdict_in : State → Shown → List ℕ → InScope → Kind → Side → List Value → Verdict
-verdict_in s shown role from kind which row =
-    if is_exempt s role from.1 then v.Exempt
-    else verdict_of (flat_map (λ policy. map (λ term. (policy, truth_in (value (resolved s (from ∷ []) term) shown (over role row)))) (option_to_list (expression_of policy kind which))) (applying_of s role from.0 kind which))
+verdict_in s shown role from kind which row = if is_exempt s role from.1 then v.Exempt else verdict_of (truths_in s shown role from kind which row)
 
 -- the rows of the table or, with a key, those that have it; a key with a null is nobody's
 abbrev pub rows_at_key : State → List ℕ → Option (List Value) → List Stored

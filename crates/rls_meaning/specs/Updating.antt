@@ -52,12 +52,16 @@ update_rows s parts c =
     Ok (done_or_refused (allowed_in s c.name c.table.columns (order_of (places_set parts.assignments) c.table.columns) decided old new)
     (reply_of parts.returning c.role new) (decisions s c side.Old (scanned s c parts.condition) ++ decided) (updated c.name old new))))
 
+-- the command on the table
+abbrev pub update_command : List ℕ → Update → TableDef → AnalysedUpdate → Command
+update_command role asked table parts = record { role = role; name = asked.table; table = table; kind = k.Update; own = columns_at (is_written (places_set parts.assignments)) table.columns; read = columns_in table.columns (set_and_where parts) parts.returning; queries = flat_map (selected_of parts.found) (set_and_where parts) }
+
 -- the table, the parts, and then the rows
 abbrev pub update_in : State → Ctx → Update → Result Effect Refusal
 update_in s ctx asked =
     and_then (table_in s asked.table) (λ table.
     and_then (update_parts s asked table) (λ parts.
-    update_rows s parts (record { role = ctx.role; name = asked.table; table = table; kind = k.Update; own = columns_at (is_written (places_set parts.assignments)) table.columns; read = columns_in table.columns (set_and_where parts) parts.returning; queries = flat_map (selected_of parts.found) (set_and_where parts) })))
+    update_rows s parts (update_command ctx.role asked table parts)))
 
 -- what UPDATE means, once its transaction may run it
 abbrev pub effect_of_update : State → Ctx → Update → Effect

@@ -4,6 +4,9 @@ use Rattle.std.specs.Fmt.{decimal, signed_decimal}
 use Rattle.rls_value.specs.{declared.value.Value.Value, declared.tag.Tag.Tag, declared.refusal.Refusal.Refusal, Words.tag_text}
 use Rattle.rls_value.specs.declared.value.Value.TheVariants as v
 use Rattle.rls_value.specs.declared.tag.Tag.TheVariants as t
+use Rattle.rls_value.specs.declared.refusal.Cause.{Cause}
+use Rattle.rls_value.specs.declared.refusal.Cause.TheVariants as c
+use Rattle.rls_value.specs.declared.refusal.Refusal.TheVariants as refusal
 use Rattle.rls_value.specs.Refusals.{code_of, refusal_text}
 use Rattle.rls_guard.specs.declared.reply.Reply.{Reply}
 use Rattle.rls_guard.specs.declared.reply.Reply.TheVariants as r
@@ -59,9 +62,24 @@ abbrev pub counted_tag : Tag → ℕ → List ℕ
 counted_tag t.Insert count = codes "INSERT 0 " ++ decimal count
 counted_tag tag count = tag_text tag ++ (codes " " ++ decimal count)
 
+-- why a transaction can't be serialized, without the objects and the transactions (after PostgreSQL's words)
+abbrev pub terse_cause : Cause → List ℕ
+terse_cause (c.Written object other) = codes "concurrent update"
+terse_cause (c.Structure first one pivot two last) = codes "read/write dependencies among transactions"
+
+-- a refusal's text, where that isn't told
+abbrev pub terse_text : Refusal → List ℕ
+terse_text (refusal.Serial cause) = codes "could not serialize access: " ++ terse_cause cause
+terse_text other = refusal_text other
+
+-- a refusal's text, told tersely or not
+abbrev pub told_text : Bool → Refusal → List ℕ
+told_text true it = terse_text it
+told_text false it = refusal_text it
+
 -- a refusal's line
-abbrev pub refusal_line : List ℕ → Refusal → List ℕ
-refusal_line label refusal = line_of label (codes "ERROR " ++ (code_of refusal ++ (codes " " ++ refusal_text refusal)))
+abbrev pub refusal_line : Bool → List ℕ → Refusal → List ℕ
+refusal_line terse label it = line_of label (codes "ERROR " ++ (code_of it ++ (codes " " ++ told_text terse it)))
 
 -- rows before their tag
 abbrev pub reply_text : List ℕ → Tag → Reply → List ℕ
@@ -69,7 +87,7 @@ reply_text label tag (r.Rows rows) = row_lines label rows ++ line_of label (coun
 reply_text label tag (r.Count count) = line_of label (counted_tag tag count)
 reply_text label tag r.Done = line_of label (tag_text tag)
 
--- what is written for an answer
-abbrev pub answer_text : List ℕ → Answer → List ℕ
-answer_text label (a.Replied tag reply) = reply_text label tag reply
-answer_text label (a.Refused refusal) = refusal_line label refusal
+-- what is written for an answer, where refusals are told tersely or not
+abbrev pub answer_text : Bool → List ℕ → Answer → List ℕ
+answer_text terse label (a.Replied tag reply) = reply_text label tag reply
+answer_text terse label (a.Refused it) = refusal_line terse label it

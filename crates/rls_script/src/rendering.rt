@@ -1,22 +1,27 @@
 //! Answers as they are written: rows, then the tag; or the refusal. Each line stands under its label.
 
-ghost use Rattle.std.specs.Prelude.{◌≡◌, ◌≤◌, ◌++◌, codes, length, take, drop, OnOk, IfOk};
+ghost use Rattle.std.specs.Prelude.{◌≡◌, ◌≤◌, ◌++◌, codes, length, take, drop, string_bytes, OnOk, IfOk};
 ghost use Rattle.std.specs.List.{prefix_len};
-ghost use Rattle.rls_script.specs.Rendering.{escaped_byte, escaped, is_plain, field_text, more_fields, row_line, row_lines, line_of, counted_tag, refusal_line, reply_text, answer_text};
+ghost use Rattle.rls_script.specs.Rendering.{escaped_byte, escaped, is_plain, field_text, more_fields, row_line, row_lines, line_of, counted_tag, terse_text, told_text, refusal_line, reply_text, answer_text};
 
 use crate::answer::Answer;
 use rls_guard::Reply;
-use rls_value::{Refusal, Row, Tag, Value};
+use rls_value::{Cause, Refusal, Row, Tag, Value};
 use std::alloc::{AllocError, Global};
 
-/// The bytes that are written for an answer.
-pub fn render(alloc: Global, label: &str, answer: &Answer) -> Result<Vec<u8>, AllocError>
-    ensures { IfOk result (λ bytes. bytes.items ≡ answer_text label.now answer.now) }
+/// The bytes that are written for an answer. Told tersely, a serialization failure names no objects and no transactions.
+pub fn render(
+    alloc: Global,
+    terse: bool,
+    label: &str,
+    answer: &Answer,
+) -> Result<Vec<u8>, AllocError>
+    ensures { IfOk result (λ bytes. bytes.items ≡ answer_text terse label.now answer.now) }
 {
     let mut out = Vec::new(alloc);
     match answer {
         Answer::Replied(tag, reply) => push_reply(alloc, &mut out, label, *tag, reply)?,
-        Answer::Refused(refusal) => push_refusal(alloc, &mut out, label, refusal)?,
+        Answer::Refused(refusal) => push_refusal(alloc, &mut out, terse, label, refusal)?,
     }
     Ok(out)
 }
@@ -185,14 +190,47 @@ fn push_counted(
 fn push_refusal(
     alloc: Global,
     out: &mut Vec<u8>,
+    terse: bool,
     label: &str,
     refusal: &Refusal,
 ) -> Result<(), AllocError>
-    ensures { OnOk result (out.new.items ≡ out.old.items ++ refusal_line label.now refusal.now) }
+    ensures { OnOk result (out.new.items ≡ out.old.items ++ refusal_line terse label.now refusal.now) }
 {
     let code = refusal.code();
-    let text = format!(in alloc; "ERROR {code} {refusal}")?;
+    let told = told(alloc, terse, refusal)?;
+    let text = format!(in alloc; "ERROR {code} {told}")?;
     push_line(out, label, text.as_str())
+}
+
+/// The refusal's text.
+fn told(alloc: Global, terse: bool, refusal: &Refusal) -> Result<String, AllocError>
+    ensures { IfOk result (λ text. string_bytes text ≡ told_text terse refusal.now) }
+{
+    match terse {
+        true => told_tersely(alloc, refusal),
+        false => format!(in alloc; "{refusal}"),
+    }
+}
+
+fn told_tersely(alloc: Global, refusal: &Refusal) -> Result<String, AllocError>
+    ensures { IfOk result (λ text. string_bytes text ≡ terse_text refusal.now) }
+{
+    match refusal {
+        Refusal::Serial(cause) => {
+            let why = terse_cause(cause);
+            format!(in alloc; "could not serialize access: {why}")
+        }
+        refusal => format!(in alloc; "{refusal}"),
+    }
+}
+
+fn terse_cause(cause: &Cause) -> &'static str
+    ensures { result.now ≡ Rattle.rls_script.specs.Rendering.terse_cause cause.now }
+{
+    match cause {
+        Cause::Written(_, _) => "concurrent update",
+        Cause::Structure { .. } => "read/write dependencies among transactions",
+    }
 }
 
 fn push_line(out: &mut Vec<u8>, label: &str, text: &str) -> Result<(), AllocError>

@@ -13,17 +13,18 @@ use std::alloc::Global;
 /// Writes an answer under a label.
 pub fn write_answer<O: ScriptOut>(
     alloc: Global,
+    terse: bool,
     label: &str,
     answer: Answer,
     output: &mut O,
 ) -> Result<(), RunFault>
-    ensures text { OnOk result (GrewBy (O.taken output.old) (O.taken output.new) (λ written. written ≡ answer_text label.now answer)) }
+    ensures text { OnOk result (GrewBy (O.taken output.old) (O.taken output.new) (λ written. written ≡ answer_text terse label.now answer)) }
     ensures ok { OnOk result (O.failures output.new ≡ O.failures output.old) }
     ensures read { ¬ IsErrOf result RunFault.Read }
     ensures write { IsErrOf result RunFault.Write → O.failures output.old < O.failures output.new }
     ensures write_failed { O.failures output.old < O.failures output.new → IsErrOf result RunFault.Write }
 {
-    let rendered = render(alloc, label, &answer);
+    let rendered = render(alloc, terse, label, &answer);
     drop(answer);
     let bytes = rendered?;
     match write_all(bytes.as_slice(), output) {

@@ -1,5 +1,5 @@
--- A script of one label: each transaction comes after those that were shown before it, and where the book has no others they stand
--- in a row.
+-- A script of one label: each transaction comes after those that were shown before it, and since the book has no others they stand in
+-- a row.
 use Rattle.std.proofs.Common.{◌≡◌, ◌⊎◌, inl, inr, ℕ, zero, suc, max, Bool, true, false, not, ◌&&◌, ◌||◌, ◌==◌, ltb, ltb-true, lt-ltb, le-ltb, ne_eqb, eq-eqb, ◌+◌, ◌-◌, ◌<◌, ◌≤◌, List, [], ◌∷◌, ◌++◌, length, map, All, Option, Some, None, option_map, Result, Ok, Err, slice_get, refl, sym, ap, ◌∙◌, subst, arith, take, drop}
 use Rattle.std.specs.List.{position_or_len}
 use Rattle.std.specs.Str.{bytes_eq}
@@ -30,7 +30,7 @@ use Rattle.rls_script.specs.declared.requesting.Request.{Request}
 use Rattle.rls_script.specs.declared.requesting.Request.TheVariants as q
 use Rattle.rls_session.specs.Parts.{Part, Block, Session, Shown, Notes, part_of, noted, newest_after}
 use Rattle.rls_session.specs.Blocks.{Came, Given, Ticket, Executes, begun, committed, connected, given, given_as, given_in, in_block, posted, ran, rolled_back}
-use Rattle.rls_session.specs.Books.{IsBooked}
+use Rattle.rls_session.specs.Books.{AreTheRecords, IsBooked}
 use Rattle.rls_session.specs.Labels.{Entry, Script, opening_script, place_of, session_of, with_session, AnswersIf, AnswersUnder, ExecutesUnder}
 use Rattle.rls_session.specs.Scripts.{RunsLine, RunsLines, RunsRead, RunsCommand, none, next}
 use Rattle.rls_session.specs.Alone.{StandsUnder, IsUnder, AreAlone}
@@ -95,11 +95,11 @@ given_keeps n session (q.Nothing refusal) came h = (h, tt)
 given_keeps n session (q.Connect role) came h = connected_keeps n role came.begin
 given_keeps n session (q.Ask asked) came h = given_as_keeps n session asked came h
 
-newest_append : (n : ℕ) (xs ys : List Shown) → newest_after n (xs ++ ys) ≡ newest_after (newest_after n xs) ys
+pub newest_append : (n : ℕ) (xs ys : List Shown) → newest_after n (xs ++ ys) ≡ newest_after (newest_after n xs) ys
 newest_append n [] ys = refl
 newest_append n (x ∷ xs) ys = newest_append (max n x.commit) xs ys
 
-linked_append : (n : ℕ) (xs ys : List Shown) → Linked n xs → Linked (newest_after n xs) ys → Linked n (xs ++ ys)
+pub linked_append : (n : ℕ) (xs ys : List Shown) → Linked n xs → Linked (newest_after n xs) ys → Linked n (xs ++ ys)
 linked_append n [] ys a b = b
 linked_append n (x ∷ xs) ys a b = (a.0, linked_append (max n x.commit) xs ys a.1 b)
 
@@ -120,23 +120,23 @@ place_alone name x =
     let is : bytes_eq name name ≡ true = (bytes_eq-Decides name name).1 refl in
     rw is refl
 
-executes_keeps : (old new : Notes) (x y : Option Session) (command : List ℕ) (answer : Answer) → Executes old x command answer new y → Hears old.newest x → Linked 0 old.shown → old.newest ≡ newest_after 0 old.shown → Hears new.newest y × Linked 0 new.shown × (new.newest ≡ newest_after 0 new.shown)
-executes_keeps old new x y command answer executes hears linked newest =
+pub executes_keeps : (k : ℕ) (old new : Notes) (x y : Option Session) (command : List ℕ) (answer : Answer) → Executes old x command answer new y → Hears old.newest x → Linked k old.shown → old.newest ≡ newest_after k old.shown → Hears new.newest y × Linked k new.shown × (new.newest ≡ newest_after k new.shown)
+executes_keeps k old new x y command answer executes hears linked newest =
     let came : Came = executes.carries.came in
     let g : Given = given old.newest x executes.request came in
     let keeps : Keeps old.newest g = given_keeps old.newest x executes.request came hears in
     let is : new ≡ noted old g.shown = executes.carries.notes in
-    let more : Linked (newest_after 0 old.shown) g.shown = subst (λ (n : ℕ). Linked n g.shown) newest keeps.1 in (
+    let more : Linked (newest_after k old.shown) g.shown = subst (λ (n : ℕ). Linked n g.shown) newest keeps.1 in (
       subst (λ (n : Notes). Hears n.newest y) (sym is) (subst (λ (z : Option Session). Hears (newest_after old.newest g.shown) z) (sym executes.carries.becomes) keeps.0),
-      subst (λ (n : Notes). Linked 0 n.shown) (sym is) (linked_append 0 old.shown g.shown linked more),
-      subst (λ (n : Notes). n.newest ≡ newest_after 0 n.shown) (sym is) (ap (λ (n : ℕ). newest_after n g.shown) newest ∙ sym (newest_append 0 old.shown g.shown)),
+      subst (λ (n : Notes). Linked k n.shown) (sym is) (linked_append k old.shown g.shown linked more),
+      subst (λ (n : Notes). n.newest ≡ newest_after k n.shown) (sym is) (ap (λ (n : ℕ). newest_after n g.shown) newest ∙ sym (newest_append k old.shown g.shown)),
     )
 
 -- a command under a label that hasn't come, or has come alone
 under_behind : (name command : List ℕ) (answer : Answer) (script after : Script) (x : Option Session) (labels : List Entry) → script.labels ≡ labels → session_of labels name ≡ x → ((y : Option Session) → with_session labels name y ≡ record { name = name; session = y } ∷ []) → Hears script.notes.newest x → Behind name script → ExecutesUnder script.notes script.labels name command answer after.notes after.labels → Behind name after
 under_behind name command answer script after x labels are found with hears b under =
     let executes : Executes script.notes x command answer after.notes under.session = subst (λ (z : Option Session). Executes script.notes z command answer after.notes under.session) (ap (λ (ls : List Entry). session_of ls name) are ∙ found) under.executes in
-    let kept = executes_keeps script.notes after.notes x under.session command answer executes hears b.linked b.newest in
+    let kept = executes_keeps 0 script.notes after.notes x under.session command answer executes hears b.linked b.newest in
     record {
       come = inr (under.session, under.labelled ∙ (ap (λ (ls : List Entry). with_session ls name under.session) are ∙ with under.session), kept.0);
       linked = kept.1;
@@ -183,8 +183,8 @@ lines_behind name lines script after written under (next {line = line} {lines = 
     lines_behind name more m z v (All-tail (IsUnder name) line more under) rest
     (read_behind name runs.read s m w (All-head (IsUnder name) line more under runs.read runs.is_read) runs.runs b)
 
-opening_behind : (name : List ℕ) → Behind name opening_script
-opening_behind name = record { come = inl refl; linked = tt; newest = refl }
+opening_behind : (terse : Bool) (name : List ℕ) → Behind name (opening_script terse)
+opening_behind terse name = record { come = inl refl; linked = tt; newest = refl }
 
 -- ---- records in a row
 
@@ -320,10 +320,15 @@ explains_alone history (x ∷ xs) p s row explains =
     let rest : AreAlone (state_alone (first_ctx it.txn it.begin) it.statements s) xs = explains_alone history xs (suc p) _ row.2 explains.1 in
     (effects, subst (λ (part : Part). AreAlone (state_alone (first_ctx part.txn part.begin) part.statements s) xs) row.0 rest)
 
--- a script of one label, where the book has no other records
-pub one_label : (history : List Record) (lines : List (List ℕ)) (name written : List ℕ) (after : Script) → ((order : List ℕ) → IsOrder (history_by history) order → Explains history order opening) → All (IsBooked history) after.notes.shown → RunsLines lines opening_script written after → All (IsUnder name) lines → length history ≡ length after.notes.shown → AreAlone opening after.notes.shown
-one_label history lines name written after explained booked runs under same =
-    let b = lines_behind name lines opening_script after written under runs (opening_behind name) in
-    let row = in_row history 0 after.notes.shown booked b.linked (omega (arith, same)) in
-    let order = row_is_order history after.notes.shown row (sym same) in
-    explains_alone history after.notes.shown 0 opening row (subst (λ (n : ℕ). Explains history (row_from 0 n) opening) same (explained (row_from 0 (length history)) order))
+-- what came in turn
+pub ran_alone : (history : List Record) (shown : List Shown) → ((order : List ℕ) → IsOrder (history_by history) order → Explains history order opening) → AreTheRecords history shown → Linked 0 shown → AreAlone opening shown
+ran_alone history shown explained records linked =
+    let row = in_row history 0 shown records.booked linked (omega (arith, records.count)) in
+    let order = row_is_order history shown row (sym records.count) in
+    explains_alone history shown 0 opening row (subst (λ (n : ℕ). Explains history (row_from 0 n) opening) records.count (explained (row_from 0 (length history)) order))
+
+-- a script of one label
+pub one_label : (terse : Bool) (history : List Record) (lines : List (List ℕ)) (name written : List ℕ) (after : Script) → ((order : List ℕ) → IsOrder (history_by history) order → Explains history order opening) → AreTheRecords history after.notes.shown → RunsLines lines (opening_script terse) written after → All (IsUnder name) lines → AreAlone opening after.notes.shown
+one_label terse history lines name written after explained records runs under =
+    let b = lines_behind name lines (opening_script terse) after written under runs (opening_behind terse name) in
+    ran_alone history after.notes.shown explained records b.linked

@@ -1,7 +1,11 @@
 pub mod AloneLemmas
 pub mod BlockLemmas
+pub mod BookLemmas
 pub mod CommitLemmas
 pub mod LabelLemmas
+pub mod LedLemmas
+pub mod NamesLemmas
+pub mod PhasesAloneLemmas
 pub mod RuleLemmas
 pub mod ScriptLemmas
 pub mod TextLemmas

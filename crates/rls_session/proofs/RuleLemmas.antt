@@ -1,5 +1,5 @@
 -- Each rule of a session, from what the calls ensure.
-use Rattle.std.proofs.Common.{◌≡◌, ◌⊎◌, inl, inr, ℕ, ◌+◌, max, true, false, List, [], ◌∷◌, ◌++◌, length, Option, Some, None, Result, Ok, Err, IfOk, refl, sym, ap, subst, ◌∙◌, append-nil, arith}
+use Rattle.std.proofs.Common.{◌≡◌, ◌⊎◌, inl, inr, ℕ, ◌+◌, max, true, false, List, [], ◌∷◌, ◌++◌, length, Option, Some, None, Result, Ok, Err, IfOk, OnOk, refl, sym, ap, subst, ◌∙◌, append-nil, arith}
 use Rattle.rls_value.specs.declared.refusal.Refusal.{Refusal}
 use Rattle.rls_value.specs.declared.refusal.Refusal.TheVariants.{NoMemory, Serial, NoLogin}
 use Rattle.rls_value.specs.declared.refusal.Cause.{Cause}
@@ -12,7 +12,7 @@ use Rattle.rls_script.specs.rls_guard.specs.declared.context.Mode.TheVariants as
 use Rattle.rls_script.specs.rls_guard.specs.declared.effect.Effect.TheVariants as e
 use Rattle.rls_script.specs.rls_guard.specs.declared.reply.Reply.TheVariants as p
 use Rattle.rls_engine.specs.rls_access.specs.{Statements.role_after, Transactions.Begin}
-use Rattle.rls_engine.specs.Drafts.{told_of}
+use Rattle.rls_engine.specs.Drafts.{RefusesBegin, told_of}
 use Rattle.rls_script.specs.Requests.{AsksOf, Requests}
 use Rattle.rls_script.specs.declared.answer.Answer.{Answer}
 use Rattle.rls_script.specs.declared.answer.Answer.TheVariants as a
@@ -20,9 +20,9 @@ use Rattle.rls_script.specs.declared.requesting.Ask.{Ask}
 use Rattle.rls_script.specs.declared.requesting.Ask.TheVariants as ask
 use Rattle.rls_script.specs.declared.requesting.Request.{Request}
 use Rattle.rls_script.specs.declared.requesting.Request.TheVariants as q
-use Rattle.rls_session.specs.Blocks.{answer_to, status_of, Came, CanCome, Carries, Executes, ExecutesIn, Given, RefusesAnyBegin, Ticket, begin_of, begun, committed, given, given_in, in_block, inside, outside, over_in, posted, ran, shows, started, with_statement}
+use Rattle.rls_session.specs.Blocks.{answer_to, status_of, Came, CanCome, Carries, Executes, ExecutesIn, Given, RefusesLogin, Ticket, begin_of, begun, committed, given, given_in, in_block, inside, login_of, outside, over_in, posted, ran, shows, started, with_statement}
 use Rattle.rls_session.specs.Parts.{Block, Session, Shown, Notes, noted}
-use Rattle.rls_session.specs.Stops.{CommitsAlone, Ended, HasCommitted, HasPosted, IsConflictAnswer, IsStarted}
+use Rattle.rls_session.specs.Stops.{AnswersRefused, CommitsAlone, Ended, HasCommitted, HasPosted, IsConflictAnswer, IsStarted}
 
 -- nothing was asked of the engine
 abbrev pub unasked : Came
@@ -32,10 +32,10 @@ unasked = record { begin = Ok (record { txn = 0; snap = 0 }); post = Ok (e.Refus
 pub noted_none : (notes : Notes) → notes ≡ noted notes []
 noted_none notes =
     let told : notes.told ≡ notes.told + 0 = omega arith in
-    λ i. record { tag = notes.tag; newest = notes.newest; told = told i; shown = sym (append-nil notes.shown) i }
+    λ i. record { tag = notes.tag; newest = notes.newest; told = told i; shown = sym (append-nil notes.shown) i; terse = notes.terse }
 
 -- what is given without a commit
-pub carries_as : (notes : Notes) (session : Option Session) (request : Request) (came : Came) (answer : Answer) (then : Option Session) → CanCome came → answer ≡ (given notes.newest session request came).answer → then ≡ (given notes.newest session request came).session → (given notes.newest session request came).shown ≡ [] → Carries notes session request answer notes then
+pub carries_as : (notes : Notes) (session : Option Session) (request : Request) (came : Came) (answer : Answer) (then : Option Session) → CanCome (login_of session request) came → answer ≡ (given notes.newest session request came).answer → then ≡ (given notes.newest session request came).session → (given notes.newest session request came).shown ≡ [] → Carries notes session request answer notes then
 carries_as notes session request came answer then can answered becomes none = record {
   came = came;
   can = can;
@@ -56,13 +56,15 @@ carries_nobody notes asked = carries_as notes None (q.Ask asked) unasked (a.Refu
 pub carries_connect : (notes : Notes) (session : Option Session) (role : List ℕ) (y : Session) → y ≡ outside role role → Carries notes session (q.Connect role) (a.Replied Tag.Connect p.Done) notes (Some y)
 carries_connect notes session role y is = carries_as notes session (q.Connect role) unasked (a.Replied Tag.Connect p.Done) (Some y) (record { begin = tt; post = tt; commit = tt }) refl (ap (λ (s : Session). Some s) is) refl
 
-pub carries_connect_refused : (notes : Notes) (session : Option Session) (role : List ℕ) (refusal : Refusal) (answer : Answer) (then : Option Session) → answer ≡ a.Refused refusal → RefusesAnyBegin refusal → then ≡ None → Carries notes session (q.Connect role) answer notes then
+pub carries_connect_refused : (notes : Notes) (session : Option Session) (role : List ℕ) (refusal : Refusal) (answer : Answer) (then : Option Session) → answer ≡ a.Refused refusal → RefusesLogin (Some role) refusal → then ≡ None → Carries notes session (q.Connect role) answer notes then
 carries_connect_refused notes session role refusal answer then is refuses none = carries_as notes session (q.Connect role) (record unasked { begin = Err refusal }) answer then (record { begin = refuses; post = tt; commit = tt }) is none refl
 
 -- where it is refused, or a fault
-pub connect_stopped : {E : Type 0} (notes : Notes) (session then : Option Session) (role : List ℕ) (refusal : Refusal) (result : Result Answer E) → IfOk result (λ answer. (answer ≡ a.Refused refusal) × RefusesAnyBegin refusal × (then ≡ None)) → IfOk result (λ answer. Carries notes session (q.Connect role) answer notes then)
-connect_stopped notes session then role refusal (Ok answer) stopped = carries_connect_refused notes session role refusal answer then stopped.0 stopped.1 stopped.2
-connect_stopped notes session then role refusal (Err fault) stopped = tt
+pub connect_stopped : (notes : Notes) (session then : Option Session) (role : List ℕ) (refusal : Refusal) (result : Result Answer Refusal) → RefusesBegin (begin_of (outside role role) m.Write) refusal → AnswersRefused refusal result → OnOk result (then ≡ None) → IfOk result (λ answer. Carries notes session (q.Connect role) answer notes then)
+connect_stopped notes session then role refusal (Ok answer) refuses answers none =
+    let both = answers (begin_of (outside role role) m.Write) refuses in
+    carries_connect_refused notes session role refusal answer then both.0 both.1 none
+connect_stopped notes session then role refusal (Err fault) refuses answers none = tt
 
 -- BEGIN
 pub carries_begin : (notes : Notes) (x y : Session) (mode : Mode) (b : Block) → IsStarted notes.newest (begin_of x mode) b → y ≡ inside x.login x.role b → Carries notes (Some x) (q.Ask (ask.Begin mode)) (a.Replied Tag.Begin p.Done) notes (Some y)
@@ -70,9 +72,11 @@ carries_begin notes x y mode b is_started is =
     carries_as notes (Some x) (q.Ask (ask.Begin mode)) (record unasked { begin = Ok (record { txn = b.part.txn; snap = b.part.snap }) }) (a.Replied Tag.Begin p.Done) (Some y) (record { begin = tt; post = tt; commit = tt }) refl
     (ap (λ (s : Session). Some s) (is ∙ ap (λ (block : Block). inside x.login x.role block) is_started)) refl
 
-pub begin_stopped : {E : Type 0} (notes : Notes) (x : Session) (mode : Mode) (refusal : Refusal) (result : Result Answer E) → IfOk result (λ answer. (answer ≡ a.Refused refusal) × RefusesAnyBegin refusal) → IfOk result (λ answer. Carries notes (Some x) (q.Ask (ask.Begin mode)) answer notes (Some x))
-begin_stopped notes x mode refusal (Ok answer) stopped = carries_as notes (Some x) (q.Ask (ask.Begin mode)) (record unasked { begin = Err refusal }) answer (Some x) (record { begin = stopped.1; post = tt; commit = tt }) stopped.0 refl refl
-begin_stopped notes x mode refusal (Err fault) stopped = tt
+pub begin_stopped : (notes : Notes) (x : Session) (mode : Mode) (begin : Begin) (refusal : Refusal) (result : Result Answer Refusal) → begin ≡ begin_of x mode → RefusesBegin begin refusal → AnswersRefused refusal result → IfOk result (λ answer. Carries notes (Some x) (q.Ask (ask.Begin mode)) answer notes (Some x))
+begin_stopped notes x mode begin refusal (Ok answer) same refuses answers =
+    let both = answers (begin_of x mode) (subst (λ (b : Begin). RefusesBegin b refusal) same refuses) in
+    carries_as notes (Some x) (q.Ask (ask.Begin mode)) (record unasked { begin = Err refusal }) answer (Some x) (record { begin = both.1; post = tt; commit = tt }) both.0 refl refl
+begin_stopped notes x mode begin refusal (Err fault) same refuses answers = tt
 
 -- what is asked of the open block
 pub in_open : (x : Session) (b : Block) (gives : Block → Given) → x ≡ inside x.login x.role b → in_block x x.block gives ≡ gives b
@@ -85,7 +89,7 @@ in_none x gives none = ap (λ (o : Option Block). in_block x o gives) none
 abbrev pub Gives : Notes → Session → Ask → Came → Given → Type 0
 Gives notes x asked came g = given_in notes.newest x asked came ≡ g
 
-pub carries_given : (notes : Notes) (x : Session) (asked : Ask) (came : Came) (g : Given) (answer : Answer) (then : Option Session) → Gives notes x asked came g → CanCome came → answer ≡ g.answer → then ≡ g.session → g.shown ≡ [] → Carries notes (Some x) (q.Ask asked) answer notes then
+pub carries_given : (notes : Notes) (x : Session) (asked : Ask) (came : Came) (g : Given) (answer : Answer) (then : Option Session) → Gives notes x asked came g → CanCome (Some x.login) came → answer ≡ g.answer → then ≡ g.session → g.shown ≡ [] → Carries notes (Some x) (q.Ask asked) answer notes then
 carries_given notes x asked came g answer then gives can answered becomes none =
     carries_as notes (Some x) (q.Ask asked) came answer then can
     (answered ∙ ap (λ (h : Given). h.answer) (sym gives)) (becomes ∙ ap (λ (h : Given). h.session) (sym gives)) (ap (λ (h : Given). h.shown) gives ∙ none)
@@ -151,11 +155,12 @@ pub carries_rollback : (notes : Notes) (x y : Session) → y ≡ outside x.login
 carries_rollback notes x y becomes = carries_as notes (Some x) (q.Ask ask.Rollback) unasked (a.Replied Tag.Rollback p.Done) (Some y) (record { begin = tt; post = tt; commit = tt }) refl (ap (λ (s : Session). Some s) becomes) refl
 
 -- a statement outside a block: its begin is refused
-pub run_unbegun : {E : Type 0} (old new : Notes) (x y : Session) (asked : Statement) (refusal : Refusal) (result : Result Answer E) → IfOk result (λ answer. (answer ≡ a.Refused refusal) × RefusesAnyBegin refusal) → new ≡ old → y ≡ x → IfOk result (λ answer. Carries old (Some x) (q.Ask (ask.Run asked)) answer new (Some y))
-run_unbegun old new x y asked refusal (Ok answer) stopped same becomes =
+pub run_unbegun : (old new : Notes) (x y : Session) (asked : Statement) (begin : Begin) (refusal : Refusal) (result : Result Answer Refusal) → begin ≡ begin_of x m.Write → RefusesBegin begin refusal → AnswersRefused refusal result → new ≡ old → y ≡ x → IfOk result (λ answer. Carries old (Some x) (q.Ask (ask.Run asked)) answer new (Some y))
+run_unbegun old new x y asked begin refusal (Ok answer) is refuses answers same becomes =
+    let both = answers (begin_of x m.Write) (subst (λ (b : Begin). RefusesBegin b refusal) is refuses) in
     subst (λ (n : Notes). Carries old (Some x) (q.Ask (ask.Run asked)) answer n (Some y)) (sym same)
-    (carries_as old (Some x) (q.Ask (ask.Run asked)) (record unasked { begin = Err refusal }) answer (Some y) (record { begin = stopped.1; post = tt; commit = tt }) stopped.0 (ap (λ (s : Session). Some s) becomes) refl)
-run_unbegun old new x y asked refusal (Err fault) stopped same becomes = tt
+    (carries_as old (Some x) (q.Ask (ask.Run asked)) (record unasked { begin = Err refusal }) answer (Some y) (record { begin = both.1; post = tt; commit = tt }) both.0 (ap (λ (s : Session). Some s) becomes) refl)
+run_unbegun old new x y asked begin refusal (Err fault) is refuses answers same becomes = tt
 
 -- its post meets a conflict
 run_over : (old new : Notes) (x y : Session) (asked : Statement) (answer : Answer) → IsConflictAnswer answer → new ≡ old → y ≡ x → Carries old (Some x) (q.Ask (ask.Run asked)) answer new (Some y)

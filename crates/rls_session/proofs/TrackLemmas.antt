@@ -22,9 +22,15 @@ pub follows_at : (from : Track) (tasks : List Task) (i : ℕ) (task : Task) (old
 follows_at from tasks i task old new within is follows runs = follows_more from (take i tasks) (take (i + 1) tasks) task old new follows runs (take_more tasks i task within ∙ ap (λ (t : Task). take i tasks ++ t ∷ []) (sym is))
 
 -- a command and its answer
-pub served : {E : Type 0} (r : Result (Unit {0}) E) (old new : Track) (command : List ℕ) (answer : Answer) (notes : Notes) (session : Option Session) → Executes old.notes old.seat.session command answer notes session → OnOk r (new ≡ record { seat = record { place = old.seat.place; name = old.seat.name; standing = old.seat.standing; session = session }; notes = notes; written = old.written ++ answer_text old.seat.name answer }) → OnOk r (RunsServed old command new)
-served (Ok x) old new command answer notes session executes becomes = record { answer = answer; session = session; notes = notes; executes = executes; becomes = becomes }
-served (Err e) old new command answer notes session executes becomes = tt
+pub served : {E : Type 0} (r : Result (Unit {0}) E) (terse : Bool) (old new : Track) (command : List ℕ) (answer : Answer) (notes : Notes) (session : Option Session) → terse ≡ old.notes.terse → Executes old.notes old.seat.session command answer notes session → OnOk r (new ≡ record { seat = record { place = old.seat.place; name = old.seat.name; standing = old.seat.standing; session = session }; notes = notes; written = old.written ++ answer_text terse old.seat.name answer }) → OnOk r (RunsServed old command new)
+served (Ok x) terse old new command answer notes session how executes becomes = record {
+  answer = answer;
+  session = session;
+  notes = notes;
+  executes = executes;
+  becomes = becomes ∙ ap (λ (b : Bool). record { seat = record { place = old.seat.place; name = old.seat.name; standing = old.seat.standing; session = session }; notes = notes; written = old.written ++ answer_text b old.seat.name answer }) how;
+}
+served (Err e) terse old new command answer notes session how executes becomes = tt
 
 -- each label of a phase
 pub each_follows : (notes : Notes) (ws us vs : List Work) (tasks : List Task) → us ≡ map (entered notes) ws → length vs ≡ length us → ((i : ℕ) (d : Work) → i < length us → IsRan (slice_index_or us i d) tasks (slice_index_or vs i d)) → ((i : ℕ) (d : Work) → i < length vs → (slice_index_or vs i d).failed ≡ false) → EachFollows (record { seats = work_seats ws; notes = notes }) tasks (tracks_of vs)
@@ -77,12 +83,12 @@ phase_passes (Ok x) names notes notes_then ws us vs xs tasks before middle now i
 phase_passes (Err e) names notes notes_then ws us vs xs tasks before middle now is same ran whole left is_notes text late = tt
 
 -- before the first phase
-pub phases_opening : (names : List (List ℕ)) (stage : Stage) (now : List ℕ) → stage ≡ opening_stage names → GrewBy now now (λ written. RunsPhases names [] written stage)
-phases_opening names stage now is = record { more = []; grew = sym (append-nil now); fact = rw is none }
+pub phases_opening : (terse : Bool) (names : List (List ℕ)) (stage : Stage) (now : List ℕ) → stage ≡ opening_stage terse names → GrewBy now now (λ written. RunsPhases terse names [] written stage)
+phases_opening terse names stage now is = record { more = []; grew = sym (append-nil now); fact = rw is none }
 
 -- one phase more
-pub phases_more : (names : List (List ℕ)) (phases more : List (List Task)) (tasks : List Task) (stage after : Stage) (start before now : List ℕ) → GrewBy start before (λ written. RunsPhases names phases written stage) → GrewBy before now (λ written. Passes names stage tasks written after) → more ≡ phases ++ tasks ∷ [] → GrewBy start now (λ written. RunsPhases names more written after)
-phases_more names phases more tasks stage after start before now runs passes is =
+pub phases_more : (terse : Bool) (names : List (List ℕ)) (phases more : List (List Task)) (tasks : List Task) (stage after : Stage) (start before now : List ℕ) → GrewBy start before (λ written. RunsPhases terse names phases written stage) → GrewBy before now (λ written. Passes names stage tasks written after) → more ≡ phases ++ tasks ∷ [] → GrewBy start now (λ written. RunsPhases terse names more written after)
+phases_more terse names phases more tasks stage after start before now runs passes is =
     record {
       more = runs.more ++ passes.more;
       grew = passes.grew ∙ (ap (λ m. m ++ passes.more) runs.grew ∙ append_assoc start runs.more passes.more);
@@ -142,12 +148,12 @@ late_snoc : (names : List (List ℕ)) (places : List ℕ) (place : ℕ) → late
 late_snoc names [] place = append-nil (late_line names place)
 late_snoc names (x ∷ xs) place = ap (λ z. late_line names x ++ z) (late_snoc names xs place) ∙ sym (append_assoc (late_line names x) (late_text names xs) (late_line names place))
 
-pub late_more : (names : List (List ℕ)) (start before now : List ℕ) (places : List ℕ) (i : ℕ) (label : List ℕ) (refusal : Refusal) → i < length places → label ≡ slice_index_or names (get_or places i 0) [] → refusal ≡ refusal_of (standing_of (place_in names (codes "?")) (get_or places i 0)) → before ≡ start ++ late_text names (take i places) → GrewBy before now (λ written. written ≡ answer_text label (a.Refused refusal))
+pub late_more : (names : List (List ℕ)) (start before now : List ℕ) (places : List ℕ) (i : ℕ) (label : List ℕ) (refusal : Refusal) → i < length places → label ≡ slice_index_or names (get_or places i 0) [] → refusal ≡ refusal_of (standing_of (place_in names (codes "?")) (get_or places i 0)) → before ≡ start ++ late_text names (take i places) → GrewBy before now (λ written. written ≡ answer_text false label (a.Refused refusal))
     → now ≡ start ++ late_text names (take (i + 1) places)
 late_more names start before now places i label refusal within is_label is_refusal so grew =
     let place = get_or places i 0 in
     let text = late_text names (take i places) in
-    let line : answer_text label (a.Refused refusal) ≡ late_line names place = λ k. answer_text (is_label k) (a.Refused (is_refusal k)) in
+    let line : answer_text false label (a.Refused refusal) ≡ late_line names place = λ k. answer_text false (is_label k) (a.Refused (is_refusal k)) in
     grew.grew
     ∙ (ap (λ z. before ++ z) (grew.fact ∙ line)
     ∙ (ap (λ z. z ++ late_line names place) so

@@ -36,7 +36,7 @@ module _ (N : RattleType) (g : named.Ghosts N.Denot) (l : ledger.Ghosts N.Denot)
   kept_place_send = search (sendable, kept_place_inside_send) depth 3
 
   notes_inside_send : IsSend (Notes_Inside.the_row N g l)
-  notes_inside_send = declared_send (Notes_Inside.the_type N g l) (search (kept, Seen.the_send) depth 12 fits 20000, (search (kept, kept_place_send) depth 12 fits 20000, tt))
+  notes_inside_send = declared_send (Notes_Inside.the_type N g l) (search (kept, Seen.the_send) depth 12 fits 20000, (search (kept, kept_place_send) depth 12 fits 20000, (search (kept) depth 12 fits 20000, tt)))
 
   notes_send : IsSend (Notes_.the_row N g l)
   notes_send = search (sendable, notes_inside_send) depth 3

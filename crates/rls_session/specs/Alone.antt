@@ -1,4 +1,4 @@
--- A script of one label, where nobody else uses the engine: each of its transactions runs as if alone, after those before it.
+-- A script of one label: each of its transactions runs as if alone, after those before it.
 use Rattle.std.specs.Prelude.{◌≡◌, ℕ, List, [], ◌∷◌, All}
 use Rattle.std.specs.Str.Lines.{lines}
 use Rattle.rls_catalog.specs.State.{State}

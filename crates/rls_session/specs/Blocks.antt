@@ -1,7 +1,7 @@
 -- A label's session with transaction blocks, without an engine: given what came of what a command requests, what it is answered,
 -- which session the label has then, and which transaction it shows as committed (PostgreSQL manual, 3.4, "Transactions", and SET
 -- ROLE).
-use Rattle.std.specs.Prelude.{◌≡◌, ℕ, Bool, true, false, List, [], ◌∷◌, ◌++◌, Option, Some, None, Result, Ok, Err, IfErr}
+use Rattle.std.specs.Prelude.{◌≡◌, ℕ, Bool, true, false, List, [], ◌∷◌, ◌++◌, Option, Some, None, option_map, Result, Ok, Err, IfErr}
 use Rattle.rls_value.specs.{declared.refusal.Refusal.Refusal, declared.refusal.TxnState.TxnState, declared.tag.Tag.Tag}
 use Rattle.rls_value.specs.declared.refusal.Refusal.TheVariants.{NoLogin, Limit, Serial}
 use Rattle.rls_value.specs.declared.refusal.Limit.TheVariants as limit
@@ -51,16 +51,21 @@ abbrev pub IsConflict : Refusal → Type 0
 IsConflict (Serial why) = Unit {0}
 IsConflict _ = ⊥
 
--- for its login, or a limit
-abbrev pub RefusesAnyBegin : Refusal → Type 0
-RefusesAnyBegin (NoLogin who) = Unit {0}
-RefusesAnyBegin (Limit limit.Transactions) = Unit {0}
-RefusesAnyBegin (Limit limit.Numbers) = Unit {0}
-RefusesAnyBegin _ = ⊥
+-- for its login, which is named, or a limit
+abbrev pub RefusesLogin : Option (List ℕ) → Refusal → Type 0
+RefusesLogin login (NoLogin who) = who ≡ login
+RefusesLogin login (Limit limit.Transactions) = Unit {0}
+RefusesLogin login (Limit limit.Numbers) = Unit {0}
+RefusesLogin login _ = ⊥
+
+-- the login of a transaction that a request begins: who connects, or whose session it is
+abbrev pub login_of : Option Session → Request → Option (List ℕ)
+login_of session (q.Connect role) = Some role
+login_of session request = option_map (λ it. it.login) session
 
 -- only so can they be refused
-pub record CanCome (came : Came) : Type 0 where
-  pub begin : IfErr came.begin RefusesAnyBegin
+pub record CanCome (login : Option (List ℕ)) (came : Came) : Type 0 where
+  pub begin : IfErr came.begin (RefusesLogin login)
   pub post : IfErr came.post IsConflict
   pub commit : IfErr came.commit IsConflict
 
@@ -169,7 +174,7 @@ given newest session (q.Ask asked) came = given_as newest session asked came
 -- what came of a request, and what it is answered, with what was shown and the label's session then
 pub record Carries (old : Notes) (session : Option Session) (request : Request) (answer : Answer) (new : Notes) (session_then : Option Session) : Type 0 where
   pub came : Came
-  pub can : CanCome came
+  pub can : CanCome (login_of session request) came
   pub answered : answer ≡ (given old.newest session request came).answer
   pub becomes : session_then ≡ (given old.newest session request came).session
   pub notes : new ≡ noted old (given old.newest session request came).shown

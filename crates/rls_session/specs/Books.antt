@@ -1,5 +1,5 @@
 -- What was shown, beside the records of a closed engine.
-use Rattle.std.specs.Prelude.{◌≡◌, ◌≤◌, ◌-◌, ℕ, suc, List, Option, Some, option_map, slice_get}
+use Rattle.std.specs.Prelude.{◌≡◌, ◌≤◌, ◌-◌, ℕ, suc, List, length, All, Option, Some, option_map, slice_get}
 use Rattle.rls_engine.specs.rls_core.specs.Records.{Record}
 use Rattle.rls_session.specs.Parts.{Part, Shown, part_of}
 
@@ -8,3 +8,14 @@ pub record IsBooked (history : List Record) (it : Shown) : Type 0 where
   pub recorded : option_map part_of (slice_get history (it.commit - 1)) ≡ Some it.part
   pub heard : it.heard ≤ it.part.snap
   pub later : suc it.part.snap ≤ it.commit
+
+-- no two of them are one commit
+abbrev pub DifferInCommit : List Shown → Type 0
+DifferInCommit shown = (i j : ℕ) (one other : Shown) → slice_get shown i ≡ Some one → slice_get shown j ≡ Some other → one.commit ≡ other.commit → i ≡ j
+
+-- The records are those of the transactions that were shown as committed, and no others: each has its record, no two the same one,
+-- and there are as many records as were shown. So a transaction that was rolled back, or that nobody asked for, has none.
+pub record AreTheRecords (history : List Record) (shown : List Shown) : Type 0 where
+  pub booked : All (IsBooked history) shown
+  pub own : DifferInCommit shown
+  pub count : length history ≡ length shown

@@ -24,8 +24,8 @@ pub record Script : Type 0 where
   pub notes : Notes
 
 -- before the first line no label has come
-abbrev pub opening_script : Script
-opening_script = record { labels = []; notes = record { tag = 1; newest = 0; told = 0; shown = [] } }
+abbrev pub opening_script : (terse : Bool) → Script
+opening_script terse = record { labels = []; notes = record { tag = 1; newest = 0; told = 0; shown = []; terse = terse } }
 
 -- the place of the label in the order in which they came; one that hasn't come is behind them all
 abbrev pub place_of : List Entry → List ℕ → ℕ

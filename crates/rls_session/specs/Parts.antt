@@ -43,13 +43,14 @@ pub record Shown : Type 0 where
   pub commit : ℕ
   pub part : Part
 
--- what a caller was shown: an engine's tag, the greatest number of a commit, how many receipts count in that knowledge, and the
--- transactions that were shown as committed
+-- what a caller was shown: an engine's tag, the greatest number of a commit, how many receipts count in that knowledge, the
+-- transactions that were shown as committed, and whether refusals are told tersely
 pub record Notes : Type 0 where
   pub tag : ℕ
   pub newest : ℕ
   pub told : ℕ
   pub shown : List Shown
+  pub terse : Bool
 
 -- the greatest number of a commit, with these
 abbrev pub newest_after : ℕ → List Shown → ℕ
@@ -58,7 +59,7 @@ newest_after newest (it ∷ more) = newest_after (max newest it.commit) more
 
 -- with these behind them
 abbrev pub noted : Notes → List Shown → Notes
-noted notes more = record { tag = notes.tag; newest = newest_after notes.newest more; told = notes.told + length more; shown = notes.shown ++ more }
+noted notes more = record { tag = notes.tag; newest = newest_after notes.newest more; told = notes.told + length more; shown = notes.shown ++ more; terse = notes.terse }
 
 -- the codes of these
 abbrev pub part_code : Coded Part
@@ -79,13 +80,13 @@ shown_code = code_by (ℕ × (ℕ × Part)) (coded× coded_ℕ (coded× coded_�
 
 abbrev pub notes_code : Coded Notes
 notes_code =
-    code_by (ℕ × (ℕ × (ℕ × List Shown))) (coded× coded_ℕ (coded× coded_ℕ (coded× coded_ℕ (coded_list shown_code))))
-    (λ n. (n.tag, (n.newest, (n.told, n.shown)))) (λ p. record { tag = p.0; newest = p.1.0; told = p.1.1.0; shown = p.1.1.1 }) (λ _. refl)
+    code_by (ℕ × (ℕ × (ℕ × (List Shown × Bool)))) (coded× coded_ℕ (coded× coded_ℕ (coded× coded_ℕ (coded× (coded_list shown_code) coded_bool))))
+    (λ n. (n.tag, (n.newest, (n.told, (n.shown, n.terse))))) (λ p. record { tag = p.0; newest = p.1.0; told = p.1.1.0; shown = p.1.1.1.0; terse = p.1.1.1.1 }) (λ _. refl)
 
 -- the same knowledge, where nothing was shown
 abbrev pub alike : Notes → Notes
-alike notes = record { tag = notes.tag; newest = notes.newest; told = 0; shown = [] }
+alike notes = record { tag = notes.tag; newest = notes.newest; told = 0; shown = []; terse = notes.terse }
 
 -- with all that others show
 abbrev pub joined : Notes → Notes → Notes
-joined notes other = record { tag = notes.tag; newest = max notes.newest other.newest; told = notes.told + other.told; shown = notes.shown ++ other.shown }
+joined notes other = record { tag = notes.tag; newest = max notes.newest other.newest; told = notes.told + other.told; shown = notes.shown ++ other.shown; terse = notes.terse }

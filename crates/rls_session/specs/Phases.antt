@@ -27,7 +27,7 @@ pub record Track : Type 0 where
 
 -- its text
 abbrev pub refused_text : List ℕ → Standing → List ℕ
-refused_text name standing = answer_text name (a.Refused (refusal_of standing))
+refused_text name standing = answer_text false name (a.Refused (refusal_of standing))
 
 -- a command executed in the label's session
 pub record RunsServed (old : Track) (command : List ℕ) (new : Track) : Type 0 where
@@ -35,7 +35,7 @@ pub record RunsServed (old : Track) (command : List ℕ) (new : Track) : Type 0 
   pub session : Option Session
   pub notes : Notes
   pub executes : Executes old.notes old.seat.session command answer notes session
-  pub becomes : new ≡ record { seat = record { place = old.seat.place; name = old.seat.name; standing = old.seat.standing; session = session }; notes = notes; written = old.written ++ answer_text old.seat.name answer }
+  pub becomes : new ≡ record { seat = record { place = old.seat.place; name = old.seat.name; standing = old.seat.standing; session = session }; notes = notes; written = old.written ++ answer_text old.notes.terse old.seat.name answer }
 
 -- a line of the label
 abbrev pub RunsAs : Standing → Track → List ℕ → Track → Type 0
@@ -121,10 +121,10 @@ opening_seats names zero = []
 opening_seats names (suc place) = opening_seats names place ++ opening_seat names place ∷ []
 
 -- before the first phase
-abbrev pub opening_stage : List (List ℕ) → Stage
-opening_stage names = record { seats = opening_seats names (min (length names) 65); notes = opening_script.notes }
+abbrev pub opening_stage : (terse : Bool) → List (List ℕ) → Stage
+opening_stage terse names = record { seats = opening_seats names (min (length names) 65); notes = (opening_script terse).notes }
 
 -- phases one after another
-pub data RunsPhases (names : List (List ℕ)) : List (List Task) → List ℕ → Stage → Type 0 where
-  none : RunsPhases names [] [] (opening_stage names)
-  next : {phases : List (List Task)} {tasks : List Task} {written more : List ℕ} {stage after : Stage} → RunsPhases names phases written stage → Passes names stage tasks more after → RunsPhases names (phases ++ tasks ∷ []) (written ++ more) after
+pub data RunsPhases (terse : Bool) (names : List (List ℕ)) : List (List Task) → List ℕ → Stage → Type 0 where
+  none : RunsPhases terse names [] [] (opening_stage terse names)
+  next : {phases : List (List Task)} {tasks : List Task} {written more : List ℕ} {stage after : Stage} → RunsPhases terse names phases written stage → Passes names stage tasks more after → RunsPhases terse names (phases ++ tasks ∷ []) (written ++ more) after

@@ -1,5 +1,5 @@
 -- What stops the calls of a session.
-use Rattle.std.specs.Prelude.{◌≡◌, ◌⊎◌, ℕ, List, [], ◌∷◌, Result}
+use Rattle.std.specs.Prelude.{◌≡◌, ◌⊎◌, ℕ, List, [], ◌∷◌, Some, Result, IfOk}
 use Rattle.rls_value.specs.declared.refusal.Refusal.{Refusal}
 use Rattle.rls_value.specs.declared.refusal.Refusal.TheVariants.{NoMemory, Foreign, Serial}
 use Rattle.rls_value.specs.declared.refusal.Cause.{Cause}
@@ -7,11 +7,11 @@ use Rattle.rls_script.specs.rls_guard.specs.declared.effect.Effect.{Effect}
 use Rattle.rls_script.specs.rls_guard.specs.declared.reply.Reply.{Reply}
 use Rattle.rls_statement.specs.declared.statement.Statement.{Statement}
 use Rattle.rls_engine.specs.rls_access.specs.Transactions.{Begin}
-use Rattle.rls_engine.specs.Drafts.{told_of}
+use Rattle.rls_engine.specs.Drafts.{RefusesBegin, told_of}
 use Rattle.rls_script.specs.declared.answer.Answer.{Answer}
 use Rattle.rls_script.specs.declared.answer.Answer.TheVariants as a
 use Rattle.rls_session.specs.Parts.{Block, Notes, Session, noted}
-use Rattle.rls_session.specs.Blocks.{RefusesAnyBegin, Ticket, outside, shows, started, with_statement}
+use Rattle.rls_session.specs.Blocks.{RefusesLogin, Ticket, outside, shows, started, with_statement}
 use Rattle.rls_session.specs.declared.open.Stopped.{Stopped}
 use Rattle.rls_session.specs.declared.open.Stopped.TheVariants as stop
 
@@ -44,11 +44,9 @@ WhenStopped block (stop.Over why) = Unit {0}
 WhenStopped block (stop.NoMemory left) = left ≡ block
 WhenStopped block stop.Foreign = Unit {0}
 
--- a refusal that is answered, or a fault that ends the run
-abbrev pub StopsBegin : Refusal → Type 0
-StopsBegin NoMemory = Unit {0}
-StopsBegin Foreign = Unit {0}
-StopsBegin why = RefusesAnyBegin why
+-- what refused a begin is answered, unless it is a fault
+abbrev pub AnswersRefused : Refusal → Result Answer Refusal → Type 0
+AnswersRefused refusal result = (begin : Begin) → RefusesBegin begin refusal → IfOk result (λ answer. (answer ≡ a.Refused refusal) × RefusesLogin (Some begin.login) refusal)
 
 -- 40001 is answered
 pub record IsConflictAnswer (answer : Answer) : Type 0 where

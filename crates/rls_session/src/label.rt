@@ -1,14 +1,14 @@
 //! A label, under which somebody may be connected.
 
-ghost use Rattle.std.specs.Prelude.{◌≡◌, None, IfOk, IfErr, IsOk, OnErr};
+ghost use Rattle.std.specs.Prelude.{◌≡◌, None, IfOk, OnOk, IfErr, IsOk, OnErr};
 ghost use Rattle.rls_value.specs.declared.refusal.Refusal.TheVariants.{NoMemory};
 ghost use Rattle.rls_script.specs.Connects.{ConnectsToLongName};
 ghost use Rattle.rls_script.specs.Requests.{IsAtOnce};
 ghost use Rattle.rls_script.specs.Spelled.{AsksTexts, IfAsked, IfRequested};
 ghost use Rattle.rls_script.specs.declared.requesting.Ask.TheVariants as a;
 ghost use Rattle.rls_script.specs.declared.requesting.Request.TheVariants as q;
-ghost use Rattle.rls_session.specs.Blocks.{Carries, Executes, RefusesAnyBegin, status_of};
-ghost use Rattle.rls_session.specs.Stops.{IsFault, StopsBegin};
+ghost use Rattle.rls_session.specs.Blocks.{Carries, Executes, status_of};
+ghost use Rattle.rls_session.specs.Stops.{AnswersRefused, IsFault};
 
 use crate::gate::{At, Gate, Point};
 use crate::notes::Notes;
@@ -181,8 +181,8 @@ impl<'a, N: Named> Label<'a, N> {
 
     // Nobody is connected behind a connect that is refused.
     fn refuse<R: Wait>(&mut self, rt: &R, refusal: Refusal) -> Result<Answer, Refusal>
-        requires { StopsBegin refusal }
-        ensures ok { IfOk result (λ answer. (answer ≡ Answer.Refused refusal) × RefusesAnyBegin refusal × (self.new ≡ None)) }
+        ensures ok { AnswersRefused refusal result }
+        ensures nobody { OnOk result (self.new ≡ None) }
         ensures same { OnErr result (self.new ≡ self.old) }
         ensures fault { IfErr result IsFault }
     {

@@ -23,6 +23,6 @@ pub use rls_engine;
 pub use rls_engine::{Book, rls_access, rls_core, rls_equality};
 pub use rls_script;
 pub use rls_script::rls_text;
-pub use script::run_script;
+pub use script::{run_script, run_script_telling};
 pub use session::Session;
-pub use threads::run_threads;
+pub use threads::{run_threads, run_threads_telling};

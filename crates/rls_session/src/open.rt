@@ -1,10 +1,11 @@
 //! The transaction of an open block, and what is kept of one that was shown as committed.
 
-ghost use Rattle.std.specs.Prelude.{◌≡◌, ◌≤◌, length, None, IfOk, IfErr};
+ghost use Rattle.std.specs.Prelude.{◌≡◌, ◌≤◌, ◌+◌, length, None, IfOk, IfErr};
+ghost use Rattle.rls_engine.specs.Drafts.{RefusesBegin};
 ghost use Rattle.rls_session.specs.Blocks.{started};
 ghost use Rattle.rls_session.specs.Books.{IsBooked};
 ghost use Rattle.rls_session.specs.Parts.{Block};
-ghost use Rattle.rls_session.specs.Stops.{HasPosted, IsStarted, StopsBegin, WhenStopped};
+ghost use Rattle.rls_session.specs.Stops.{HasPosted, IsStarted, WhenStopped};
 
 use crate::gate::{At, Gate, Point};
 use rls_engine::rls_access::Reply;
@@ -38,6 +39,13 @@ impl<N: Named> Model for Kept<N> {
 }
 
 impl<N: Named> Kept<N> {
+    /// Where its record stands among those of a book, from 0.
+    pub(crate) fn index(&self) -> usize
+        ensures { self.now.commit ≡ result + 1 }
+    {
+        (self.place.number() - 1) as usize
+    }
+
     /// The book has its record, where it is of the engine.
     pub(crate) fn agrees(&self, book: &Book)
         requires engine { book.now.commits ≡ N.commits }
@@ -86,7 +94,7 @@ impl<'a, N: Named> Open<'a, N> {
         seen: &Seen<N>,
     ) -> Result<Open<'a, N>, Refusal>
         ensures ok { IfOk result (IsStarted seen.now.number begin) }
-        ensures why { IfErr result StopsBegin }
+        ensures why { IfErr result (RefusesBegin begin) }
     {
         let heard = seen.number();
         match engine.begin(rt, begin, seen) {

@@ -12,16 +12,38 @@ ghost use Rattle.rls_session.specs.Works.{IsRan, Work, entered, finished, tracks
 use crate::gate::Gate;
 use crate::notes::Notes;
 use crate::worker::Worker;
+use large_stack::{Stack, for_each_mut};
 use rls_engine::{Engine, Named};
 use rls_script::{Answer, Names, RunFault, ScriptOut, Standing, Task, write_answer};
 use std::alloc::Global;
 use std::sync::Wait;
-use std::thread;
 use std::thread::Threads;
 use std::time::Clock;
 
 /// The labels that can have a thread: 64 with sessions, and `?`.
 const SEATS: usize = 65;
+
+/// The stacks that a label's thread asks for. Statements go as deep as policies lead from table to table: the first holds each
+/// script, the last a chain of 100 tables, whatever their policies are. Where a limit of addresses leaves no room for the larger
+/// ones, the smaller ones leave some to the statements.
+const STACKS: [Stack; 4] = [
+    Stack {
+        size: 1 << 31,
+        room: 1 << 31,
+    },
+    Stack {
+        size: 1 << 28,
+        room: 1 << 28,
+    },
+    Stack {
+        size: 1 << 25,
+        room: 1 << 28,
+    },
+    Stack {
+        size: 1 << 23,
+        room: 1 << 26,
+    },
+];
 
 /// A place for each label that can have a thread.
 pub(crate) fn add_workers<'a, N: Named, G: Gate>(
@@ -65,8 +87,8 @@ where
     requires wide { N.parts ≡ 18446744073709551615 }
     requires texts { AsksTexts N.asks }
     requires seats { work_seats workers.old ≡ opening_seats names.now (min (length names.now) 65) }
-    requires fresh { notes.old ≡ opening_script.notes }
-    ensures text { OnOk result (GrewBy (O.taken output.old) (O.taken output.new) (λ written. RunsPhases names.now (map (λ phase. phase.items) phases.now) written record { seats = work_seats workers.new; notes = notes.new })) }
+    requires fresh { notes.old ≡ (opening_script notes.old.terse).notes }
+    ensures text { OnOk result (GrewBy (O.taken output.old) (O.taken output.new) (λ written. RunsPhases notes.old.terse names.now (map (λ phase. phase.items) phases.now) written record { seats = work_seats workers.new; notes = notes.new })) }
     ensures read { ¬ IsErrOf result RunFault.Read }
     ensures write { IsErrOf result RunFault.Write → O.failures output.old < O.failures output.new }
     ensures write_failed { O.failures output.old < O.failures output.new → IsErrOf result RunFault.Write }
@@ -101,7 +123,7 @@ where
     ensures write_failed { O.failures output.old < O.failures output.new → IsErrOf result RunFault.Write }
 {
     enter_all(workers, notes);
-    run_all(rt, workers, tasks);
+    run_all(rt, alloc, workers, tasks);
     finish_all(workers, notes, output)?;
     write_late(alloc, names, tasks, output)
 }
@@ -116,7 +138,7 @@ fn enter_all<N: Named, G: Gate>(workers: &mut [Worker<'_, N, G>], notes: &Notes<
 }
 
 /// Each label's lines on a thread of its own; all are joined.
-fn run_all<N, R, G>(rt: &R, workers: &mut [Worker<'_, N, G>], tasks: &[Task<'_>])
+fn run_all<N, R, G>(rt: &R, alloc: Global, workers: &mut [Worker<'_, N, G>], tasks: &[Task<'_>])
 where
     N: Named + Send + Sync,
     R: Threads + Wait + Clock + Sync,
@@ -125,10 +147,11 @@ where
     requires texts { AsksTexts N.asks }
     ensures { (i : ℕ) (d : Work) → i < length workers.old → IsRan (slice_index_or workers.old i d) tasks.now (slice_index_or workers.new i d) }
 {
-    thread::for_each_mut(
+    for_each_mut(
         rt,
+        alloc,
+        &STACKS,
         workers,
-        SEATS,
         &|_i, worker: &mut Worker<'_, N, G>|
             requires wide { N.parts ≡ 18446744073709551615 }
             requires texts { AsksTexts N.asks }
@@ -218,7 +241,8 @@ fn write_places<O: ScriptOut>(
     let unlabelled = names.find("?");
     for place in places {
         let refusal = Standing::of(unlabelled, *place).refusal();
-        write_answer(alloc, names.name(*place), Answer::Refused(refusal), output)?;
+        let answer = Answer::Refused(refusal);
+        write_answer(alloc, false, names.name(*place), answer, output)?;
     }
     Ok(())
 }

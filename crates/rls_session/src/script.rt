@@ -1,18 +1,19 @@
 //! A script, run line by line.
 
-ghost use Rattle.std.specs.Prelude.{◌≡◌, [], ◌⊎◌, ◌+◌, ◌<◌, ◌≤◌, ◌++◌, length, true, All, IfOk, OnOk, OnErr, IsErrOf};
+ghost use Rattle.std.specs.Prelude.{◌≡◌, [], ◌⊎◌, ◌+◌, ◌<◌, ◌≤◌, ◌++◌, length, true, false, All, IfOk, OnOk, OnErr, IsErrOf};
 ghost use Rattle.rls_engine.specs.rls_core.specs.Seen.{world_of};
-ghost use Rattle.rls_engine.specs.rls_core.specs.Headline.{HaveOrder, AreExplained};
+ghost use Rattle.rls_engine.specs.rls_core.specs.Headline.{HaveOrder, AreExplained, NumbersDiffer, AreRecorded, AreAdmitted};
 ghost use Rattle.rls_engine.specs.Led.{IsLed};
 ghost use Rattle.rls_script.specs.Rendering.{answer_text};
 ghost use Rattle.rls_script.specs.Streams.{GrewBy};
 ghost use Rattle.rls_script.specs.Spelled.{AsksTexts, IsSpellable};
-ghost use Rattle.rls_session.specs.Books.{IsBooked};
+ghost use Rattle.rls_session.specs.Books.{AreTheRecords};
 ghost use Rattle.rls_session.specs.Labels.{opening_script};
 ghost use Rattle.rls_session.specs.Scripts.{IsScriptText, LeadsTo, RunsRead, RunsScript};
 
 use crate::labels::Labels;
 use crate::notes::Notes;
+use rls_engine::rls_core::{core_rules_are_safe, events_keep};
 use rls_engine::{Book, Engine, Named, Records};
 use rls_script::{
     Answer, Line, MAX_SCRIPT, RunFault, ScriptIn, ScriptOut, first_line, read_line, read_script,
@@ -30,17 +31,47 @@ pub(crate) const TAG: u64 = 1;
 /// Reads the script whole, then runs its lines in their order and writes each answer. `Read` comes exactly where the reader failed
 /// or the script is over `MAX_SCRIPT` bytes, `Write` exactly where the writer failed. `Ok` is the book of the transactions that
 /// committed, with open blocks rolled back.
-#[tactic(auto, using(crate::proofs::ScriptLemmas::ran_script))]
 pub fn run_script<R: Wait + Clock, I: ScriptIn, O: ScriptOut>(
     rt: &R,
     alloc: Global,
     input: &mut I,
     output: &mut O,
 ) -> Result<Book, RunFault>
-    ensures text { IfOk result (λ book. RunsScript (I.given input.old) (I.given input.new) (O.taken output.old) (O.taken output.new) book.seen.committed) }
+    ensures text { IfOk result (λ book. RunsScript false (I.given input.old) (I.given input.new) (O.taken output.old) (O.taken output.new) book.seen.committed) }
     ensures ordered { IfOk result (λ book. HaveOrder (world_of book.seen)) }
     ensures explained { IfOk result (λ book. AreExplained (world_of book.seen)) }
-    ensures led { IfOk result (λ book. IsLed IsSpellable book.seen) }
+    ensures numbers { IfOk result (λ book. NumbersDiffer (world_of book.seen)) }
+    ensures recorded { IfOk result (λ book. AreRecorded (world_of book.seen)) }
+    ensures admitted { IfOk result (λ book. AreAdmitted (world_of book.seen)) }
+    ensures spelled { IfOk result (λ book. All (λ it. All IsSpellable it.statements) book.seen.committed) }
+    ensures ended { OnOk result (I.ended input.new ≡ true) }
+    ensures read { IsErrOf result RunFault.Read → (I.failures input.old < I.failures input.new) ⊎ (length (I.given input.old) + MAX_SCRIPT < length (I.given input.new)) }
+    ensures read_failed { I.failures input.old < I.failures input.new → IsErrOf result RunFault.Read }
+    ensures too_long { length (I.given input.old) + MAX_SCRIPT < length (I.given input.new) → IsErrOf result RunFault.Read }
+    ensures unwritten { IsErrOf result RunFault.Read → O.taken output.new ≡ O.taken output.old }
+    ensures write { IsErrOf result RunFault.Write → O.failures output.old < O.failures output.new }
+    ensures write_failed { O.failures output.old < O.failures output.new → IsErrOf result RunFault.Write }
+    ensures reads { length (I.given input.new) ≤ length (I.given input.old) + MAX_SCRIPT + 1 }
+{
+    run_script_telling(rt, alloc, false, input, output)
+}
+
+/// The same, where refusals are told tersely or not: told so, a serialization failure names no objects and no transactions.
+#[tactic(auto, using(crate::proofs::ScriptLemmas::ran_script))]
+pub fn run_script_telling<R: Wait + Clock, I: ScriptIn, O: ScriptOut>(
+    rt: &R,
+    alloc: Global,
+    terse: bool,
+    input: &mut I,
+    output: &mut O,
+) -> Result<Book, RunFault>
+    ensures text { IfOk result (λ book. RunsScript terse (I.given input.old) (I.given input.new) (O.taken output.old) (O.taken output.new) book.seen.committed) }
+    ensures ordered { IfOk result (λ book. HaveOrder (world_of book.seen)) }
+    ensures explained { IfOk result (λ book. AreExplained (world_of book.seen)) }
+    ensures numbers { IfOk result (λ book. NumbersDiffer (world_of book.seen)) }
+    ensures recorded { IfOk result (λ book. AreRecorded (world_of book.seen)) }
+    ensures admitted { IfOk result (λ book. AreAdmitted (world_of book.seen)) }
+    ensures spelled { IfOk result (λ book. All (λ it. All IsSpellable it.statements) book.seen.committed) }
     ensures ended { OnOk result (I.ended input.new ≡ true) }
     ensures read { IsErrOf result RunFault.Read → (I.failures input.old < I.failures input.new) ⊎ (length (I.given input.old) + MAX_SCRIPT < length (I.given input.new)) }
     ensures read_failed { I.failures input.old < I.failures input.new → IsErrOf result RunFault.Read }
@@ -55,13 +86,14 @@ pub fn run_script<R: Wait + Clock, I: ScriptIn, O: ScriptOut>(
         drop(script);
         return Err(RunFault::NoMemory);
     };
-    run_named::<Brand, R, O>(rt, alloc, records, script.as_slice(), output)
+    run_named::<Brand, R, O>(rt, alloc, records, terse, script.as_slice(), output)
 }
 
 fn run_named<N: Named, R: Wait + Clock, O: ScriptOut>(
     rt: &R,
     alloc: Global,
     records: Records,
+    terse: bool,
     script: &[u8],
     output: &mut O,
 ) -> Result<Book, RunFault>
@@ -70,10 +102,13 @@ fn run_named<N: Named, R: Wait + Clock, O: ScriptOut>(
     requires name { records.blank.name ≡ N.name }
     requires parts { records.blank.parts ≡ N.parts }
     requires texts { AsksTexts N.asks }
-    ensures text { IfOk result (λ book. GrewBy (O.taken output.old) (O.taken output.new) (λ written. IsScriptText script.now written book.seen.committed)) }
+    ensures text { IfOk result (λ book. GrewBy (O.taken output.old) (O.taken output.new) (λ written. IsScriptText terse script.now written book.seen.committed)) }
     ensures ordered { IfOk result (λ book. HaveOrder (world_of book.seen)) }
     ensures explained { IfOk result (λ book. AreExplained (world_of book.seen)) }
-    ensures led { IfOk result (λ book. IsLed N.asks book.seen) }
+    ensures numbers { IfOk result (λ book. NumbersDiffer (world_of book.seen)) }
+    ensures recorded { IfOk result (λ book. AreRecorded (world_of book.seen)) }
+    ensures admitted { IfOk result (λ book. AreAdmitted (world_of book.seen)) }
+    ensures asked { IfOk result (λ book. All (λ it. All N.asks it.statements) book.seen.committed) }
     ensures read { ¬ IsErrOf result RunFault.Read }
     ensures write { IsErrOf result RunFault.Write → O.failures output.old < O.failures output.new }
     ensures write_failed { O.failures output.old < O.failures output.new → IsErrOf result RunFault.Write }
@@ -81,9 +116,9 @@ fn run_named<N: Named, R: Wait + Clock, O: ScriptOut>(
     let Ok(engine) = Engine::<N>::new(alloc, TAG, records) else {
         return Err(RunFault::NoMemory);
     };
-    let mut notes = Notes::new(alloc, TAG);
+    let mut notes = Notes::new(alloc, TAG, terse);
     match run_engine(rt, alloc, &engine, &mut notes, script, output) {
-        Ok(()) => close(engine, notes),
+        Ok(()) => close(alloc, engine, notes),
         Err(fault) => {
             drop(notes);
             drop(engine);
@@ -92,26 +127,49 @@ fn run_named<N: Named, R: Wait + Clock, O: ScriptOut>(
     }
 }
 
-/// Ends the engine. Its book has the record of each transaction that was shown as committed.
-pub(crate) fn close<N: Named>(engine: Engine<N>, notes: Notes<N>) -> Result<Book, RunFault>
-    ensures booked { IfOk result (λ book. All (IsBooked book.seen.committed) notes.shown) }
-    ensures enough { IfOk result (λ book. length notes.shown ≤ length book.seen.committed) }
+/// Ends the engine. Its book has the records of the transactions that were shown as committed, and no others: any other book is
+/// `Foreign`.
+pub(crate) fn close<N: Named>(
+    alloc: Global,
+    engine: Engine<N>,
+    notes: Notes<N>,
+) -> Result<Book, RunFault>
+    ensures records { IfOk result (λ book. AreTheRecords book.seen.committed notes.shown) }
     ensures ordered { IfOk result (λ book. HaveOrder (world_of book.seen)) }
     ensures explained { IfOk result (λ book. AreExplained (world_of book.seen)) }
-    ensures led { IfOk result (λ book. IsLed N.asks book.seen) }
+    ensures numbers { IfOk result (λ book. NumbersDiffer (world_of book.seen)) }
+    ensures recorded { IfOk result (λ book. AreRecorded (world_of book.seen)) }
+    ensures admitted { IfOk result (λ book. AreAdmitted (world_of book.seen)) }
+    ensures asked { IfOk result (λ book. All (λ it. All N.asks it.statements) book.seen.committed) }
     ensures read { ¬ IsErrOf result RunFault.Read }
     ensures write { ¬ IsErrOf result RunFault.Write }
 {
     match engine.close(notes.seen()) {
         Ok(book) => {
-            notes.agree(&book);
-            Ok(book)
+            if notes.are_all(alloc, &book)? {
+                keeps::<N>(&book);
+                return Ok(book);
+            }
+            drop(book);
+            Err(RunFault::Foreign)
         }
         Err((engine, refusal)) => {
             drop(engine);
             Err(RunFault::of(refusal))
         }
     }
+}
+
+/// What events that post what is asked so lead to.
+fn keeps<N: Named>(book: &Book)
+    requires { IsLed N.asks book.now.seen }
+    ensures numbers { NumbersDiffer (world_of book.now.seen) }
+    ensures recorded { AreRecorded (world_of book.now.seen) }
+    ensures admitted { AreAdmitted (world_of book.now.seen) }
+    ensures asked { All (λ it. All N.asks it.statements) book.now.seen.committed }
+{
+    core_rules_are_safe();
+    events_keep();
 }
 
 /// Runs the lines, and then ends every session.
@@ -125,8 +183,8 @@ fn run_engine<N: Named, R: Wait + Clock, O: ScriptOut>(
 ) -> Result<(), RunFault>
     requires wide { N.parts ≡ 18446744073709551615 }
     requires texts { AsksTexts N.asks }
-    requires fresh { notes.old ≡ opening_script.notes }
-    ensures text { OnOk result (GrewBy (O.taken output.old) (O.taken output.new) (λ written. LeadsTo script.now written notes.new)) }
+    requires fresh { notes.old ≡ (opening_script notes.old.terse).notes }
+    ensures text { OnOk result (GrewBy (O.taken output.old) (O.taken output.new) (λ written. LeadsTo notes.old.terse script.now written notes.new)) }
     ensures read { ¬ IsErrOf result RunFault.Read }
     ensures write { IsErrOf result RunFault.Write → O.failures output.old < O.failures output.new }
     ensures write_failed { O.failures output.old < O.failures output.new → IsErrOf result RunFault.Write }
@@ -147,8 +205,8 @@ fn run_lines<N: Named, R: Wait + Clock, O: ScriptOut>(
 ) -> Result<(), RunFault>
     requires wide { N.parts ≡ 18446744073709551615 }
     requires texts { AsksTexts N.asks }
-    requires fresh { (labels.old ≡ []) × (notes.old ≡ opening_script.notes) }
-    ensures text { OnOk result (GrewBy (O.taken output.old) (O.taken output.new) (λ written. LeadsTo script.now written notes.new)) }
+    requires fresh { (labels.old ≡ []) × (notes.old ≡ (opening_script notes.old.terse).notes) }
+    ensures text { OnOk result (GrewBy (O.taken output.old) (O.taken output.new) (λ written. LeadsTo notes.old.terse script.now written notes.new)) }
     ensures read { ¬ IsErrOf result RunFault.Read }
     ensures write { IsErrOf result RunFault.Write → O.failures output.old < O.failures output.new }
     ensures write_failed { O.failures output.old < O.failures output.new → IsErrOf result RunFault.Write }
@@ -179,12 +237,15 @@ fn run_line<N: Named, R: Wait + Clock, O: ScriptOut>(
     ensures write { IsErrOf result RunFault.Write → O.failures output.old < O.failures output.new }
     ensures write_failed { O.failures output.old < O.failures output.new → IsErrOf result RunFault.Write }
 {
+    let terse = notes.is_terse();
     match line {
         Line::Skipped | Line::Phase => Ok(()),
         Line::Command { label, command } => match labels.answer(rt, alloc, notes, label, command) {
-            Ok(answer) => write_answer(alloc, label, answer, output),
+            Ok(answer) => write_answer(alloc, terse, label, answer, output),
             Err(fault) => Err(fault),
         },
-        Line::Unlabelled => write_answer(alloc, "?", Answer::Refused(Refusal::Syntax), output),
+        Line::Unlabelled => {
+            write_answer(alloc, false, "?", Answer::Refused(Refusal::Syntax), output)
+        }
     }
 }

@@ -1,15 +1,16 @@
 //! A label's session over an engine.
 
-ghost use Rattle.std.specs.Prelude.{◌≡◌, true, Some, None, IfOk, IfErr, IfSome, IfNone, OnErr};
-ghost use Rattle.rls_value.specs.declared.refusal.Refusal.TheVariants.{NoMemory};
+ghost use Rattle.std.specs.Prelude.{◌≡◌, ◌≢◌, true, Some, None, IfOk, IfErr, IfSome, IfNone, OnErr};
+ghost use Rattle.rls_value.specs.declared.refusal.Refusal.TheVariants.{NoMemory, Foreign};
 ghost use Rattle.rls_statement.specs.Tags.{tag_of};
+ghost use Rattle.rls_engine.specs.Drafts.{RefusesBegin};
 ghost use Rattle.rls_script.specs.rls_guard.specs.declared.context.Mode.TheVariants.{Write};
 ghost use Rattle.rls_script.specs.Spelled.{AsksTexts, IfAsked};
 ghost use Rattle.rls_script.specs.declared.requesting.Ask.TheVariants as a;
 ghost use Rattle.rls_script.specs.declared.requesting.Request.TheVariants as q;
-ghost use Rattle.rls_session.specs.Blocks.{Carries, ExecutesIn, RefusesAnyBegin, begin_of, inside, outside, status_of};
+ghost use Rattle.rls_session.specs.Blocks.{Carries, ExecutesIn, begin_of, inside, outside, status_of};
 ghost use Rattle.rls_session.specs.Parts.{noted};
-ghost use Rattle.rls_session.specs.Stops.{CommitsAlone, IsConflictAnswer, IsFault, IsStarted, StopsBegin};
+ghost use Rattle.rls_session.specs.Stops.{AnswersRefused, CommitsAlone, IsConflictAnswer, IsFault, IsStarted};
 
 use crate::answering::answer_of;
 use crate::gate::{At, Gate, NoGate, Point};
@@ -59,7 +60,8 @@ impl<'a, N: Named> Session<'a, N> {
         seen: &Seen<N>,
     ) -> Result<Session<'a, N>, Refusal>
         ensures ok { IfOk result (λ session. session ≡ outside role.now role.now) }
-        ensures why { IfErr result StopsBegin }
+        ensures why { IfErr result (RefusesBegin record { login = role.now; role = role.now; mode = Write }) }
+        ensures known { seen.now.tag ≡ engine.now → seen.now.number ≡ 0 → IfErr result (λ why. why ≢ Foreign) }
     {
         let Ok(begin) = begin_as(role, role, Mode::Write) else {
             return Err(Refusal::NoMemory);
@@ -423,8 +425,7 @@ fn stop<N: Named, R: Wait>(rt: &R, stopped: Stopped<'_, N>) -> Result<Answer, Re
 
 /// The answer to what refused a begin, or the fault.
 pub(crate) fn answered(refusal: Refusal) -> Result<Answer, Refusal>
-    requires { StopsBegin refusal }
-    ensures ok { IfOk result (λ answer. (answer ≡ Answer.Refused refusal) × RefusesAnyBegin refusal) }
+    ensures ok { AnswersRefused refusal result }
     ensures fault { IfErr result IsFault }
 {
     match refusal {

@@ -1,9 +1,8 @@
 //! A script, run in phases with a thread for each label.
 
-ghost use Rattle.std.specs.Prelude.{◌≡◌, ◌⊎◌, ◌+◌, ◌<◌, ◌≤◌, length, true, All, IfOk, OnOk, IsErrOf};
+ghost use Rattle.std.specs.Prelude.{◌≡◌, ◌⊎◌, ◌+◌, ◌<◌, ◌≤◌, length, true, false, All, IfOk, OnOk, IsErrOf};
 ghost use Rattle.rls_engine.specs.rls_core.specs.Seen.{world_of};
-ghost use Rattle.rls_engine.specs.rls_core.specs.Headline.{HaveOrder, AreExplained};
-ghost use Rattle.rls_engine.specs.Led.{IsLed};
+ghost use Rattle.rls_engine.specs.rls_core.specs.Headline.{HaveOrder, AreExplained, NumbersDiffer, AreRecorded, AreAdmitted};
 ghost use Rattle.rls_script.specs.Streams.{GrewBy};
 ghost use Rattle.rls_script.specs.Spelled.{AsksTexts, IsSpellable};
 ghost use Rattle.rls_session.specs.Labels.{opening_script};
@@ -26,7 +25,6 @@ use std::time::Clock;
 /// comes exactly where the reader failed or the script is over `MAX_SCRIPT` bytes, `Write` exactly where the writer failed. `Ok` is
 /// the book of the transactions that committed, with open blocks rolled back. The gate is told of each point that commands come to;
 /// where no thread can be made, labels run one after another.
-#[tactic(auto, using(crate::proofs::TextLemmas::ran_in_phases))]
 pub fn run_threads<R, I, O, G>(
     rt: &R,
     alloc: Global,
@@ -39,10 +37,47 @@ where
     I: ScriptIn,
     O: ScriptOut,
     G: Gate + Sync,
-    ensures text { IfOk result (λ book. RunsInPhases (I.given input.old) (I.given input.new) (O.taken output.old) (O.taken output.new) book.seen.committed) }
+    ensures text { IfOk result (λ book. RunsInPhases false (I.given input.old) (I.given input.new) (O.taken output.old) (O.taken output.new) book.seen.committed) }
     ensures ordered { IfOk result (λ book. HaveOrder (world_of book.seen)) }
     ensures explained { IfOk result (λ book. AreExplained (world_of book.seen)) }
-    ensures led { IfOk result (λ book. IsLed IsSpellable book.seen) }
+    ensures numbers { IfOk result (λ book. NumbersDiffer (world_of book.seen)) }
+    ensures recorded { IfOk result (λ book. AreRecorded (world_of book.seen)) }
+    ensures admitted { IfOk result (λ book. AreAdmitted (world_of book.seen)) }
+    ensures spelled { IfOk result (λ book. All (λ it. All IsSpellable it.statements) book.seen.committed) }
+    ensures ended { OnOk result (I.ended input.new ≡ true) }
+    ensures read { IsErrOf result RunFault.Read → (I.failures input.old < I.failures input.new) ⊎ (length (I.given input.old) + MAX_SCRIPT < length (I.given input.new)) }
+    ensures read_failed { I.failures input.old < I.failures input.new → IsErrOf result RunFault.Read }
+    ensures too_long { length (I.given input.old) + MAX_SCRIPT < length (I.given input.new) → IsErrOf result RunFault.Read }
+    ensures unwritten { IsErrOf result RunFault.Read → O.taken output.new ≡ O.taken output.old }
+    ensures write { IsErrOf result RunFault.Write → O.failures output.old < O.failures output.new }
+    ensures write_failed { O.failures output.old < O.failures output.new → IsErrOf result RunFault.Write }
+    ensures reads { length (I.given input.new) ≤ length (I.given input.old) + MAX_SCRIPT + 1 }
+{
+    run_threads_telling(rt, alloc, false, input, output, gate)
+}
+
+/// The same, where refusals are told tersely or not: told so, a serialization failure names no objects and no transactions.
+#[tactic(auto, using(crate::proofs::TextLemmas::ran_in_phases))]
+pub fn run_threads_telling<R, I, O, G>(
+    rt: &R,
+    alloc: Global,
+    terse: bool,
+    input: &mut I,
+    output: &mut O,
+    gate: &G,
+) -> Result<Book, RunFault>
+where
+    R: Threads + Wait + Clock + Sync,
+    I: ScriptIn,
+    O: ScriptOut,
+    G: Gate + Sync,
+    ensures text { IfOk result (λ book. RunsInPhases terse (I.given input.old) (I.given input.new) (O.taken output.old) (O.taken output.new) book.seen.committed) }
+    ensures ordered { IfOk result (λ book. HaveOrder (world_of book.seen)) }
+    ensures explained { IfOk result (λ book. AreExplained (world_of book.seen)) }
+    ensures numbers { IfOk result (λ book. NumbersDiffer (world_of book.seen)) }
+    ensures recorded { IfOk result (λ book. AreRecorded (world_of book.seen)) }
+    ensures admitted { IfOk result (λ book. AreAdmitted (world_of book.seen)) }
+    ensures spelled { IfOk result (λ book. All (λ it. All IsSpellable it.statements) book.seen.committed) }
     ensures ended { OnOk result (I.ended input.new ≡ true) }
     ensures read { IsErrOf result RunFault.Read → (I.failures input.old < I.failures input.new) ⊎ (length (I.given input.old) + MAX_SCRIPT < length (I.given input.new)) }
     ensures read_failed { I.failures input.old < I.failures input.new → IsErrOf result RunFault.Read }
@@ -57,7 +92,7 @@ where
         drop(script);
         return Err(RunFault::NoMemory);
     };
-    run_named::<Brand, R, O, G>(rt, alloc, records, script.as_slice(), output, gate)
+    run_named::<Brand, R, O, G>(rt, alloc, records, terse, script.as_slice(), output, gate)
 }
 
 #[tactic(auto, using(crate::proofs::TextLemmas::closed))]
@@ -65,6 +100,7 @@ fn run_named<N, R, O, G>(
     rt: &R,
     alloc: Global,
     records: Records,
+    terse: bool,
     script: &[u8],
     output: &mut O,
     gate: &G,
@@ -79,10 +115,13 @@ where
     requires name { records.blank.name ≡ N.name }
     requires parts { records.blank.parts ≡ N.parts }
     requires texts { AsksTexts N.asks }
-    ensures text { IfOk result (λ book. GrewBy (O.taken output.old) (O.taken output.new) (λ written. IsPhasesText script.now written book.seen.committed)) }
+    ensures text { IfOk result (λ book. GrewBy (O.taken output.old) (O.taken output.new) (λ written. IsPhasesText terse script.now written book.seen.committed)) }
     ensures ordered { IfOk result (λ book. HaveOrder (world_of book.seen)) }
     ensures explained { IfOk result (λ book. AreExplained (world_of book.seen)) }
-    ensures led { IfOk result (λ book. IsLed N.asks book.seen) }
+    ensures numbers { IfOk result (λ book. NumbersDiffer (world_of book.seen)) }
+    ensures recorded { IfOk result (λ book. AreRecorded (world_of book.seen)) }
+    ensures admitted { IfOk result (λ book. AreAdmitted (world_of book.seen)) }
+    ensures asked { IfOk result (λ book. All (λ it. All N.asks it.statements) book.seen.committed) }
     ensures read { ¬ IsErrOf result RunFault.Read }
     ensures write { IsErrOf result RunFault.Write → O.failures output.old < O.failures output.new }
     ensures write_failed { O.failures output.old < O.failures output.new → IsErrOf result RunFault.Write }
@@ -92,9 +131,9 @@ where
         drop(plan);
         return Err(RunFault::NoMemory);
     };
-    let mut notes = Notes::new(alloc, TAG);
+    let mut notes = Notes::new(alloc, TAG, terse);
     match run_engine(rt, alloc, &engine, &mut notes, plan, output, gate) {
-        Ok(()) => close(engine, notes),
+        Ok(()) => close(alloc, engine, notes),
         Err(fault) => {
             drop(notes);
             drop(engine);
@@ -121,8 +160,8 @@ where
     G: Gate + Sync,
     requires wide { N.parts ≡ 18446744073709551615 }
     requires texts { AsksTexts N.asks }
-    requires fresh { notes.old ≡ opening_script.notes }
-    ensures text { OnOk result (GrewBy (O.taken output.old) (O.taken output.new) (λ written. LeadsTo plan.entry written notes.new)) }
+    requires fresh { notes.old ≡ (opening_script notes.old.terse).notes }
+    ensures text { OnOk result (GrewBy (O.taken output.old) (O.taken output.new) (λ written. LeadsTo notes.old.terse plan.entry written notes.new)) }
     ensures read { ¬ IsErrOf result RunFault.Read }
     ensures write { IsErrOf result RunFault.Write → O.failures output.old < O.failures output.new }
     ensures write_failed { O.failures output.old < O.failures output.new → IsErrOf result RunFault.Write }

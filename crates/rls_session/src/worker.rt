@@ -67,7 +67,7 @@ impl<'a, N: Named, G: Gate> Worker<'a, N, G> {
             standing: Standing::of(unlabelled, place),
             number: before as u32 + 1,
             label: Label::new(engine),
-            notes: Notes::new(alloc, engine.tag()),
+            notes: Notes::new(alloc, engine.tag(), false),
             text: Vec::new(alloc),
             fault: None,
         }
@@ -140,8 +140,11 @@ impl<'a, N: Named, G: Gate> Worker<'a, N, G> {
     {
         match self.standing {
             Standing::Served => self.execute(rt, line, command),
-            Standing::Unlabelled => self.say(Answer::Refused(Standing::Unlabelled.refusal())),
-            Standing::Beyond => self.say(Answer::Refused(Standing::Beyond.refusal())),
+            Standing::Unlabelled => self.say(
+                false,
+                Answer::Refused(Standing::Unlabelled.refusal()),
+            ),
+            Standing::Beyond => self.say(false, Answer::Refused(Standing::Beyond.refusal())),
         }
     }
 
@@ -156,17 +159,18 @@ impl<'a, N: Named, G: Gate> Worker<'a, N, G> {
             session: self.number,
             line,
         };
+        let terse = self.notes.is_terse();
         let answer = self
             .label
             .execute_at(rt, self.alloc, &at, &mut self.notes, command)?;
-        self.say(answer)
+        self.say(terse, answer)
     }
 
     /// Puts an answer behind what is to be written.
-    fn say(&mut self, answer: Answer) -> Result<(), Refusal>
-        ensures { OnOk result (self.new.track ≡ record { seat = self.old.track.seat; notes = self.old.track.notes; written = self.old.track.written ++ answer_text self.old.track.seat.name answer }) }
+    fn say(&mut self, terse: bool, answer: Answer) -> Result<(), Refusal>
+        ensures { OnOk result (self.new.track ≡ record { seat = self.old.track.seat; notes = self.old.track.notes; written = self.old.track.written ++ answer_text terse self.old.track.seat.name answer }) }
     {
-        let rendered = render(self.alloc, self.name, &answer);
+        let rendered = render(self.alloc, terse, self.name, &answer);
         drop(answer);
         let Ok(bytes) = rendered else {
             return Err(Refusal::NoMemory);

@@ -94,6 +94,7 @@ fn is_nothing(posted: Result<Option<Told>, PostFault>) -> bool {
 }
 
 fn shows_first<N: Named>(rt: &impl Abort, receipt: &Receipt<N>) {
+    assert!(rt; receipt.tag() == 1, "its engine's tag");
     assert!(rt; receipt.number() == 1 && receipt.txn() == 1, "its numbers");
     assert!(rt; receipt.role().as_str() == "postgres", "its role");
     let entry = receipt.entry();

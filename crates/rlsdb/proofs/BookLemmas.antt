@@ -1,19 +1,15 @@
 -- What is written of a book, line by line.
-use Rattle.std.proofs.Common.{◌≡◌, ◌+◌, ◌<◌, ◌++◌, ◌∷◌, [], ℕ, suc, List, length, drop, get_or, sym, subst, arith}
+use Rattle.std.proofs.Common.{◌≡◌, ◌+◌, ◌<◌, ◌++◌, ◌∷◌, [], ℕ, suc, List, length, drop, get_or, sym, subst, arith, Result, Ok, Err, IfOk}
 use Rattle.std.proofs.Math.Seq.{drop-cons}
 use Rattle.std.proofs.lemmas.List.Elements.{All-get_or}
 use Rattle.std.specs.List.{All}
-use Rattle.std.specs.Prelude.{slice_index_or}
 use Rattle.rls_laws.specs.rls_audit.specs.declared.lines.Line.{Line}
 use Rattle.rls_laws.specs.rls_audit.specs.Lines as shown
 use Rattle.rls_laws.specs.rls_audit.specs.Shows.{ShowsLine}
 use Rattle.rls_laws.specs.rls_audit.specs.Showing.{AreTexts}
-use Rattle.rls_laws.specs.rls_core.specs.Events.{Event, Rules, World, after}
-use Rattle.rls_laws.specs.rls_core.specs.Events.Event.{Begins, Posts, Commits, RollsBack}
-use Rattle.rls_laws.specs.rls_core.specs.Seen.{Seen, core_rules}
-use Rattle.rls_session.specs.rls_engine.specs.Led.{IsLed, PostsAsked}
-use Rattle.rls_laws.specs.Spelled.{PostsText}
-use Rattle.rls_session.specs.rls_script.specs.Spelled.{IsSpellable}
+use Rattle.rls_laws.specs.rls_core.specs.{Events.World, Headline.AreExplained, Headline.HaveOrder, Seen.world_of}
+use Rattle.rls_laws.specs.Spelled.{StatementsAreTexts}
+use Rattle.rls_session.specs.{rls_engine.specs.Views.Closed, rls_script.specs.Spelled.IsSpellable}
 use Rattle.rlsdb.specs.AuditLines.{WritesLine, WritesLines, none, next}
 
 -- lines behind lines
@@ -45,15 +41,8 @@ led P first from cut records place it line before between after below is holds s
 
 -- ---- texts spell what is recorded
 
-posts_text : (event : Event) → PostsAsked IsSpellable event → PostsText event
-posts_text (Begins who) is = tt
-posts_text (Posts txn asked) is = is
-posts_text (Commits txn) is = tt
-posts_text (RollsBack txn) is = tt
-
-post_texts : (events : List Event) → All (PostsAsked IsSpellable) events → All PostsText events
-post_texts events all = λ k event below. posts_text (slice_index_or events k event) (all k event below)
-
--- where events led that post what texts spell, if this law holds
-pub led_texts : ((rules : Rules) (events : List Event) → All PostsText events → All AreTexts (after rules events).committed) → (seen : Seen) → IsLed IsSpellable seen → All AreTexts seen.committed
-led_texts law seen is = subst (λ (world : World). All AreTexts world.committed) (sym is.leads) (law core_rules is.events (post_texts is.events is.asked))
+-- where an order explains the records, if this law holds
+pub texts_of : {E : Type 0} (r : Result Closed E) → ((world : World) → HaveOrder world → AreExplained world → All StatementsAreTexts world.committed → All AreTexts world.committed)
+    → IfOk r (λ book. HaveOrder (world_of book.seen)) → IfOk r (λ book. AreExplained (world_of book.seen)) → IfOk r (λ book. All (λ it. All IsSpellable it.statements) book.seen.committed) → IfOk r (λ book. All AreTexts book.seen.committed)
+texts_of (Ok book) law have explained told = law (world_of book.seen) have explained told
+texts_of (Err e) law have explained told = tt

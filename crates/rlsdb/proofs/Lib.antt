@@ -1,3 +1,6 @@
+pub mod AnswerLemmas
 pub mod BookLemmas
+pub mod CommandLemmas
+pub mod CommandLineLemmas
 pub mod LineLemmas
 pub mod WordLemmas

@@ -7,6 +7,8 @@ use Rattle.rlsdb.specs.declared.audit_file.NextLine.TheVariants as came
 use Rattle.rls_laws.specs.rls_audit.specs.Lines as shown
 use Rattle.rls_laws.specs.rls_audit.specs.Reading.{line_found}
 use Rattle.rls_laws.specs.rls_audit.specs.Shows.{ShowsLine}
+use Rattle.rls_laws.specs.rls_core.specs.Calls.{IsOrderBy}
+use Rattle.rls_laws.specs.rls_core.specs.Records.{Record}
 use Rattle.rls_laws.specs.rls_check.specs.declared.converting.Converter.{Converter}
 use Rattle.rls_laws.specs.rls_check.specs.Wholes.{HasConverted}
 
@@ -53,3 +55,9 @@ pub record WritesLine (line : Line) (before after : List ℕ) : Type 0 where
 pub data WritesLines : List shown.Line → List ℕ → List ℕ → Type 0 where
   none : {bytes : List ℕ} → WritesLines [] bytes bytes
   next : {it : shown.Line} {more : List shown.Line} {before middle after : List ℕ} (line : Line) → ShowsLine line it → WritesLine line before middle → WritesLines more middle after → WritesLines (it ∷ more) before after
+
+-- the audit of the records was written, with an order of theirs that keeps what has to stand before what
+pub record WritesAudit (records : List Record) (before after : List ℕ) : Type 0 where
+  pub order : List ℕ
+  pub keeps : IsOrderBy records order
+  pub lines : WritesLines (shown.audit_of records order) before after

@@ -1,5 +1,5 @@
 -- What ends a command, by what failed, and the exit status that tells it.
-use Rattle.std.specs.Prelude.{◌≡◌, ◌⊎◌, ℕ, Bool, true}
+use Rattle.std.specs.Prelude.{◌≡◌, ◌⊎◌, ℕ, Bool, true, false, Result, Ok, Err}
 use Rattle.rls_value.specs.declared.refusal.Refusal.{Refusal}
 use Rattle.rls_value.specs.declared.refusal.Refusal.TheVariants as r
 use Rattle.rls_session.specs.rls_script.specs.declared.fault.RunFault.TheVariants as run
@@ -27,6 +27,12 @@ abbrev pub EndsWith : Fault → ℕ → Type 0
 EndsWith (fault.BadLine line) status = (status ≡ 3) ⊎ (status ≡ 1)
 EndsWith (fault.SameFile argument) status = status ≡ 2
 EndsWith other status = status ≡ 1
+
+-- the same by what a command came to: 0 where it is done or answers yes, 3 where it answers no
+abbrev pub EndsAnswer : Result Bool Fault → ℕ → Type 0
+EndsAnswer (Ok true) status = status ≡ 0
+EndsAnswer (Ok false) status = status ≡ 3
+EndsAnswer (Err fault) status = EndsWith fault status
 
 -- the same by what `clap` says: 1 for want of memory, 0 for help and the version, or 1 where they can't be written, and else 2
 abbrev pub EndsWithKind : ErrorKind → ℕ → Type 0

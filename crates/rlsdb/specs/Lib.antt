@@ -1,3 +1,6 @@
 pub mod Words
+pub mod CommandLine
 pub mod AuditLines
+pub mod Answers
 pub mod Faults
+pub mod Commands

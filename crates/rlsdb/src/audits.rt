@@ -1,66 +1,192 @@
 //! The commands about audits.
 
-ghost use Rattle.std.specs.Prelude.{◌≡◌, ◌++◌, ℕ, true, List, IfOk, OnOk};
-ghost use Rattle.rls_laws.specs.rls_check.specs.Wholes.{AreConverted, HasConverted, HasRead, IsAuditOf};
+ghost use Rattle.std.specs.Prelude.{◌≡◌, ◌++◌, ◌∷◌, [], ℕ, true, List, is_some, IfOk, OnOk};
+ghost use Rattle.std.specs.Io.Buffered.{writer_buffer};
+ghost use Rattle.rls_laws.specs.rls_check.specs.Findings.{finding_text};
+ghost use Rattle.rls_laws.specs.rls_check.specs.Wholes.{HasConverted, HasRead, IsAuditOf};
+ghost use Rattle.rls_laws.specs.rls_check.specs.WhyTexts.{explanation_text};
+ghost use Rattle.rls_session.specs.rls_script.specs.Streams.{GrewBy};
+ghost use Rattle.rlsdb.specs.Answers.{IsCheckOf, IsMigrationOf, IsOrderOf, IsWhyOf, order_text, why_text};
 ghost use Rattle.rlsdb.specs.AuditLines.{Converted, Reads, ended_lines};
 ghost use Rattle.rlsdb.specs.Faults.{IsToldOf};
 
 use crate::audit_file::{AuditIn, MAX_AUDIT, NextLine, write_text_line};
 use crate::device::{DeviceIn, DeviceOut, Nowhere};
 use crate::fault::Fault;
-use crate::same_file::is_same_file;
+use crate::out_file::OutFile;
+use crate::same_file::require_own;
 use crate::words::Explain;
-use rls_laws::rls_check::{Audit, Converter, Finding, Reader};
-use rls_session::rls_script::{RunFault, ScriptIn, ScriptOut};
+use rls_laws::rls_check::{Audit, Converter, Finding, Reader, Why};
+use rls_session::rls_script::{Failed, RunFault, ScriptIn, ScriptOut, write_all};
 use std::alloc::Global;
+use std::fs;
 use std::fs::File;
-use std::io::Write;
-use std::{fs, io};
 
 /// Writes the numbers of the serial order, one a line.
-pub fn order<'a>(rt: &HostRuntime, name: &'a str) -> Result<(), Fault<'a>> {
-    let audit = audit_of(rt, name)?;
-    let mut output = io::BufWriter::new(rt.alloc(), io::writer(rt))?;
-    for txn in audit.order() {
-        writeln!(output, "{txn}")?;
+#[tactic(auto, using(crate::proofs::AnswerLemmas::of_some))]
+pub fn order<'a, O: ScriptOut>(
+    rt: &HostRuntime,
+    name: &'a str,
+    output: &mut O,
+) -> Result<(), Fault<'a>>
+    ensures { OnOk result (GrewBy (O.taken output.old) (O.taken output.new) (λ written. (texts : List (List ℕ)) × IsOrderOf texts written)) }
+{
+    let mut input = audit_in(rt, name)?;
+    write_order(rt.alloc(), &mut input, output)?;
+    Ok(())
+}
+
+/// The same of the audit that is read.
+#[tactic(auto, using(crate::proofs::AnswerLemmas::ordered))]
+fn write_order<'a, I: ScriptIn + Drop, O: ScriptOut>(
+    alloc: Global,
+    input: &mut AuditIn<I>,
+    output: &mut O,
+) -> Result<(), Fault<'a>>
+    ensures { OnOk result (Reads (I.given input.old.input) (I.given input.new.input) (λ texts. GrewBy (O.taken output.old) (O.taken output.new) (IsOrderOf texts))) }
+{
+    let audit = read_audit(alloc, input)?;
+    write_numbers(alloc, audit.order(), output)?;
+    Ok(())
+}
+
+/// Writes numbers, one a line.
+fn write_numbers<O: ScriptOut>(
+    alloc: Global,
+    mut numbers: &[u64],
+    output: &mut O,
+) -> Result<(), RunFault>
+    ensures { OnOk result (O.taken output.new ≡ O.taken output.old ++ order_text numbers.entry.now) }
+{
+    while let [number, rest @ ..] = numbers {
+        let text = format!(in alloc; "{number}")?;
+        write_text_line(text.as_str(), output)?;
+        numbers = rest;
     }
-    Ok(output.flush()?)
+    Ok(())
 }
 
 /// Writes what is found first, and says whether the audit holds.
-pub fn check<'a>(rt: &HostRuntime, name: &'a str) -> Result<bool, Fault<'a>> {
-    let audit = audit_of(rt, name)?;
-    let finding = audit.check(rt.alloc())?;
+#[tactic(auto, using(crate::proofs::AnswerLemmas::of_some))]
+pub fn check<'a, O: ScriptOut>(
+    rt: &HostRuntime,
+    name: &'a str,
+    output: &mut O,
+) -> Result<bool, Fault<'a>>
+    ensures { IfOk result (λ holds. GrewBy (O.taken output.old) (O.taken output.new) (λ written. (texts : List (List ℕ)) × IsCheckOf texts written holds)) }
+{
+    let mut input = audit_in(rt, name)?;
+    Ok(write_check(rt.alloc(), &mut input, output)?)
+}
+
+/// The same of the audit that is read.
+#[tactic(auto, using(crate::proofs::AnswerLemmas::checked))]
+fn write_check<'a, I: ScriptIn + Drop, O: ScriptOut>(
+    alloc: Global,
+    input: &mut AuditIn<I>,
+    output: &mut O,
+) -> Result<bool, Fault<'a>>
+    ensures { IfOk result (λ holds. Reads (I.given input.old.input) (I.given input.new.input) (λ texts. GrewBy (O.taken output.old) (O.taken output.new) (λ written. IsCheckOf texts written holds))) }
+{
+    let audit = read_audit(alloc, input)?;
+    let finding = audit.check(alloc)?;
     drop(audit);
-    println!(rt; "{finding}")?;
-    Ok(finding == Finding::Holds)
+    write_finding(alloc, finding, output)?;
+    Ok(is_yes(finding))
+}
+
+/// Writes what is found.
+fn write_finding<O: ScriptOut>(
+    alloc: Global,
+    finding: Finding,
+    output: &mut O,
+) -> Result<(), RunFault>
+    ensures { OnOk result (O.taken output.new ≡ O.taken output.old ++ (finding_text finding ++ (10 ∷ []))) }
+{
+    let text = format!(in alloc; "{finding}")?;
+    write_text_line(text.as_str(), output)
+}
+
+fn is_yes(finding: Finding) -> bool
+    ensures { result ≡ Rattle.rlsdb.specs.Answers.is_yes finding }
+{
+    matches!(finding, Finding::Holds)
 }
 
 /// Writes why a statement did what it did, and says whether there is such a decision.
-pub fn explain<'a>(rt: &HostRuntime, asked: Explain<'a>) -> Result<bool, Fault<'a>> {
-    let audit = audit_of(rt, asked.audit)?;
-    let why = audit.explain(rt.alloc(), asked.txn, asked.statement, asked.row)?;
+#[tactic(auto, using(crate::proofs::AnswerLemmas::of_some))]
+pub fn explain<'a, O: ScriptOut>(
+    rt: &HostRuntime,
+    asked: Explain<'a>,
+    output: &mut O,
+) -> Result<bool, Fault<'a>>
+    ensures { IfOk result (λ said. GrewBy (O.taken output.old) (O.taken output.new) (λ written. (texts : List (List ℕ)) × IsWhyOf asked.entry.txn asked.entry.statement asked.entry.row texts written said)) }
+{
+    let mut input = audit_in(rt, asked.audit)?;
+    Ok(write_explained(rt.alloc(), &mut input, asked, output)?)
+}
+
+/// The same of the audit that is read.
+#[tactic(auto, using(crate::proofs::AnswerLemmas::explained))]
+fn write_explained<'a, I: ScriptIn + Drop, O: ScriptOut>(
+    alloc: Global,
+    input: &mut AuditIn<I>,
+    asked: Explain<'a>,
+    output: &mut O,
+) -> Result<bool, Fault<'a>>
+    ensures { IfOk result (λ said. Reads (I.given input.old.input) (I.given input.new.input) (λ texts. GrewBy (O.taken output.old) (O.taken output.new) (λ written. IsWhyOf asked.entry.txn asked.entry.statement asked.entry.row texts written said))) }
+{
+    let audit = read_audit(alloc, input)?;
+    let why = audit.explain(alloc, asked.txn, asked.statement, asked.row)?;
     drop(audit);
+    Ok(write_why(alloc, why, output)?)
+}
+
+/// Writes why, or that there is nothing to say, and says whether there is.
+fn write_why<O: ScriptOut>(
+    alloc: Global,
+    why: Option<Why>,
+    output: &mut O,
+) -> Result<bool, RunFault>
+    ensures text { OnOk result (O.taken output.new ≡ O.taken output.old ++ why_text why) }
+    ensures said { IfOk result (λ said. said ≡ is_some why) }
+{
     match why {
         Some(why) => {
-            let lines = why.lines(rt.alloc())?;
-            drop(why);
-            print!(rt; "{lines}")?;
+            write_lines(alloc, why, output)?;
             Ok(true)
         }
         None => {
-            println!(rt; "no such decision")?;
+            write_text_line("no such decision", output)?;
             Ok(false)
         }
     }
 }
 
-/// Writes the audit again in the second format. It is read twice, so that the second file is opened only where the first one is
-/// an audit, and neither stands whole in memory.
-pub fn migrate<'a>(rt: &HostRuntime, from: &'a str, to: &'a str) -> Result<(), Fault<'a>> {
-    if is_same_file(rt, from, to) {
-        return Err(Fault::SameFile("AUDIT"));
+fn write_lines<O: ScriptOut>(alloc: Global, why: Why, output: &mut O) -> Result<(), RunFault>
+    ensures { OnOk result (O.taken output.new ≡ O.taken output.old ++ explanation_text why) }
+{
+    let lines = why.lines(alloc);
+    drop(why);
+    let lines = lines?;
+    match write_all(lines.as_bytes(), output) {
+        Ok(()) => Ok(()),
+        Err(Failed) => Err(RunFault::Write),
     }
+}
+
+/// Writes the audit again in the second format. It is read twice, so that the second file is opened only where the first one is
+/// an audit, and neither stands whole in memory. The file that took it is given back, and has its place.
+#[tactic(auto, using(crate::proofs::AnswerLemmas::migrated_whole))]
+pub fn migrate<'a>(
+    rt: &HostRuntime,
+    from: &'a str,
+    to: &'a str,
+) -> Result<DeviceOut<File>, Fault<'a>>
+    ensures audit { IfOk result (λ file. (texts : List (List ℕ)) × IsMigrationOf texts file.taken.bytes) }
+    ensures emptied { IfOk result (λ file. writer_buffer file.writer ≡ []) }
+{
+    require_own(rt, from, "AUDIT", to)?;
     let metadata = fs::metadata(rt, from).map_err(|error| Fault::of_audit(&error))?;
     if !metadata.is_file() {
         return Err(Fault::Ended(RunFault::Read));
@@ -69,18 +195,17 @@ pub fn migrate<'a>(rt: &HostRuntime, from: &'a str, to: &'a str) -> Result<(), F
     convert(rt.alloc(), &mut first, &mut Nowhere::new())?;
     drop(first);
     let mut again = audit_in(rt, from)?;
-    let file = File::create(rt, to).map_err(|error| Fault::of_create(to, error))?;
-    let mut output = DeviceOut::new(rt.alloc(), file)?;
-    convert(rt.alloc(), &mut again, &mut output)?;
-    Ok(output.finish()?)
+    let mut file = OutFile::open(rt, to)?;
+    match convert(rt.alloc(), &mut again, &mut file.output) {
+        Ok(()) => file.put(rt),
+        Err(fault) => {
+            file.discard(rt);
+            Err(fault)
+        }
+    }
 }
 
-/// The audit in the file of that name.
-fn audit_of<'a>(rt: &HostRuntime, name: &'a str) -> Result<Audit, Fault<'a>> {
-    let mut input = audit_in(rt, name)?;
-    read_audit(rt.alloc(), &mut input)
-}
-
+/// The audit file of that name.
 // A file that is too long is not read for it: its first line may be as long.
 fn audit_in<'a>(rt: &HostRuntime, name: &'a str) -> Result<AuditIn<DeviceIn<File>>, Fault<'a>> {
     let file = File::open(rt, name).map_err(|error| Fault::of_audit(&error))?;
@@ -128,12 +253,13 @@ fn read_lines<'a, I: ScriptIn + Drop>(
 }
 
 /// Writes the audit that is read in the second format.
+#[tactic(auto, using(crate::proofs::AnswerLemmas::migration))]
 fn convert<'a, I: ScriptIn + Drop, O: ScriptOut>(
     alloc: Global,
     input: &mut AuditIn<I>,
     output: &mut O,
 ) -> Result<(), Fault<'a>>
-    ensures { OnOk result (Reads (I.given input.old.input) (I.given input.new.input) (λ texts. (written : List (List ℕ)) × (O.taken output.new ≡ O.taken output.old ++ ended_lines written) × AreConverted texts written)) }
+    ensures { OnOk result (Reads (I.given input.old.input) (I.given input.new.input) (λ texts. GrewBy (O.taken output.old) (O.taken output.new) (IsMigrationOf texts))) }
 {
     match convert_lines(alloc, input, output) {
         Ok(converter) => Ok(converter.finish()?),

@@ -1,7 +1,14 @@
 //! The command line: its commands with their arguments, and what they ask for.
 
+ghost use Rattle.std.specs.Prelude.{◌≡◌, false, map, codes, Some, option_map, IfOk, IfErr};
+ghost use Rattle.clap.specs.Words.{app_of, first_of, found_of, new_app, new_rule, rows_of, rule_of};
+ghost use Rattle.clap.specs.declared.builder.command.Command.TheViews.{out-Command};
+ghost use Rattle.rlsdb.specs.declared.command_line.Mistake.TheVariants.{Words};
+ghost use Rattle.rlsdb.specs.CommandLine.{Asks, AsksFor, IsFlag, IsMistaken, IsNumber, IsOfMemory, IsOwn, IsRow, audit_option, check_line, command_line, explain_line, migrate_line, needed, order_line, program_line, run_line, terse_flag, threads_flag};
+
 use crate::words::{Explain, Request, ScriptFile, number_of, row_of};
 use clap::{Arg, ArgAction, ArgMatches, Command};
+use rls_value::RowId;
 use std::alloc::{AllocError, Global};
 use std::convert::AsStr;
 
@@ -67,138 +74,281 @@ pub enum Mistake<'a> {
 }
 
 impl<'a> From<clap::Error> for Mistake<'a> {
+    ghost from_gives = { λ error mistake. mistake ≡ Words error };
+
     fn from(error: clap::Error) -> Mistake<'a> {
         Mistake::Words(error)
     }
 }
 
 impl<'a> From<AllocError> for Mistake<'a> {
+    ghost from_gives = { λ _ mistake. IsOfMemory mistake };
+
     fn from(error: AllocError) -> Mistake<'a> {
         Mistake::Words(clap::Error::from(error))
     }
 }
 
 /// What the words ask for.
-pub fn request_of<'a, T: AsStr>(alloc: Global, words: &'a [T]) -> Result<Request<'a>, Mistake<'a>> {
-    let matches = command(alloc)?.try_get_matches_from(words)?;
+#[tactic(auto, using(crate::proofs::CommandLineLemmas::of_memory, crate::proofs::CommandLineLemmas::own))]
+pub fn request_of<'a, T: AsStr>(alloc: Global, words: &'a [T]) -> Result<Request<'a>, Mistake<'a>>
+    ensures ok { IfOk result (Asks (map T.text words.now)) }
+    ensures err { IfErr result (IsMistaken (map T.text words.now)) }
+{
+    let command = command(alloc)?;
+    let matches = command.try_get_matches_from(words)?;
     match matches.subcommand() {
-        Some(("explain", words)) => explain_of(words),
-        Some(("migrate", words)) => migrate_of(words),
-        Some((name, words)) => file_request(name, words).ok_or(Mistake::Nothing),
+        Some((name, found)) => Ok(request_in(name, found)?),
         None => Err(Mistake::Nothing),
     }
 }
 
-/// The request of a command that takes its words as they are.
-fn file_request<'a>(name: &str, words: &ArgMatches<'a>) -> Option<Request<'a>> {
+/// What the command of that name asks for, with its words.
+fn request_in<'a>(name: &str, words: &ArgMatches<'a>) -> Result<Request<'a>, Mistake<'a>>
+    ensures ok { IfOk result (AsksFor name.now (rows_of (found_of words.now))) }
+    ensures err { IfErr result IsOwn }
+{
     match name {
-        "run" => Some(Request::Run(ScriptFile {
-            file: words.get_str("FILE")?,
-            threads: words.get_flag("threads"),
-            audit: words.get_str("audit"),
-        })),
-        "order" => Some(Request::Order(words.get_str("AUDIT")?)),
-        "check" => Some(Request::Check(words.get_str("AUDIT")?)),
-        _ => None,
+        "run" => run_of(words),
+        "order" => Ok(Request::Order(value(words, "AUDIT")?)),
+        "check" => Ok(Request::Check(value(words, "AUDIT")?)),
+        "explain" => explain_of(words),
+        "migrate" => migrate_of(words),
+        _ => Err(Mistake::Nothing),
     }
 }
 
-fn explain_of<'a>(words: &ArgMatches<'a>) -> Result<Request<'a>, Mistake<'a>> {
-    let audit = words.get_str("AUDIT").ok_or(Mistake::Nothing)?;
-    let txn = number(words, "TXN", "<TXN>")?;
-    let statement = number(words, "STATEMENT", "<STATEMENT>")?;
-    let row = match words.get_str("ROW") {
-        Some(text) => Some(row_of(text).ok_or(Mistake::Value("[ROW]", text, ROW))?),
-        None => None,
-    };
-    Ok(Request::Explain(Explain {
-        audit,
-        txn,
-        statement,
-        row,
+fn run_of<'a>(words: &ArgMatches<'a>) -> Result<Request<'a>, Mistake<'a>>
+    ensures ok { IfOk result (AsksFor (codes "run") (rows_of (found_of words.now))) }
+    ensures err { IfErr result IsOwn }
+{
+    Ok(Request::Run(ScriptFile {
+        file: value(words, "FILE")?,
+        threads: flag(words, "threads"),
+        audit: given(words, "audit"),
+        terse: flag(words, "terse-conflicts"),
     }))
 }
 
-fn migrate_of<'a>(words: &ArgMatches<'a>) -> Result<Request<'a>, Mistake<'a>> {
-    let audit = words.get_str("AUDIT").ok_or(Mistake::Nothing)?;
-    let out = words.get_str("OUT").ok_or(Mistake::Nothing)?;
-    Ok(Request::Migrate(audit, out))
+fn explain_of<'a>(words: &ArgMatches<'a>) -> Result<Request<'a>, Mistake<'a>>
+    ensures ok { IfOk result (AsksFor (codes "explain") (rows_of (found_of words.now))) }
+    ensures err { IfErr result IsOwn }
+{
+    Ok(Request::Explain(Explain {
+        audit: value(words, "AUDIT")?,
+        txn: number(words, "TXN", "<TXN>")?,
+        statement: number(words, "STATEMENT", "<STATEMENT>")?,
+        row: row(words)?,
+    }))
+}
+
+fn migrate_of<'a>(words: &ArgMatches<'a>) -> Result<Request<'a>, Mistake<'a>>
+    ensures ok { IfOk result (AsksFor (codes "migrate") (rows_of (found_of words.now))) }
+    ensures err { IfErr result IsOwn }
+{
+    Ok(Request::Migrate(value(words, "AUDIT")?, value(words, "OUT")?))
+}
+
+/// Whether the flag is given.
+fn flag(words: &ArgMatches<'_>, name: &str) -> bool
+    ensures { IsFlag name.now (rows_of (found_of words.now)) result }
+{
+    words.get_flag(name)
+}
+
+/// The argument's value, if it has one.
+fn given<'a>(words: &ArgMatches<'a>, name: &str) -> Option<&'a str>
+    ensures { option_map (λ text. text.now) result ≡ first_of name.now (rows_of (found_of words.now)) }
+{
+    words.get_str(name)
+}
+
+/// The argument's value.
+fn value<'a>(words: &ArgMatches<'a>, name: &str) -> Result<&'a str, Mistake<'a>>
+    ensures ok { IfOk result (λ text. first_of name.now (rows_of (found_of words.now)) ≡ Some text.now) }
+    ensures err { IfErr result IsOwn }
+{
+    given(words, name).ok_or(Mistake::Nothing)
 }
 
 /// The number that is the argument's value.
-fn number<'a>(words: &ArgMatches<'a>, name: &str, shown: &'static str) -> Result<u64, Mistake<'a>> {
-    let text = words.get_str(name).ok_or(Mistake::Nothing)?;
-    number_of(text).ok_or(Mistake::Value(shown, text, NUMBER))
+fn number<'a>(words: &ArgMatches<'a>, name: &str, shown: &'static str) -> Result<u64, Mistake<'a>>
+    ensures ok { IfOk result (IsNumber name.now (rows_of (found_of words.now))) }
+    ensures err { IfErr result IsOwn }
+{
+    let text = value(words, name)?;
+    match number_of(text) {
+        Some(number) => Ok(number),
+        None => Err(Mistake::Value(shown, text, NUMBER)),
+    }
 }
 
-fn command<'a>(alloc: Global) -> Result<Command<'a>, AllocError> {
-    Command::new(alloc, "rlsdb")
-        .version(VERSION)
-        .about("A database with row-level security")
-        .after_help(AFTER_HELP)
-        .subcommand_required(true)
-        .subcommand(run_command(alloc)?)?
-        .subcommand(order_command(alloc)?)?
-        .subcommand(check_command(alloc)?)?
-        .subcommand(explain_command(alloc)?)?
-        .subcommand(migrate_command(alloc)?)
+/// The row's number, if it is given.
+fn row<'a>(words: &ArgMatches<'a>) -> Result<Option<RowId>, Mistake<'a>>
+    ensures ok { IfOk result (IsRow (rows_of (found_of words.now))) }
+    ensures err { IfErr result IsOwn }
+{
+    let Some(text) = given(words, "ROW") else {
+        return Ok(None);
+    };
+    match row_of(text) {
+        Some(row) => Ok(Some(row)),
+        None => Err(Mistake::Value("[ROW]", text, ROW)),
+    }
 }
 
-fn run_command<'a>(alloc: Global) -> Result<Command<'a>, AllocError> {
-    let threads = Arg::new(alloc, "threads")
+fn command<'a>(alloc: Global) -> Result<Command<'a>, AllocError>
+    ensures app { IfOk result (λ made. app_of made ≡ command_line) }
+{
+    let program = program(alloc);
+    let program = program.subcommand(run_command(alloc)?)?;
+    let program = program.subcommand(order_command(alloc)?)?;
+    let program = program.subcommand(check_command(alloc)?)?;
+    let program = program.subcommand(explain_command(alloc)?)?;
+    let program = program.subcommand(migrate_command(alloc)?)?;
+    Ok(program)
+}
+
+/// The program, without its commands.
+fn program<'a>(alloc: Global) -> Command<'a>
+    ensures { app_of result ≡ program_line }
+{
+    named(
+        alloc,
+        "rlsdb",
+        "A database with row-level security",
+        AFTER_HELP,
+    )
+    .version(VERSION)
+    .subcommand_required(true)
+}
+
+/// A command of that name, with its help, before any argument.
+fn named<'a>(
+    alloc: Global,
+    name: &'static str,
+    about: &'static str,
+    after_help: &'static str,
+) -> Command<'a>
+    ensures app { app_of result ≡ new_app name.now }
+    ensures local { (out-Command result).has_globals ≡ false }
+{
+    Command::new(alloc, name)
+        .about(about)
+        .after_help(after_help)
+}
+
+fn run_command<'a>(alloc: Global) -> Result<Command<'a>, AllocError>
+    ensures app { IfOk result (λ made. app_of made ≡ run_line) }
+    ensures local { IfOk result (λ made. (out-Command made).has_globals ≡ false) }
+{
+    let about = "Runs a script on an empty database and writes each answer under its label";
+    let script = file(
+        alloc,
+        "FILE",
+        "The script to run, or `-` for standard input",
+    );
+    let command = named(alloc, "run", about, AFTER_RUN);
+    let command = command.arg(script)?;
+    let command = command.arg(threads(alloc))?;
+    let command = command.arg(audit_out(alloc))?;
+    let command = command.arg(terse_conflicts(alloc))?;
+    Ok(command)
+}
+
+fn threads<'a>(alloc: Global) -> Arg<'a>
+    ensures rule { rule_of result ≡ threads_flag }
+    ensures local { result.global ≡ false }
+{
+    Arg::new(alloc, "threads")
         .long("threads")
         .action(ArgAction::SetTrue)
-        .help("Give each label a thread of its own");
-    let audit = Arg::new(alloc, "audit")
+        .help("Give each label a thread of its own")
+}
+
+fn audit_out<'a>(alloc: Global) -> Arg<'a>
+    ensures rule { rule_of result ≡ audit_option }
+    ensures local { result.global ≡ false }
+{
+    Arg::new(alloc, "audit")
         .long("audit")
         .value_name("OUT")
-        .help("Write an audit of the run to this file");
-    Command::new(alloc, "run")
-        .about("Runs a script on an empty database and writes each answer under its label")
-        .after_help(AFTER_RUN)
-        .arg(file(
-            alloc,
-            "FILE",
-            "The script to run, or `-` for standard input",
-        ))?
-        .arg(threads)?
-        .arg(audit)
+        .help("Write an audit of the run to this file")
 }
 
-fn order_command<'a>(alloc: Global) -> Result<Command<'a>, AllocError> {
-    Command::new(alloc, "order")
-        .about("Writes the serial order of an audit")
-        .after_help(AFTER_ORDER)
-        .arg(audit(alloc))
+fn terse_conflicts<'a>(alloc: Global) -> Arg<'a>
+    ensures rule { rule_of result ≡ terse_flag }
+    ensures local { result.global ≡ false }
+{
+    Arg::new(alloc, "terse-conflicts")
+        .long("terse-conflicts")
+        .action(ArgAction::SetTrue)
+        .help("Answer 40001 without naming rows, keys and transactions")
 }
 
-fn check_command<'a>(alloc: Global) -> Result<Command<'a>, AllocError> {
-    Command::new(alloc, "check")
-        .about("Runs the transactions of an audit in its order, and says whether all is as it says")
-        .after_help(AFTER_CHECK)
-        .arg(audit(alloc))
+fn order_command<'a>(alloc: Global) -> Result<Command<'a>, AllocError>
+    ensures app { IfOk result (λ made. app_of made ≡ order_line) }
+    ensures local { IfOk result (λ made. (out-Command made).has_globals ≡ false) }
+{
+    let about = "Writes the serial order of an audit";
+    let command = named(alloc, "order", about, AFTER_ORDER);
+    let command = command.arg(audit(alloc))?;
+    Ok(command)
 }
 
-fn explain_command<'a>(alloc: Global) -> Result<Command<'a>, AllocError> {
-    let row = Arg::new(alloc, "ROW").help("The row, as T.N");
-    Command::new(alloc, "explain")
-        .about("Writes why a statement of an audit did what it did")
-        .after_help(AFTER_EXPLAIN)
-        .arg(audit(alloc))?
-        .arg(file(alloc, "TXN", "The transaction's number"))?
-        .arg(file(alloc, "STATEMENT", "The statement's number in it, from 1"))?
-        .arg(row)
+fn check_command<'a>(alloc: Global) -> Result<Command<'a>, AllocError>
+    ensures app { IfOk result (λ made. app_of made ≡ check_line) }
+    ensures local { IfOk result (λ made. (out-Command made).has_globals ≡ false) }
+{
+    let about =
+        "Runs the transactions of an audit in its order, and says whether all is as it says";
+    let command = named(alloc, "check", about, AFTER_CHECK);
+    let command = command.arg(audit(alloc))?;
+    Ok(command)
 }
 
-fn migrate_command<'a>(alloc: Global) -> Result<Command<'a>, AllocError> {
-    Command::new(alloc, "migrate")
-        .about("Writes an audit again in the newest format")
-        .after_help(AFTER_MIGRATE)
-        .arg(audit(alloc))?
-        .arg(file(alloc, "OUT", "The file that it is written to"))
+fn explain_command<'a>(alloc: Global) -> Result<Command<'a>, AllocError>
+    ensures app { IfOk result (λ made. app_of made ≡ explain_line) }
+    ensures local { IfOk result (λ made. (out-Command made).has_globals ≡ false) }
+{
+    let about = "Writes why a statement of an audit did what it did";
+    let txn = file(alloc, "TXN", "The transaction's number");
+    let statement = file(alloc, "STATEMENT", "The statement's number in it, from 1");
+    let command = named(alloc, "explain", about, AFTER_EXPLAIN);
+    let command = command.arg(audit(alloc))?;
+    let command = command.arg(txn)?;
+    let command = command.arg(statement)?;
+    let command = command.arg(row_argument(alloc))?;
+    Ok(command)
 }
 
-fn audit<'a>(alloc: Global) -> Arg<'a> {
+fn row_argument<'a>(alloc: Global) -> Arg<'a>
+    ensures rule { rule_of result ≡ new_rule (codes "ROW") }
+    ensures local { result.global ≡ false }
+{
+    Arg::new(alloc, "ROW").help("The row, as T.N")
+}
+
+fn migrate_command<'a>(alloc: Global) -> Result<Command<'a>, AllocError>
+    ensures app { IfOk result (λ made. app_of made ≡ migrate_line) }
+    ensures local { IfOk result (λ made. (out-Command made).has_globals ≡ false) }
+{
+    let out = file(alloc, "OUT", "The file that it is written to");
+    let command = named(
+        alloc,
+        "migrate",
+        "Writes an audit again in the newest format",
+        AFTER_MIGRATE,
+    );
+    let command = command.arg(audit(alloc))?;
+    let command = command.arg(out)?;
+    Ok(command)
+}
+
+fn audit<'a>(alloc: Global) -> Arg<'a>
+    ensures rule { rule_of result ≡ needed (codes "AUDIT") }
+    ensures local { result.global ≡ false }
+{
     file(
         alloc,
         "AUDIT",
@@ -206,6 +356,9 @@ fn audit<'a>(alloc: Global) -> Arg<'a> {
     )
 }
 
-fn file<'a>(alloc: Global, name: &'static str, help: &'static str) -> Arg<'a> {
+fn file<'a>(alloc: Global, name: &'static str, help: &'static str) -> Arg<'a>
+    ensures rule { rule_of result ≡ needed name.now }
+    ensures local { result.global ≡ false }
+{
     Arg::new(alloc, name).required(true).help(help)
 }

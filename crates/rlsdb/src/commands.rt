@@ -1,16 +1,22 @@
 //! The commands, and how the program ends.
 
-ghost use Rattle.std.specs.Prelude.{◌≡◌, ◌≤◌};
+ghost use Rattle.std.specs.Prelude.{◌≡◌, ◌≤◌, ℕ, List, map, IfOk};
 ghost use Rattle.std.specs.IoError.{error_kind};
 ghost use Rattle.std.specs.declared.io.ErrorKind.TheVariants.{OutOfMemory};
-ghost use Rattle.rlsdb.specs.Faults.{EndsWith, EndsMistake};
+ghost use Rattle.rls_session.specs.rls_script.specs.Streams.{GrewBy};
+ghost use Rattle.rlsdb.specs.Answers.{Answers};
+ghost use Rattle.rlsdb.specs.Commands.{EndsWords};
+ghost use Rattle.rlsdb.specs.Faults.{EndsAnswer, EndsWith, EndsMistake};
 
 use crate::command_line::Mistake;
+use crate::device::DeviceOut;
 use crate::fault::Fault;
 use crate::words::Request;
 use crate::{audits, command_line, running};
 use clap::error::ErrorKind;
 use rls_session::rls_script::RunFault;
+use std::convert::AsStr;
+use std::io::Write;
 use std::sync::Wait;
 use std::thread::Threads;
 use std::time::Clock;
@@ -29,6 +35,13 @@ const NO: u8 = 3;
 // What stands behind a mistake of usage.
 const MORE: &str = "\nFor more information, try '--help'.";
 
+/// The end where the system gives no stack.
+pub fn no_stack(rt: &HostRuntime) -> u8
+    ensures { result ≡ 1 }
+{
+    report(rt, Fault::Ended(RunFault::NoMemory))
+}
+
 /// Does what the words of the command line ask for, and gives the exit status.
 pub fn run<W: Threads + Wait + Clock + Sync>(rt: &HostRuntime, waits: &W) -> u8
     ensures { result ≤ 3 }
@@ -40,13 +53,32 @@ pub fn run<W: Threads + Wait + Clock + Sync>(rt: &HostRuntime, waits: &W) -> u8
     let Ok(words) = words.collect::<Vec<String>>(rt.alloc()) else {
         return report(rt, Fault::Ended(RunFault::NoMemory));
     };
-    match command_line::request_of(rt.alloc(), words.as_slice()) {
-        Ok(request) => match answer(rt, waits, request) {
-            Ok(true) => DONE,
-            Ok(false) => NO,
-            Err(fault) => report(rt, fault),
-        },
+    run_words(rt, waits, words.as_slice())
+}
+
+/// The same of these words.
+#[tactic(auto, using(crate::proofs::CommandLemmas::by_request, crate::proofs::CommandLemmas::by_mistake))]
+fn run_words<W: Threads + Wait + Clock + Sync, T: AsStr>(
+    rt: &HostRuntime,
+    waits: &W,
+    words: &[T],
+) -> u8
+    ensures { EndsWords (map T.text words.now) result }
+{
+    match command_line::request_of(rt.alloc(), words) {
+        Ok(request) => end(rt, serve(rt, waits, request)),
         Err(mistake) => explain(rt, mistake),
+    }
+}
+
+/// Ends as the command came out.
+fn end(rt: &HostRuntime, came: Result<bool, Fault<'_>>) -> u8
+    ensures { EndsAnswer came.entry result }
+{
+    match came {
+        Ok(true) => DONE,
+        Ok(false) => NO,
+        Err(fault) => report(rt, fault),
     }
 }
 
@@ -62,18 +94,50 @@ fn unread_words(rt: &HostRuntime, error: &io::Error) -> u8
     USAGE
 }
 
-/// Does what is asked for. False where the answer is no.
-fn answer<'a, W: Threads + Wait + Clock + Sync>(
+/// Does what is asked for, with the standard output. False where the answer is no.
+#[tactic(auto, using(crate::proofs::AnswerLemmas::some_of))]
+fn serve<'a, W: Threads + Wait + Clock + Sync>(
     rt: &HostRuntime,
     waits: &W,
     request: Request<'a>,
-) -> Result<bool, Fault<'a>> {
+) -> Result<bool, Fault<'a>>
+    ensures { IfOk result (λ done. (written : List ℕ) × Answers request.entry written done) }
+{
+    let mut output = DeviceOut::new(rt.alloc(), io::writer(rt))?;
+    let came = answer(rt, waits, request, &mut output);
+    let finished = output.finish();
+    let done = came?;
+    finished?;
+    Ok(done)
+}
+
+/// Does what is asked for.
+#[tactic(auto, using(crate::proofs::CommandLemmas::ran, crate::proofs::CommandLemmas::ordered, crate::proofs::CommandLemmas::checked, crate::proofs::CommandLemmas::explained, crate::proofs::CommandLemmas::migrated))]
+fn answer<'a, W: Threads + Wait + Clock + Sync, D: Write + Drop>(
+    rt: &HostRuntime,
+    waits: &W,
+    request: Request<'a>,
+    output: &mut DeviceOut<D>,
+) -> Result<bool, Fault<'a>>
+    ensures { IfOk result (λ done. GrewBy output.old.taken.bytes output.new.taken.bytes (λ written. Answers request.entry written done)) }
+{
     match request {
-        Request::Run(run) => running::run(rt, waits, run).map(|()| true),
-        Request::Order(audit) => audits::order(rt, audit).map(|()| true),
-        Request::Check(audit) => audits::check(rt, audit),
-        Request::Explain(asked) => audits::explain(rt, asked),
-        Request::Migrate(from, to) => audits::migrate(rt, from, to).map(|()| true),
+        Request::Run(run) => {
+            let audit = running::run(rt, waits, run, output)?;
+            drop(audit);
+            Ok(true)
+        }
+        Request::Order(audit) => {
+            audits::order(rt, audit, output)?;
+            Ok(true)
+        }
+        Request::Check(audit) => Ok(audits::check(rt, audit, output)?),
+        Request::Explain(asked) => Ok(audits::explain(rt, asked, output)?),
+        Request::Migrate(from, to) => {
+            let file = audits::migrate(rt, from, to)?;
+            drop(file);
+            Ok(true)
+        }
     }
 }
 

@@ -2,12 +2,13 @@
 
 ghost use Rattle.std.specs.Prelude.{◌≡◌, ◌⊎◌, [], ◌∷◌, ◌+◌, ◌++◌, ◌<◌, ◌≤◌, length, take, true, false, None, Ok, IsNone, IfSome, IfOk, OnOk, OnErr};
 ghost use Rattle.std.specs.Option.{option_to_list};
-ghost use Rattle.std.specs.Io.Buffered.{reader_remaining, writer_contents};
-ghost use Rattle.std.specs.Io.KnownBytes.{Consumes, Appends};
+ghost use Rattle.std.specs.Io.Buffered.{reader_remaining, writer_buffer, writer_contents};
+ghost use Rattle.std.specs.Io.KnownBytes.{Consumes, Appends, Keeps};
 
 use crate::passed::Passed;
 use rls_session::rls_script::{Failed, ScriptIn, ScriptOut};
 use std::alloc::Global;
+use std::fs::File;
 use std::io;
 use std::io::{BufRead, BufReader, BufWriter, ErrorKind, Read, Write};
 
@@ -114,8 +115,19 @@ impl<W: Write + Drop> DeviceOut<W> {
     }
 
     /// Writes what is still in the buffer.
-    pub fn finish(mut self) -> io::Result<()> {
+    pub fn finish(&mut self) -> io::Result<()>
+        ensures emptied { OnOk result (writer_buffer self.new.writer ≡ []) }
+        ensures known { Keeps (writer_contents W.contents self.old.writer) (writer_contents W.contents self.new.writer) }
+        ensures taken { self.new.taken.bytes ≡ self.old.taken.bytes }
+    {
         self.writer.flush()
+    }
+}
+
+impl DeviceOut<File> {
+    /// Waits until the system has stored what was given on.
+    pub fn store(&self) -> io::Result<()> {
+        self.writer.get_ref().sync_all()
     }
 }
 

@@ -26,7 +26,7 @@ pub enum Fault<'a> {
     Unwritten(&'a str, io::Error),
     /// This line of an audit isn't one.
     BadLine(u64),
-    /// The argument's file would be written over itself.
+    /// OUT would be written over what is read, or over the answers: this says which.
     SameFile(&'static str),
 }
 

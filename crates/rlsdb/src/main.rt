@@ -7,27 +7,46 @@ mod command_line;
 mod commands;
 mod device;
 mod fault;
+mod out_file;
 mod passed;
 mod running;
 mod same_file;
 mod words;
 
+use large_stack::{Stack, call_apart};
 use std::process::ExitCode;
-use std::thread;
-use std::thread::Builder;
 
-/// The stack in bytes on which a command runs. Evaluation goes as deep as policies lead from table to table, and no script of
-/// the size that is read leads deeper than this holds. The system gives it page by page, as it is used.
-const STACK: usize = 1 << 31;
+/// The stacks that a command asks for. Evaluation goes as deep as policies lead from table to table: no script of the size that is
+/// read leads deeper than the first holds, and a chain of 100 tables, whatever their policies are, fits the last. The system gives
+/// a stack page by page, as it is used.
+const STACKS: [Stack; 5] = [
+    Stack {
+        size: 1 << 31,
+        room: 1 << 31,
+    },
+    Stack {
+        size: 1 << 29,
+        room: 1 << 29,
+    },
+    Stack {
+        size: 1 << 27,
+        room: 1 << 27,
+    },
+    Stack {
+        size: 1 << 25,
+        room: 1 << 25,
+    },
+    Stack {
+        size: 1 << 23,
+        room: 1 << 23,
+    },
+];
 
-/// Runs the command line on a thread with a large stack or, where the system refuses that, on its own.
+/// Runs the command line on a thread with the first of these stacks that there is.
 fn main(rt: HostRuntime) -> ExitCode {
-    let status = thread::scope(thread::scope_env(), &rt, |scope| {
-        let thread = Builder::new().stack_size(STACK);
-        match thread.spawn_scoped(scope, || commands::run(&rt, &rt)) {
-            Ok(running) => running.join(&rt),
-            Err(_) => commands::run(&rt, &rt),
-        }
-    });
-    ExitCode::from(status)
+    let status = call_apart(&rt, rt.alloc(), &STACKS, || commands::run(&rt, &rt));
+    match status {
+        Some(status) => ExitCode::from(status),
+        None => ExitCode::from(commands::no_stack(&rt)),
+    }
 }

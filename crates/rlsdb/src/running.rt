@@ -1,92 +1,158 @@
 //! The command that runs a script.
 
-ghost use Rattle.std.specs.Prelude.{IfOk, OnOk};
+ghost use Rattle.std.specs.Prelude.{◌≡◌, ◌⊎◌, ◌+◌, ◌<◌, ◌++◌, [], List, length, option_map, true, IfOk, OnOk, IsErrOf};
 ghost use Rattle.std.specs.List.{All};
-ghost use Rattle.rls_laws.specs.rls_audit.specs.Lines.{audit_of, lines_from};
+ghost use Rattle.std.specs.Io.Buffered.{writer_buffer};
+ghost use Rattle.rls_laws.specs.rls_audit.specs.Lines.{lines_from};
 ghost use Rattle.rls_laws.specs.rls_audit.specs.Showing.{AreTexts};
-ghost use Rattle.rls_session.specs.rls_engine.specs.Led.{IsLed};
-ghost use Rattle.rls_session.specs.rls_script.specs.Spelled.{IsSpellable};
-ghost use Rattle.rlsdb.specs.AuditLines.{WritesLines};
+ghost use Rattle.rls_laws.specs.rls_core.specs.Calls.{IsOrderBy};
+ghost use Rattle.rls_laws.specs.rls_core.specs.Records.{Record};
+ghost use Rattle.rls_session.specs.rls_script.specs.Streams.{GrewBy};
+ghost use Rattle.rlsdb.specs.Answers.{IsAudited, IsRunText, RunsGiven};
+ghost use Rattle.rlsdb.specs.AuditLines.{WritesAudit, WritesLines};
 
 use crate::audit_file::write_audit_line;
 use crate::device::{DeviceIn, DeviceOut};
 use crate::fault::Fault;
-use crate::same_file::is_same_file;
+use crate::out_file::OutFile;
+use crate::same_file::{STANDARD_INPUT, require_own};
 use crate::words::ScriptFile;
 use rls_laws::records_are_texts;
 use rls_laws::rls_audit::{Line, line_of_record};
-use rls_session::rls_script::{RunFault, ScriptOut};
-use rls_session::{Book, NoGate, run_script, run_threads};
+use rls_session::rls_script::{MAX_SCRIPT, RunFault, ScriptIn, ScriptOut};
+use rls_session::{Book, NoGate, run_script_telling, run_threads_telling};
 use rls_value::Items;
 use std::alloc::Global;
 use std::fs::File;
-use std::io;
-use std::io::Read;
+use std::io::{Read, Write};
 use std::sync::Wait;
 use std::thread::Threads;
 use std::time::Clock;
 
-/// Runs the script, and then writes its audit where one is wanted.
-pub fn run<'a, W>(rt: &HostRuntime, waits: &W, run: ScriptFile<'a>) -> Result<(), Fault<'a>>
+/// Runs the script, and then writes its audit where one is wanted. The file that took it is given back.
+#[tactic(auto, using(crate::proofs::AnswerLemmas::audited, crate::proofs::AnswerLemmas::unaudited))]
+pub fn run<'a, W, D>(
+    rt: &HostRuntime,
+    waits: &W,
+    run: ScriptFile<'a>,
+    output: &mut DeviceOut<D>,
+) -> Result<Option<DeviceOut<File>>, Fault<'a>>
 where
     W: Threads + Wait + Clock + Sync,
+    D: Write + Drop,
+    ensures { IfOk result (λ audit. GrewBy output.old.taken.bytes output.new.taken.bytes (λ written. (history : List Record) × IsRunText run.entry.threads run.entry.terse written history × IsAudited run.entry.audit history (option_map (λ file. file.taken.bytes) audit))) }
 {
     if let Some(out) = run.audit {
-        if run.file != "-" && is_same_file(rt, run.file, out) {
-            return Err(Fault::SameFile("FILE"));
+        match run.file {
+            "-" => require_own(rt, STANDARD_INPUT, "standard input", out)?,
+            file => require_own(rt, file, "FILE", out)?,
         }
     }
-    let book = match run.file {
-        "-" => run_from(rt, waits, run.threads, rt.reader())?,
-        name => match File::open(rt, name) {
-            Ok(file) => run_from(rt, waits, run.threads, file)?,
-            Err(error) => return Err(Fault::of_script(name, error)),
-        },
-    };
+    let book = run_file(rt, waits, run, output)?;
     match run.audit {
-        Some(name) => write_audit(rt, name, &book),
-        None => Ok(()),
+        Some(name) => Ok(Some(write_audit(rt, name, &book)?)),
+        None => Ok(None),
     }
 }
 
-fn run_from<'a, W, R>(
+/// Runs the script that is in the file, or the standard input.
+fn run_file<'a, W, D>(
     rt: &HostRuntime,
     waits: &W,
-    threads: bool,
+    run: ScriptFile<'a>,
+    output: &mut DeviceOut<D>,
+) -> Result<Book, Fault<'a>>
+where
+    W: Threads + Wait + Clock + Sync,
+    D: Write + Drop,
+    ensures text { IfOk result (λ book. GrewBy output.old.taken.bytes output.new.taken.bytes (λ written. IsRunText run.entry.threads run.entry.terse written book.seen.committed)) }
+    ensures texts { IfOk result (λ book. All AreTexts book.seen.committed) }
+{
+    match run.file {
+        "-" => Ok(run_from(rt, waits, run, rt.reader(), output)?),
+        name => match File::open(rt, name) {
+            Ok(file) => Ok(run_from(rt, waits, run, file, output)?),
+            Err(error) => Err(Fault::of_script(name, error)),
+        },
+    }
+}
+
+/// Runs the script that the reader gives, and writes all of its answers.
+fn run_from<'a, W, R, D>(
+    rt: &HostRuntime,
+    waits: &W,
+    run: ScriptFile<'a>,
     reader: R,
+    output: &mut DeviceOut<D>,
 ) -> Result<Book, Fault<'a>>
 where
     W: Threads + Wait + Clock + Sync,
     R: Read + Drop,
-    ensures { IfOk result (λ book. IsLed IsSpellable book.seen) }
+    D: Write + Drop,
+    ensures text { IfOk result (λ book. GrewBy output.old.taken.bytes output.new.taken.bytes (λ written. IsRunText run.entry.threads run.entry.terse written book.seen.committed)) }
+    ensures texts { IfOk result (λ book. All AreTexts book.seen.committed) }
+    ensures emptied { OnOk result (writer_buffer output.new.writer ≡ []) }
 {
-    let alloc = rt.alloc();
-    let mut input = DeviceIn::new(alloc, reader)?;
-    let mut output = DeviceOut::new(alloc, io::writer(rt))?;
-    let ran = if threads {
-        run_threads(waits, alloc, &mut input, &mut output, &NoGate)
-    } else {
-        run_script(waits, alloc, &mut input, &mut output)
-    };
+    let mut input = DeviceIn::new(rt.alloc(), reader)?;
+    let ran = run_on(rt.alloc(), waits, run, &mut input, output);
     let finished = output.finish();
     let book = ran?;
     finished?;
     Ok(book)
 }
 
-/// Writes the audit of the book. The file is opened once the order is found.
-fn write_audit<'a>(rt: &HostRuntime, name: &'a str, book: &Book) -> Result<(), Fault<'a>>
-    requires { IsLed IsSpellable book.now.seen }
+/// Runs the script that is given, in phases or in the order of its lines. What is written is its text, and the book has the records
+/// of the transactions that this shows as committed; texts spell what they have, since some order explains them.
+#[tactic(auto, using(crate::proofs::BookLemmas::texts_of))]
+fn run_on<W, I, O>(
+    alloc: Global,
+    waits: &W,
+    run: ScriptFile<'_>,
+    input: &mut I,
+    output: &mut O,
+) -> Result<Book, RunFault>
+where
+    W: Threads + Wait + Clock + Sync,
+    I: ScriptIn,
+    O: ScriptOut,
+    ensures text { IfOk result (λ book. RunsGiven run.entry.threads run.entry.terse (I.given input.old) (I.given input.new) (O.taken output.old) (O.taken output.new) book.seen.committed) }
+    ensures texts { IfOk result (λ book. All AreTexts book.seen.committed) }
+    ensures ended { OnOk result (I.ended input.new ≡ true) }
+    ensures read { IsErrOf result RunFault.Read → (I.failures input.old < I.failures input.new) ⊎ (length (I.given input.old) + MAX_SCRIPT < length (I.given input.new)) }
+    ensures write { IsErrOf result RunFault.Write → O.failures output.old < O.failures output.new }
 {
-    let order = book.order(rt.alloc())?;
-    let file = File::create(rt, name).map_err(|error| Fault::of_create(name, error))?;
-    let mut output = DeviceOut::new(rt.alloc(), file)?;
-    write_book(rt.alloc(), book, order, &mut output)?;
-    Ok(output.finish()?)
+    records_are_texts();
+    if run.threads {
+        run_threads_telling(waits, alloc, run.terse, input, output, &NoGate)
+    } else {
+        run_script_telling(waits, alloc, run.terse, input, output)
+    }
 }
 
-/// Writes the head, the records in the order of their commits, and the end with the numbers of the order. The lines show just them,
-/// since texts spell what events recorded that post what texts spell.
+/// Writes the audit of the book. The file is opened once the order is found.
+#[tactic(auto, using(crate::proofs::AnswerLemmas::audit_whole))]
+fn write_audit<'a>(
+    rt: &HostRuntime,
+    name: &'a str,
+    book: &Book,
+) -> Result<DeviceOut<File>, Fault<'a>>
+    requires { All AreTexts book.now.seen.committed }
+    ensures audit { IfOk result (λ file. WritesAudit book.now.seen.committed [] file.taken.bytes) }
+    ensures emptied { IfOk result (λ file. writer_buffer file.writer ≡ []) }
+{
+    let order = book.order(rt.alloc())?;
+    let mut file = OutFile::open(rt, name)?;
+    match write_book(rt.alloc(), book, order, &mut file.output) {
+        Ok(()) => file.put(rt),
+        Err(fault) => {
+            file.discard(rt);
+            Err(fault)
+        }
+    }
+}
+
+/// Writes the head, the records in the order of their commits, and the end with the numbers of the book's order. The lines show just
+/// them, since texts spell them.
 #[tactic(auto, using(crate::proofs::BookLemmas::whole))]
 fn write_book<'a, O: ScriptOut>(
     alloc: Global,
@@ -94,10 +160,10 @@ fn write_book<'a, O: ScriptOut>(
     order: Vec<u64>,
     output: &mut O,
 ) -> Result<(), Fault<'a>>
-    requires { IsLed IsSpellable book.now.seen }
-    ensures { OnOk result (WritesLines (audit_of book.now.seen.committed order.items) (O.taken output.old) (O.taken output.new)) }
+    requires texts { All AreTexts book.now.seen.committed }
+    requires order { IsOrderBy book.now.seen.committed order.items }
+    ensures { OnOk result (WritesAudit book.now.seen.committed (O.taken output.old) (O.taken output.new)) }
 {
-    records_are_texts();
     write_audit_line(alloc, &Line::Head, output)?;
     write_records(alloc, book, output)?;
     let end = Line::End(book.records().len() as u64, Items::from_vec(order));

@@ -16,6 +16,8 @@ pub struct ScriptFile<'a> {
     pub threads: bool,
     /// The file that its audit is written to.
     pub audit: Option<&'a str>,
+    /// Whether serialization failures are told without the objects and the transactions.
+    pub terse: bool,
 }
 
 /// A statement of an audit to be explained, and perhaps a row.

@@ -1,4 +1,4 @@
-use Rattle.rls_core.proofs.RefusalLemmas.{stops_why, post_goes, post_same}
+use Rattle.rls_core.proofs.RefusalLemmas.{post_goes, post_same, post_answer, post_stops}
 use Rattle.rls_core.proofs.happening.posts.Goals as goal
 
 pub returns-in-Err-clause-ok : goal.returns-in-Err-clause-ok
@@ -7,5 +7,8 @@ returns-in-Err-clause-ok c = rw c.stops.ensures (post_goes c.args.core.now c.pos
 pub returns-in-Err-clause-err : goal.returns-in-Err-clause-err
 returns-in-Err-clause-err c = rw c.stops.ensures (post_same c.args.core.now c.post.new.self c.args.txn c.args.statement c.in-Err.refusal c.in-Err.ensures.err)
 
+pub returns-in-Err-clause-answer : goal.returns-in-Err-clause-answer
+returns-in-Err-clause-answer c = rw c.stops.ensures (post_answer c.args.core.now c.post.new.self c.args.txn c.args.statement c.in-Err.refusal c.in-Err.ensures.err)
+
 pub returns-in-Err-clause-why : goal.returns-in-Err-clause-why
-returns-in-Err-clause-why c = rw c.stops.ensures (stops_why c.in-Err.refusal)
+returns-in-Err-clause-why c = rw c.stops.ensures (post_stops c.args.core.now c.post.new.self c.args.txn c.args.statement c.in-Err.refusal c.in-Err.ensures.err)

@@ -1,14 +1,18 @@
-use Rattle.std.proofs.Common.{ap, sym, ◌∙◌, ◌+◌, drop, map, [], List}
-use Rattle.std.proofs.lemmas.List.{at_drop_more}
-use Rattle.rls_core.specs.declared.event.Event.{Event}
-use Rattle.rls_core.specs.Events.{World, run, happens}
-use Rattle.rls_core.specs.Seen.{world_of, core_rules}
-use Rattle.rls_core.specs.Happening.{event_of}
+use Rattle.std.proofs.Common.{map}
+use Rattle.rls_core.specs.Seen.{nothing_yet}
+use Rattle.rls_core.specs.Happening.{StopsRun, event_of}
+use Rattle.rls_core.proofs.RunLemmas.{run_leads, run_more, run_stops, stopped_by}
 use Rattle.rls_core.proofs.happening.run.Goals as goal
 
 pub loop-event-preserved : goal.loop-event-preserved
 loop-event-preserved c =
-    ap (λ (w : World). run core_rules w (map event_of (drop (c.loop-event.event-index + 1) c.args.events.now))) c.in_ok-happen.ensures.ok
-    ∙ ap (λ (e : Event). run core_rules (happens core_rules (world_of c.loop-event.core) (event_of e)) (map event_of (drop (c.loop-event.event-index + 1) c.args.events.now))) c.event-item.is
-    ∙ sym (at_drop_more (λ (es : List Event). run core_rules (world_of c.loop-event.core) (map event_of es)) c.args.events.now c.loop-event.event-index c.event-item.result c.loop-event-test.true)
-    ∙ c.loop-event.invariant
+    run_more c.args.events.now c.loop-event.event-index c.event-item.result c.loop-event-test.true c.event-item.is c.loop-event.answers.items c.go_on.new.answers.items nothing_yet c.loop-event.core c.go_on.new.core
+    c.loop-event.invariant c.in_ok-go_on.ensures.ok
+
+pub returns-in_err-go_on-clause-err : goal.returns-in_err-go_on-clause-err
+returns-in_err-go_on-clause-err c =
+    stopped_by c.from_residual-in_err-go_on.result c.in_err-go_on.field-0.0 (StopsRun (map event_of c.args.events.now)) c.from_residual-in_err-go_on.ensures.1
+    (run_stops c.args.events.now c.loop-event.event-index c.event-item.result c.loop-event-test.true c.event-item.is c.loop-event.answers.items c.loop-event.core c.in_err-go_on.field-0.0 c.loop-event.invariant c.in_err-go_on.ensures.why)
+
+pub returns-clause-ok : goal.returns-clause-ok
+returns-clause-ok c = run_leads c.args.events.now c.loop-event.event-index c.loop-event.answers.items c.loop-event.core c.loop-event-test.false c.loop-event.invariant

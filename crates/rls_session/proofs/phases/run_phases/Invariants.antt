@@ -9,4 +9,4 @@ abbrev pub invariant-loop-tasks : goal.invariant-loop-tasks
 invariant-loop-tasks g l =
     let out = g.O.ScriptOut in
     (out.failures l.output ≡ out.failures l.initial.output)
-    × GrewBy (out.taken l.initial.output) (out.taken l.output) (λ written. RunsPhases l.names (map (λ phase. phase.items) (take l.tasks-index l.phases)) written (record { seats = work_seats l.workers; notes = l.notes }))
+    × GrewBy (out.taken l.initial.output) (out.taken l.output) (λ written. RunsPhases l.initial.notes.terse l.names (map (λ phase. phase.items) (take l.tasks-index l.phases)) written (record { seats = work_seats l.workers; notes = l.notes }))

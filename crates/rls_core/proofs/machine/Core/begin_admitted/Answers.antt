@@ -1,5 +1,5 @@
 use Rattle.std.proofs.Common.{◌≡◌, ◌∙◌, ◌+◌, ℕ, suc, refl, ap, sym, subst, arith, List, length, add-one}
-use Rattle.std.specs.Vec.{vec_capacity}
+use Rattle.std.specs.{List.Sorted.IsStrictlySortedBy, Map.keys_of, Ordering.nat_cmp, Vec.vec_capacity}
 use Rattle.std.proofs.lemmas.List.{length-map}
 use Rattle.rls_meaning.specs.rls_access.specs.Transactions.{may_begin}
 use Rattle.rls_core.specs.Records.{Record}
@@ -11,6 +11,7 @@ use Rattle.rls_rows.specs.States.{newest_of}
 use Rattle.rls_core.specs.Kept.{joined_in, seen_of, IsKept}
 use Rattle.rls_core.proofs.KeptLemmas.{nothing_changes}
 use Rattle.rls_core.proofs.CallLemmas.{kept_room, seen_room, is_new, is_free, begin_happens, begin_stays}
+use Rattle.rls_core.proofs.RunLemmas.{keys_joined, at_once}
 use Rattle.rls_core.proofs.machine.Core.begin_admitted.Goals as goal
 
 pub returns-then-txn-clause-why : goal.returns-then-txn-clause-why
@@ -21,7 +22,9 @@ returns-then-count-ge-MAX_RUNNING-clause-why c =
     let size = c.len-count.ensures.len in
     let most = c.if-count-ge-MAX_RUNNING.true in
     let same : length c.args.self.now.running ≡ length c.self.inside.running.entries = ap (λ (seen : Seen). length seen.running) (sym c.self.view_is) ∙ length-map c.self.inside.running.entries (joined_in c.self.inside.conflicts) in
-    omega (arith, size, most, same)
+    let ascend : IsStrictlySortedBy nat_cmp (keys_of c.args.self.now.running) = subst (λ (seen : Seen). IsStrictlySortedBy nat_cmp (keys_of seen.running)) c.self.view_is
+    (subst (IsStrictlySortedBy nat_cmp) (sym (keys_joined c.self.inside.conflicts c.self.inside.running.entries)) c.len-count.ensures.ordered) in
+    at_once c.args.self.now 1024 ascend (omega (arith, size, most, same))
 
 pub start-requires-clause-fresh : goal.start-requires-clause-fresh
 start-requires-clause-fresh c = is_new c.self.inside.committed.items c.self.inside.conflicts c.self.inside.running.entries c.self.inside.next c.self.inside.versions.states (vec_capacity c.self.inside.committed) c.self.inside.versions.room c.self.invariant

@@ -18,7 +18,7 @@ returns-in-Ok-commit-clause-ok g c =
     let tags : c.tag.result ≡ c.tag-2.result = grind (arith, nat_tests) in
     let same = sym c.tag-2.ensures ∙ (sym tags ∙ c.tag.ensures) in
     let receipt = c.in-Ok-commit.ensures.ok in
-    let is = commit_noted _ c.open.inside.heard c.open.inside.txn.stand.running.ctx.role _ c.self.inside.seen c.learn.new.self _ c.learn.new.receipt c.into_parts-role.result.1 c.self.inside.kept.items c.reserve.new.self.items c.push_reserved.new.self.items receipt same c.learn.ensures c.into_parts-role.ensures.number c.into_parts-role.ensures.entry c.in-Ok.ensures.items c.push_reserved.ensures.items in
+    let is = commit_noted _ c.open.inside.heard c.open.inside.txn.stand.running.ctx.role _ c.self.inside.seen c.learn.new.self _ c.learn.new.receipt c.into_parts-role.result.1 c.self.inside.kept.items c.reserve.new.self.items c.push_reserved.new.self.items c.self.inside.terse receipt same c.learn.ensures c.into_parts-role.ensures.number c.into_parts-role.ensures.entry c.in-Ok.ensures.items c.push_reserved.ensures.items in
     let block : Block = record { heard = c.open.inside.heard; role = c.open.inside.txn.stand.running.ctx.role; part = part_of c.open.inside.txn.stand.running.so_far } in
     let spent_is = commit_spent _ _ c.self.inside.seen c.learn.new.self _ c.learn.new.receipt receipt same c.learn.ensures in
     record {

@@ -1,0 +1,244 @@
+//! Decisions on a row, each with what the policies say of the row that apply.
+
+ghost use Rattle.std.specs.Prelude.{◌≡◌, ◌++◌, map, IfOk, OnOk};
+ghost use Rattle.rls_value.specs.Values.{truth_in};
+ghost use Rattle.rls_catalog.specs.State as state;
+ghost use Rattle.rls_evaluation.specs.{Environments.over, Holding.Holds, Showing.shows};
+ghost use Rattle.rls_explain.specs.Explaining as meant;
+ghost use Rattle.rls_explain.specs.Found as spec;
+
+use crate::explanation::{Explained, Said};
+use rls_catalog::{BorrowedRow, Side, Verdict};
+use rls_evaluation::{
+    Env, ExecutionState, Looked, Scoped, SecuredRelation, SecurityQuals, Tables, VisibleRelations,
+    eval,
+};
+use rls_expr::{Expr, Policy};
+use rls_guard::rls_policy::combine;
+use rls_guard::{Decision, Judgement, RowCheck};
+use rls_judging::CheckContext;
+use rls_source::RowSource;
+use rls_value::{Items, Kind, Name, Reference, Row, RowId, Truth};
+use std::alloc::{AllocError, Global};
+use std::cmp::Ordering;
+
+/// Explains the decisions on the rows of that number, behind those that are there.
+pub fn put_rows<'a, 'c, S: RowSource<'c>>(
+    alloc: Global,
+    source: &S,
+    context: CheckContext<'a, 'c>,
+    id: RowId,
+    rows: &[BorrowedRow<'c>],
+    explained: &mut Vec<Explained>,
+) -> Result<(), AllocError>
+    ensures { OnOk result (explained.new.items ≡ explained.old.items ++ spec.rows_found (S.state source.now) (shows context.entry.relations.now context.entry.role.now) context.entry.role.now context.entry.row_checks.now id rows.now) }
+{
+    for stored in rows {
+        if is_same_id(id, stored.id()) {
+            put_row(alloc, source, context, stored.id(), stored.row(), explained)?;
+        }
+    }
+    Ok(())
+}
+
+/// Explains the decisions on a row, behind those that are there.
+pub fn put_row<'a, 'c, S: RowSource<'c>>(
+    alloc: Global,
+    source: &S,
+    context: CheckContext<'a, 'c>,
+    id: RowId,
+    row: &Row,
+    explained: &mut Vec<Explained>,
+) -> Result<(), AllocError>
+    ensures { OnOk result (explained.new.items ≡ explained.old.items ++ spec.explained_checks (S.state source.now) (shows context.entry.relations.now context.entry.role.now) context.entry.role.now context.entry.row_checks.now id row.now) }
+{
+    for row_check in context.row_checks {
+        let one = explain_check(
+            alloc,
+            source,
+            context.relations,
+            context.role,
+            row_check,
+            id,
+            row,
+        )?;
+        explained.push(one)?;
+    }
+    Ok(())
+}
+
+/// Explains one of them.
+fn explain_check<'c, S: RowSource<'c>>(
+    alloc: Global,
+    source: &S,
+    relations: &[SecuredRelation<'c>],
+    role: &Name,
+    row_check: &RowCheck<'c>,
+    id: RowId,
+    row: &Row,
+) -> Result<Explained, AllocError>
+    ensures { IfOk result (λ one. one ≡ spec.explained_check (S.state source.now) (shows relations.now role.now) role.now id row.now row_check.now) }
+{
+    let side = row_check.side;
+    let kind = row_check.kind;
+    match &row_check.quals {
+        SecurityQuals::Exempt => Ok(Explained {
+            decision: Decision {
+                id,
+                side,
+                kind,
+                verdict: Verdict::Exempt,
+            },
+            policies: Items::new(alloc),
+        }),
+        SecurityQuals::Policies(conditions) => {
+            let conditions = conditions.as_slice();
+            let judgements = judgements_on(alloc, source, relations, role, row, conditions)?;
+            let one = explain_by(alloc, id, side, kind, &judgements);
+            drop(judgements);
+            one
+        }
+    }
+}
+
+/// A decision by judgements, and these beside it.
+fn explain_by(
+    alloc: Global,
+    id: RowId,
+    side: Side,
+    kind: Kind,
+    judgements: &[Judgement<'_>],
+) -> Result<Explained, AllocError>
+    ensures { IfOk result (λ one. one ≡ spec.explained_by id side kind judgements.now) }
+{
+    let policies = said_by_each(alloc, judgements)?;
+    match combine(judgements) {
+        Ok(verdict) => Ok(Explained {
+            decision: Decision {
+                id,
+                side,
+                kind,
+                verdict,
+            },
+            policies,
+        }),
+        Err(refused) => {
+            drop(policies);
+            Err(refused)
+        }
+    }
+}
+
+fn said_by_each(alloc: Global, judgements: &[Judgement<'_>]) -> Result<Items<Said>, AllocError>
+    ensures { IfOk result (λ said. said ≡ map meant.said_as judgements.now) }
+{
+    let mut said = Vec::with_capacity(alloc, judgements.len())?;
+    for judgement in judgements {
+        said.push(said_by(judgement)?)?;
+    }
+    Ok(Items::from_vec(said))
+}
+
+fn said_by(judgement: &Judgement<'_>) -> Result<Said, AllocError>
+    ensures { IfOk result (λ said. said ≡ meant.said_as judgement.now) }
+{
+    let (policy, truth) = judgement;
+    let policy = policy.get();
+    Ok(Said {
+        policy: policy.name.copy()?,
+        permissive: policy.permissive,
+        kind: policy.kind,
+        truth: *truth,
+    })
+}
+
+/// Each policy, and what its condition says of the row.
+fn judgements_on<'c, S: RowSource<'c>>(
+    alloc: Global,
+    source: &S,
+    relations: &[SecuredRelation<'c>],
+    role: &Name,
+    row: &Row,
+    conditions: &[(Reference<'c, Policy>, Expr)],
+) -> Result<Vec<Judgement<'c>>, AllocError>
+    ensures { IfOk result (λ judgements. judgements.items ≡ spec.judgements_found (S.state source.now) (shows relations.now role.now) role.now row.now conditions.now) }
+{
+    let mut judgements = Vec::with_capacity(alloc, conditions.len())?;
+    for condition in conditions {
+        judgements.push(judgement_on(alloc, source, relations, role, row, condition)?)?;
+    }
+    Ok(judgements)
+}
+
+/// One of them.
+fn judgement_on<'c, S: RowSource<'c>>(
+    alloc: Global,
+    source: &S,
+    relations: &[SecuredRelation<'c>],
+    role: &Name,
+    row: &Row,
+    condition: &(Reference<'c, Policy>, Expr),
+) -> Result<Judgement<'c>, AllocError>
+    ensures { IfOk result (λ judgement. judgement ≡ spec.judgement_found (S.state source.now) (shows relations.now role.now) role.now row.now condition.now) }
+{
+    let (policy, condition) = condition;
+    let truth = truth_on(alloc, source, relations, role, row, condition)?;
+    Ok((Reference::new(policy.get()), truth))
+}
+
+/// What the condition says of the row, which alone is in scope.
+fn truth_on<'s, 'a, 'c, S: RowSource<'c>>(
+    alloc: Global,
+    source: &'s S,
+    relations: &'a [SecuredRelation<'c>],
+    role: &'a Name,
+    row: &'a Row,
+    condition: &'a Expr,
+) -> Result<Truth, AllocError>
+    ensures { IfOk result (λ truth. truth ≡ truth_in (spec.value_found (S.state source.now) (shows relations.now role.now) (over role.now row.now) condition.now)) }
+{
+    let mut execution = ExecutionState::new(alloc);
+    let mut tables: Looked<'s, 'c, S> = Looked::new(source);
+    let truth = truth_over(
+        alloc,
+        &mut tables,
+        &mut execution,
+        relations,
+        role,
+        row,
+        condition,
+    );
+    drop(execution);
+    truth
+}
+
+fn truth_over<'a, 'c, T: Tables>(
+    alloc: Global,
+    tables: &mut T,
+    execution: &mut ExecutionState,
+    relations: &'a [SecuredRelation<'c>],
+    role: &'a Name,
+    row: &'a Row,
+    condition: &'a Expr,
+) -> Result<Truth, AllocError>
+    requires { Holds relations.now role.now (T.state tables.old) execution.old }
+    ensures { IfOk result (λ truth. truth ≡ truth_in (spec.value_found (T.state tables.old) (shows relations.now role.now) (over role.now row.now) condition.now)) }
+{
+    let nothing = Scoped::Nothing;
+    let env = Env {
+        user: role,
+        rows: Scoped::Over(row, &nothing),
+    };
+    let visible = VisibleRelations { relations, from: 0 };
+    let datum = eval(alloc, tables, execution, visible, condition, &env)?;
+    Ok(datum.truth())
+}
+
+pub fn is_same_id(id: RowId, other: RowId) -> bool
+    ensures { result ≡ state.is_same_id id other }
+{
+    match id.cmp(&other) {
+        Ordering::Equal => true,
+        Ordering::Less | Ordering::Greater => false,
+    }
+}

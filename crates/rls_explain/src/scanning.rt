@@ -1,0 +1,199 @@
+//! SELECT and DELETE: decisions on the rows that they scan.
+
+ghost use Rattle.std.specs.Prelude.{◌≡◌, Some, true, unwrap_or, IfOk};
+ghost use Rattle.rls_catalog.specs.State.{table_of};
+ghost use Rattle.rls_expr.specs.Scopes.{in_scope};
+ghost use Rattle.rls_statement.specs.declared.statement.Statement.TheVariants as asked;
+ghost use Rattle.rls_judging.specs.ScannedRows.{pinned_key};
+ghost use Rattle.rls_meaning.specs.{Meaning.effect_of, Showing.rows_at_key};
+ghost use Rattle.rls_meaning.specs.rls_expansion.specs.Used.{tables_if};
+ghost use Rattle.rls_explain.specs.Explaining.{decisions_of, explained_in};
+ghost use Rattle.rls_explain.specs.Found as spec;
+
+use crate::asking::{expansion_if, old_rows, rows_scanned};
+use crate::explanation::Explained;
+use crate::judging::put_rows;
+use crate::laws::decisions_found;
+use crate::resolving::{condition_in, tables_of};
+use rls_expr::{Expr, FromTable, TableDef};
+use rls_meaning::rls_access::Ctx;
+use rls_meaning::rls_expansion::PolicyExpansion;
+use rls_source::RowSource;
+use rls_statement::{Delete, Select};
+use rls_value::{Items, Kind, Name, RowId};
+use std::alloc::{AllocError, Global};
+
+/// Explains the decisions of a SELECT on the rows of that number.
+#[tactic(auto, using(crate::proofs::DecidedLemmas::select_without_table))]
+pub fn explain_select<'c, S: RowSource<'c>>(
+    alloc: Global,
+    source: &mut S,
+    ctx: &Ctx,
+    select: &Select,
+    id: RowId,
+) -> Result<Items<Explained>, AllocError>
+    requires { spec.is_decided id (decisions_of (effect_of (S.state source.old) ctx.now (asked.Select select.now))) ≡ true }
+    ensures row { IfOk result (λ explained. explained ≡ explained_in (S.state source.old) ctx.now (asked.Select select.now) (Some id)) }
+    ensures state { S.state source.new ≡ S.state source.old }
+{
+    match source.table(alloc, &select.table)? {
+        Some(table) => explain_selected(alloc, source, ctx, select, table, id),
+        None => Ok(Items::new(alloc)),
+    }
+}
+
+/// The same of a table that is there.
+fn explain_selected<'c, S: RowSource<'c>>(
+    alloc: Global,
+    source: &mut S,
+    ctx: &Ctx,
+    select: &Select,
+    table: &TableDef,
+    id: RowId,
+) -> Result<Items<Explained>, AllocError>
+    requires there { table_of (S.state source.old) select.now.table ≡ Some table.now }
+    requires decided { spec.is_decided id (decisions_of (effect_of (S.state source.old) ctx.now (asked.Select select.now))) ≡ true }
+    ensures row { IfOk result (λ explained. explained ≡ explained_in (S.state source.old) ctx.now (asked.Select select.now) (Some id)) }
+    ensures state { S.state source.new ≡ S.state source.old }
+{
+    decisions_found();
+    let scope = FromTable {
+        name: qualifier_of(select),
+        table,
+    };
+    let condition = condition_in(alloc, source, scope, &select.condition)?;
+    let from = FromTable {
+        name: &select.table,
+        table,
+    };
+    let kind = Kind::Select;
+    let explained = explain_scanned(alloc, source, &ctx.role, from, kind, false, &condition, id);
+    drop(condition);
+    explained
+}
+
+/// What qualifies the table's columns: the alias or, without one, the table's name.
+fn qualifier_of(select: &Select) -> &Name
+    ensures { result.now ≡ unwrap_or select.now.alias select.now.table }
+{
+    match &select.alias {
+        Some(alias) => alias,
+        None => &select.table,
+    }
+}
+
+/// Explains the decisions of a DELETE on the rows of that number.
+#[tactic(auto, using(crate::proofs::DecidedLemmas::delete_without_table))]
+pub fn explain_delete<'c, S: RowSource<'c>>(
+    alloc: Global,
+    source: &mut S,
+    ctx: &Ctx,
+    delete: &Delete,
+    reads: bool,
+    id: RowId,
+) -> Result<Items<Explained>, AllocError>
+    requires decided { spec.is_decided id (decisions_of (effect_of (S.state source.old) ctx.now (asked.Delete delete.now))) ≡ true }
+    requires reads { spec.are_read (decisions_of (effect_of (S.state source.old) ctx.now (asked.Delete delete.now))) ≡ reads }
+    ensures row { IfOk result (λ explained. explained ≡ explained_in (S.state source.old) ctx.now (asked.Delete delete.now) (Some id)) }
+    ensures state { S.state source.new ≡ S.state source.old }
+{
+    match source.table(alloc, &delete.table)? {
+        Some(table) => explain_deleted(alloc, source, ctx, delete, table, reads, id),
+        None => Ok(Items::new(alloc)),
+    }
+}
+
+/// The same of a table that is there.
+fn explain_deleted<'c, S: RowSource<'c>>(
+    alloc: Global,
+    source: &mut S,
+    ctx: &Ctx,
+    delete: &Delete,
+    table: &TableDef,
+    reads: bool,
+    id: RowId,
+) -> Result<Items<Explained>, AllocError>
+    requires there { table_of (S.state source.old) delete.now.table ≡ Some table.now }
+    requires decided { spec.is_decided id (decisions_of (effect_of (S.state source.old) ctx.now (asked.Delete delete.now))) ≡ true }
+    requires reads { spec.are_read (decisions_of (effect_of (S.state source.old) ctx.now (asked.Delete delete.now))) ≡ reads }
+    ensures row { IfOk result (λ explained. explained ≡ explained_in (S.state source.old) ctx.now (asked.Delete delete.now) (Some id)) }
+    ensures state { S.state source.new ≡ S.state source.old }
+{
+    decisions_found();
+    let from = FromTable {
+        name: &delete.table,
+        table,
+    };
+    let condition = condition_in(alloc, source, from, &delete.condition)?;
+    let kind = Kind::Delete;
+    let explained = explain_scanned(alloc, source, &ctx.role, from, kind, reads, &condition, id);
+    drop(condition);
+    explained
+}
+
+/// Explains the decisions on the rows that a command scans.
+fn explain_scanned<'c, 'x, S: RowSource<'c>>(
+    alloc: Global,
+    source: &mut S,
+    role: &Name,
+    from: FromTable<'x>,
+    kind: Kind,
+    reads: bool,
+    condition: &Option<Expr>,
+    id: RowId,
+) -> Result<Items<Explained>, AllocError>
+    ensures row { IfOk result (λ explained. explained ≡ spec.scan_found (S.state source.old) role.now id (rows_at_key (S.state source.old) from.entry.name.now (pinned_key role.now from.entry.table.now.key condition.now)) (spec.expansion_found (S.state source.old) role.now (in_scope from.entry) kind reads (tables_if condition.now))) }
+    ensures state { S.state source.new ≡ S.state source.old }
+{
+    let queries = tables_of(alloc, condition)?;
+    let found = expansion_if(alloc, source, role, from, kind, reads, queries.as_slice());
+    drop(queries);
+    let found = found?;
+    let explained = explain_if(alloc, source, role, from, condition, id, &found);
+    drop(found);
+    explained
+}
+
+/// The same under the policy expansion, if there is one.
+fn explain_if<'c, 'x, S: RowSource<'c>>(
+    alloc: Global,
+    source: &mut S,
+    role: &Name,
+    from: FromTable<'x>,
+    condition: &Option<Expr>,
+    id: RowId,
+    found: &Option<PolicyExpansion<'c>>,
+) -> Result<Items<Explained>, AllocError>
+    ensures row { IfOk result (λ explained. explained ≡ spec.scan_found (S.state source.old) role.now id (rows_at_key (S.state source.old) from.entry.name.now (pinned_key role.now from.entry.table.now.key condition.now)) found.now) }
+    ensures state { S.state source.new ≡ S.state source.old }
+{
+    match found {
+        Some(expansion) => explain_under(alloc, source, role, from, condition, id, expansion),
+        None => Ok(Items::new(alloc)),
+    }
+}
+
+fn explain_under<'c, 'x, S: RowSource<'c>>(
+    alloc: Global,
+    source: &mut S,
+    role: &Name,
+    from: FromTable<'x>,
+    condition: &Option<Expr>,
+    id: RowId,
+    expansion: &PolicyExpansion<'c>,
+) -> Result<Items<Explained>, AllocError>
+    ensures row { IfOk result (λ explained. explained ≡ spec.scan_found (S.state source.old) role.now id (rows_at_key (S.state source.old) from.entry.name.now (pinned_key role.now from.entry.table.now.key condition.now)) (Some expansion.now)) }
+    ensures state { S.state source.new ≡ S.state source.old }
+{
+    let rows = rows_scanned(alloc, source, role, from, condition)?;
+    let mut explained = Vec::new(alloc);
+    put_rows(
+        alloc,
+        &*source,
+        old_rows(expansion, role),
+        id,
+        rows.as_slice(),
+        &mut explained,
+    )?;
+    Ok(Items::from_vec(explained))
+}

@@ -1,0 +1,56 @@
+-- How the program ends, from what was done.
+use Rattle.std.proofs.Common.{◌≡◌, refl, ℕ, Bool, true, List, [], Option, Result, Ok, Err, IfOk, inl, inr, sym, subst}
+use Rattle.std.specs.Borrow.{Bor}
+use Rattle.rls_laws.specs.rls_core.specs.Records.{Record}
+use Rattle.rls_session.specs.rls_script.specs.Streams.{GrewBy}
+use Rattle.rlsdb.specs.declared.fault.Fault.{Fault}
+use Rattle.rlsdb.specs.declared.command_line.Mistake.{Mistake}
+use Rattle.rlsdb.specs.declared.words.Request.{Request}
+use Rattle.rlsdb.specs.declared.words.Request.TheVariants as q
+use Rattle.rlsdb.specs.declared.words.ScriptFile.{ScriptFile}
+use Rattle.rlsdb.specs.declared.words.Explain.{Explain}
+use Rattle.rlsdb.specs.Answers.{Answers, IsAudited, IsCheckOf, IsMigrationOf, IsOrderOf, IsRunText, IsWhyOf}
+use Rattle.rlsdb.specs.Commands.{ComesTo, EndsWords}
+use Rattle.rlsdb.specs.CommandLine.{Asks, IsMistaken}
+use Rattle.rlsdb.specs.Faults.{EndsAnswer, EndsMistake}
+use Rattle.rlsdb.proofs.AnswerLemmas.{grew_more, nothing}
+
+-- what was asked came to this
+pub comes : (request : Request) (came : Result Bool Fault) → IfOk came (λ done. (written : List ℕ) × Answers request written done) → ComesTo request came
+comes request (Ok done) is = is
+comes request (Err fault) is = tt
+
+-- the program ends as what the words ask for came out
+pub by_request : (words : List (List ℕ)) (status : ℕ) (request : Request) (came : Result Bool Fault) → Asks words request → IfOk came (λ done. (written : List ℕ) × Answers request written done) → EndsAnswer came status → EndsWords words status
+by_request words status request came asks is ends = inl (request, came, asks, comes request came is, ends)
+
+-- or by what is wrong with them
+pub by_mistake : (words : List (List ℕ)) (status : ℕ) (mistake : Mistake) → IsMistaken words mistake → EndsMistake mistake status → EndsWords words status
+by_mistake words status mistake is ends = inr (mistake, is, ends)
+
+-- the answer to what was asked for
+pub answered : (request asked : Request) (done : Bool) (old new : List ℕ) (P : List ℕ → Type 0) → request ≡ asked → ((written : List ℕ) → P written → Answers asked written done) → GrewBy old new P → GrewBy old new (λ written. Answers request written done)
+answered request asked done old new P is step grew =
+    grew_more old new P (λ written. Answers request written done) (λ written holds. subst (λ (it : Request). Answers it written done) (sym is) (step written holds)) grew
+
+-- ---- of each command
+
+pub ran : (request : Request) (run : ScriptFile) (taken : Option (List ℕ)) (old new : List ℕ) → request ≡ q.Run run → GrewBy old new (λ written. (history : List Record) × IsRunText run.threads run.terse written history × IsAudited run.audit history taken) → GrewBy old new (λ written. Answers request written true)
+ran request run taken old new is grew =
+    answered request (q.Run run) true old new (λ written. (history : List Record) × IsRunText run.threads run.terse written history × IsAudited run.audit history taken) is (λ written it. (it.0, taken, it.1, it.2, refl)) grew
+
+pub ordered : (request : Request) (name : Bor (List ℕ)) (old new : List ℕ) → request ≡ q.Order name → GrewBy old new (λ written. (texts : List (List ℕ)) × IsOrderOf texts written) → GrewBy old new (λ written. Answers request written true)
+ordered request name old new is grew =
+    answered request (q.Order name) true old new (λ written. (texts : List (List ℕ)) × IsOrderOf texts written) is (λ written it. (it.0, it.1, refl)) grew
+
+pub checked : (request : Request) (name : Bor (List ℕ)) (holds : Bool) (old new : List ℕ) → request ≡ q.Check name → GrewBy old new (λ written. (texts : List (List ℕ)) × IsCheckOf texts written holds) → GrewBy old new (λ written. Answers request written holds)
+checked request name holds old new is grew =
+    answered request (q.Check name) holds old new (λ written. (texts : List (List ℕ)) × IsCheckOf texts written holds) is (λ written it. it) grew
+
+pub explained : (request : Request) (asked : Explain) (said : Bool) (old new : List ℕ) → request ≡ q.Explain asked → GrewBy old new (λ written. (texts : List (List ℕ)) × IsWhyOf asked.txn asked.statement asked.row texts written said) → GrewBy old new (λ written. Answers request written said)
+explained request asked said old new is grew =
+    answered request (q.Explain asked) said old new (λ written. (texts : List (List ℕ)) × IsWhyOf asked.txn asked.statement asked.row texts written said) is (λ written it. it) grew
+
+pub migrated : (request : Request) (from to : Bor (List ℕ)) (bytes taken : List ℕ) → request ≡ q.Migrate from to → ((texts : List (List ℕ)) × IsMigrationOf texts taken) → GrewBy bytes bytes (λ written. Answers request written true)
+migrated request from to bytes taken is it =
+    nothing bytes (λ written. Answers request written true) (subst (λ (asked : Request). Answers asked [] true) (sym is) (it.0, taken, it.1, refl, refl))

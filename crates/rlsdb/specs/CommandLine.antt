@@ -1,0 +1,114 @@
+-- The command line: what `clap` is told of it, and what words ask for.
+use Rattle.std.specs.Prelude.{◌≡◌, ◌^◌, ℕ, Bool, true, false, List, Option, Some, None, option_map, codes}
+use Rattle.std.specs.Str.Parse.{digits_value}
+use Rattle.rls_value.specs.declared.row.RowId.{RowId}
+use Rattle.clap.specs.Words.{App, Row, Rule, Shape, Text, first_of, kind_of, new_app, new_rule, one_of, subcommand_of, takes, with_rule, with_subcommand}
+use Rattle.clap.specs.Simple.{on_top}
+use Rattle.clap.specs.declared.builder.action.ArgAction.TheVariants.{SetTrue}
+use Rattle.clap.specs.declared.error.kind.ErrorKind.TheVariants.{OutOfMemory}
+use Rattle.rlsdb.specs.declared.words.Request.{Request}
+use Rattle.rlsdb.specs.declared.words.Request.TheVariants as q
+use Rattle.rlsdb.specs.declared.words.ScriptFile.{ScriptFile}
+use Rattle.rlsdb.specs.declared.words.Explain.{Explain}
+use Rattle.rlsdb.specs.declared.command_line.Mistake.{Mistake}
+use Rattle.rlsdb.specs.declared.command_line.Mistake.TheVariants as m
+use Rattle.rlsdb.specs.Words.{IsDecimal, IsRowText}
+
+-- ---- what `clap` is told
+
+-- a word that has to be there
+abbrev pub needed : Text → Rule
+needed id = record (new_rule id) { required = true }
+
+-- --threads
+abbrev pub threads_flag : Rule
+threads_flag = record (new_rule (codes "threads")) { long = Some (codes "threads"); action = Some SetTrue }
+
+-- --audit OUT
+abbrev pub audit_option : Rule
+audit_option = record (new_rule (codes "audit")) { long = Some (codes "audit"); value_names = 1 }
+
+-- --terse-conflicts
+abbrev pub terse_flag : Rule
+terse_flag = record (new_rule (codes "terse-conflicts")) { long = Some (codes "terse-conflicts"); action = Some SetTrue }
+
+-- the name, and its words
+abbrev pub run_line : App
+run_line = with_rule (with_rule (with_rule (with_rule (new_app (codes "run")) (needed (codes "FILE"))) threads_flag) audit_option) terse_flag
+
+abbrev pub order_line : App
+order_line = with_rule (new_app (codes "order")) (needed (codes "AUDIT"))
+
+abbrev pub check_line : App
+check_line = with_rule (new_app (codes "check")) (needed (codes "AUDIT"))
+
+abbrev pub explain_line : App
+explain_line = with_rule (with_rule (with_rule (with_rule (new_app (codes "explain")) (needed (codes "AUDIT"))) (needed (codes "TXN"))) (needed (codes "STATEMENT"))) (new_rule (codes "ROW"))
+
+abbrev pub migrate_line : App
+migrate_line = with_rule (with_rule (new_app (codes "migrate")) (needed (codes "AUDIT"))) (needed (codes "OUT"))
+
+-- the program has a version, and one of the commands has to be named
+abbrev pub program_line : App
+program_line = on_top (λ (s : Shape). record s { has_version = true; subcommand_required = true }) (new_app (codes "rlsdb"))
+
+abbrev pub command_line : App
+command_line = with_subcommand (with_subcommand (with_subcommand (with_subcommand (with_subcommand program_line run_line.top) order_line.top) check_line.top) explain_line.top) migrate_line.top
+
+-- ---- what words ask for
+
+-- whether the flag is given
+pub record IsFlag (id : Text) (rows : List Row) (flag : Bool) : Type 0 where
+  pub given : one_of id rows ≡ Some (codes "true") → flag ≡ true
+  pub none : one_of id rows ≡ Some (codes "false") → flag ≡ false
+  pub absent : one_of id rows ≡ None → flag ≡ false
+
+-- the value is a number below 2^64
+abbrev pub IsNumber : Text → List Row → ℕ → Type 0
+IsNumber id rows number = (text : Text) × (first_of id rows ≡ Some text) × IsDecimal (2 ^ 64) text × (number ≡ digits_value 10 text)
+
+-- the value is a row's number, where there is one
+abbrev pub IsRow : List Row → Option RowId → Type 0
+IsRow rows (Some row) = (text : Text) × (first_of (codes "ROW") rows ≡ Some text) × IsRowText text row
+IsRow rows None = first_of (codes "ROW") rows ≡ None
+
+-- a script, with threads or without, the file of its audit, and how conflicts are told
+pub record IsRun (rows : List Row) (it : ScriptFile) : Type 0 where
+  pub file : first_of (codes "FILE") rows ≡ Some it.file.now
+  pub threads : IsFlag (codes "threads") rows it.threads
+  pub audit : option_map (λ name. name.now) it.audit ≡ first_of (codes "audit") rows
+  pub terse : IsFlag (codes "terse-conflicts") rows it.terse
+
+-- a statement of an audit
+pub record IsExplain (rows : List Row) (it : Explain) : Type 0 where
+  pub audit : first_of (codes "AUDIT") rows ≡ Some it.audit.now
+  pub txn : IsNumber (codes "TXN") rows it.txn
+  pub statement : IsNumber (codes "STATEMENT") rows it.statement
+  pub row : IsRow rows it.row
+
+-- the command of that name, with these words, asks for it
+abbrev pub AsksFor : Text → List Row → Request → Type 0
+AsksFor name rows (q.Run it) = (name ≡ codes "run") × IsRun rows it
+AsksFor name rows (q.Order audit) = (name ≡ codes "order") × (first_of (codes "AUDIT") rows ≡ Some audit.now)
+AsksFor name rows (q.Check audit) = (name ≡ codes "check") × (first_of (codes "AUDIT") rows ≡ Some audit.now)
+AsksFor name rows (q.Explain it) = (name ≡ codes "explain") × IsExplain rows it
+AsksFor name rows (q.Migrate audit out) = (name ≡ codes "migrate") × (first_of (codes "AUDIT") rows ≡ Some audit.now) × (first_of (codes "OUT") rows ≡ Some out.now)
+
+-- the words ask for it
+abbrev pub Asks : List Text → Request → Type 0
+Asks words request = (name : Text) × (rows : List Row) × (subcommand_of command_line words ≡ Some (name, rows)) × AsksFor name rows request
+
+-- what is wrong with the words isn't found by `clap`: a value isn't what is wanted
+abbrev pub IsOwn : Mistake → Type 0
+IsOwn (m.Words error) = ⊥
+IsOwn _ = Unit {0}
+
+-- memory doesn't suffice
+abbrev pub IsOfMemory : Mistake → Type 0
+IsOfMemory (m.Words error) = kind_of error ≡ OutOfMemory
+IsOfMemory _ = ⊥
+
+-- what is wrong with the words; in those that it takes `clap` finds nothing wrong
+abbrev pub IsMistaken : List Text → Mistake → Type 0
+IsMistaken words (m.Words error) = takes command_line words ≡ true → kind_of error ≡ OutOfMemory
+IsMistaken words _ = Unit {0}
