@@ -1,6 +1,7 @@
 pub mod AllLemmas
 pub mod CuttingLemmas
 pub mod ExampleLemmas
+pub mod MeaningLemmas
 pub mod OrderLemmas
 pub mod ParsingLemmas
 pub mod RefusalLemmas

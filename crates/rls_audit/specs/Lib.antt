@@ -16,6 +16,7 @@ pub mod Ordered
 pub mod Audits
 pub mod Shows
 pub mod Showing
+pub mod Printed
 pub mod ShownParts
 pub use Rattle.rls_core
 pub use Rattle.rls_core.specs.rls_access

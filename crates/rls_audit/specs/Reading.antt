@@ -1,8 +1,9 @@
--- What the text of a line means: a line of the format, each of whose texts is a statement.
+-- The text of a line, and what it means: a line of the format, each of whose texts is a statement.
 use Rattle.std.specs.Prelude.{◌≡◌, ℕ, List, Bool, true, false, Option, Some, option_and_then, Result, Ok, Err}
 use Rattle.std.specs.List.{All}
 use Rattle.std.specs.Str.{bytes_eq}
 use Rattle.serde_json.specs.Read.{read}
+use Rattle.serde_json.specs.Written.{compact_text}
 use Rattle.rls_value.specs.declared.refusal.Refusal.{Refusal}
 use Rattle.rls_value.specs.declared.refusal.Refusal.TheVariants as r
 use Rattle.rls_expr.specs.declared.policy.Policy.{Policy}
@@ -15,6 +16,10 @@ use Rattle.rls_audit.specs.declared.lines.Answered.{Answered}
 use Rattle.rls_audit.specs.declared.lines.Line.{Line}
 use Rattle.rls_audit.specs.declared.lines.Line.TheVariants.{Head, Txn, End}
 use Rattle.rls_audit.specs.LineCodecs.{line}
+
+-- the line as it is written: in the second format, as JSON without blanks, the keys of objects in byte order
+abbrev pub line_text : Line → List ℕ
+line_text it = compact_text ((line true).written it)
 
 -- the line of that form, whatever its texts are
 abbrev pub line_found : Bool → List ℕ → Option Line

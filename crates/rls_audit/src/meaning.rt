@@ -1,9 +1,13 @@
 //! What audits mean.
 
-ghost use Rattle.std.specs.Prelude.{[], ◌∷◌};
+ghost use Rattle.std.specs.Prelude.{◌≡◌, [], ◌∷◌, true, Some};
 ghost use Rattle.rls_core.specs.Headline.{AfterEvents};
 ghost use Rattle.rls_audit.specs.Audits.{IsAudit, AuditHolds, AuditsHold};
+ghost use Rattle.rls_audit.specs.Lines as shown;
 ghost use Rattle.rls_audit.specs.Lines.{Head, End};
+ghost use Rattle.rls_audit.specs.Reading.{line_found, line_text};
+ghost use Rattle.rls_audit.specs.Shows.{Means, ShowsLine};
+ghost use Rattle.rls_audit.specs.declared.lines.Line.{Line};
 
 use rls_core::{committed_are_serial, events_keep};
 
@@ -22,3 +26,9 @@ pub fn audits_hold()
     committed_are_serial();
     events_keep();
 }
+
+/// What a line shows its text means, as it is written: each text in it is a statement's, or creates a policy.
+#[tactic(auto, using(crate::proofs::MeaningLemmas::written_means))]
+pub fn written_lines_mean()
+    ensures { (line : Line) (it : shown.Line) → line_found true (line_text line) ≡ Some line → ShowsLine line it → Means true (line_text line) it }
+{}

@@ -2,10 +2,8 @@
 
 ghost use Rattle.std.specs.Prelude.{◌≡◌, true, Some, Ok, IfOk, string_bytes};
 ghost use Rattle.std.specs.List.{All};
-ghost use Rattle.rls_audit.specs.LineCodecs as codec;
 ghost use Rattle.rls_audit.specs.Reading as spec;
-ghost use Rattle.rls_audit.specs.Reading.{line_found, TellsWhether, IsStatementText, IsPolicyText, HasStatement, HasPolicies, TextsParse, MeansLine, IsLineRead};
-ghost use Rattle.serde_json.specs.Written.{compact_text};
+ghost use Rattle.rls_audit.specs.Reading.{line_found, line_text, TellsWhether, IsStatementText, IsPolicyText, HasStatement, HasPolicies, TextsParse, MeansLine, IsLineRead};
 
 use crate::changes::Changed;
 use crate::format::{Audit, Format, Second};
@@ -19,7 +17,7 @@ use std::alloc::{AllocError, Global};
 /// The text of the line in the second format, without its end: compact JSON, the keys of objects in byte order. It is read back as
 /// the line.
 pub fn write_line(alloc: Global, line: &Line) -> Result<String, AllocError>
-    ensures text { IfOk result (λ text. string_bytes text ≡ compact_text ((codec.line true).written line.now)) }
+    ensures text { IfOk result (λ text. string_bytes text ≡ line_text line.now) }
     ensures back { IfOk result (λ text. line_found true (string_bytes text) ≡ Some line.now) }
 {
     rls_codec::write_line::<Audit<Second>, Line>(alloc, line)

@@ -1,13 +1,14 @@
 //! The line of what is recorded of a transaction.
 
-ghost use Rattle.std.specs.Prelude.{◌≡◌, ◌<◌, length, map, option_map, IfOk};
+ghost use Rattle.std.specs.Prelude.{◌≡◌, ◌<◌, length, map, option_map, string_bytes, IfOk};
 ghost use Rattle.std.specs.List.{All, AllZip, flat_map};
 ghost use Rattle.rls_core.specs.Posts.{effect_of};
 ghost use Rattle.rls_audit.specs.Lines as spec;
 ghost use Rattle.rls_audit.specs.Lines.{grant_shape, in_object_order, ordered_changes};
-ghost use Rattle.rls_audit.specs.Showing.{IsSpellable, IsPolicySpellable, AreTexts, HasKey, CanTell, CanShow, Gives};
-ghost use Rattle.rls_audit.specs.Shows.{NamesColumn, SpellsPolicy, ShowsTable, ShowsLine};
-ghost use Rattle.rls_audit.specs.ShownParts.{Adds, ShowsChange, ShowsPost, ShowsPolicy, line_of};
+ghost use Rattle.rls_audit.specs.Printed.{line_of, printed_line, printed_text};
+ghost use Rattle.rls_audit.specs.Showing.{IsSpellable, AreTexts, HasKey, CanTell, CanShow, Gives};
+ghost use Rattle.rls_audit.specs.Shows.{NamesColumn, ShowsTable, ShowsLine};
+ghost use Rattle.rls_audit.specs.ShownParts.{Adds, ShowsChange, ShowsPost, ShowsPolicy};
 ghost use Rattle.rls_text.specs.{ParseResults.IsSpelled, Words.words_of};
 
 use crate::changes::Changed;
@@ -54,9 +55,11 @@ impl<T: Drop> From<AllocFailed<T>> for Unshown {
     }
 }
 
-/// The line of the record with this commit. Where texts spell its statements and policies, it shows just the record.
+/// The line of the record with this commit, its statements and policies as they are printed. Where texts spell these, it shows just
+/// the record.
 pub fn line_of_record(alloc: Global, commit: u64, record: &Record) -> Result<Line, Unshown>
-    ensures { Gives result (All CanShow record.now.effects) (λ line. AreTexts record.now → ShowsLine line (spec.Txn (spec.shown commit record.now))) }
+    ensures shows { Gives result (All CanShow record.now.effects) (λ line. AreTexts record.now → ShowsLine line (spec.Txn (spec.shown commit record.now))) }
+    ensures printed { IfOk result (λ line. line ≡ printed_line commit record.now) }
 {
     match answered_and_changed(alloc, record.posts()) {
         Ok((statements, changes)) => Ok(line_with(alloc, commit, record, statements, changes)?),
@@ -163,10 +166,19 @@ fn reply_to(alloc: Global, effect: &Effect) -> Result<Result<Reply, Audited>, Un
 }
 
 fn statement_text(alloc: Global, statement: &Statement) -> Result<Text, AllocError>
-    ensures { IfOk result (λ text. IsSpellable statement.now → IsSpelled (words_of text) statement.now) }
+    ensures text { IfOk result (λ text. text ≡ printed_text statement.now) }
+    ensures spelled { IfOk result (λ text. IsSpellable statement.now → IsSpelled (words_of text) statement.now) }
 {
-    let text = print(alloc, statement)?;
+    let text = printed(alloc, statement)?;
     Ok(Text::from_string(text))
+}
+
+/// The statement in its one written form. Where some text spells it, this one does.
+pub fn printed(alloc: Global, statement: &Statement) -> Result<String, AllocError>
+    ensures text { IfOk result (λ text. string_bytes text ≡ printed_text statement.now) }
+    ensures spelled { IfOk result (λ text. IsSpellable statement.now → IsSpelled (words_of (string_bytes text)) statement.now) }
+{
+    print(alloc, statement)
 }
 
 // ---- changes
@@ -229,6 +241,7 @@ fn push_changes(alloc: Global, all: &mut Items<Changed>, changes: &[Change]) -> 
 }
 
 /// What the change leaves at its object.
+#[tactic(auto, using(crate::proofs::ShowingLemmas::role_written, crate::proofs::ShowingLemmas::members_written, crate::proofs::ShowingLemmas::grants_written, crate::proofs::ShowingLemmas::row_written))]
 fn changed_by(alloc: Global, change: &Change) -> Result<Changed, Unshown>
     ensures { Gives result (CanTell change.now) (λ changed. ShowsChange changed change.now) }
 {
@@ -347,7 +360,7 @@ fn key_name(columns: &[Column], place: usize) -> Result<Name, Unshown>
 
 /// The policies of the table, as statements that create them.
 fn policy_texts(alloc: Global, table: &Name, policies: &Policies) -> Result<Items<Text>, AllocError>
-    ensures { IfOk result (λ texts. All (IsPolicySpellable table.now) policies.now → AllZip (SpellsPolicy table.now) texts policies.now) }
+    ensures { IfOk result (λ texts. AllZip (ShowsPolicy table.now) texts policies.now) }
 {
     let mut texts = Items::new(alloc);
     for policy in policies.iter() {

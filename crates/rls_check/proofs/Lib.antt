@@ -12,7 +12,9 @@ pub mod StoredLemmas
 pub mod KeepingLemmas
 pub mod HeadLemmas
 pub mod WholeLemmas
+pub mod BegunLemmas
 pub mod WhyTextLemmas
 pub mod OneFindingLemmas
 pub mod ConvertedLemmas
 pub mod ReadLemmas
+pub mod OneAuditLemmas

@@ -39,7 +39,8 @@ put_among P x zero xs p h = (p, h)
 put_among P x (suc n) [] p h = (p, tt)
 put_among P x (suc n) (y ∷ ys) p h = (h.0, put_among P x n ys p h.1)
 
-all_ordered : (P : Change → Type 0) (changes : List Change) → AllByRecursion P changes → AllByRecursion P (in_object_order changes)
+-- what holds of each change holds of them in the order of objects
+pub all_ordered : (P : Change → Type 0) (changes : List Change) → AllByRecursion P changes → AllByRecursion P (in_object_order changes)
 all_ordered P [] h = tt
 all_ordered P (change ∷ more) h =
     put_among P change (position_or_len (λ other. not (comes_before other change)) (in_object_order more)) (in_object_order more) h.0 (all_ordered P more h.1)

@@ -198,6 +198,7 @@ module _ (texts : List (List ℕ)) (text : List ℕ) (second own : Bool) (before
               subst (λ (ls : List Line). AllZip (IsTextOf own) (texts ++ text ∷ []) ls) (sym lines)
               (subst (λ (ts : List (List ℕ)). AllZip (IsTextOf own) (ts ++ text ∷ []) (Head ∷ [])) (sym none) (is, tt));
           count = counted Head behind;
+          within = behind.within;
           format = λ other e. inside_same other own (sym e ∙ behind.stage);
           nothing = λ e. absurd (nothing_inside own (sym e ∙ behind.stage));
           in_turn = reads.in_turn;
@@ -229,6 +230,7 @@ module _ (texts : List (List ℕ)) (text : List ℕ) (second own : Bool) (before
               (zip_push (IsTextOf second) texts (Head ∷ map Txn read) text (Txn one) (subst (λ (st : Stage). AllZip (IsTextOf second) texts (lines_at st read order)) at reads.lines)
               (subst (λ (b : Bool). IsTextOf b text (Txn one)) same is));
           count = counted (Txn one) behind;
+          within = behind.within;
           format = λ other e. (let o : stage.Inside other ≡ stage.Inside own = sym e ∙ behind.stage in let p : other ≡ own = cc in p ∙ same);
           nothing = λ e. (let o : stage.Nothing ≡ stage.Inside own = sym e ∙ behind.stage in absurd (cc));
           in_turn = in_turn_push [] read one reads.in_turn stands;
@@ -254,6 +256,7 @@ module _ (texts : List (List ℕ)) (text : List ℕ) (second own : Bool) (before
               (zip_push (IsTextOf second) texts (Head ∷ map Txn read) text (End (length read) named) (subst (λ (st : Stage). AllZip (IsTextOf second) texts (lines_at st read order)) at reads.lines)
               (subst (λ (n : ℕ). IsTextOf second text (End n named)) all (subst (λ (b : Bool). IsTextOf b text (End count named)) same is)));
           count = counted (End count named) behind;
+          within = behind.within;
           format = λ other e. (let o : stage.Inside other ≡ stage.End = sym e ∙ behind.stage in absurd (cc));
           nothing = λ e. (let o : stage.Nothing ≡ stage.End = sym e ∙ behind.stage in absurd (cc));
           in_turn = reads.in_turn;
@@ -299,6 +302,7 @@ as_nothing : (second : Bool) (order : List ℕ) (form : Form) → IsUnread form 
 as_nothing second order form unread = record {
   lines = subst (λ (st : Stage). AllZip (IsTextOf second) [] (lines_at st [] order)) (sym unread.stage) tt;
   count = unread.lines;
+  within = (let none = unread.lines in omega (arith, none));
   format = λ own e. (let o : stage.Inside own ≡ stage.Nothing = sym e ∙ unread.stage in absurd (cc));
   nothing = λ e. refl;
   in_turn = tt;

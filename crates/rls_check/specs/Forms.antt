@@ -1,15 +1,13 @@
 -- Which line may stand next in an audit, and how far it is read behind it.
-use Rattle.std.specs.Prelude.{◌≡◌, ◌⊎◌, ◌+◌, ◌<◌, ◌≤◌, ℕ, Bool, true, false, List, [], Some, Result, Ok, Err, IsUtf8}
+use Rattle.std.specs.Prelude.{◌≡◌, ◌⊎◌, ◌+◌, ◌^◌, ◌<◌, ◌≤◌, ℕ, Bool, true, false, List, [], Some, Result, Ok, Err, IsUtf8}
 use Rattle.std.specs.Ordering.{nat_cmp}
 use Rattle.std.specs.BTreeSet.{BTreeSet, btree_set_len, contains, insert_key}
-use Rattle.serde_json.specs.Written.{compact_text}
 use Rattle.rls_value.specs.declared.refusal.Refusal.{Refusal}
 use Rattle.rls_value.specs.declared.refusal.Refusal.TheVariants as r
 use Rattle.rls_audit.specs.declared.lines.Shown.{Shown}
 use Rattle.rls_audit.specs.declared.lines.Line.{Line}
 use Rattle.rls_audit.specs.declared.lines.Line.TheVariants.{Head, Txn, End}
-use Rattle.rls_audit.specs.LineCodecs as codec
-use Rattle.rls_audit.specs.Reading.{MeansLine, line_found}
+use Rattle.rls_audit.specs.Reading.{MeansLine, line_found, line_text}
 use Rattle.rls_check.specs.declared.form.Stage.{Stage}
 use Rattle.rls_check.specs.declared.form.Stage.TheVariants as stage
 use Rattle.rls_check.specs.declared.form.Form.{Form}
@@ -56,10 +54,11 @@ used_behind Head numbers = numbers
 used_behind (Txn shown) numbers = insert_key nat_cmp numbers shown.txn
 used_behind (End count order) numbers = numbers
 
--- how far it is read behind the line
+-- how far it is read behind the line, of which there are fewer than 2^64
 pub record IsBehind (form : Form) (it : Line) (second : Bool) (after : Form) : Type 0 where
   pub stage : after.stage ≡ stage_behind it second
   pub lines : after.lines ≡ form.lines + 1
+  pub within : after.lines < 2 ^ 64
   pub used : after.used.keys ≡ used_behind it form.used.keys
 
 -- nothing is read
@@ -94,7 +93,7 @@ FollowerOf own used text it second = MeansLine second text it × (second ≡ own
 
 -- the text is the line in the second format, and is read back as the line
 pub record IsWritten (it : Line) (text : List ℕ) : Type 0 where
-  pub text_is : text ≡ compact_text ((codec.line true).written it)
+  pub text_is : text ≡ line_text it
   pub back : line_found true text ≡ Some it
 
 -- the last line is read; or the line behind those read is missing; or memory ran out

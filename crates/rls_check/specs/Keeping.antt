@@ -1,12 +1,16 @@
 -- What is kept of a line: what the texts and names in it say.
 use Rattle.std.specs.Prelude.{◌≡◌, ◌++◌, ℕ, suc, List, [], ◌∷◌, map, length, Option, Some, None, Result, Ok, Err}
-use Rattle.std.specs.List.{AllZip, position_or_len}
+use Rattle.std.specs.List.{All, AllZip, position_or_len}
 use Rattle.std.specs.Str.{bytes_eq}
 use Rattle.rls_value.specs.declared.refusal.Refusal.{Refusal}
 use Rattle.rls_value.specs.declared.refusal.Refusal.TheVariants as r
 use Rattle.rls_expr.specs.{declared.policy.Policy.Policy, declared.table.Column.Column, declared.table.TableDef.TableDef}
 use Rattle.rls_statement.specs.declared.statement.Statement.{Statement}
 use Rattle.rls_statement.specs.declared.statement.Statement.TheVariants as st
+use Rattle.rls_guard.specs.Effects.{changes_of}
+use Rattle.rls_audit.specs.rls_core.specs.Records.{Record}
+use Rattle.rls_audit.specs.Lines.{Content, content_of}
+use Rattle.rls_audit.specs.Lines as lines
 use Rattle.rls_audit.specs.declared.contents.TableShape.{TableShape}
 use Rattle.rls_audit.specs.declared.changes.Changed.{Changed}
 use Rattle.rls_audit.specs.declared.changes.Changed.TheVariants as c
@@ -38,6 +42,23 @@ NamesKey shape = (places : List ℕ) × AllZip (NamesColumn shape.columns) shape
 abbrev pub NamesKeys : Changed → Type 0
 NamesKeys (c.Table name shape) = NamesKey shape
 NamesKeys _ = Unit {0}
+
+-- the column at the place is the first of its name
+abbrev pub IsFirstNamed : List Column → ℕ → Type 0
+IsFirstNamed columns place = (name : List ℕ) × NamesColumn columns name place × (place_of columns name ≡ place)
+
+-- so is each column of the table's key
+abbrev pub HasFirstKey : TableDef → Type 0
+HasFirstKey def = All (IsFirstNamed def.columns) def.key
+
+-- if it is a table, so is each of its key
+abbrev pub KeyIsFirst : Content → Type 0
+KeyIsFirst (lines.Table def) = HasFirstKey def
+KeyIsFirst _ = Unit {0}
+
+-- of each table that the record's statements wrote
+abbrev pub KeysAreFirst : Record → Type 0
+KeysAreFirst it = All (λ effect. All (λ change. KeyIsFirst (content_of change)) (changes_of effect)) it.effects
 
 -- the statement is the text's, and its answer is kept
 abbrev pub KeepsAnswer : Answered → Answer → Type 0

@@ -25,7 +25,7 @@ use Rattle.rls_check.specs.Keeping.{Keeps, KeepsAnswer, KeepsPut, AreKept, polic
 
 -- ---- one
 
-spelled_one : (text : List ℕ) (x y : Statement) → IsSpelled (words_of text) x → IsSpelled (words_of text) y → x ≡ y
+pub spelled_one : (text : List ℕ) (x y : Statement) → IsSpelled (words_of text) x → IsSpelled (words_of text) y → x ≡ y
 spelled_one text x y h k = one_statement (words_of text) x y h.spelled k.spelled
 
 abbrev answer_by : Statement → Result Reply Refusal → List Decision → Answer
@@ -49,7 +49,7 @@ policy_one : (table text : List ℕ) (x y : Policy) → SpellsPolicy table text 
 policy_one table text x y h k =
     let e : Some x ≡ Some y = ap policy_in (spelled_one text (st.CreatePolicy record { table = table; policy = x }) (st.CreatePolicy record { table = table; policy = y }) h k) in cc
 
-policies_one : (table : List ℕ) (texts : List (List ℕ)) (xs ys : List Policy) → AllZip (SpellsPolicy table) texts xs → AllZip (SpellsPolicy table) texts ys → xs ≡ ys
+pub policies_one : (table : List ℕ) (texts : List (List ℕ)) (xs ys : List Policy) → AllZip (SpellsPolicy table) texts xs → AllZip (SpellsPolicy table) texts ys → xs ≡ ys
 policies_one table [] [] [] h k = refl
 policies_one table [] [] (y ∷ ys) h k = absurd k
 policies_one table [] (x ∷ xs) ys h k = absurd h
@@ -81,7 +81,7 @@ transaction_by txn begin snap answers puts = record { txn = txn; begin = begin; 
 abbrev begin_by : List ℕ → List ℕ → Mode → Begin
 begin_by login role mode = record { login = login; role = role; mode = mode }
 
-same_begin : (x y : Begin) → x.login ≡ y.login → x.role ≡ y.role → x.mode ≡ y.mode → x ≡ y
+pub same_begin : (x y : Begin) → x.login ≡ y.login → x.role ≡ y.role → x.mode ≡ y.mode → x ≡ y
 same_begin x y a b d = ap (λ (l : List ℕ). begin_by l x.role x.mode) a ∙ (ap (λ (r : List ℕ). begin_by y.login r x.mode) b ∙ ap (begin_by y.login y.role) d)
 
 same_transaction : (x y : Transaction) → x.txn ≡ y.txn → x.begin ≡ y.begin → x.snap ≡ y.snap → x.answers ≡ y.answers → x.puts ≡ y.puts → x ≡ y

@@ -1,12 +1,13 @@
 -- Which texts are the lines of an audit, how far they are read, and what is kept of them.
-use Rattle.std.specs.Prelude.{◌≡◌, ◌≢◌, ◌+◌, ◌++◌, ◌<◌, ◌≤◌, ◌==◌, ℕ, Bool, true, List, [], ◌∷◌, map, length, IsUtf8}
+use Rattle.std.specs.Prelude.{◌≡◌, ◌≢◌, ◌+◌, ◌^◌, ◌++◌, ◌<◌, ◌≤◌, ◌==◌, ℕ, Bool, true, List, [], ◌∷◌, map, length, IsUtf8}
 use Rattle.std.specs.List.{All, AllByRecursion, AllZip, list_any}
 use Rattle.std.specs.Ordering.{nat_cmp}
 use Rattle.std.specs.BTreeMap.{is_at}
 use Rattle.rls_audit.specs.declared.lines.Shown.{Shown}
 use Rattle.rls_audit.specs.declared.lines.Line.{Line}
 use Rattle.rls_audit.specs.declared.lines.Line.TheVariants.{Head, Txn, End}
-use Rattle.rls_audit.specs.Reading.{MeansLine}
+use Rattle.rls_audit.specs.{Audits.AuditHolds, Reading.MeansLine, Shows.Means}
+use Rattle.rls_audit.specs.Lines as meant
 use Rattle.rls_check.specs.declared.transaction.Transaction.{Transaction}
 use Rattle.rls_check.specs.declared.form.Stage.{Stage}
 use Rattle.rls_check.specs.declared.form.Stage.TheVariants as stage
@@ -41,6 +42,14 @@ pub record AreAudit (second : Bool) (texts : List (List ℕ)) (read : List Shown
   pub lines : AllZip (IsTextOf second) texts (lines_read read order)
   pub in_turn : StandInTurn [] read
 
+-- they are an audit
+abbrev pub AreSomeAudit : List (List ℕ) → Type 0
+AreSomeAudit texts = (second : Bool) × (read : List Shown) × (order : List ℕ) × AreAudit second texts read order
+
+-- some audit begins with them
+abbrev pub BeginAudit : List (List ℕ) → Type 0
+BeginAudit texts = (more : List (List ℕ)) × AreSomeAudit (texts ++ more)
+
 -- they are no audit
 abbrev pub AreNoAudit : List (List ℕ) → Type 0
 AreNoAudit texts = (second : Bool) (read : List Shown) (order : List ℕ) → AreAudit second texts read order → ⊥
@@ -48,6 +57,10 @@ AreNoAudit texts = (second : Bool) (read : List Shown) (order : List ℕ) → Ar
 -- no audit begins with them
 abbrev pub BeginNoAudit : List (List ℕ) → Type 0
 BeginNoAudit texts = (more : List (List ℕ)) → AreNoAudit (texts ++ more)
+
+-- they mean lines, in one of the formats, that show records with an order that explains them
+abbrev pub ShowExplained : List (List ℕ) → Type 0
+ShowExplained texts = (second : Bool) × (lines : List meant.Line) × AllZip (Means second) texts lines × AuditHolds lines
 
 -- ---- how far they are read
 
@@ -67,6 +80,7 @@ pub record AreUsed (numbers : List ℕ) (read : List Shown) : Type 0 where
 pub record IsReadAs (texts : List (List ℕ)) (second : Bool) (read : List Shown) (order : List ℕ) (form : Form) : Type 0 where
   pub lines : AllZip (IsTextOf second) texts (lines_at form.stage read order)
   pub count : form.lines ≡ length texts
+  pub within : form.lines < 2 ^ 64
   pub format : (own : Bool) → form.stage ≡ stage.Inside own → own ≡ second
   pub nothing : form.stage ≡ stage.Nothing → read ≡ []
   pub in_turn : StandInTurn [] read

@@ -1,23 +1,17 @@
 -- How it is written why a statement did what it did.
-use Rattle.std.specs.Prelude.{ℕ, true, List, [], ◌∷◌, ◌++◌, length, codes, Option, Some, None, encode_utf8_all}
+use Rattle.std.specs.Prelude.{ℕ, List, [], ◌∷◌, ◌++◌, length, codes, Option, Some, None}
 use Rattle.std.specs.Fmt.{decimal}
 use Rattle.std.specs.List.{flat_map}
 use Rattle.rls_value.specs.{declared.row.RowId.RowId, declared.tag.Tag.Tag, Refusals.code_of, Refusals.refusal_text, Words.tag_text}
 use Rattle.rls_value.specs.declared.tag.Tag.TheVariants as t
-use Rattle.rls_statement.specs.{declared.statement.Statement.Statement, Tags.tag_of}
+use Rattle.rls_statement.specs.Tags.{tag_of}
 use Rattle.rls_guard.specs.{declared.reply.Reply.Reply, declared.reply.Decision.Decision, declared.effect.Effect.Effect}
 use Rattle.rls_guard.specs.declared.reply.Reply.TheVariants as r
 use Rattle.rls_guard.specs.declared.effect.Effect.TheVariants as effect
-use Rattle.rls_audit.specs.Lines.{decisions_of}
-use Rattle.rls_audit.specs.rls_printing.specs.Outputs.{output_tokens_text}
-use Rattle.rls_audit.specs.rls_printing.specs.StatementForms as form
+use Rattle.rls_audit.specs.{Lines.decisions_of, Printed.printed_text}
 use Rattle.rls_explain.specs.declared.explanation.{Explanation.Explanation, Explained.Explained, Said.Said}
 use Rattle.rls_explain.specs.Texts.{decision_text, said_text}
 use Rattle.rls_check.specs.declared.explaining.Why.{Why}
-
--- the statement in its one written form
-abbrev pub printed_text : Statement → List ℕ
-printed_text statement = encode_utf8_all (output_tokens_text true (form.statement statement))
 
 -- a line with its end
 abbrev pub ended_line : List ℕ → List ℕ

@@ -1,17 +1,20 @@
 //! Laws of what is read and found, as clauses of functions that do nothing.
 
-ghost use Rattle.std.specs.Prelude.{◌≡◌, ℕ, Bool, List};
+ghost use Rattle.std.specs.Prelude.{◌≡◌, ◌<◌, ℕ, Bool, List, IsUtf8};
 ghost use Rattle.std.specs.List.{All, AllZip};
 ghost use Rattle.rls_expr.specs.declared.table.TableDef.{TableDef};
 ghost use Rattle.rls_audit.specs.{Audits.AuditHolds, Showing.CanShow, Showing.HasKey, Shows.Means, Shows.ShowsLine};
 ghost use Rattle.rls_audit.specs.declared.changes.Changed.TheVariants as changed;
 ghost use Rattle.rls_audit.specs.declared.contents.TableShape.{TableShape};
 ghost use Rattle.rls_audit.specs.declared.lines.Shown.{Shown};
+ghost use Rattle.rls_audit.specs.Lines as shown;
 ghost use Rattle.rls_check.specs.Audited.{lines_of};
 ghost use Rattle.rls_check.specs.Checking.{IsFirst};
-ghost use Rattle.rls_check.specs.Keeping.{AreKept, KeepsPut, NamesKey, lines_read};
-ghost use Rattle.rls_check.specs.Wholes.{AreConverted, IsAuditOf};
+ghost use Rattle.rls_check.specs.Keeping.{AreKept, KeepsPut, KeysAreFirst, NamesKey, lines_read};
+ghost use Rattle.rls_check.specs.Wholes.{AreConverted, AreSomeAudit, BeginAudit, HasConverted, HasRead, IsAuditOf};
 ghost use Rattle.rls_check.specs.declared.audit.Audit.{Audit};
+ghost use Rattle.rls_check.specs.declared.audit.Reader.{Reader};
+ghost use Rattle.rls_check.specs.declared.converting.Converter.{Converter};
 ghost use Rattle.rls_check.specs.declared.finding.Finding.{Finding};
 ghost use Rattle.rls_check.specs.declared.transaction.Put.TheVariants as put;
 ghost use Rattle.rls_check.specs.declared.transaction.Transaction.{Transaction};
@@ -29,4 +32,17 @@ pub fn conversions_are_same()
     ensures one { (texts : List (List ℕ)) (one other : Audit) → IsAuditOf texts one → IsAuditOf texts other → one ≡ other }
     ensures converted { (texts written : List (List ℕ)) (one other : Audit) → AreConverted texts written → IsAuditOf texts one → IsAuditOf written other → one ≡ other }
     ensures found { (transactions : List Transaction) (order : List ℕ) (one other : Finding) → IsFirst transactions order one → IsFirst transactions order other → one ≡ other }
+{}
+
+/// Where texts mean lines that hold, and the columns of keys are the first of their names, the audit that is read of the texts has
+/// just these lines. Texts in UTF-8 that mean such lines are an audit, where the numbers of the transactions are above 0.
+pub fn meant_lines_are_read()
+    ensures lines { (texts : List (List ℕ)) (audit : Audit) (second : Bool) (lines : List shown.Line) (holds : AuditHolds lines) → IsAuditOf texts audit → AllZip (Means second) texts lines → All KeysAreFirst holds.records → lines_of audit.transactions audit.order ≡ lines }
+    ensures texts { (second : Bool) (texts : List (List ℕ)) (lines : List shown.Line) (holds : AuditHolds lines) → All IsUtf8 texts → AllZip (Means second) texts lines → All (λ it. 0 < it.txn) holds.records → AreSomeAudit texts }
+{}
+
+/// Some audit begins with the texts that were read, or converted: no line is taken that has no place in any.
+pub fn read_texts_begin_audits()
+    ensures read { (texts : List (List ℕ)) (reader : Reader) → HasRead texts reader → BeginAudit texts }
+    ensures converted { (texts written : List (List ℕ)) (converter : Converter) → HasConverted texts written converter → BeginAudit texts }
 {}

@@ -23,7 +23,9 @@ pub use audit::{Audit, Reader};
 pub use converting::Converter;
 pub use explaining::Why;
 pub use finding::Finding;
-pub use laws::{conversions_are_same, lines_are_shown};
+pub use laws::{
+    conversions_are_same, lines_are_shown, meant_lines_are_read, read_texts_begin_audits,
+};
 pub use rls_audit;
 pub use rls_explain::rls_meaning;
 pub use transaction::{Answer, Put, Transaction};

@@ -2,15 +2,14 @@
 
 ghost use Rattle.std.specs.Prelude.{◌≡◌, ◌++◌, codes, string_bytes, IfOk, OnOk};
 ghost use Rattle.rls_value.specs.Refusals.{code_of};
-ghost use Rattle.rls_check.specs.WhyTexts.{came_text, counted_tag, decision_lines, ended_line, explained_lines, explanation_text, head_text, place_text, printed_text, row_lines, said_lines};
+ghost use Rattle.rls_check.specs.WhyTexts.{came_text, counted_tag, decision_lines, ended_line, explained_lines, explanation_text, head_text, place_text, row_lines, said_lines};
 ghost use Rattle.rls_audit.specs.Lines as shown;
 ghost use Rattle.rls_explain.specs.Texts.{decision_text};
 
 use crate::explaining::Why;
+use rls_audit::printed;
 use rls_audit::rls_access::{Decision, Effect, Reply};
-use rls_audit::rls_printing::print;
 use rls_explain::{DecisionText, Explained, Said};
-use rls_statement::Statement;
 use rls_value::{Refusal, Tag};
 use std::alloc::{AllocError, Global};
 
@@ -60,14 +59,6 @@ impl Why {
             None => push_decisions(alloc, lines, decisions_of(&self.explanation.effect)),
         }
     }
-}
-
-/// The statement in its one written form.
-#[tactic(auto, using(crate::proofs::WhyTextLemmas::printed_bytes))]
-fn printed(alloc: Global, statement: &Statement) -> Result<String, AllocError>
-    ensures { IfOk result (λ text. string_bytes text ≡ printed_text statement.now) }
-{
-    print(alloc, statement)
 }
 
 fn push_reply(

@@ -146,7 +146,7 @@ made_deep s role_privileges name table kind reads queries expansion made n user 
     (state_deep s role_privileges (own_of s role_privileges name table kind reads ++ queries) made.dependencies name (own_of s role_privileges name table kind reads) queries made.reached n user made.given (λ t is. is) made.ordered order
     (subst (λ relations. length relations ≤ n) (sym (ap (λ p. p.relations) made.is)) enough))
 
--- each table whose privilege is asked is reached
+-- each table that subqueries look at is reached
 checked_reached : (queries : List (List ℕ)) (reached : Reached) → ListsEach queries reached → Within queries reached.secured → Within reached.tables reached.secured
 checked_reached queries reached asks within t is =
     within_all queries asks.listed reached.secured within asks.only t (ap (λ names. one_of names t) (sym asks.behind) ∙ is)

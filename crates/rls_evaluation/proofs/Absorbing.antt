@@ -1,16 +1,18 @@
 -- What is in the read set already adds nothing, and stays in it.
-use Rattle.std.specs.Prelude.{◌≡◌, refl, ℕ, List, [], ◌∷◌, Bool, true, false, ◌||◌, Option, Some, None, Ok, nat_eq, if◌then◌else◌, cond}
+use Rattle.std.specs.Prelude.{◌≡◌, refl, ℕ, List, [], ◌∷◌, Bool, true, false, ◌||◌, Option, Some, None, Ok, drop, nat_eq, if◌then◌else◌, cond}
 use Rattle.std.specs.{List.AllByRecursion, List.Sorted.IsStrictlySortedBy, declared.cmp.Ordering.Ordering, BTreeMap.is_at, Map.lookup}
 use Rattle.std.specs.Ordering.{is_eq, match_ordering}
 use Rattle.std.specs.declared.cmp.Ordering.TheVariants.{Less, Equal, Greater}
 use Rattle.std.proofs.Common.{ap, sym, ◌∙◌, subst, arith}
 use Rattle.std.proofs.lemmas.Bool.{true≢false, or_left, or_right}
+use Rattle.std.proofs.lemmas.List.Elements.{All-nil, All-weaker}
 use Rattle.rls_value.specs.{declared.value.Value.Value, declared.object.Object.Object, Objects.object_order, ObjectOrder.objects_total}
 use Rattle.rls_verdict.specs.rls_catalog.specs.State.{State}
-use Rattle.rls_source.specs.{Footprints.with_object, Footprints.with_reads, Footprints.is_object, Footprints.is_among, Footprints.IsInOrder, FootprintLaws.is_object_same, FootprintLaws.among_with_object, FootprintLaws.among_with_reads}
+use Rattle.rls_source.specs.{Askings.Asking, Footprints.with_object, Footprints.with_reads, Footprints.is_object, Footprints.is_among, Footprints.IsInOrder, FootprintLaws.is_object_same, FootprintLaws.among_with_object, FootprintLaws.among_with_reads}
 use Rattle.rls_source.proofs.FootprintOrderLaws.{with_object_in_order}
-use Rattle.rls_evaluation.specs.{declared.relation.SecuredRelation.SecuredRelation, declared.execution_state.CachedSubplan.CachedSubplan, declared.execution_state.CachedRows.CachedRows, declared.execution_state.ExecutionState.ExecutionState, CachedSubplans.IsCached, CachedSubplans.AreCached, CachedSubplans.subplan_of, Holding.IsKept, Holding.Holds, Holding.Evaluates, Holding.at_place, Holding.found_in, Holding.shown_at}
-use Rattle.rls_expr.specs.ExprTerms.{query_of}
+use Rattle.rls_evaluation.specs.declared.cached_subplan.Answer.TheVariants.{Is, Items, First}
+use Rattle.rls_evaluation.specs.{declared.relation.SecuredRelation.SecuredRelation, declared.cached_subplan.Answer.Answer, declared.cached_subplan.CachedSubplan.CachedSubplan, declared.execution_state.CachedRows.CachedRows, declared.execution_state.ExecutionState.ExecutionState, CachedSubplans.IsAnswer, CachedSubplans.IsCached, CachedSubplans.IsKnown, CachedSubplans.AreCached, Environments.Environment, Eval.Shows, Eval.first_item, Eval.has_row, Items.items_seen, Showing.shows, Holding.IsKept, Holding.Holds, Holding.Evaluates, Holding.at_place, Holding.found_in, Holding.shown_at}
+use Rattle.rls_expr.specs.{ExprTerms.query_of, Terms.Query}
 
 below_none : (x y : Object) (objects : List Object) → object_order x y ≡ Less → AllByRecursion (λ z. object_order y z ≡ Less) objects → is_among objects x ≡ false
 below_none x y [] is all = refl
@@ -60,15 +62,27 @@ still_absorbed read_set reads more ordered same =
 
 -- ---- what was shown stays so
 
+-- what is known
+known_noted : {A : Type 0} (asking : Asking A) (s : State) (read_set : List Object) (more : Object) (a : A) → IsInOrder read_set → IsKnown asking s read_set a → IsKnown asking s (with_object read_set more) a
+known_noted asking s read_set more a ordered was = record { given = was.given; noted = still_absorbed read_set (asking.in_state s).reads more ordered was.noted }
+
+answer_noted : (sees : Shows) (s : State) (read_set : List Object) (more : Object) (q : Query) (env : Environment) (answer : Answer) → IsInOrder read_set
+    → IsAnswer sees s read_set q env answer → IsAnswer sees s (with_object read_set more) q env answer
+answer_noted sees s read_set more q env (Is is) ordered was = known_noted (has_row q sees env) s read_set more is ordered was
+answer_noted sees s read_set more q env (Items set) ordered was = record {
+  items = was.items;
+  known = known_noted (items_seen q sees env) s read_set more was.items ordered was.known;
+  holds = was.holds;
+}
+answer_noted sees s read_set more q env (First value) ordered was = known_noted (first_item q sees env) s read_set more value ordered was
+
 -- what a subquery gave
 cached_noted : (relations : List SecuredRelation) (user : List ℕ) (s : State) (read_set : List Object) (more : Object) (cached_subplan : CachedSubplan) → IsInOrder read_set
     → IsCached relations user s read_set cached_subplan → IsCached relations user s (with_object read_set more) cached_subplan
 cached_noted relations user s read_set more cached_subplan ordered was = record {
-  items = was.items;
-  is = was.is;
-  given = was.given;
-  noted = still_absorbed read_set ((subplan_of relations user cached_subplan.from cached_subplan.has_items (query_of cached_subplan.query.value)).in_state s).reads more ordered was.noted;
-  set = was.set;
+  named = was.named;
+  each = λ env answer mine looked.
+      answer_noted (shows (drop cached_subplan.from relations) env.user) s read_set more (query_of cached_subplan.query.value) env answer ordered (was.each env answer mine looked);
 }
 
 -- the answers are the same list
@@ -88,7 +102,8 @@ holds_noted relations user before after execution new more same grown kept cache
   cached = subplans_same relations user after new.read_set execution.cached_subplans.items new.cached_subplans.items cached_subplans
       (subst (λ s. AreCached relations user s new.read_set execution.cached_subplans.items) (sym same)
       (subst (λ n. AreCached relations user before n execution.cached_subplans.items) (sym grown)
-      (λ place cached_subplan below is. cached_noted relations user before execution.read_set more cached_subplan holds.ordered (holds.cached place cached_subplan below is))));
+      (All-weaker (IsCached relations user before execution.read_set) (IsCached relations user before (with_object execution.read_set more))
+      (λ cached_subplan was. cached_noted relations user before execution.read_set more cached_subplan holds.ordered was) execution.cached_subplans.items holds.cached)));
 }
 
 same_place : (a b : ℕ) → nat_eq a b ≡ true → a ≡ b
@@ -148,7 +163,7 @@ holds_new relations user s execution unread unseen uncached = record {
   kept = λ place object rows found.
       let none : None ≡ Some rows = ap (λ cached_rows. found_in cached_rows place object) (sym unseen) ∙ found in
       absurd (true≢false (sym (ap is_there none)));
-  cached = subplans_same relations user s execution.read_set [] execution.cached_subplans.items uncached (λ place cached_subplan below is. absurd (omega (arith, below)));
+  cached = subplans_same relations user s execution.read_set [] execution.cached_subplans.items uncached (All-nil (IsCached relations user s execution.read_set));
 }
 
 -- a second look adds nothing

@@ -1,7 +1,7 @@
 pub mod KeyLemmas
 pub mod Telling
 pub mod Absorbing
-pub mod AloneLemmas
+pub mod OuterColumnsLemmas
 pub mod CachedSubplanLemmas
 pub mod RelationLemmas
 pub mod Exempting

@@ -8,7 +8,7 @@ use Rattle.std.specs.declared.alloc.AllocError.{AllocError}
 use Rattle.rls_expr.specs.{declared.expr.Sign.Sign, declared.expr.Sign.TheVariants.Plus, declared.policy.Policy.Policy, Terms.Term, Terms.More, Terms.terms_of}
 use Rattle.rls_verdict.specs.rls_catalog.specs.State.{State}
 use Rattle.rls_source.specs.Askings.{Asking, followed_by}
-use Rattle.rls_evaluation.specs.{Alone.with_item, Keys.or_else, Holding.Evaluates, Environments.Environment, Environments.joined, Environments.number_or_null, Gathering.gathered, Gathering.with_row}
+use Rattle.rls_evaluation.specs.{Items.with_item, Keys.or_else, Holding.Evaluates, Environments.Environment, Environments.joined, Environments.number_or_null, Gathering.gathered, Gathering.with_row}
 use Rattle.rls_evaluation.specs.Eval.{Shows, value_of, together, item_or, sum_of, sum_from}
 use Rattle.rls_evaluation.proofs.Telling.{Leads, leads_end, turn, tells_on, drop_at}
 

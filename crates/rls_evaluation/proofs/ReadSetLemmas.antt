@@ -10,10 +10,15 @@ use Rattle.rls_value.specs.Objects.{object_order}
 use Rattle.rls_value.specs.ObjectOrder.{objects_total}
 use Rattle.rls_source.specs.Footprints.{footprint_of, with_object, IsInOrder}
 use Rattle.rls_source.specs.FootprintLaws.{with_reads_more}
+use Rattle.rls_source.proofs.FootprintOrderLaws.{footprint_in_order, footprint_ordered}
 
 -- what is read behind the others is put among them
 pub noted_more : (reads : List Object) (object : Object) → footprint_of (reads ++ object ∷ []) ≡ with_object (footprint_of reads) object
 noted_more reads object = sym (with_reads_more [] reads (object ∷ []))
+
+-- what is in order, each once, stays so
+pub footprint_again : (reads : List Object) → footprint_of (footprint_of reads) ≡ footprint_of reads
+footprint_again reads = footprint_ordered (footprint_of reads) (footprint_in_order reads)
 
 below_others : (object next : Object) (others : List Object) → object_order object next ≡ Less → AllByRecursion (λ y. object_order next y ≡ Less) others → AllByRecursion (λ y. object_order object y ≡ Less) others
 below_others object next [] is all = tt

@@ -10,7 +10,7 @@ use Rattle.std.specs.Str.{bytes_eq}
 use Rattle.std.proofs.lemmas.List.Folds.{list_any-append}
 use Rattle.std.proofs.lemmas.Map.Text.{is_eq-slice_cmp}
 use Rattle.rls_value.specs.{declared.value.Value.Value, declared.truth.Truth.Truth, Listing.listed_total, declared.truth.Truth.TheVariants.True, declared.truth.Truth.TheVariants.False, declared.truth.Truth.TheVariants.Unknown, Truths.disjunction_of, Truths.is_true, Truths.truth_of, Values.equal_values, Values.listed, Values.same_flag, declared.value.Value.TheVariants.Null, declared.value.Value.TheVariants.Int, declared.value.Value.TheVariants.Text, declared.value.Value.TheVariants.Bool as Flag}
-use Rattle.rls_evaluation.specs.{declared.value_set.ValueSet.ValueSet, Alone.any_equal, Alone.is_some, ValueSets.IsSetOf, ValueSets.finds, ValueSets.lets_open, ValueSets.is_number, ValueSets.is_text, ValueSets.is_flag, ValueSets.three}
+use Rattle.rls_evaluation.specs.{declared.value_set.ValueSet.ValueSet, Items.any_equal, Items.is_some, ValueSets.IsSetOf, ValueSets.finds, ValueSets.lets_open, ValueSets.is_number, ValueSets.is_text, ValueSets.is_flag, ValueSets.three}
 
 -- ---- any_equal by two tests
 

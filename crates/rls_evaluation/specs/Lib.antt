@@ -2,7 +2,8 @@ pub mod Gathering
 pub mod Environments
 pub mod Keys
 pub mod Eval
-pub mod Alone
+pub mod OuterColumns
+pub mod Items
 pub mod Depths
 pub mod Showing
 pub mod Deciding

@@ -8,7 +8,7 @@ use Rattle.rls_value.specs.declared.truth.Truth.{Truth}
 use Rattle.rls_value.specs.declared.truth.Truth.TheVariants.{True, False, Unknown}
 use Rattle.rls_value.specs.Values.{is_null, listed}
 use Rattle.rls_evaluation.specs.declared.value_set.ValueSet.{ValueSet}
-use Rattle.rls_evaluation.specs.Alone.{is_some}
+use Rattle.rls_evaluation.specs.Items.{is_some}
 
 -- it is a number
 abbrev pub is_number : Value → Bool

@@ -153,7 +153,7 @@ impl<'a> Datum<'a> {
     }
 
     /// A copy of the value itself. A number beyond 64 bits, which only a sum can be, is answered as want of memory.
-    fn copy_value(&self, alloc: Global) -> Result<Value, AllocError>
+    pub fn copy_value(&self, alloc: Global) -> Result<Value, AllocError>
         ensures { IfOk result (λ value. value ≡ datum_value self.now) }
     {
         match self {

@@ -1,20 +1,18 @@
 //! The value of a resolved expression, with its subqueries.
 
-ghost use Rattle.std.specs.Prelude.{◌≡◌, [], ◌++◌, ◌||◌, false, true, Some, None, drop, IfOk, OnOk, if◌then◌else◌};
+ghost use Rattle.std.specs.Prelude.{◌≡◌, [], ◌++◌, ◌||◌, false, true, Some, None, drop, IfOk, OnOk};
 ghost use Rattle.rls_value.specs.{declared.truth.Truth.TheVariants.False, declared.value.Value.TheVariants.Null, Truths.disjunction_of};
 ghost use Rattle.rls_expr.specs.Terms as t;
 ghost use Rattle.rls_expr.specs.{Terms.maybe_term, Terms.terms_of, ExprTerms.query_of};
-ghost use Rattle.rls_evaluation.specs.{Alone.is_alone, Alone.items_seen, Alone.items_for, Alone.asked_query, Alone.with_item, Scoping.env_of, Scoping.datum_value, Scoping.datum_now, Scoping.maybe_datum, Scoping.maybe_now, Scoping.number_value, Holding.Holds, Holding.Evaluates, Holding.shown_at, Holding.object_for, Holding.asked_of, Holding.is_key, Holding.put_in, CachedSubplans.Comes, Environments.inside, Keys.or_else, Gathering.gathered, Gathering.kept, Gathering.with_row, Showing.shows, Showing.judgements_on, Showing.is_allowed, Eval.value_of, Eval.together, Eval.or_equal, Eval.among_items, Eval.item_equals, Eval.item_of, Eval.item_or, Eval.meets, Eval.or_item, Eval.ranged_over, Eval.turned, Eval.turned_value};
+ghost use Rattle.rls_evaluation.specs.{Items.items_seen, Items.with_item, Scoping.env_of, Scoping.datum_value, Scoping.datum_now, Scoping.maybe_datum, Scoping.maybe_now, Scoping.number_value, Holding.Holds, Holding.Evaluates, Holding.shown_at, Holding.object_for, Holding.asked_of, Holding.is_key, Holding.put_in, CachedSubplans.Comes, Environments.inside, Keys.or_else, Gathering.gathered, Gathering.kept, Gathering.with_row, Showing.shows, Showing.judgements_on, Showing.is_allowed, Eval.value_of, Eval.together, Eval.or_equal, Eval.among_items, Eval.item_equals, Eval.item_of, Eval.item_or, Eval.meets, Eval.or_item, Eval.ranged_over, Eval.turned, Eval.turned_value};
 ghost use Rattle.rls_source.specs.{Askings.followed_by, Footprints.with_object};
 ghost use Rattle.rls_evaluation.specs.Eval as means;
 ghost use Rattle.rls_evaluation.specs.Showing as spec;
 
-use crate::alone::is_alone;
+use crate::cached_subplan::{Answer, Asks};
 use crate::datum::{Datum, compare, datum_number, datum_of, datum_truth, equals, joined};
 use crate::deciding::deciding_on;
-use crate::execution_state::{
-    ExecutionState, Rows, found, keep_subplan, place_of_subplan, remembered,
-};
+use crate::execution_state::{ExecutionState, Rows, found, remembered};
 use crate::keys::{has_null, key_of};
 use crate::plain::plain_condition;
 use crate::read_set::ReadSet;
@@ -325,7 +323,8 @@ fn sum_from<'a, 'c, S: Tables>(
     }
 }
 
-/// `EXISTS`: whether a row of the subquery's table meets its condition.
+/// `EXISTS`: whether a row of the subquery's table meets its condition; as it was found before for the same values further
+/// out, or found and kept.
 #[cycle(eval)]
 fn exists<'a, 'c, S: Tables>(
     alloc: Global,
@@ -339,9 +338,38 @@ fn exists<'a, 'c, S: Tables>(
     ensures tells { Evaluates (value_of (t.Exists (query_of query.now)) (shows (drop visible.entry.from visible.entry.relations.now) env.now.user.now) (env_of env.now)) (S.state source.old) (S.state source.new) execution.old.read_set execution.new.read_set (datum_now result) }
     ensures holds { OnOk result (Holds visible.entry.relations.now env.now.user.now (S.state source.new) execution.new) }
 {
-    if is_alone(query) {
-        return exists_alone(alloc, source, execution, visible, query, env);
+    let place = execution.place_of(alloc, visible.from, Asks::Exists, query)?;
+    let known = execution.truth(alloc, place, env)?;
+    if let Some(met) = known {
+        return Ok(Datum::Bool(met));
     }
+    let met = has_row(alloc, source, execution, visible, query, env)?;
+    execution.keep(
+        alloc,
+        place,
+        visible.from,
+        Asks::Exists,
+        query,
+        env,
+        Answer::Is(met),
+    )?;
+    Ok(Datum::Bool(met))
+}
+
+/// Whether a row of the subquery's table meets its condition.
+#[cycle(eval)]
+fn has_row<'a, 'c, S: Tables>(
+    alloc: Global,
+    source: &mut S,
+    execution: &mut ExecutionState,
+    visible: VisibleRelations<'a, 'c>,
+    query: &'a Subquery,
+    env: &Env<'a>,
+) -> Result<bool, AllocError>
+    requires { Holds visible.relations.now env.now.user.now (S.state source.old) execution.old }
+    ensures tells { Evaluates (means.has_row (query_of query.now) (shows (drop visible.entry.from visible.entry.relations.now) env.now.user.now) (env_of env.now)) (S.state source.old) (S.state source.new) execution.old.read_set execution.new.read_set result }
+    ensures holds { OnOk result (Holds visible.entry.relations.now env.now.user.now (S.state source.new) execution.new) }
+{
     let rows = rows_for(alloc, source, execution, visible, query, env)?;
     let met = is_met(
         alloc,
@@ -353,53 +381,7 @@ fn exists<'a, 'c, S: Tables>(
         rows.as_slice(),
     );
     drop(rows);
-    match met {
-        Ok(met) => Ok(Datum::Bool(met)),
-        Err(refused) => Err(refused),
-    }
-}
-
-/// `EXISTS` of a subquery that names no column further out: as it was found before, or found and kept.
-#[cycle(eval)]
-fn exists_alone<'a, 'c, S: Tables>(
-    alloc: Global,
-    source: &mut S,
-    execution: &mut ExecutionState,
-    visible: VisibleRelations<'a, 'c>,
-    query: &'a Subquery,
-    env: &Env<'a>,
-) -> Result<Datum<'a>, AllocError>
-    requires alone { is_alone (query_of query.now) ≡ true }
-    requires holds { Holds visible.relations.now env.now.user.now (S.state source.old) execution.old }
-    ensures tells { Evaluates (value_of (t.Exists (query_of query.now)) (shows (drop visible.entry.from visible.entry.relations.now) env.now.user.now) (env_of env.now)) (S.state source.old) (S.state source.new) execution.old.read_set execution.new.read_set (datum_now result) }
-    ensures holds { OnOk result (Holds visible.entry.relations.now env.now.user.now (S.state source.new) execution.new) }
-{
-    let found = place_of_subplan(
-        &execution.cached_subplans,
-        execution.next,
-        visible.from,
-        false,
-        query,
-    );
-    match found {
-        Some(place) => {
-            execution.next = place + 1;
-            Ok(Datum::Bool(execution.cached_subplans[place].values.is_some()))
-        }
-        None => {
-            let values = items_alone(alloc, source, execution, visible, query, false, env)?;
-            let is = values.is_some();
-            keep_subplan(
-                alloc,
-                &mut execution.cached_subplans,
-                visible.from,
-                false,
-                query,
-                values,
-            )?;
-            Ok(Datum::Bool(is))
-        }
-    }
+    met
 }
 
 /// Whether one of the rows meets the condition.
@@ -450,7 +432,8 @@ fn within<'a, 'c, S: Tables>(
     Ok(datum_truth(turned(truth, is_negated)))
 }
 
-/// Whether the value is equal to the item of a row that meets the condition.
+/// Whether the value is equal to the item of a row that meets the condition. Where the items are kept for the same values
+/// further out, they are looked up in a set.
 #[cycle(eval)]
 fn is_within<'a, 'c, S: Tables>(
     alloc: Global,
@@ -465,9 +448,43 @@ fn is_within<'a, 'c, S: Tables>(
     ensures tells { Evaluates (among_items (datum_value value.now) (query_of query.now) (shows (drop visible.entry.from visible.entry.relations.now) env.now.user.now) (env_of env.now)) (S.state source.old) (S.state source.new) execution.old.read_set execution.new.read_set result }
     ensures holds { OnOk result (Holds visible.entry.relations.now env.now.user.now (S.state source.new) execution.new) }
 {
-    if is_alone(query) {
-        return is_within_alone(alloc, source, execution, visible, value, query, env);
+    let place = execution.place_of(alloc, visible.from, Asks::Items, query)?;
+    if place.is_none() {
+        return is_within_anew(alloc, source, execution, visible, value, query, env);
     }
+    let known = execution.equality(alloc, place, env, value)?;
+    if let Some(truth) = known {
+        return Ok(truth);
+    }
+    let values = item_set(alloc, source, execution, visible, query, env)?;
+    let truth = values.equals_any(alloc, value)?;
+    execution.keep(
+        alloc,
+        place,
+        visible.from,
+        Asks::Items,
+        query,
+        env,
+        Answer::Items(values),
+    )?;
+    Ok(truth)
+}
+
+/// The same without a set, where the items aren't kept.
+#[cycle(eval)]
+fn is_within_anew<'a, 'c, S: Tables>(
+    alloc: Global,
+    source: &mut S,
+    execution: &mut ExecutionState,
+    visible: VisibleRelations<'a, 'c>,
+    value: &Datum,
+    query: &'a Subquery,
+    env: &Env<'a>,
+) -> Result<Truth, AllocError>
+    requires { Holds visible.relations.now env.now.user.now (S.state source.old) execution.old }
+    ensures tells { Evaluates (among_items (datum_value value.now) (query_of query.now) (shows (drop visible.entry.from visible.entry.relations.now) env.now.user.now) (env_of env.now)) (S.state source.old) (S.state source.new) execution.old.read_set execution.new.read_set result }
+    ensures holds { OnOk result (Holds visible.entry.relations.now env.now.user.now (S.state source.new) execution.new) }
+{
     let rows = rows_for(alloc, source, execution, visible, query, env)?;
     let truth = is_item(
         alloc,
@@ -483,65 +500,18 @@ fn is_within<'a, 'c, S: Tables>(
     truth
 }
 
-/// The same of a subquery that names no column further out: its items are looked up in a set, which is made once.
+/// The items of the rows that meet the condition.
 #[cycle(eval)]
-fn is_within_alone<'a, 'c, S: Tables>(
-    alloc: Global,
-    source: &mut S,
-    execution: &mut ExecutionState,
-    visible: VisibleRelations<'a, 'c>,
-    value: &Datum,
-    query: &'a Subquery,
-    env: &Env<'a>,
-) -> Result<Truth, AllocError>
-    requires alone { is_alone (query_of query.now) ≡ true }
-    requires holds { Holds visible.relations.now env.now.user.now (S.state source.old) execution.old }
-    ensures tells { Evaluates (among_items (datum_value value.now) (query_of query.now) (shows (drop visible.entry.from visible.entry.relations.now) env.now.user.now) (env_of env.now)) (S.state source.old) (S.state source.new) execution.old.read_set execution.new.read_set result }
-    ensures holds { OnOk result (Holds visible.entry.relations.now env.now.user.now (S.state source.new) execution.new) }
-{
-    let found = place_of_subplan(
-        &execution.cached_subplans,
-        execution.next,
-        visible.from,
-        true,
-        query,
-    );
-    match found {
-        Some(place) => {
-            execution.next = place + 1;
-            execution.cached_subplans[place]
-                .values
-                .equals_any(alloc, value)
-        }
-        None => {
-            let values = items_alone(alloc, source, execution, visible, query, true, env)?;
-            let truth = values.equals_any(alloc, value)?;
-            keep_subplan(
-                alloc,
-                &mut execution.cached_subplans,
-                visible.from,
-                true,
-                query,
-                values,
-            )?;
-            Ok(truth)
-        }
-    }
-}
-
-/// The items of the rows that meet the condition; a null for each where the items aren't asked.
-#[cycle(eval)]
-fn items_alone<'a, 'c, S: Tables>(
+fn item_set<'a, 'c, S: Tables>(
     alloc: Global,
     source: &mut S,
     execution: &mut ExecutionState,
     visible: VisibleRelations<'a, 'c>,
     query: &'a Subquery,
-    has_items: bool,
     env: &Env<'a>,
 ) -> Result<ValueSet, AllocError>
     requires { Holds visible.relations.now env.now.user.now (S.state source.old) execution.old }
-    ensures comes { IfOk result (λ set. Comes (items_seen (asked_query has_items (query_of query.now)) (shows (drop visible.entry.from visible.entry.relations.now) env.now.user.now) (env_of env.now)) (S.state source.old) (S.state source.new) execution.old.read_set execution.new.read_set set) }
+    ensures comes { IfOk result (λ set. Comes (items_seen (query_of query.now) (shows (drop visible.entry.from visible.entry.relations.now) env.now.user.now) (env_of env.now)) (S.state source.old) (S.state source.new) execution.old.read_set execution.new.read_set set) }
     ensures stands { S.state source.new ≡ S.state source.old }
     ensures holds { OnOk result (Holds visible.entry.relations.now env.now.user.now (S.state source.new) execution.new) }
 {
@@ -552,7 +522,6 @@ fn items_alone<'a, 'c, S: Tables>(
         execution,
         visible,
         query,
-        has_items,
         &*env,
         rows.as_slice(),
     );
@@ -571,12 +540,11 @@ fn items_over<'a, 'c, S: Tables>(
     execution: &mut ExecutionState,
     visible: VisibleRelations<'a, 'c>,
     query: &'a Subquery,
-    has_items: bool,
     env: &'a Env<'a>,
     rows: &'a [Row],
 ) -> Result<Items<Value>, AllocError>
     requires { Holds visible.relations.now env.now.user.now (S.state source.old) execution.old }
-    ensures tells { Evaluates (gathered with_item [] (λ row. means.item_if (meets (maybe_term query.now.condition) (shows (drop visible.entry.from visible.entry.relations.now) env.now.user.now) (inside row (env_of env.now))) (item_of (items_for has_items (terms_of query.now.items.items)) (shows (drop visible.entry.from visible.entry.relations.now) env.now.user.now) (inside row (env_of env.now)))) rows.now) (S.state source.old) (S.state source.new) execution.old.read_set execution.new.read_set result }
+    ensures tells { Evaluates (gathered with_item [] (λ row. means.item_if (meets (maybe_term query.now.condition) (shows (drop visible.entry.from visible.entry.relations.now) env.now.user.now) (inside row (env_of env.now))) (item_of (terms_of query.now.items.items) (shows (drop visible.entry.from visible.entry.relations.now) env.now.user.now) (inside row (env_of env.now)))) rows.now) (S.state source.old) (S.state source.new) execution.old.read_set execution.new.read_set result }
     ensures holds { OnOk result (Holds visible.entry.relations.now env.now.user.now (S.state source.new) execution.new) }
 {
     let mut values = Items::new(alloc);
@@ -585,32 +553,10 @@ fn items_over<'a, 'c, S: Tables>(
             user: env.user,
             rows: Scoped::Over(row, &env.rows),
         };
-        let item = item_or_null(alloc, source, execution, visible, query, has_items, &inner)?;
+        let item = item_if(alloc, source, execution, visible, query, &inner)?;
         push_item(alloc, &mut values, item)?;
     }
     Ok(values)
-}
-
-/// The item of the innermost row, or a null where items aren't asked, if the row meets the condition.
-#[cycle(eval)]
-fn item_or_null<'a, 'c, S: Tables>(
-    alloc: Global,
-    source: &mut S,
-    execution: &mut ExecutionState,
-    visible: VisibleRelations<'a, 'c>,
-    query: &'a Subquery,
-    has_items: bool,
-    env: &Env<'a>,
-) -> Result<Option<Datum<'a>>, AllocError>
-    requires { Holds visible.relations.now env.now.user.now (S.state source.old) execution.old }
-    ensures tells { Evaluates (means.item_if (meets (maybe_term query.now.condition) (shows (drop visible.entry.from visible.entry.relations.now) env.now.user.now) (env_of env.now)) (item_of (items_for has_items (terms_of query.now.items.items)) (shows (drop visible.entry.from visible.entry.relations.now) env.now.user.now) (env_of env.now))) (S.state source.old) (S.state source.new) execution.old.read_set execution.new.read_set (maybe_now result) }
-    ensures holds { OnOk result (Holds visible.entry.relations.now env.now.user.now (S.state source.new) execution.new) }
-{
-    if has_items {
-        return item_if(alloc, source, execution, visible, query, env);
-    }
-    let is = meets_condition(alloc, source, execution, visible, &query.condition, env)?;
-    Ok(null_if(is))
 }
 
 /// Whether the value is equal to the item of one of these rows that meets the condition.
@@ -641,7 +587,8 @@ fn is_item<'a, 'c, S: Tables>(
     Ok(so_far)
 }
 
-/// A scalar subquery: the item of the first row that meets the condition.
+/// A scalar subquery: the item of the first row that meets the condition; as it was found before for the same values
+/// further out, or found and kept.
 #[cycle(eval)]
 fn scalar<'a, 'c, S: Tables>(
     alloc: Global,
@@ -653,6 +600,42 @@ fn scalar<'a, 'c, S: Tables>(
 ) -> Result<Datum<'a>, AllocError>
     requires { Holds visible.relations.now env.now.user.now (S.state source.old) execution.old }
     ensures tells { Evaluates (value_of (t.Scalar (query_of query.now)) (shows (drop visible.entry.from visible.entry.relations.now) env.now.user.now) (env_of env.now)) (S.state source.old) (S.state source.new) execution.old.read_set execution.new.read_set (datum_now result) }
+    ensures holds { OnOk result (Holds visible.entry.relations.now env.now.user.now (S.state source.new) execution.new) }
+{
+    let place = execution.place_of(alloc, visible.from, Asks::First, query)?;
+    let known = execution.first(alloc, place, env)?;
+    if let Some(item) = known {
+        return Ok(item);
+    }
+    let item = scalar_anew(alloc, source, execution, visible, query, env)?;
+    if place.is_none() {
+        return Ok(item);
+    }
+    let value = item.copy_value(alloc)?;
+    execution.keep(
+        alloc,
+        place,
+        visible.from,
+        Asks::First,
+        query,
+        env,
+        Answer::First(value),
+    )?;
+    Ok(item)
+}
+
+/// The item of the first row that meets the condition.
+#[cycle(eval)]
+fn scalar_anew<'a, 'c, S: Tables>(
+    alloc: Global,
+    source: &mut S,
+    execution: &mut ExecutionState,
+    visible: VisibleRelations<'a, 'c>,
+    query: &'a Subquery,
+    env: &Env<'a>,
+) -> Result<Datum<'a>, AllocError>
+    requires { Holds visible.relations.now env.now.user.now (S.state source.old) execution.old }
+    ensures tells { Evaluates (means.first_item (query_of query.now) (shows (drop visible.entry.from visible.entry.relations.now) env.now.user.now) (env_of env.now)) (S.state source.old) (S.state source.new) execution.old.read_set execution.new.read_set (datum_now result) }
     ensures holds { OnOk result (Holds visible.entry.relations.now env.now.user.now (S.state source.new) execution.new) }
 {
     let rows = rows_for(alloc, source, execution, visible, query, env)?;
@@ -935,7 +918,7 @@ fn note_of(alloc: Global, read_set: &mut ReadSet, object: &Object) -> Result<(),
     ensures { OnOk result (read_set.new ≡ with_object read_set.old object.now) }
 {
     match object.copy(alloc) {
-        Ok(object) => read_set.note(object),
+        Ok(object) => read_set.note(alloc, object),
         Err(refused) => Err(refused),
     }
 }
@@ -1121,12 +1104,6 @@ fn either(one: bool, other: bool) -> bool
     ensures { result ≡ (one || other) }
 {
     one || other
-}
-
-fn null_if<'a>(is: bool) -> Option<Datum<'a>>
-    ensures { maybe_datum result ≡ if is then Some Null else None }
-{
-    if is { Some(Datum::Null) } else { None }
 }
 
 /// The item behind the others, if there is one. A number beyond 64 bits, which only a sum can be, is answered as want of

@@ -1,18 +1,19 @@
 //! What is kept while a statement is evaluated.
 
-ghost use Rattle.std.specs.Prelude.{◌≡◌, ℕ, List, [], Some, None, true, false, cond, length, IfOk, IfSome, OnOk};
+ghost use Rattle.std.specs.Prelude.{◌≡◌, ◌<◌, ℕ, List, [], Some, None, true, false, cond, drop, length, IfOk, IfSome, OnOk};
 ghost use Rattle.std.specs.{BTreeMap.is_at, Map.lookup};
 ghost use Rattle.rls_value.specs.Objects.{object_order};
 ghost use Rattle.rls_source.specs.Footprints.{is_object, IsInOrder};
-ghost use Rattle.rls_expr.specs.ExprTerms.{query_of};
+ghost use Rattle.rls_expr.specs.{ExprTerms.query_of, Terms.Query};
 ghost use Rattle.rls_verdict.specs.rls_catalog.specs.State.{State};
-ghost use Rattle.rls_evaluation.specs.{declared.relation.SecuredRelation.SecuredRelation, Holding.Holds, Holding.found_in, CachedSubplans.IsFor, CachedSubplans.FoundAt, CachedSubplans.IsOneMore, CachedSubplans.NoneBelow};
+ghost use Rattle.rls_evaluation.specs.{declared.relation.SecuredRelation.SecuredRelation, declared.cached_subplan.Asks.Asks, Holding.Holds, Holding.found_in, CachedSubplans.FoundAt, CachedSubplans.IsAnswer, CachedSubplans.IsAtPlace, CachedSubplans.IsKnown, Eval.among_items, Eval.first_item, Eval.has_row, Showing.shows, Scoping.datum_value, Scoping.env_of};
 
+use crate::cached_subplan::{Answer, Asks, CachedSubplan, keep_at, place_for};
+use crate::datum::Datum;
 use crate::read_set::ReadSet;
-use crate::value_set::ValueSet;
-use rls_equality::is_same_query;
+use crate::scope::Env;
 use rls_expr::Subquery;
-use rls_value::{Object, Row};
+use rls_value::{Object, Row, Truth};
 use std::alloc::{AllocError, Global};
 use std::collections::BTreeMap;
 use std::marker::Model;
@@ -66,16 +67,6 @@ pub struct CachedRows {
     pub rows: Rows,
 }
 
-/// What a subquery gave that names no column further out, over the relations from one on: the items of its rows or, where
-/// they weren't asked, a null for each.
-#[derive(Drop)]
-pub struct CachedSubplan {
-    pub from: usize,
-    pub has_items: bool,
-    pub query: Box<Subquery>,
-    pub values: ValueSet,
-}
-
 /// The read set, the rows that were shown of each object, and the cached subplans.
 #[derive(Drop)]
 pub struct ExecutionState {
@@ -102,6 +93,102 @@ impl ExecutionState {
         }
     }
 
+    /// The place of what is kept of the subquery, which is made where there is none; none where answers aren't kept.
+    pub fn place_of(
+        &mut self,
+        alloc: Global,
+        from: usize,
+        asks: Asks,
+        query: &Subquery,
+    ) -> Result<Option<usize>, AllocError>
+        ensures found { IfOk result (λ place. IfSome place (λ place. FoundAt self.new.cached_subplans.items place from asks (query_of query.now))) }
+        ensures read_set { self.new.read_set ≡ self.old.read_set }
+        ensures holds { OnOk result ((relations : List SecuredRelation) (user : List ℕ) (s : State) → Holds relations user s self.old → Holds relations user s self.new) }
+    {
+        let next = self.next;
+        let place = place_for(alloc, &mut self.cached_subplans, next, from, asks, query)?;
+        self.next = place + 1;
+        Ok(kept_at(&self.cached_subplans, place))
+    }
+
+    /// Whether a row meets the subquery's WHERE, if that is kept for the rows in scope.
+    pub fn truth(
+        &self,
+        alloc: Global,
+        place: Option<usize>,
+        env: &Env,
+    ) -> Result<Option<bool>, AllocError>
+        ensures { IfOk result (λ known. (relations : List SecuredRelation) (s : State) (from : ℕ) (asks : Asks) (q : Query) → Holds relations env.now.user.now s self.now → IfSome place (λ place. FoundAt self.now.cached_subplans.items place from asks q) → IfSome known (λ is. IsKnown (has_row q (shows (drop from relations) env.now.user.now) (env_of env.now)) s self.now.read_set is)) }
+    {
+        match cached_at(&self.cached_subplans, place) {
+            Some(cached_subplan) => cached_subplan.truth(alloc, env),
+            None => Ok(None),
+        }
+    }
+
+    /// Whether the value is equal to one of the subquery's items, if these are kept for the rows in scope.
+    pub fn equality(
+        &self,
+        alloc: Global,
+        place: Option<usize>,
+        env: &Env,
+        value: &Datum,
+    ) -> Result<Option<Truth>, AllocError>
+        ensures { IfOk result (λ known. (relations : List SecuredRelation) (s : State) (from : ℕ) (asks : Asks) (q : Query) → Holds relations env.now.user.now s self.now → IfSome place (λ place. FoundAt self.now.cached_subplans.items place from asks q) → IfSome known (λ truth. IsKnown (among_items (datum_value value.now) q (shows (drop from relations) env.now.user.now) (env_of env.now)) s self.now.read_set truth)) }
+    {
+        match cached_at(&self.cached_subplans, place) {
+            Some(cached_subplan) => cached_subplan.equality(alloc, env, value),
+            None => Ok(None),
+        }
+    }
+
+    /// The item of the subquery's first row, if it is kept for the rows in scope; its text is its own.
+    pub fn first<'b>(
+        &self,
+        alloc: Global,
+        place: Option<usize>,
+        env: &Env,
+    ) -> Result<Option<Datum<'b>>, AllocError>
+        ensures { IfOk result (λ known. (relations : List SecuredRelation) (s : State) (from : ℕ) (asks : Asks) (q : Query) → Holds relations env.now.user.now s self.now → IfSome place (λ place. FoundAt self.now.cached_subplans.items place from asks q) → IfSome known (λ item. IsKnown (first_item q (shows (drop from relations) env.now.user.now) (env_of env.now)) s self.now.read_set (datum_value item))) }
+    {
+        match cached_at(&self.cached_subplans, place) {
+            Some(cached_subplan) => cached_subplan.first(alloc, env),
+            None => Ok(None),
+        }
+    }
+
+    /// Keeps what the subquery gave, where that is kept.
+    pub fn keep(
+        &mut self,
+        alloc: Global,
+        place: Option<usize>,
+        from: usize,
+        asks: Asks,
+        query: &Subquery,
+        env: &Env,
+        answer: Answer,
+    ) -> Result<(), AllocError>
+        ensures read_set { self.new.read_set ≡ self.old.read_set }
+        ensures holds { OnOk result ((relations : List SecuredRelation) (s : State) → IsAnswer (shows (drop from relations) env.now.user.now) s self.old.read_set (query_of query.now) (env_of env.now) answer → Holds relations env.now.user.now s self.old → Holds relations env.now.user.now s self.new) }
+    {
+        match place {
+            Some(place) => keep_at(
+                alloc,
+                &mut self.cached_subplans,
+                place,
+                from,
+                asks,
+                query,
+                env,
+                answer,
+            ),
+            None => {
+                drop(answer);
+                Ok(())
+            }
+        }
+    }
+
     /// What was read; no memory is needed.
     pub fn into_read_set(self) -> ReadSet
         ensures { result ≡ self.read_set }
@@ -115,6 +202,33 @@ impl ExecutionState {
         drop(cached_rows);
         drop(cached_subplans);
         read_set
+    }
+}
+
+/// The place, where answers are kept there.
+fn kept_at(cached_subplans: &[CachedSubplan], place: usize) -> Option<usize>
+    requires { place < length cached_subplans.now }
+    ensures { IfSome result (λ kept. kept ≡ place) }
+{
+    if cached_subplans[place].is_kept {
+        Some(place)
+    } else {
+        None
+    }
+}
+
+/// What stands at the place.
+fn cached_at(cached_subplans: &[CachedSubplan], place: Option<usize>) -> Option<&CachedSubplan>
+    ensures { IfSome result (λ it. IsAtPlace cached_subplans.now place it.now) }
+{
+    match place {
+        Some(place) => {
+            if place < cached_subplans.len() {
+                return Some(&cached_subplans[place]);
+            }
+            None
+        }
+        None => None,
     }
 }
 
@@ -175,65 +289,4 @@ fn remember(
 {
     let _ = cached_rows.insert(object, CachedRows { place, rows })?;
     Ok(())
-}
-
-/// The place of an answer of the subquery, if it was given; it is sought at the place `next` first.
-pub fn place_of_subplan(
-    cached_subplans: &[CachedSubplan],
-    next: usize,
-    from: usize,
-    has_items: bool,
-    query: &Subquery,
-) -> Option<usize>
-    ensures found { IfSome result (λ place. FoundAt cached_subplans.now place from has_items (query_of query.now)) }
-    ensures none { result ≡ None → NoneBelow cached_subplans.now (length cached_subplans.now) from has_items (query_of query.now) }
-{
-    if next < cached_subplans.len() && is_for(&cached_subplans[next], from, has_items, query) {
-        return Some(next);
-    }
-    let mut place = 0;
-    while place < cached_subplans.len() {
-        if is_for(&cached_subplans[place], from, has_items, query) {
-            return Some(place);
-        }
-        place += 1;
-    }
-    None
-}
-
-fn is_for(cached_subplan: &CachedSubplan, from: usize, has_items: bool, query: &Subquery) -> bool
-    ensures is { result ≡ true → IsFor cached_subplan.now from has_items (query_of query.now) }
-    ensures not { result ≡ false → IsFor cached_subplan.now from has_items (query_of query.now) → ⊥ }
-{
-    cached_subplan.from == from
-        && cached_subplan.has_items == has_items
-        && is_same_query(&cached_subplan.query, query)
-}
-
-/// Keeps what the subquery gave.
-pub fn keep_subplan(
-    alloc: Global,
-    cached_subplans: &mut Vec<CachedSubplan>,
-    from: usize,
-    has_items: bool,
-    query: &Subquery,
-    values: ValueSet,
-) -> Result<(), AllocError>
-    ensures { OnOk result (IsOneMore cached_subplans.old.items cached_subplans.new.items from has_items (query_of query.now) values) }
-{
-    match query.copy_boxed(alloc) {
-        Ok(query) => {
-            cached_subplans.push(CachedSubplan {
-                from,
-                has_items,
-                query,
-                values,
-            })?;
-            Ok(())
-        }
-        Err(refused) => {
-            drop(values);
-            Err(refused)
-        }
-    }
 }

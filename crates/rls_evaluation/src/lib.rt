@@ -1,12 +1,14 @@
 //! The value of an expression with subqueries, over a source, and what row security says of a row.
 #![tactic(auto)]
 
-mod alone;
+mod cached_subplan;
 mod datum;
 mod deciding;
 mod evaluation;
 mod execution_state;
 mod keys;
+mod outer_columns;
+mod outer_values;
 mod plain;
 mod read_set;
 mod relation;

@@ -2,7 +2,7 @@
 
 ghost use Rattle.std.specs.Prelude.{◌≡◌, ◌||◌, List, IfOk, OnOk, []};
 ghost use Rattle.rls_value.specs.{declared.value.Value.Value as SqlValue, Values.listed, Values.rank_of};
-ghost use Rattle.rls_evaluation.specs.{Alone.any_equal, Alone.is_some, Scoping.datum_value, Wides.wide_value};
+ghost use Rattle.rls_evaluation.specs.{Items.any_equal, Items.is_some, Scoping.datum_value, Wides.wide_value};
 ghost use Rattle.rls_value.specs.declared.value.Value.TheVariants as v;
 ghost use Rattle.rls_evaluation.specs.ValueSets.{IsSetOf, IsSetWith, finds, is_flag, is_number, is_text, lets_open, three};
 
@@ -144,11 +144,9 @@ impl ValueSet {
         Ok(())
     }
 
-    /// Whether there is a value.
-    pub fn is_some(&self) -> bool
-        ensures { (items : List SqlValue) → IsSetOf self.now items → result ≡ is_some items }
-    {
-        self.is_some
+    /// How many different values there are.
+    pub fn len(&self) -> usize {
+        self.values.len()
     }
 
     /// Whether one of the values is equal to it. No memory is taken but for a text.
@@ -187,6 +185,16 @@ impl ValueSet {
             Datum::Text(_) | Datum::Own(_) => self.not_texts,
             Datum::Bool(_) => self.not_flags,
         }
+    }
+}
+
+/// The value in the order of listing; a text is copied.
+pub fn listed_datum(alloc: Global, datum: &Datum) -> Result<Listed, AllocError>
+    ensures { IfOk result (λ listed. listed ≡ datum_value datum.now) }
+{
+    match wide_datum(alloc, datum) {
+        Ok(value) => Ok(Listed { value }),
+        Err(refused) => Err(refused),
     }
 }
 

@@ -11,4 +11,5 @@ pub mod ConsideredLaws
 pub mod HolderLaws
 pub mod MissingLaws
 pub mod OptionedLaws
+pub mod OriginLaws
 mod PassedOn

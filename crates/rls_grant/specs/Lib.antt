@@ -6,6 +6,7 @@ pub mod Seen
 pub mod Considered
 pub mod Handed
 pub mod Optioned
+pub mod Origins
 pub mod Placing
 pub mod Grantors
 pub mod Columns

@@ -47,7 +47,7 @@ fn is_whole_among_first(
 }
 
 /// Whether the grant is of the privilege, to the grantee.
-fn is_to(grant: &Grant, privilege: Privilege, grantee: &Grantee) -> bool
+pub(crate) fn is_to(grant: &Grant, privilege: Privilege, grantee: &Grantee) -> bool
     ensures { result ≡ spec.is_to privilege grantee.now grant.now }
 {
     is_same_privilege(grant.privilege, privilege) && is_same_grantee(&grant.grantee, grantee)

@@ -10,8 +10,8 @@ ghost use Rattle.rls_grant.specs.Granting.{goes_back, grant_on, grant_to, grante
 
 use crate::columns::{column_place, granted_on, require_columns, require_whole};
 use crate::grantors::{Grantor, grantors_of};
-use crate::optioning::options_without;
 use crate::placing::put_grants;
+use crate::tracing::holds_option_without;
 use rls_role::rls_source::{Reads, RowSource, noted_grants, require_grantees, table_named};
 use rls_role::rls_statement::GrantPrivileges;
 use rls_role::{EffectiveRoles, noted_effective_roles};
@@ -193,7 +193,6 @@ fn require_one_forth(
     Ok(())
 }
 
-#[tactic(auto, using(crate::proofs::HolderLemmas::same_one))]
 fn is_back(
     alloc: Global,
     owner: &Name,
@@ -203,9 +202,8 @@ fn is_back(
 ) -> Result<bool, AllocError>
     ensures { IfOk result (λ back. back ≡ goes_back owner.now grants.now grantor.now.privilege grantor.now.name grantee.now) }
 {
-    let holders = options_without(alloc, owner, grants, grantor.privilege, grantee)?;
-    let holds = holders.contains(&grantor.name);
-    drop(holders);
+    let privilege = grantor.privilege;
+    let holds = holds_option_without(alloc, owner, grants, privilege, grantee, &grantor.name)?;
     Ok(!holds)
 }
 

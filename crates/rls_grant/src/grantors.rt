@@ -10,6 +10,7 @@ ghost use Rattle.rls_grant.specs.Grantors as spec;
 ghost use Rattle.rls_grant.specs.{Grantors.grantor_by, Holders.holders_of};
 
 use crate::optioning::options;
+use crate::tracing::holds_option;
 use rls_role::EffectiveRoles;
 use rls_role::rls_statement::Privileges;
 use rls_value::{Items, Name, Privilege, Refusal, Why};
@@ -110,7 +111,7 @@ fn grantor_of(
 }
 
 /// The owner, where the role has its privileges; else the role itself, where it holds the grant option; else the
-/// byte-least role whose privileges it has and that holds it. Who holds it is found out only where the owner isn't the one.
+/// byte-least role whose privileges it has and that holds it. Who else holds it is found out only where it is neither of the two.
 fn grantor_name(
     alloc: Global,
     effective_roles: &EffectiveRoles,
@@ -123,6 +124,9 @@ fn grantor_name(
 {
     if effective_roles.has(owner) {
         return Ok(Some(owner.copy()?));
+    }
+    if holds_option(alloc, owner, grants, privilege, role)? {
+        return Ok(Some(role.copy()?));
     }
     holding_grantor(alloc, effective_roles, role, owner, grants, privilege)
 }

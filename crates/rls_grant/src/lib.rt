@@ -11,6 +11,7 @@ mod laws;
 mod optioning;
 mod placing;
 mod revoking;
+mod tracing;
 
 pub use granting::{grant, own_grants};
 pub use grantors::Grantor;

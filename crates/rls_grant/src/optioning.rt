@@ -3,11 +3,9 @@
 ghost use Rattle.std.specs.Prelude.{◌≡◌, ◌↔◌, ◌++◌, ◌∷◌, [], ℕ, List, None, true, cond, slice_get, IfOk, OnOk};
 ghost use Rattle.std.specs.{BTreeMap.is_at, BTreeSet.contains, Map.lookup, Option.option_copied};
 ghost use Rattle.rls_value.specs.declared.verb.Privilege.{Privilege as Kind};
-ghost use Rattle.rls_verdict.specs.rls_catalog.specs.GrantOptions as given;
-ghost use Rattle.rls_verdict.specs.rls_catalog.specs.{GrantOptions.without_options_of, Membership.fresh, declared.grant.Grant.Grant as Given, State.State, State.AgreesOn, State.name_order};
+ghost use Rattle.rls_verdict.specs.rls_catalog.specs.{Membership.fresh, declared.grant.Grant.Grant as Given, State.State, State.AgreesOn, State.name_order};
 ghost use Rattle.rls_grant.specs.Seen.{IsSetOf};
-ghost use Rattle.rls_grant.specs.Considered as seen;
-ghost use Rattle.rls_grant.specs.{Considered.considered, Considered.considered_one, Handed.HandsOn, Handed.under, Optioned.AreHolders, Optioned.HoldsOption, Optioned.HoldsOn, Optioned.option_reads};
+ghost use Rattle.rls_grant.specs.{Handed.HandsOn, Handed.under, Optioned.AreHolders, Optioned.HoldsOption, Optioned.HoldsOn, Optioned.option_reads};
 ghost use Rattle.rls_grant.specs.Handed as handed;
 
 use crate::granted::is_same_privilege;
@@ -54,7 +52,6 @@ fn holders_on(
 }
 
 /// Who holds it by these grants: the owner, and each grantee of a grant with option whose grantor holds it.
-#[tactic(auto, using(crate::proofs::ConsideredLaws::considered_all))]
 pub fn options(
     alloc: Global,
     owner: &Name,
@@ -63,36 +60,7 @@ pub fn options(
 ) -> Result<BTreeSet<Name>, AllocError>
     ensures { IfOk result (λ holders. AreHolders owner.now grants.now privilege holders) }
 {
-    let holders = options_seen(alloc, owner, grants, privilege, None)?;
-    Ok(holders)
-}
-
-/// Who would hold it without the grantee's own grant options.
-#[tactic(auto, using(crate::proofs::ConsideredLaws::considered_without))]
-pub(crate) fn options_without(
-    alloc: Global,
-    owner: &Name,
-    grants: &Grants,
-    privilege: Privilege,
-    grantee: &Name,
-) -> Result<BTreeSet<Name>, AllocError>
-    ensures { IfOk result (λ holders. AreHolders owner.now (without_options_of grantee.now grants.now) privilege holders) }
-{
-    let holders = options_seen(alloc, owner, grants, privilege, Some(grantee))?;
-    Ok(holders)
-}
-
-/// Who holds it, where the options of one grantee are left out.
-fn options_seen(
-    alloc: Global,
-    owner: &Name,
-    grants: &Grants,
-    privilege: Privilege,
-    without: Option<&Name>,
-) -> Result<BTreeSet<Name>, AllocError>
-    ensures { IfOk result (λ holders. AreHolders owner.now (considered (option_copied without.entry) grants.now) privilege holders) }
-{
-    let index = index_of(alloc, grants, privilege, without)?;
+    let index = index_of(alloc, grants, privilege)?;
     let holders = holders_by(alloc, owner, &index);
     drop(index);
     holders
@@ -103,13 +71,12 @@ fn index_of(
     alloc: Global,
     grants: &Grants,
     privilege: Privilege,
-    without: Option<&Name>,
 ) -> Result<BTreeMap<Name, Items<Name>>, AllocError>
-    ensures { IfOk result (λ index. HandsOn index.entries (considered (option_copied without.entry) grants.now) privilege) }
+    ensures { IfOk result (λ index. HandsOn index.entries grants.now privilege) }
 {
     let mut index = BTreeMap::new(alloc);
     for grant in grants.iter() {
-        if let Some(grantee) = handed_to(grant, privilege, without) {
+        if let Some(grantee) = handed_to(grant, privilege) {
             add(&mut index, alloc, &grant.grantor, grantee)?;
         }
     }
@@ -117,12 +84,10 @@ fn index_of(
 }
 
 /// To whom the grant hands the option on, if it does.
-fn handed_to<'a>(grant: &'a Grant, privilege: Privilege, without: Option<&Name>) -> Option<&'a Name>
-    ensures { option_copied result ≡ handed.handed_to privilege (considered_one (option_copied without.entry) grant.now) }
+fn handed_to(grant: &Grant, privilege: Privilege) -> Option<&Name>
+    ensures { option_copied result ≡ handed.handed_to privilege grant.now }
 {
-    let hands_on = grant.option
-        && !is_left_out(without, &grant.grantee)
-        && is_same_privilege(grant.privilege, privilege);
+    let hands_on = grant.option && is_same_privilege(grant.privilege, privilege);
     match &grant.grantee {
         Grantee::Role(name) if hands_on => Some(name),
         _ => None,
@@ -185,7 +150,7 @@ fn holders_by(
     Ok(seen)
 }
 
-fn holder_at(holders: &[Name], index: usize) -> Option<&Name>
+pub(crate) fn holder_at(holders: &[Name], index: usize) -> Option<&Name>
     ensures { option_copied result ≡ slice_get holders.now index }
 {
     holders.get(index)
@@ -224,7 +189,7 @@ fn add_each(
 }
 
 /// Adds the name to the list and to the set of the same names, unless it is there. An `Err` may leave it in the set alone.
-fn add_unseen(
+pub(crate) fn add_unseen(
     names: &mut Vec<Name>,
     seen: &mut BTreeSet<Name>,
     name: &Name,
@@ -237,13 +202,4 @@ fn add_unseen(
         names.push(name.copy()?)?;
     }
     Ok(())
-}
-
-fn is_left_out(without: Option<&Name>, grantee: &Grantee) -> bool
-    ensures { result ≡ seen.is_left_out (option_copied without.entry) grantee.now }
-{
-    match (without, grantee) {
-        (Some(name), Grantee::Role(role)) => role.is(name),
-        (_, _) => false,
-    }
 }

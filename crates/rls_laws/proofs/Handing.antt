@@ -61,7 +61,7 @@ grant_gives Known s role asked =
     let new : List Grant = flat_map (λ grantor. flat_map (λ grantee. map (λ column. record { privilege = grantor.privilege; grantee = grantee; grantor = grantor.name; option = asked.with_option; column = column; place = column_place table.columns column })
     (granted_on (extent_of asked.privileges grantor.privilege))) asked.to) by in
     gives (AllByRecursion (Fits s Known)) (c.Grants asked.table (fold put_grant (grants_of s asked.table) new) ∷ [])
-    (record { ordered = λ is. put_grants_ascend (grants_of s asked.table) new (is.grants asked.table); told = λ _. tt; spelled = λ _ _ _. tt }, tt)))))))
+    (record { ordered = λ is. put_grants_ascend (grants_of s asked.table) new (is.grants asked.table); told = λ _. tt; first = λ _. tt; spelled = λ _ _ _. tt }, tt)))))))
 
 -- what is left of grants that ascend ascends
 abbrev StillAscend : List Grant → List Grant → Type 0
@@ -86,7 +86,7 @@ revoke_gives Known s role asked =
     else filter (λ grant. not (is_taken asked by grant)) there in
     after (left_gives asked.cascade asked.table table.owner by rest) (λ left still.
     gives (AllByRecursion (Fits s Known)) (c.Grants asked.table left ∷ [])
-    (record { ordered = λ is. still (without_taken_ascend asked.option_only (is_taken asked by) there (is.grants asked.table)); told = λ _. tt; spelled = λ _ _ _. tt }, tt)))))))
+    (record { ordered = λ is. still (without_taken_ascend asked.option_only (is_taken asked by) there (is.grants asked.table)); told = λ _. tt; first = λ _. tt; spelled = λ _ _ _. tt }, tt)))))))
 
 -- ---- roles
 
@@ -109,7 +109,7 @@ turns_give step all (x ∷ xs) t = after (all x t) (λ left one. weaker (λ last
 
 members_fit : (Known : Type 0) (s left : State) → (IsInOrder s → IsInOrder left) → (members : List (List ℕ)) → AllByRecursion (Fits s Known) (map (λ member. c.Members member (members_of left member)) members)
 members_fit Known s left stays [] = tt
-members_fit Known s left stays (member ∷ members) = (record { ordered = λ is. (stays is).members member; told = λ _. tt; spelled = λ _ _ _. tt }, members_fit Known s left stays members)
+members_fit Known s left stays (member ∷ members) = (record { ordered = λ is. (stays is).members member; told = λ _. tt; first = λ _. tt; spelled = λ _ _ _. tt }, members_fit Known s left stays members)
 
 pub grant_roles_give : (Known : Type 0) (s : State) (role : List ℕ) (asked : GrantRoles) → Gives (AllByRecursion (Fits s Known)) (grant_roles_in s role asked)
 grant_roles_give Known s role asked =
@@ -121,7 +121,7 @@ grant_roles_give Known s role asked =
 
 left_fit : (Known : Type 0) (s : State) (asked : RevokeRoles) (members : List (List ℕ)) → AllByRecursion (Fits s Known) (map (λ member. c.Members member (memberships_left asked.option asked.roles (members_of s member))) members)
 left_fit Known s asked [] = tt
-left_fit Known s asked (member ∷ members) = (record { ordered = λ is. memberships_left_ascend asked.option asked.roles (members_of s member) (is.members member); told = λ _. tt; spelled = λ _ _ _. tt }, left_fit Known s asked members)
+left_fit Known s asked (member ∷ members) = (record { ordered = λ is. memberships_left_ascend asked.option asked.roles (members_of s member) (is.members member); told = λ _. tt; first = λ _. tt; spelled = λ _ _ _. tt }, left_fit Known s asked members)
 
 pub revoke_roles_give : (Known : Type 0) (s : State) (role : List ℕ) (asked : RevokeRoles) → Gives (AllByRecursion (Fits s Known)) (revoke_roles_in s role asked)
 revoke_roles_give Known s role asked =

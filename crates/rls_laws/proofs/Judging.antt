@@ -144,16 +144,16 @@ allowed_gives s name columns order decided replaced rows =
 
 deleted_fit : (Known : Type 0) (s : State) (name : List ℕ) (rows : List Stored) → AllByRecursion (Fits s Known) (map (deleted name) rows)
 deleted_fit Known s name [] = tt
-deleted_fit Known s name (row ∷ rows) = (record { ordered = λ _. tt; told = λ _. tt; spelled = λ _ _ _. tt }, deleted_fit Known s name rows)
+deleted_fit Known s name (row ∷ rows) = (record { ordered = λ _. tt; told = λ _. tt; first = λ _. tt; spelled = λ _ _ _. tt }, deleted_fit Known s name rows)
 
 inserted_fit : (Known : Type 0) (s : State) (name : List ℕ) (rows : List Stored) → AllByRecursion (Fits s Known) (map (inserted name) rows)
 inserted_fit Known s name [] = tt
-inserted_fit Known s name (row ∷ rows) = (record { ordered = λ _. tt; told = λ _. tt; spelled = λ _ _ _. tt }, inserted_fit Known s name rows)
+inserted_fit Known s name (row ∷ rows) = (record { ordered = λ _. tt; told = λ _. tt; first = λ _. tt; spelled = λ _ _ _. tt }, inserted_fit Known s name rows)
 
 updated_fit : (Known : Type 0) (s : State) (name : List ℕ) (olds news : List Stored) → AllByRecursion (Fits s Known) (updated name olds news)
 updated_fit Known s name [] news = tt
 updated_fit Known s name (old ∷ olds) [] = tt
-updated_fit Known s name (old ∷ olds) (new ∷ news) = (record { ordered = λ _. tt; told = λ _. tt; spelled = λ _ _ _. tt }, updated_fit Known s name olds news)
+updated_fit Known s name (old ∷ olds) (new ∷ news) = (record { ordered = λ _. tt; told = λ _. tt; first = λ _. tt; spelled = λ _ _ _. tt }, updated_fit Known s name olds news)
 
 done_ends : (Known : Type 0) (s : State) (reply : Reply) (decided : List Decision) (changes : List Change) (allowed : Result (Unit {0}) Refusal) → Gives Any allowed → AllByRecursion (Fits s Known) changes → Ends (Fits s Known) (done_or_refused allowed reply decided changes)
 done_ends Known s reply decided changes (Ok u) is fit = fit

@@ -8,7 +8,7 @@ mod refusing;
 mod spelled;
 mod spelling;
 
-pub use holding::texts_show_what_holds;
+pub use holding::{texts_show_what_holds, texts_tell_what_holds};
 pub use order::lists_stay_in_order;
 pub use reading::reads_mean;
 pub use refusing::effects_are_shown;

@@ -136,7 +136,7 @@ own_means dependencies target own queries reached is = (reached_means dependenci
 pub queries_means : (dependencies : List PolicyDependency) (target : List ℕ) (own queries : List (List ℕ)) (reached : Reached) → ordered_by dependencies target own queries ≡ Ok reached → Within queries reached.secured
 queries_means dependencies target own queries reached is = (reached_means dependencies target own queries reached is).queries_met
 
--- ---- whom the privilege is asked of
+-- ---- the tables that are listed
 
 nothing_stands : (dependencies : List PolicyDependency) (chain : List (List ℕ)) → Stands dependencies chain nothing_yet
 nothing_stands dependencies chain = record { once = tt; opened = λ t is not_done. absurd (true≢false (sym is)) }
@@ -181,7 +181,7 @@ asks_if (Fits more) queries reached tells told is = subst (λ all. ListsEach que
 asks_if (Loops t) queries reached tells told is = absurd (true≢false (ap is_refused is))
 asks_if Deep queries reached tells told is = absurd told
 
--- the privilege is asked of the tables of the subqueries, then of each that is reached, once
+-- listed are the tables of the subqueries, then each that is reached, once
 pub tables_mean : (dependencies : List PolicyDependency) (target : List ℕ) (own queries : List (List ℕ)) (reached : Reached) → ordered_by dependencies target own queries ≡ Ok reached → ListsEach queries reached
 tables_mean dependencies target own queries reached is =
     asks_if (searched dependencies target own queries) queries reached (search_tells (suc (length dependencies)) dependencies target own queries) (search_told (suc (length dependencies)) dependencies target own queries (omega arith)) is

@@ -6,6 +6,7 @@ ghost use Rattle.rls_source.specs.rls_catalog.specs.{Membership.attributes_of, M
 ghost use Rattle.rls_source.specs.rls_catalog.specs.Paths as paths;
 ghost use Rattle.rls_role.specs.Steps.{takes, walked_where, walked_reads};
 
+use crate::holding::Holdings;
 use crate::names::is_among;
 use crate::walking::{Step, reached};
 use rls_source::RowSource;
@@ -90,8 +91,10 @@ fn walked<'c, S: RowSource<'c>>(
     if superuser {
         return Ok(Items::new(alloc));
     }
-    let names = reached(alloc, source, &[], role, step)?;
-    Ok(names)
+    let nobody = Holdings::new(alloc);
+    let names = reached(alloc, source, &nobody, role, step);
+    drop(nobody);
+    names
 }
 
 /// Whether the role has the privileges of the other: it is a superuser itself, or reaches it over memberships whose

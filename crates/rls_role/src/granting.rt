@@ -1,13 +1,14 @@
 //! GRANT of roles.
 
-ghost use Rattle.std.specs.Prelude.{◌≡◌, IfOk};
+ghost use Rattle.std.specs.Prelude.{◌≡◌, Ok, IfOk, OnOk};
 ghost use Rattle.rls_source.specs.rls_value.specs.Giving.{Gives};
 ghost use Rattle.rls_source.specs.Answering.{Answers, Tells};
+ghost use Rattle.rls_source.specs.Askings.{followed_by, known};
 ghost use Rattle.rls_role.specs.Granting as spec;
-ghost use Rattle.rls_role.specs.Granting.{asked_path, each_granted, memberships_granted, pair_granted, pair_or_refused, role_granted, roles_granted};
+ghost use Rattle.rls_role.specs.Granting.{asked_path, each_granted, members_written, memberships_granted, pair_granted, pair_or_refused, role_granted, roles_granted};
 
 use crate::held_memberships::{held_of, write_held};
-use crate::holding::HeldMembership;
+use crate::holding::Holdings;
 use crate::managing::require_managed;
 use crate::names::is_among;
 use crate::noting::note_walk;
@@ -59,9 +60,28 @@ fn grant_memberships<'c, S: RowSource<'c>>(
     ensures { Answers S.state S.after (memberships_granted grant.now) source.old source.new read_set.old read_set.new result }
 {
     let held = held_of(alloc, source, read_set, grant.to.as_slice())?;
+    grant_held(alloc, source, read_set, grant, held)
+}
+
+/// All memberships of the members, once the roles are granted to them.
+fn grant_held<'c, S: RowSource<'c>>(
+    alloc: Global,
+    source: &mut S,
+    read_set: &mut Reads,
+    grant: &GrantRoles,
+    held: Holdings,
+) -> Result<Delta, Refusal>
+    ensures { Answers S.state S.after (followed_by (each_granted grant.now.options grant.now.roles grant.now.to held) (λ grown. known (Ok (members_written grown)))) source.old source.new read_set.old read_set.new result }
+{
     let (roles, to) = (grant.roles.as_slice(), grant.to.as_slice());
     let held = grant_each(alloc, source, read_set, grant.options, roles, to, held)?;
-    Ok(write_held(alloc, held)?)
+    Ok(written(alloc, held)?)
+}
+
+fn written(alloc: Global, held: Holdings) -> Result<Delta, AllocError>
+    ensures { IfOk result (λ delta. delta ≡ members_written held) }
+{
+    write_held(alloc, held.into_items(alloc)?)
 }
 
 /// Each of the roles to each of the members, pair by pair.
@@ -72,8 +92,8 @@ fn grant_each<'c, S: RowSource<'c>>(
     written: MembershipOptions,
     roles: &[Name],
     members: &[Name],
-    held: Items<HeldMembership>,
-) -> Result<Items<HeldMembership>, Refusal>
+    held: Holdings,
+) -> Result<Holdings, Refusal>
     ensures { Answers S.state S.after (each_granted written roles.now members.now held) source.old source.new read_set.old read_set.new result }
 {
     let mut held = held;
@@ -91,8 +111,8 @@ fn grant_role<'c, S: RowSource<'c>>(
     written: MembershipOptions,
     role: &Name,
     members: &[Name],
-    held: Items<HeldMembership>,
-) -> Result<Items<HeldMembership>, Refusal>
+    held: Holdings,
+) -> Result<Holdings, Refusal>
     ensures { Answers S.state S.after (role_granted written role.now members.now held) source.old source.new read_set.old read_set.new result }
 {
     let mut held = held;
@@ -111,11 +131,11 @@ fn grant_pair<'c, S: RowSource<'c>>(
     written: MembershipOptions,
     role: &Name,
     member: &Name,
-    held: Items<HeldMembership>,
-) -> Result<Items<HeldMembership>, Refusal>
+    held: Holdings,
+) -> Result<Holdings, Refusal>
     ensures { Answers S.state S.after (pair_granted written role.now member.now held) source.old source.new read_set.old read_set.new result }
 {
-    let path = noted_path(alloc, source, read_set, held.as_slice(), role)?;
+    let path = noted_path(alloc, source, read_set, &held, role)?;
     let closes = is_among(path.as_slice(), member);
     drop(path);
     join(alloc, written, role, member, held, closes)
@@ -127,7 +147,7 @@ fn noted_path<'c, S: RowSource<'c>>(
     alloc: Global,
     source: &mut S,
     read_set: &mut Reads,
-    held: &[HeldMembership],
+    held: &Holdings,
     role: &Name,
 ) -> Result<Items<Name>, AllocError>
     ensures { Tells S.state S.after (asked_path held.now role.now) source.old source.new read_set.old read_set.new result }
@@ -147,9 +167,9 @@ fn join(
     written: MembershipOptions,
     role: &Name,
     member: &Name,
-    held: Items<HeldMembership>,
+    held: Holdings,
     closes: bool,
-) -> Result<Items<HeldMembership>, Refusal>
+) -> Result<Holdings, Refusal>
     ensures { Gives result (pair_or_refused written role.now member.now held closes) }
 {
     if closes {
@@ -171,43 +191,32 @@ fn joined(
     written: MembershipOptions,
     role: &Name,
     member: &Name,
-    held: Items<HeldMembership>,
-) -> Result<Items<HeldMembership>, AllocError>
+    held: Holdings,
+) -> Result<Holdings, AllocError>
     ensures { IfOk result (λ all. all ≡ spec.joined written role.now member.now held) }
 {
-    let mut all = Items::new(alloc);
-    for one in held.into_vec() {
-        all.push(joined_in(alloc, written, role, member, one)?)?;
-    }
-    Ok(all)
+    let mut held = held;
+    join_in(alloc, written, role, member, &mut held)?;
+    Ok(held)
 }
 
-fn joined_in(
+/// Gives the member, if it is there, the membership of the role. Others aren't looked at.
+#[tactic(auto, using(crate::proofs::HoldingLemmas::joined_put, crate::proofs::HoldingLemmas::joined_by_none))]
+fn join_in(
     alloc: Global,
     written: MembershipOptions,
     role: &Name,
-    to: &Name,
-    held: HeldMembership,
-) -> Result<HeldMembership, AllocError>
-    ensures { IfOk result (λ one. one ≡ spec.joined_in written role.now to.now held) }
+    member: &Name,
+    held: &mut Holdings,
+) -> Result<(), AllocError>
+    ensures { OnOk result (held.new ≡ spec.joined written role.now member.now held.old) }
 {
-    if !held.member.is(to) {
-        return Ok(held);
-    }
-    let HeldMembership {
-        member,
-        memberships,
-    } = held;
-    match granted_to(alloc, written, role, memberships) {
-        Ok(memberships) => Ok(HeldMembership {
-            member,
-            memberships,
-        }),
-        Err(refused) => {
-            drop(member);
-            Err(refused)
-        }
-    }
+    let memberships = match held.find(member) {
+        Some(memberships) => memberships.copy()?,
+        None => return Ok(()),
+    };
+    let memberships = granted_to(alloc, written, role, memberships)?;
+    held.put(member, memberships)
 }
 
 /// The memberships with one of the role: its options that are written change, others stay.

@@ -15,7 +15,7 @@ mod walking;
 
 pub use effective_roles::{EffectiveRoles, can_set, effective_roles_by, effective_roles_of, has};
 pub use granting::grant_member;
-pub use holding::HeldMembership;
+pub use holding::{HeldMembership, Holdings};
 pub use laws::memberships_mean;
 pub use names::is_among;
 pub use noting::{note_effective_roles, note_walk, noted_effective_roles};

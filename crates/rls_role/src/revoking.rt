@@ -56,7 +56,7 @@ fn revoke_memberships<'c, S: RowSource<'c>>(
     ensures { Answers S.state S.after (memberships_revoked revoke.now) source.old source.new read_set.old read_set.new result }
 {
     let held = held_of(alloc, source, read_set, revoke.from.as_slice())?;
-    Ok(revoked(alloc, revoke, held)?)
+    Ok(revoked(alloc, revoke, held.into_items(alloc)?)?)
 }
 
 fn revoked(

@@ -6,7 +6,7 @@ ghost use Rattle.rls_source.specs.rls_catalog.specs.Membership.{fresh, visit_rea
 ghost use Rattle.rls_source.specs.rls_catalog.specs.Paths.{granted_where, held_by, reached_where};
 ghost use Rattle.rls_role.specs.{Holdings.with_held, Steps.takes};
 
-use crate::holding::HeldMembership;
+use crate::holding::Holdings;
 use crate::name_set::NameSet;
 use rls_source::RowSource;
 use rls_source::rls_catalog::{Membership, Memberships};
@@ -41,7 +41,7 @@ impl Step {
 pub fn reached<'c, S: RowSource<'c>>(
     alloc: Global,
     source: &mut S,
-    held: &[HeldMembership],
+    held: &Holdings,
     role: &Name,
     step: Step,
 ) -> Result<Items<Name>, AllocError>
@@ -68,11 +68,11 @@ fn name_at(names: &[Name], index: usize) -> Option<&Name>
 }
 
 /// Adds the roles that the role was granted by such memberships and that aren't there yet.
-#[tactic(auto, using(crate::specs::Holdings::members_held))]
+#[tactic(auto, using(crate::specs::Holdings::members_found))]
 fn visit<'c, S: RowSource<'c>>(
     alloc: Global,
     source: &mut S,
-    held: &[HeldMembership],
+    held: &Holdings,
     names: &mut NameSet,
     name: &Name,
     step: Step,
@@ -86,8 +86,8 @@ fn visit<'c, S: RowSource<'c>>(
     if def.is_none() {
         return Ok(());
     }
-    match HeldMembership::find(held, name) {
-        Some(held) => add_fresh(names, &held.memberships, step),
+    match held.find(name) {
+        Some(memberships) => add_fresh(names, memberships, step),
         None => add_fresh(names, memberships, step),
     }
 }

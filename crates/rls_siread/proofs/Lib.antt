@@ -7,3 +7,4 @@ pub mod CopyLaws
 pub mod PromotedLaws
 pub mod WideningLaws
 pub mod PlainLaws
+pub mod QueueLaws

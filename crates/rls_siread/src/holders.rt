@@ -1,10 +1,9 @@
 //! The holders of one object.
 
 ghost use Rattle.std.specs.Prelude.{◌≡◌, true, [], ◌∷◌, ◌<◌, ◌≤◌, ◌||◌, nat_lt, IsTrue, ◌↔◌, IfOk, OnOk, OnErr};
-ghost use Rattle.indexmap.specs.IndexSet.{spare};
 ghost use Rattle.rls_siread.specs.Locks.{is_number_in, arrived, all_arrived, without};
 
-use indexmap::IndexSet;
+use crate::queue::Queue;
 use std::alloc::{AllocError, Global};
 use std::marker::Model;
 use std::{mem, slice};
@@ -20,7 +19,7 @@ pub(crate) struct Holders {
 enum Txns {
     Nobody,
     One(u64),
-    More(IndexSet<u64>),
+    More(Queue),
 }
 
 impl Model for Holders {
@@ -62,9 +61,9 @@ impl Holders {
         match mem::replace(&mut self.txns, Txns::Nobody) {
             Txns::Nobody => Ok(()),
             Txns::One(only) => self.make_more(alloc, only),
-            Txns::More(mut set) => {
-                let made = set.reserve(1);
-                self.txns = Txns::More(set);
+            Txns::More(mut queue) => {
+                let made = queue.make_room();
+                self.txns = Txns::More(queue);
                 made
             }
         }
@@ -75,9 +74,9 @@ impl Holders {
         ensures txns { self.new.txns ≡ only ∷ [] }
         ensures ok { OnOk result (0 < self.new.room) }
     {
-        match set_of(alloc, only) {
-            Ok(set) => {
-                self.txns = Txns::More(set);
+        match Queue::of(alloc, only) {
+            Ok(queue) => {
+                self.txns = Txns::More(queue);
                 Ok(())
             }
             Err(refused) => {
@@ -115,10 +114,9 @@ impl Holders {
             Txns::Nobody => self.txns = Txns::One(txn),
             // The transaction is the one.
             Txns::One(only) => self.txns = Txns::One(only),
-            Txns::More(mut set) => {
-                let held = set.insert(txn);
-                prove!(held.is_ok());
-                self.txns = Txns::More(set);
+            Txns::More(mut queue) => {
+                queue.hold(txn);
+                self.txns = Txns::More(queue);
             }
         }
     }
@@ -131,9 +129,9 @@ impl Holders {
         match mem::replace(&mut self.txns, Txns::Nobody) {
             Txns::Nobody => true,
             Txns::One(only) => self.keep_other(only, txn),
-            Txns::More(mut set) => {
-                let nobody_left = take_out(&mut set, txn);
-                self.txns = Txns::More(set);
+            Txns::More(mut queue) => {
+                let nobody_left = queue.release(txn);
+                self.txns = Txns::More(queue);
                 nobody_left
             }
         }
@@ -158,7 +156,7 @@ impl Holders {
         match &self.txns {
             Txns::Nobody => Ok(Holders::new()),
             Txns::One(only) => Ok(Holders::alone(*only)),
-            Txns::More(set) => copy_of(alloc, set),
+            Txns::More(queue) => copy_of(alloc, queue),
         }
     }
 
@@ -169,37 +167,15 @@ impl Holders {
         match &self.txns {
             Txns::Nobody => &[],
             Txns::One(only) => slice::from_ref(only),
-            Txns::More(set) => set.as_slice(),
+            Txns::More(queue) => queue.as_slice(),
         }
     }
 }
 
-/// The transaction alone, with room for one more.
-fn set_of(alloc: Global, only: u64) -> Result<IndexSet<u64>, AllocError>
-    ensures txns { IfOk result (λ set. set.keys ≡ only ∷ []) }
-    ensures room { IfOk result (λ set. 0 < spare set) }
+fn copy_of(alloc: Global, queue: &Queue) -> Result<Holders, AllocError>
+    ensures { IfOk result (λ copied. copied.txns ≡ queue.now.txns) }
 {
-    let mut set = IndexSet::with_capacity(alloc, 2)?;
-    let put = set.insert(only);
-    prove!(put.is_ok());
-    Ok(set)
-}
-
-/// Takes the transaction out; whether nobody is left.
-fn take_out(set: &mut IndexSet<u64>, txn: u64) -> bool
-    ensures txns { set.new.keys ≡ without set.old.keys txn }
-    ensures nobody { IsTrue result ↔ (set.new.keys ≡ []) }
-{
-    let _distinct = set.len();
-    set.shift_remove(&txn);
-    set.is_empty()
-}
-
-fn copy_of(alloc: Global, set: &IndexSet<u64>) -> Result<Holders, AllocError>
-    ensures { IfOk result (λ copied. copied.txns ≡ set.now.keys) }
-{
-    let _distinct = set.len();
     let mut copied = Holders::new();
-    copied.add_all(alloc, set.as_slice())?;
+    copied.add_all(alloc, queue.as_slice())?;
     Ok(copied)
 }

@@ -8,6 +8,7 @@ mod laws;
 mod lock_table;
 mod notes;
 mod promotion;
+mod queue;
 mod sireads;
 
 pub use covering::{covered, written};

@@ -1,9 +1,11 @@
 -- What is read of an audit file, byte by byte and line by line.
-use Rattle.std.proofs.Common.{◌≡◌, refl, ◌≢◌, ◌++◌, ◌∷◌, [], ℕ, Bool, true, List, All, Option, Some, None, option_to_list, inl, inr, ap, sym, ◌∙◌, subst, append_assoc, append-nil, arith}
+use Rattle.std.proofs.Common.{◌≡◌, refl, ◌≢◌, ◌++◌, ◌∷◌, [], ℕ, Bool, true, List, All, Option, Some, None, Result, Ok, Err, OnOk, option_to_list, inl, inr, ap, sym, ◌∙◌, subst, append_assoc, append-nil, arith}
 use Rattle.std.proofs.lemmas.Grind.{common_steps}
 use Rattle.std.proofs.lemmas.List.Elements.{All-nil, All-cons, All-append}
 use Rattle.rlsdb.specs.declared.audit_file.NextLine.TheVariants as came
-use Rattle.rlsdb.specs.AuditLines.{AreLinesOf, IsLine, Reads, ReadsNext, ended_lines}
+use Rattle.rls_laws.specs.rls_audit.specs.declared.lines.Line.{Line}
+use Rattle.rls_laws.specs.rls_audit.specs.Reading.{line_found, line_text}
+use Rattle.rlsdb.specs.AuditLines.{AreLinesOf, IsLine, Reads, ReadsNext, WritesLine, ended_lines}
 
 -- a line ends at its LF
 pub line_read : (before middle after line : List ℕ) (given : Option ℕ) (byte : ℕ) → (middle ≡ before ++ line) × All (λ other. other ≢ 10) line → after ≡ middle ++ option_to_list given → given ≡ Some byte → byte ≡ 10
@@ -62,3 +64,11 @@ written_more before now after written line so_far next =
 
 pub none_written : (bytes : List ℕ) → bytes ≡ bytes ++ ended_lines []
 none_written bytes = sym (append-nil bytes)
+
+-- a text that was written with its LF is the line's, and is read back as it
+pub line_written : {E : Type 0} (line : Line) (r : Result (Unit {0}) E) (text lent before after : List ℕ) → lent ≡ text → text ≡ line_text line → line_found true text ≡ Some line → OnOk r (after ≡ before ++ (lent ++ (10 ∷ []))) → OnOk r (WritesLine line before after)
+line_written line (Ok u) text lent before after same is found grew = record {
+  grew = grew ∙ ap (λ (it : List ℕ). before ++ (it ++ (10 ∷ []))) (same ∙ is);
+  found = subst (λ it. line_found true it ≡ Some line) is found;
+}
+line_written line (Err e) text lent before after same is found grew = tt

@@ -1,12 +1,13 @@
 -- What is read of an audit file, and what is written: lines.
 use Rattle.std.specs.Prelude.{◌≡◌, ◌⊎◌, ◌≢◌, ◌++◌, ◌∷◌, [], ℕ, List, Bool, true, false, Some}
-use Rattle.std.specs.List.{All, flat_map}
+use Rattle.std.specs.List.{All, AllZip, flat_map}
 use Rattle.rls_laws.specs.rls_audit.specs.declared.lines.Line.{Line}
 use Rattle.rlsdb.specs.declared.audit_file.NextLine.{NextLine}
 use Rattle.rlsdb.specs.declared.audit_file.NextLine.TheVariants as came
 use Rattle.rls_laws.specs.rls_audit.specs.Lines as shown
-use Rattle.rls_laws.specs.rls_audit.specs.Reading.{line_found}
-use Rattle.rls_laws.specs.rls_audit.specs.Shows.{ShowsLine}
+use Rattle.rls_laws.specs.rls_audit.specs.Printed.{texts_from, texts_of}
+use Rattle.rls_laws.specs.rls_audit.specs.Reading.{line_found, line_text}
+use Rattle.rls_laws.specs.rls_audit.specs.Shows.{Means}
 use Rattle.rls_laws.specs.rls_core.specs.Calls.{IsOrderBy}
 use Rattle.rls_laws.specs.rls_core.specs.Records.{Record}
 use Rattle.rls_laws.specs.rls_check.specs.declared.converting.Converter.{Converter}
@@ -45,19 +46,22 @@ pub record Converted (texts written : List (List ℕ)) (line before after : List
   pub grew : after ≡ before ++ (text ++ (10 ∷ []))
   pub converted : HasConverted (texts ++ (line ∷ [])) (written ++ (text ∷ [])) behind
 
--- what was written grew by a text that is read back as the line, in the second format, and its LF
+-- what was written grew by the text of the line and its LF, and this text is read back as the line
 pub record WritesLine (line : Line) (before after : List ℕ) : Type 0 where
-  pub text : List ℕ
-  pub grew : after ≡ before ++ (text ++ (10 ∷ []))
-  pub found : line_found true text ≡ Some line
+  pub grew : after ≡ before ++ (line_text line ++ (10 ∷ []))
+  pub found : line_found true (line_text line) ≡ Some line
 
--- lines that show these were written one after another
-pub data WritesLines : List shown.Line → List ℕ → List ℕ → Type 0 where
-  none : {bytes : List ℕ} → WritesLines [] bytes bytes
-  next : {it : shown.Line} {more : List shown.Line} {before middle after : List ℕ} (line : Line) → ShowsLine line it → WritesLine line before middle → WritesLines more middle after → WritesLines (it ∷ more) before after
+-- what was written grew by the texts, each with its LF, and these mean the lines in the second format
+pub record WritesTexts (texts : List (List ℕ)) (lines : List shown.Line) (before after : List ℕ) : Type 0 where
+  pub grew : after ≡ before ++ ended_lines texts
+  pub means : AllZip (Means true) texts lines
+
+-- the lines of the records were written, the first of which has this commit
+abbrev pub WritesRecords : ℕ → List Record → List ℕ → List ℕ → Type 0
+WritesRecords commit records before after = WritesTexts (texts_from commit records) (shown.lines_from commit records) before after
 
 -- the audit of the records was written, with an order of theirs that keeps what has to stand before what
 pub record WritesAudit (records : List Record) (before after : List ℕ) : Type 0 where
   pub order : List ℕ
   pub keeps : IsOrderBy records order
-  pub lines : WritesLines (shown.audit_of records order) before after
+  pub lines : WritesTexts (texts_of records order) (shown.audit_of records order) before after

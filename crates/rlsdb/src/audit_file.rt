@@ -90,7 +90,8 @@ impl<I: ScriptIn + Drop> AuditIn<I> {
     }
 }
 
-/// Writes a line of an audit, with its LF.
+/// Writes a line of an audit as compact JSON, with its LF.
+#[tactic(auto, using(crate::proofs::LineLemmas::line_written))]
 pub fn write_audit_line<O: ScriptOut>(
     alloc: Global,
     line: &Line,

@@ -3,13 +3,12 @@
 ghost use Rattle.std.specs.Prelude.{◌≡◌, ◌⊎◌, ◌+◌, ◌<◌, ◌++◌, [], List, length, option_map, true, IfOk, OnOk, IsErrOf};
 ghost use Rattle.std.specs.List.{All};
 ghost use Rattle.std.specs.Io.Buffered.{writer_buffer};
-ghost use Rattle.rls_laws.specs.rls_audit.specs.Lines.{lines_from};
 ghost use Rattle.rls_laws.specs.rls_audit.specs.Showing.{AreTexts};
 ghost use Rattle.rls_laws.specs.rls_core.specs.Calls.{IsOrderBy};
 ghost use Rattle.rls_laws.specs.rls_core.specs.Records.{Record};
 ghost use Rattle.rls_session.specs.rls_script.specs.Streams.{GrewBy};
 ghost use Rattle.rlsdb.specs.Answers.{IsAudited, IsRunText, RunsGiven};
-ghost use Rattle.rlsdb.specs.AuditLines.{WritesAudit, WritesLines};
+ghost use Rattle.rlsdb.specs.AuditLines.{WritesAudit, WritesRecords};
 
 use crate::audit_file::write_audit_line;
 use crate::device::{DeviceIn, DeviceOut};
@@ -18,7 +17,7 @@ use crate::out_file::OutFile;
 use crate::same_file::{STANDARD_INPUT, require_own};
 use crate::words::ScriptFile;
 use rls_laws::records_are_texts;
-use rls_laws::rls_audit::{Line, line_of_record};
+use rls_laws::rls_audit::{Line, line_of_record, written_lines_mean};
 use rls_session::rls_script::{MAX_SCRIPT, RunFault, ScriptIn, ScriptOut};
 use rls_session::{Book, NoGate, run_script_telling, run_threads_telling};
 use rls_value::Items;
@@ -151,9 +150,8 @@ fn write_audit<'a>(
     }
 }
 
-/// Writes the head, the records in the order of their commits, and the end with the numbers of the book's order. The lines show just
-/// them, since texts spell them.
-#[tactic(auto, using(crate::proofs::BookLemmas::whole))]
+/// Writes the head, the records in the order of their commits, and the end with the numbers of the book's order: byte by byte the
+/// texts of these lines (`texts_of` of `rls_audit`). They mean just the records and the order, since texts spell the records.
 fn write_book<'a, O: ScriptOut>(
     alloc: Global,
     book: &Book,
@@ -164,6 +162,7 @@ fn write_book<'a, O: ScriptOut>(
     requires order { IsOrderBy book.now.seen.committed order.items }
     ensures { OnOk result (WritesAudit book.now.seen.committed (O.taken output.old) (O.taken output.new)) }
 {
+    written_lines_mean();
     write_audit_line(alloc, &Line::Head, output)?;
     write_records(alloc, book, output)?;
     let end = Line::End(book.records().len() as u64, Items::from_vec(order));
@@ -177,8 +176,9 @@ fn write_records<'a, O: ScriptOut>(
     book: &Book,
     output: &mut O,
 ) -> Result<(), Fault<'a>>
-    ensures { OnOk result (All AreTexts book.now.seen.committed → WritesLines (lines_from 1 book.now.seen.committed) (O.taken output.old) (O.taken output.new)) }
+    ensures { OnOk result (All AreTexts book.now.seen.committed → WritesRecords 1 book.now.seen.committed (O.taken output.old) (O.taken output.new)) }
 {
+    written_lines_mean();
     let records = book.records();
     for (place, record) in records.iter().enumerate() {
         let line = line_of_record(alloc, place as u64 + 1, record)?;

@@ -1,7 +1,6 @@
 use Rattle.std.specs.List.{AllZip}
 use Rattle.std.proofs.Common.{rules, ◌≡◌, List, [], ◌∷◌, ◌++◌, ℕ, subst, sym}
 use Rattle.rls_audit.specs.ShownParts.{ShowsPolicy}
-use Rattle.rls_audit.proofs.ShowingLemmas.{policies_shown}
 use Rattle.rls_audit.proofs.ZipLemmas.{zip_next, zip_none}
 use Rattle.rls_audit.proofs.showing.policy_texts.Goals as goal
 
@@ -20,4 +19,4 @@ pub returns : goal.returns
 returns c =
     let at = c.loop-policy in
     let none : at.policy-iterator ≡ [] = search rules in
-    policies_shown c.args.table.now at.texts c.args.policies.now (zip_none (ShowsPolicy c.args.table.now) at.texts at.policy-iterator c.args.policies.now none at.invariant)
+    zip_none (ShowsPolicy c.args.table.now) at.texts at.policy-iterator c.args.policies.now none at.invariant

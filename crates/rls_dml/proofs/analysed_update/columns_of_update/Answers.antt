@@ -1,7 +1,6 @@
 use Rattle.std.proofs.Common.{◌≡◌, ◌++◌, ◌∙◌, ap, map, IfOk, subst}
 use Rattle.std.specs.Option.{option_to_list}
 use Rattle.rls_dml.specs.Checking.{columns_read, returning_terms}
-use Rattle.rls_dml.specs.Updating as spec
 use Rattle.rls_dml.proofs.analysed_update.columns_of_update.Goals as goal
 
 -- what is set stands in front of the condition, and both in front of RETURNING

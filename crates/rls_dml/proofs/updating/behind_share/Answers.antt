@@ -1,4 +1,4 @@
-use Rattle.std.proofs.Common.{map, take, drop, length, ◌-◌, ◌∙◌, ap, sym, arith}
+use Rattle.std.proofs.Common.{map, drop, length, ◌-◌, ◌∙◌, ap, sym, arith}
 use Rattle.std.proofs.lemmas.List.{drop-map, length-drop, take_all}
 use Rattle.rls_evaluation.specs.Scoping.{datum_value}
 use Rattle.rls_dml.proofs.updating.behind_share.Goals as goal

@@ -6,8 +6,10 @@ use Rattle.rls_expr.specs.{declared.expr.Sign.TheVariants.Plus, ExprTerms.query_
 use Rattle.rls_expr.specs.Terms as terms
 use Rattle.rls_expr.proofs.TermSizes.{size_at}
 use Rattle.rls_source.specs.{Readings.unread, Askings.Asking, Askings.known, Askings.followed_by}
-use Rattle.rls_evaluation.specs.{Environments.inside, Environments.compared, Environments.over, Environments.number_or_null, Environments.joined, Gathering.gathered, Gathering.kept, Gathering.with_row, CachedSubplans.FoundAt, ValueSets.IsSetOf, Showing.shows, Showing.judgements_on, Showing.is_allowed, Showing.is_exempt, Showing.with_judgement, Holding.Holds, Holding.Evaluates, Holding.shown_at, Holding.object_for, Alone.items_seen, Alone.items_for, Alone.asked_query, Alone.with_item, Alone.any_equal, Eval.value_of, Eval.together, Eval.and_value, Eval.or_value, Eval.or_equal, Eval.turned, Eval.turned_value, Eval.among_items, Eval.item_equals, Eval.item_if, Eval.item_of, Eval.item_or, Eval.meets, Eval.or_item, Eval.ranged_over, Eval.has_row, Eval.sum_from, Scoping.env_of, Scoping.datum_value, Scoping.datum_now, Scoping.maybe_datum, Scoping.maybe_now, Scoping.number_value}
-use Rattle.rls_evaluation.proofs.{Telling.leads_whole, Telling.tells_then, Telling.tells_as, Telling.tells_same, Telling.tells_unread, Telling.tells_on, Telling.tells_over, Telling.tells_of, Telling.tells_item, Telling.tells_given, Telling.on_ok_then, Telling.drop_at, CachedSubplanLemmas.holds_cached, CachedSubplanLemmas.comes_found, CachedSubplanLemmas.exists_told, CachedSubplanLemmas.within_told, CachedSubplanLemmas.seen_over, CachedSubplanLemmas.null_told, CachedSubplanLemmas.comes_of, Absorbing.holds_shown, Exempting.given_as, Exempting.tells_exempt, RelationLemmas.shows_found, RelationLemmas.shows_none, RelationLemmas.size_found, RelationLemmas.condition_at, LoopLemmas.and_again, LoopLemmas.or_again, LoopLemmas.and_none, LoopLemmas.or_none, LoopLemmas.and_last, LoopLemmas.or_last, LoopLemmas.terms_turn, LoopLemmas.terms_end, LoopLemmas.rows_turn, LoopLemmas.item_again, LoopLemmas.item_added, LoopLemmas.row_added, LoopLemmas.judgement_added, LoopLemmas.sum_told, LoopLemmas.sum_on}
+use Rattle.rls_evaluation.specs.{Environments.inside, Environments.compared, Environments.over, Environments.number_or_null, Environments.joined, Gathering.gathered, Gathering.kept, Gathering.with_row, Showing.shows, Showing.judgements_on, Showing.is_allowed, Showing.is_exempt, Showing.with_judgement, Holding.Holds, Holding.Evaluates, Holding.shown_at, Holding.object_for, Items.any_equal, Items.items_seen, Items.with_item, ValueSets.IsSetOf, Eval.value_of, Eval.together, Eval.and_value, Eval.or_value, Eval.or_equal, Eval.turned, Eval.turned_value, Eval.among_items, Eval.item_equals, Eval.item_if, Eval.item_of, Eval.item_or, Eval.meets, Eval.or_item, Eval.ranged_over, Eval.first_item, Eval.has_row, Eval.sum_from, Scoping.env_of, Scoping.datum_value, Scoping.datum_now, Scoping.maybe_datum, Scoping.maybe_now, Scoping.number_value}
+use Rattle.rls_evaluation.specs.declared.cached_subplan.Asks.TheVariants as a
+use Rattle.rls_evaluation.specs.CachedSubplans.{IsKnown}
+use Rattle.rls_evaluation.proofs.{Telling.leads_whole, Telling.tells_then, Telling.tells_as, Telling.tells_same, Telling.tells_unread, Telling.tells_on, Telling.tells_over, Telling.tells_of, Telling.tells_item, Telling.tells_given, Telling.on_ok_then, Telling.drop_at, CachedSubplanLemmas.at_some, CachedSubplanLemmas.comes_of, CachedSubplanLemmas.known_told, CachedSubplanLemmas.set_told, CachedSubplanLemmas.tells_known_again, CachedSubplanLemmas.told_between, CachedSubplanLemmas.within_told, Absorbing.holds_shown, Exempting.given_as, Exempting.tells_exempt, RelationLemmas.shows_found, RelationLemmas.shows_none, RelationLemmas.size_found, RelationLemmas.condition_at, LoopLemmas.and_again, LoopLemmas.or_again, LoopLemmas.and_none, LoopLemmas.or_none, LoopLemmas.and_last, LoopLemmas.or_last, LoopLemmas.terms_turn, LoopLemmas.terms_end, LoopLemmas.rows_turn, LoopLemmas.item_again, LoopLemmas.item_added, LoopLemmas.row_added, LoopLemmas.judgement_added, LoopLemmas.sum_told, LoopLemmas.sum_on}
 use Rattle.rls_evaluation.proofs.evaluation.+eval.Goals as goal
 
 pub conjunction-loop-part-init : goal.conjunction-loop-part-init
@@ -126,17 +128,88 @@ eval-returns-in-Scalar-clause-tells g t c =
     let same : terms.Scalar (query_of c.deref-in-Scalar.result.now) ≡ c.args.expr.now = search rules in
     subst (λ k. Evaluates (value_of k (shows (drop c.args.visible.from c.args.visible.relations.now) c.args.env.now.user.now) (env_of c.args.env.now)) (g.S.Tables.state c.args.source.now) (g.S.Tables.state c.scalar.new.source) c.args.execution.now.read_set c.scalar.new.execution.read_set (datum_now c.scalar.result)) same c.scalar.ensures.tells
 
-pub exists-returns-in-Ok-clause-tells : goal.exists-returns-in-Ok-clause-tells
-exists-returns-in-Ok-clause-tells g t c =
-    tells_as (has_row (query_of c.args.query.now) (shows (drop c.args.visible.from c.args.visible.relations.now) c.args.env.now.user.now) (env_of c.args.env.now)) Flag _ _ _ _ c.in-Ok.met (Flag c.in-Ok.met)
-    (tells_over (ranged_over (query_of c.args.query.now) (shows (drop c.args.visible.from c.args.visible.relations.now) c.args.env.now.user.now) (env_of c.args.env.now)) (λ rows. gathered (λ row is rest. is || rest) false (λ row. meets (maybe_term c.args.query.now.condition) (shows (drop c.args.visible.from c.args.visible.relations.now) c.args.env.now.user.now) (inside row (env_of c.args.env.now))) rows) _ _ _ _ _ _ c.in_ok-rows.rows c.as_slice.result.now c.in-Ok.met c.as_slice.ensures c.in_ok-rows.ensures.tells c.in-Ok.ensures.tells) refl
+pub exists-has_row-requires : goal.exists-has_row-requires
+exists-has_row-requires g t c κs within = (omega arith, (search rules, c.in_ok-place.ensures.holds c.args.visible.relations.now c.args.env.now.user.now (g.S.Tables.state c.args.source.now) c.requires))
+
+pub is_within-is_within_anew-requires : goal.is_within-is_within_anew-requires
+is_within-is_within_anew-requires g t c κs within = (omega arith, (search rules, c.in_ok-place.ensures.holds c.args.visible.relations.now c.args.env.now.user.now (g.S.Tables.state c.args.source.now) c.requires))
+
+pub is_within-item_set-requires : goal.is_within-item_set-requires
+is_within-item_set-requires g t c κs within = (omega arith, (search rules, c.in_ok-place.ensures.holds c.args.visible.relations.now c.args.env.now.user.now (g.S.Tables.state c.args.source.now) c.requires))
+
+pub scalar-scalar_anew-requires : goal.scalar-scalar_anew-requires
+scalar-scalar_anew-requires g t c κs within = (omega arith, (search rules, c.in_ok-place.ensures.holds c.args.visible.relations.now c.args.env.now.user.now (g.S.Tables.state c.args.source.now) c.requires))
+
+pub exists-returns-in-Some-clause-tells : goal.exists-returns-in-Some-clause-tells
+exists-returns-in-Some-clause-tells g t c =
+    tells_as (has_row (query_of c.args.query.now) (shows (drop c.args.visible.from c.args.visible.relations.now) c.args.env.now.user.now) (env_of c.args.env.now)) Flag _ _ _ _ c.in-Some.met (Flag c.in-Some.met)
+    (tells_known_again (has_row (query_of c.args.query.now) (shows (drop c.args.visible.from c.args.visible.relations.now) c.args.env.now.user.now) (env_of c.args.env.now)) (g.S.Tables.state c.args.source.now) c.args.execution.now.read_set c.place_of.new.self.read_set c.in-Some.met c.place_of.ensures.read_set (at_some c.in_ok-known.known c.in-Some.met (λ known. IsKnown (has_row (query_of c.args.query.now) (shows (drop c.args.visible.from c.args.visible.relations.now) c.args.env.now.user.now) (env_of c.args.env.now)) (g.S.Tables.state c.args.source.now) c.place_of.new.self.read_set known) c.in-Some.is (c.in_ok-known.ensures c.args.visible.relations.now (g.S.Tables.state c.args.source.now) c.args.visible.from a.Exists (query_of c.args.query.now) (c.in_ok-place.ensures.holds c.args.visible.relations.now c.args.env.now.user.now (g.S.Tables.state c.args.source.now) c.requires) c.in_ok-place.ensures.found))) refl
+
+pub exists-returns-clause-tells : goal.exists-returns-clause-tells
+exists-returns-clause-tells g t c =
+    tells_as (has_row (query_of c.args.query.now) (shows (drop c.args.visible.from c.args.visible.relations.now) c.args.env.now.user.now) (env_of c.args.env.now)) Flag _ _ _ _ c.in_ok-met.met (Flag c.in_ok-met.met)
+    (told_between (has_row (query_of c.args.query.now) (shows (drop c.args.visible.from c.args.visible.relations.now) c.args.env.now.user.now) (env_of c.args.env.now)) (g.S.Tables.state c.args.source.now) (g.S.Tables.state c.has_row.new.source) c.args.execution.now.read_set c.place_of.new.self.read_set c.has_row.new.execution.read_set c.keep.new.self.read_set (Ok c.in_ok-met.met) c.place_of.ensures.read_set c.keep.ensures.read_set c.in_ok-met.ensures.tells) refl
+
+pub exists-returns-clause-holds : goal.exists-returns-clause-holds
+exists-returns-clause-holds g t c =
+    c.in_ok-keep.ensures.holds c.args.visible.relations.now (g.S.Tables.state c.has_row.new.source)
+    (known_told (has_row (query_of c.args.query.now) (shows (drop c.args.visible.from c.args.visible.relations.now) c.args.env.now.user.now) (env_of c.args.env.now)) (g.S.Tables.state c.args.source.now) (g.S.Tables.state c.has_row.new.source) c.place_of.new.self.read_set c.has_row.new.execution.read_set c.in_ok-met.met c.in_ok-met.ensures.tells c.in_ok-met.ensures.holds.ordered) c.in_ok-met.ensures.holds
+
+pub is_within-returns-then-is_none-clause-tells : goal.is_within-returns-then-is_none-clause-tells
+is_within-returns-then-is_none-clause-tells g t c =
+    told_between (among_items (datum_value c.args.value.now) (query_of c.args.query.now) (shows (drop c.args.visible.from c.args.visible.relations.now) c.args.env.now.user.now) (env_of c.args.env.now)) (g.S.Tables.state c.args.source.now) (g.S.Tables.state c.is_within_anew.new.source) c.args.execution.now.read_set c.place_of.new.self.read_set c.is_within_anew.new.execution.read_set c.is_within_anew.new.execution.read_set c.is_within_anew.result c.place_of.ensures.read_set refl c.is_within_anew.ensures.tells
+
+pub is_within-returns-in-Some-clause-tells : goal.is_within-returns-in-Some-clause-tells
+is_within-returns-in-Some-clause-tells g t c =
+    (tells_known_again (among_items (datum_value c.args.value.now) (query_of c.args.query.now) (shows (drop c.args.visible.from c.args.visible.relations.now) c.args.env.now.user.now) (env_of c.args.env.now)) (g.S.Tables.state c.args.source.now) c.args.execution.now.read_set c.place_of.new.self.read_set c.in-Some.truth c.place_of.ensures.read_set (at_some c.in_ok-known.known c.in-Some.truth (λ known. IsKnown (among_items (datum_value c.args.value.now) (query_of c.args.query.now) (shows (drop c.args.visible.from c.args.visible.relations.now) c.args.env.now.user.now) (env_of c.args.env.now)) (g.S.Tables.state c.args.source.now) c.place_of.new.self.read_set known) c.in-Some.is (c.in_ok-known.ensures c.args.visible.relations.now (g.S.Tables.state c.args.source.now) c.args.visible.from a.Items (query_of c.args.query.now) (c.in_ok-place.ensures.holds c.args.visible.relations.now c.args.env.now.user.now (g.S.Tables.state c.args.source.now) c.requires) c.in_ok-place.ensures.found)))
 
 pub is_within-returns-clause-tells : goal.is_within-returns-clause-tells
 is_within-returns-clause-tells g t c =
-    tells_of (ranged_over (query_of c.args.query.now) (shows (drop c.args.visible.from c.args.visible.relations.now) c.args.env.now.user.now) (env_of c.args.env.now)) (λ rows. gathered (λ row item rest. or_item (datum_value c.args.value.now) item rest) False (λ row. item_if (meets (maybe_term c.args.query.now.condition) (shows (drop c.args.visible.from c.args.visible.relations.now) c.args.env.now.user.now) (inside row (env_of c.args.env.now))) (item_of (terms_of c.args.query.now.items.items) (shows (drop c.args.visible.from c.args.visible.relations.now) c.args.env.now.user.now) (inside row (env_of c.args.env.now)))) rows) _ _ _ _ _ _ c.in_ok-rows.rows c.as_slice.result.now c.is_item-truth.result c.as_slice.ensures c.in_ok-rows.ensures.tells c.is_item-truth.ensures.tells
+    told_between (among_items (datum_value c.args.value.now) (query_of c.args.query.now) (shows (drop c.args.visible.from c.args.visible.relations.now) c.args.env.now.user.now) (env_of c.args.env.now)) (g.S.Tables.state c.args.source.now) (g.S.Tables.state c.item_set.new.source) c.args.execution.now.read_set c.place_of.new.self.read_set c.item_set.new.execution.read_set c.keep.new.self.read_set (Ok c.in_ok-truth.truth) c.place_of.ensures.read_set c.keep.ensures.read_set
+    (within_told (datum_value c.args.value.now) (query_of c.args.query.now) (shows (drop c.args.visible.from c.args.visible.relations.now) c.args.env.now.user.now) (env_of c.args.env.now) (g.S.Tables.state c.args.source.now) (g.S.Tables.state c.item_set.new.source) c.place_of.new.self.read_set c.item_set.new.execution.read_set c.in_ok-values.values c.in_ok-truth.truth c.in_ok-values.ensures.stands c.in_ok-values.ensures.comes
+    (subst (λ result. (items : List Value) → IsSetOf c.in_ok-values.values items → IfOk result (λ truth. truth ≡ any_equal (datum_value c.args.value.now) items)) c.in_ok-truth.was c.equals_any.ensures))
+
+pub is_within-returns-clause-holds : goal.is_within-returns-clause-holds
+is_within-returns-clause-holds g t c =
+    c.in_ok-keep.ensures.holds c.args.visible.relations.now (g.S.Tables.state c.item_set.new.source)
+    (set_told (items_seen (query_of c.args.query.now) (shows (drop c.args.visible.from c.args.visible.relations.now) c.args.env.now.user.now) (env_of c.args.env.now)) (g.S.Tables.state c.args.source.now) (g.S.Tables.state c.item_set.new.source) c.place_of.new.self.read_set c.item_set.new.execution.read_set c.in_ok-values.values c.in_ok-values.ensures.stands c.in_ok-values.ensures.comes c.in_ok-values.ensures.holds.ordered) c.in_ok-values.ensures.holds
+
+pub scalar-returns-in-Some-clause-tells : goal.scalar-returns-in-Some-clause-tells
+scalar-returns-in-Some-clause-tells g t c =
+    (tells_known_again (first_item (query_of c.args.query.now) (shows (drop c.args.visible.from c.args.visible.relations.now) c.args.env.now.user.now) (env_of c.args.env.now)) (g.S.Tables.state c.args.source.now) c.args.execution.now.read_set c.place_of.new.self.read_set (datum_value c.in-Some.item) c.place_of.ensures.read_set (at_some c.in_ok-known.known c.in-Some.item (λ known. IsKnown (first_item (query_of c.args.query.now) (shows (drop c.args.visible.from c.args.visible.relations.now) c.args.env.now.user.now) (env_of c.args.env.now)) (g.S.Tables.state c.args.source.now) c.place_of.new.self.read_set (datum_value known)) c.in-Some.is (c.in_ok-known.ensures c.args.visible.relations.now (g.S.Tables.state c.args.source.now) c.args.visible.from a.First (query_of c.args.query.now) (c.in_ok-place.ensures.holds c.args.visible.relations.now c.args.env.now.user.now (g.S.Tables.state c.args.source.now) c.requires) c.in_ok-place.ensures.found)))
+
+pub scalar-returns-then-is_none-clause-tells : goal.scalar-returns-then-is_none-clause-tells
+scalar-returns-then-is_none-clause-tells g t c =
+    told_between (first_item (query_of c.args.query.now) (shows (drop c.args.visible.from c.args.visible.relations.now) c.args.env.now.user.now) (env_of c.args.env.now)) (g.S.Tables.state c.args.source.now) (g.S.Tables.state c.scalar_anew.new.source) c.args.execution.now.read_set c.place_of.new.self.read_set c.scalar_anew.new.execution.read_set c.scalar_anew.new.execution.read_set (Ok (datum_value c.in_ok-item.item)) c.place_of.ensures.read_set refl c.in_ok-item.ensures.tells
 
 pub scalar-returns-clause-tells : goal.scalar-returns-clause-tells
 scalar-returns-clause-tells g t c =
+    told_between (first_item (query_of c.args.query.now) (shows (drop c.args.visible.from c.args.visible.relations.now) c.args.env.now.user.now) (env_of c.args.env.now)) (g.S.Tables.state c.args.source.now) (g.S.Tables.state c.scalar_anew.new.source) c.args.execution.now.read_set c.place_of.new.self.read_set c.scalar_anew.new.execution.read_set c.keep.new.self.read_set (Ok (datum_value c.in_ok-item.item)) c.place_of.ensures.read_set c.keep.ensures.read_set c.in_ok-item.ensures.tells
+
+pub scalar-returns-clause-holds : goal.scalar-returns-clause-holds
+scalar-returns-clause-holds g t c =
+    c.in_ok-keep.ensures.holds c.args.visible.relations.now (g.S.Tables.state c.scalar_anew.new.source)
+    (subst (IsKnown (first_item (query_of c.args.query.now) (shows (drop c.args.visible.from c.args.visible.relations.now) c.args.env.now.user.now) (env_of c.args.env.now)) (g.S.Tables.state c.scalar_anew.new.source) c.scalar_anew.new.execution.read_set) (sym c.in_ok-value.ensures) (known_told (first_item (query_of c.args.query.now) (shows (drop c.args.visible.from c.args.visible.relations.now) c.args.env.now.user.now) (env_of c.args.env.now)) (g.S.Tables.state c.args.source.now) (g.S.Tables.state c.scalar_anew.new.source) c.place_of.new.self.read_set c.scalar_anew.new.execution.read_set (datum_value c.in_ok-item.item) c.in_ok-item.ensures.tells c.in_ok-item.ensures.holds.ordered)) c.in_ok-item.ensures.holds
+
+pub exists-returns-in-Some-clause-holds : goal.exists-returns-in-Some-clause-holds
+exists-returns-in-Some-clause-holds g t c = c.in_ok-place.ensures.holds c.args.visible.relations.now c.args.env.now.user.now (g.S.Tables.state c.args.source.now) c.requires
+
+pub is_within-returns-in-Some-clause-holds : goal.is_within-returns-in-Some-clause-holds
+is_within-returns-in-Some-clause-holds g t c = c.in_ok-place.ensures.holds c.args.visible.relations.now c.args.env.now.user.now (g.S.Tables.state c.args.source.now) c.requires
+
+pub scalar-returns-in-Some-clause-holds : goal.scalar-returns-in-Some-clause-holds
+scalar-returns-in-Some-clause-holds g t c = c.in_ok-place.ensures.holds c.args.visible.relations.now c.args.env.now.user.now (g.S.Tables.state c.args.source.now) c.requires
+
+pub has_row-returns-clause-tells : goal.has_row-returns-clause-tells
+has_row-returns-clause-tells g t c =
+    tells_of (ranged_over (query_of c.args.query.now) (shows (drop c.args.visible.from c.args.visible.relations.now) c.args.env.now.user.now) (env_of c.args.env.now)) (λ rows. gathered (λ row is rest. is || rest) false (λ row. meets (maybe_term c.args.query.now.condition) (shows (drop c.args.visible.from c.args.visible.relations.now) c.args.env.now.user.now) (inside row (env_of c.args.env.now))) rows) _ _ _ _ _ _ c.in_ok-rows.rows c.as_slice.result.now c.is_met-met.result c.as_slice.ensures c.in_ok-rows.ensures.tells c.is_met-met.ensures.tells
+
+pub is_within_anew-returns-clause-tells : goal.is_within_anew-returns-clause-tells
+is_within_anew-returns-clause-tells g t c =
+    tells_of (ranged_over (query_of c.args.query.now) (shows (drop c.args.visible.from c.args.visible.relations.now) c.args.env.now.user.now) (env_of c.args.env.now)) (λ rows. gathered (λ row item rest. or_item (datum_value c.args.value.now) item rest) False (λ row. item_if (meets (maybe_term c.args.query.now.condition) (shows (drop c.args.visible.from c.args.visible.relations.now) c.args.env.now.user.now) (inside row (env_of c.args.env.now))) (item_of (terms_of c.args.query.now.items.items) (shows (drop c.args.visible.from c.args.visible.relations.now) c.args.env.now.user.now) (inside row (env_of c.args.env.now)))) rows) _ _ _ _ _ _ c.in_ok-rows.rows c.as_slice.result.now c.is_item-truth.result c.as_slice.ensures c.in_ok-rows.ensures.tells c.is_item-truth.ensures.tells
+
+pub scalar_anew-returns-clause-tells : goal.scalar_anew-returns-clause-tells
+scalar_anew-returns-clause-tells g t c =
     tells_of (ranged_over (query_of c.args.query.now) (shows (drop c.args.visible.from c.args.visible.relations.now) c.args.env.now.user.now) (env_of c.args.env.now)) (λ rows. gathered (λ row item rest. item_or item rest) Null (λ row. item_if (meets (maybe_term c.args.query.now.condition) (shows (drop c.args.visible.from c.args.visible.relations.now) c.args.env.now.user.now) (inside row (env_of c.args.env.now))) (item_of (terms_of c.args.query.now.items.items) (shows (drop c.args.visible.from c.args.visible.relations.now) c.args.env.now.user.now) (inside row (env_of c.args.env.now)))) rows) _ _ _ _ _ _ c.in_ok-rows.rows c.as_slice.result.now (datum_now c.first_item-item.result) c.as_slice.ensures c.in_ok-rows.ensures.tells c.first_item-item.ensures.tells
 
 pub first_item-loop-row-preserved : goal.first_item-loop-row-preserved
@@ -245,64 +318,18 @@ pub items_over-loop-row-preserved : goal.items_over-loop-row-preserved
 items_over-loop-row-preserved g t c =
     record {
       stands = c.in_ok-item.ensures.tells.stands ∙ c.loop-row.invariant.stands;
-      leads = rows_turn (gathered with_item [] (λ row. item_if (meets (maybe_term c.args.query.now.condition) (shows (drop c.args.visible.from c.args.visible.relations.now) c.args.env.now.user.now) (inside row (env_of c.args.env.now))) (item_of (items_for c.args.has_items (terms_of c.args.query.now.items.items)) (shows (drop c.args.visible.from c.args.visible.relations.now) c.args.env.now.user.now) (inside row (env_of c.args.env.now)))) c.args.rows.now) (λ rest. c.loop-row.values ++ rest) (λ rest. c.push_item.new.values ++ rest) with_item [] (λ row. item_if (meets (maybe_term c.args.query.now.condition) (shows (drop c.args.visible.from c.args.visible.relations.now) c.args.env.now.user.now) (inside row (env_of c.args.env.now))) (item_of (items_for c.args.has_items (terms_of c.args.query.now.items.items)) (shows (drop c.args.visible.from c.args.visible.relations.now) c.args.env.now.user.now) (inside row (env_of c.args.env.now))))
+      leads = rows_turn (gathered with_item [] (λ row. item_if (meets (maybe_term c.args.query.now.condition) (shows (drop c.args.visible.from c.args.visible.relations.now) c.args.env.now.user.now) (inside row (env_of c.args.env.now))) (item_of (terms_of c.args.query.now.items.items) (shows (drop c.args.visible.from c.args.visible.relations.now) c.args.env.now.user.now) (inside row (env_of c.args.env.now)))) c.args.rows.now) (λ rest. c.loop-row.values ++ rest) (λ rest. c.push_item.new.values ++ rest) with_item [] (λ row. item_if (meets (maybe_term c.args.query.now.condition) (shows (drop c.args.visible.from c.args.visible.relations.now) c.args.env.now.user.now) (inside row (env_of c.args.env.now))) (item_of (terms_of c.args.query.now.items.items) (shows (drop c.args.visible.from c.args.visible.relations.now) c.args.env.now.user.now) (inside row (env_of c.args.env.now))))
           c.args.rows.now c.loop-row.row-index c.row-item.result (maybe_datum c.in_ok-item.item) _ _ _ _ _ _ c.loop-row-test.true c.row-item.is
           (λ rest. item_added c.push_item.new.values c.loop-row.values rest c.row-item.result (maybe_datum c.in_ok-item.item) c.in_ok-push_item.ensures)
           c.loop-row.invariant.stands c.loop-row.invariant.leads c.in_ok-item.ensures.tells;
       holds = c.in_ok-item.ensures.holds;
     }
 
-pub exists_alone-returns-in-Some-clause-tells : goal.exists_alone-returns-in-Some-clause-tells
-exists_alone-returns-in-Some-clause-tells g t c =
-    exists_told (query_of c.args.query.now) (shows (drop c.args.visible.from c.args.visible.relations.now) c.args.env.now.user.now) (env_of c.args.env.now) (g.S.Tables.state c.args.source.now) (g.S.Tables.state c.args.source.now) c.args.execution.now.read_set c.args.execution.now.read_set c.index.result.now.values c.is_some.result refl
-    (comes_found c.args.visible.relations.now c.args.env.now.user.now (env_of c.args.env.now) (g.S.Tables.state c.args.source.now) c.args.execution.now c.in-Some.place c.args.visible.from false (query_of c.args.query.now) c.index.result.now refl c.requires.alone c.requires.holds
-    (subst (λ cached_subplans. FoundAt cached_subplans c.in-Some.place c.args.visible.from false (query_of c.args.query.now)) c.deref.ensures.value c.in-Some.ensures.found) c.index.ensures) c.is_some.ensures
-
-pub exists_alone-returns-in_ok-keep_subplan-in-None-clause-tells : goal.exists_alone-returns-in_ok-keep_subplan-in-None-clause-tells
-exists_alone-returns-in_ok-keep_subplan-in-None-clause-tells g t c =
-    exists_told (query_of c.args.query.now) (shows (drop c.args.visible.from c.args.visible.relations.now) c.args.env.now.user.now) (env_of c.args.env.now) (g.S.Tables.state c.args.source.now) (g.S.Tables.state c.items_alone.new.source) c.args.execution.now.read_set c.items_alone.new.execution.read_set c.in_ok-values-in-None.values c.is_some-is.result
-    c.in_ok-values-in-None.ensures.stands c.in_ok-values-in-None.ensures.comes c.is_some-is.ensures
-
-pub exists_alone-returns-in_ok-keep_subplan-in-None-clause-holds : goal.exists_alone-returns-in_ok-keep_subplan-in-None-clause-holds
-exists_alone-returns-in_ok-keep_subplan-in-None-clause-holds g t c =
-    holds_cached c.args.visible.relations.now c.args.env.now.user.now (env_of c.args.env.now) (g.S.Tables.state c.args.source.now) (g.S.Tables.state c.items_alone.new.source) c.args.execution.now.read_set c.items_alone.new.execution
-    (record { read_set = c.items_alone.new.execution.read_set; cached_rows = c.items_alone.new.execution.cached_rows; cached_subplans = c.keep_subplan.new.cached_subplans; next = c.items_alone.new.execution.next }) c.args.visible.from false (query_of c.args.query.now) c.in_ok-values-in-None.values refl c.requires.alone
-    c.in_ok-values-in-None.ensures.stands c.in_ok-values-in-None.ensures.comes c.in_ok-values-in-None.ensures.holds refl refl c.in_ok-keep_subplan-in-None.ensures
-
-pub is_within_alone-returns-in-Some-clause-tells : goal.is_within_alone-returns-in-Some-clause-tells
-is_within_alone-returns-in-Some-clause-tells g t c =
-    within_told (datum_value c.args.value.now) (query_of c.args.query.now) (shows (drop c.args.visible.from c.args.visible.relations.now) c.args.env.now.user.now) (env_of c.args.env.now) (g.S.Tables.state c.args.source.now) (g.S.Tables.state c.args.source.now) c.args.execution.now.read_set c.args.execution.now.read_set c.index.result.now.values c.equals_any.result refl
-    (comes_found c.args.visible.relations.now c.args.env.now.user.now (env_of c.args.env.now) (g.S.Tables.state c.args.source.now) c.args.execution.now c.in-Some.place c.args.visible.from true (query_of c.args.query.now) c.index.result.now refl c.requires.alone c.requires.holds
-    (subst (λ cached_subplans. FoundAt cached_subplans c.in-Some.place c.args.visible.from true (query_of c.args.query.now)) c.deref.ensures.value c.in-Some.ensures.found) c.index.ensures) c.equals_any.ensures
-
-pub is_within_alone-returns-in_ok-keep_subplan-in-None-clause-tells : goal.is_within_alone-returns-in_ok-keep_subplan-in-None-clause-tells
-is_within_alone-returns-in_ok-keep_subplan-in-None-clause-tells g t c =
-    within_told (datum_value c.args.value.now) (query_of c.args.query.now) (shows (drop c.args.visible.from c.args.visible.relations.now) c.args.env.now.user.now) (env_of c.args.env.now) (g.S.Tables.state c.args.source.now) (g.S.Tables.state c.items_alone.new.source) c.args.execution.now.read_set c.items_alone.new.execution.read_set c.in_ok-values-in-None.values (Ok c.in_ok-truth-in-None.truth)
-    c.in_ok-values-in-None.ensures.stands c.in_ok-values-in-None.ensures.comes
-    (subst (λ result. (items : List Value) → IsSetOf c.in_ok-values-in-None.values items → IfOk result (λ truth. truth ≡ any_equal (datum_value c.args.value.now) items)) c.in_ok-truth-in-None.was c.equals_any-in-None.ensures)
-
-pub is_within_alone-returns-in_ok-keep_subplan-in-None-clause-holds : goal.is_within_alone-returns-in_ok-keep_subplan-in-None-clause-holds
-is_within_alone-returns-in_ok-keep_subplan-in-None-clause-holds g t c =
-    holds_cached c.args.visible.relations.now c.args.env.now.user.now (env_of c.args.env.now) (g.S.Tables.state c.args.source.now) (g.S.Tables.state c.items_alone.new.source) c.args.execution.now.read_set c.items_alone.new.execution
-    (record { read_set = c.items_alone.new.execution.read_set; cached_rows = c.items_alone.new.execution.cached_rows; cached_subplans = c.keep_subplan.new.cached_subplans; next = c.items_alone.new.execution.next }) c.args.visible.from true (query_of c.args.query.now) c.in_ok-values-in-None.values refl c.requires.alone
-    c.in_ok-values-in-None.ensures.stands c.in_ok-values-in-None.ensures.comes c.in_ok-values-in-None.ensures.holds refl refl c.in_ok-keep_subplan-in-None.ensures
-
-pub item_or_null-returns-then-has_items-clause-tells : goal.item_or_null-returns-then-has_items-clause-tells
-item_or_null-returns-then-has_items-clause-tells g t c =
-    subst (λ has_items. Evaluates (item_if (meets (maybe_term c.args.query.now.condition) (shows (drop c.args.visible.from c.args.visible.relations.now) c.args.env.now.user.now) (env_of c.args.env.now)) (item_of (items_for has_items (terms_of c.args.query.now.items.items)) (shows (drop c.args.visible.from c.args.visible.relations.now) c.args.env.now.user.now) (env_of c.args.env.now))) (g.S.Tables.state c.args.source.now) (g.S.Tables.state c.item_if.new.source) c.args.execution.now.read_set c.item_if.new.execution.read_set (maybe_now c.item_if.result)) (sym c.if-has_items.true) c.item_if.ensures.tells
-
-pub item_or_null-returns-clause-tells : goal.item_or_null-returns-clause-tells
-item_or_null-returns-clause-tells g t c =
-    subst (λ has_items. Evaluates (item_if (meets (maybe_term c.args.query.now.condition) (shows (drop c.args.visible.from c.args.visible.relations.now) c.args.env.now.user.now) (env_of c.args.env.now)) (item_of (items_for has_items (terms_of c.args.query.now.items.items)) (shows (drop c.args.visible.from c.args.visible.relations.now) c.args.env.now.user.now) (env_of c.args.env.now))) (g.S.Tables.state c.args.source.now) (g.S.Tables.state c.meets_condition.new.source) c.args.execution.now.read_set c.meets_condition.new.execution.read_set (Ok (maybe_datum c.null_if.result))) (sym c.if-has_items.false)
-    (null_told (meets (maybe_term c.args.query.now.condition) (shows (drop c.args.visible.from c.args.visible.relations.now) c.args.env.now.user.now) (env_of c.args.env.now)) _ _ _ _ c.in_ok-is.is' (maybe_datum c.null_if.result) c.in_ok-is.ensures.tells c.null_if.ensures)
-
-pub items_alone-returns-in-Ok-clause-comes : goal.items_alone-returns-in-Ok-clause-comes
-items_alone-returns-in-Ok-clause-comes g t c =
-    comes_of (items_seen (asked_query c.args.has_items (query_of c.args.query.now)) (shows (drop c.args.visible.from c.args.visible.relations.now) c.args.env.now.user.now) (env_of c.args.env.now)) _ _ _ _ c.in-Ok.values c.of.result
-    (subst (λ asking. Evaluates asking (g.S.Tables.state c.args.source.now) (g.S.Tables.state c.items_over-values.new.source) c.args.execution.now.read_set c.items_over-values.new.execution.read_set (Ok c.in-Ok.values))
-    (sym (seen_over c.args.has_items c.args.query.now.from c.args.query.now.key.items c.args.query.now.selects (terms_of c.args.query.now.items.items) (maybe_term c.args.query.now.condition) (shows (drop c.args.visible.from c.args.visible.relations.now) c.args.env.now.user.now) (env_of c.args.env.now)))
-    (tells_over (ranged_over (query_of c.args.query.now) (shows (drop c.args.visible.from c.args.visible.relations.now) c.args.env.now.user.now) (env_of c.args.env.now)) (λ rows. gathered with_item [] (λ row. item_if (meets (maybe_term c.args.query.now.condition) (shows (drop c.args.visible.from c.args.visible.relations.now) c.args.env.now.user.now) (inside row (env_of c.args.env.now))) (item_of (items_for c.args.has_items (terms_of c.args.query.now.items.items)) (shows (drop c.args.visible.from c.args.visible.relations.now) c.args.env.now.user.now) (inside row (env_of c.args.env.now)))) rows)
-    _ _ _ _ _ _ c.in_ok-rows.rows c.as_slice.result.now c.in-Ok.values c.as_slice.ensures c.in_ok-rows.ensures.tells c.in-Ok.ensures.tells)) c.of.ensures
+pub item_set-returns-in-Ok-clause-comes : goal.item_set-returns-in-Ok-clause-comes
+item_set-returns-in-Ok-clause-comes g t c =
+    comes_of (items_seen (query_of c.args.query.now) (shows (drop c.args.visible.from c.args.visible.relations.now) c.args.env.now.user.now) (env_of c.args.env.now)) _ _ _ _ c.in-Ok.values c.of.result
+    (tells_over (ranged_over (query_of c.args.query.now) (shows (drop c.args.visible.from c.args.visible.relations.now) c.args.env.now.user.now) (env_of c.args.env.now)) (λ rows. gathered with_item [] (λ row. item_if (meets (maybe_term c.args.query.now.condition) (shows (drop c.args.visible.from c.args.visible.relations.now) c.args.env.now.user.now) (inside row (env_of c.args.env.now))) (item_of (terms_of c.args.query.now.items.items) (shows (drop c.args.visible.from c.args.visible.relations.now) c.args.env.now.user.now) (inside row (env_of c.args.env.now)))) rows)
+    _ _ _ _ _ _ c.in_ok-rows.rows c.as_slice.result.now c.in-Ok.values c.as_slice.ensures c.in_ok-rows.ensures.tells c.in-Ok.ensures.tells) c.of.ensures
 
 pub shown-returns-then-is_exempt-clause-tells : goal.shown-returns-then-is_exempt-clause-tells
 shown-returns-then-is_exempt-clause-tells g t c =

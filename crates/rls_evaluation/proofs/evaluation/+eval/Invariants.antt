@@ -3,7 +3,7 @@ use Rattle.rls_value.specs.{declared.value.Value.Value, declared.value.Value.The
 use Rattle.rls_value.specs.{declared.truth.Truth.TheVariants.True, declared.truth.Truth.TheVariants.False, Truths.conjunction_of, Truths.disjunction_of}
 use Rattle.rls_expr.specs.Terms.{maybe_term, terms_of, term_size, terms_size, query_size}
 use Rattle.rls_expr.specs.ExprTerms.{query_of}
-use Rattle.rls_evaluation.specs.{Alone.items_for, Alone.with_item, Environments.inside, Holding.Holds, Gathering.gathered, Gathering.kept}
+use Rattle.rls_evaluation.specs.{Items.with_item, Environments.inside, Holding.Holds, Gathering.gathered, Gathering.kept}
 use Rattle.rls_evaluation.specs.Eval.{together, and_value, or_value, or_equal, meets, item_of, item_if, item_or, or_item}
 use Rattle.rls_evaluation.specs.Showing.{shows, is_allowed, judgements_on}
 use Rattle.rls_evaluation.specs.Sizes.{conditions_size, quals_size, relations_size}
@@ -51,20 +51,20 @@ decreases-sum_from g l = relations_size (drop l.visible.from l.visible.relations
 abbrev pub decreases-exists : goal.decreases-exists
 decreases-exists g l = relations_size (drop l.visible.from l.visible.relations.now) + 8 * query_size (query_of l.query.now) + 7
 
-abbrev pub decreases-exists_alone : goal.decreases-exists_alone
-decreases-exists_alone g l = relations_size (drop l.visible.from l.visible.relations.now) + 8 * query_size (query_of l.query.now) + 6
+abbrev pub decreases-has_row : goal.decreases-has_row
+decreases-has_row g l = relations_size (drop l.visible.from l.visible.relations.now) + 8 * query_size (query_of l.query.now) + 6
 
-abbrev pub decreases-is_within_alone : goal.decreases-is_within_alone
-decreases-is_within_alone g l = relations_size (drop l.visible.from l.visible.relations.now) + 8 * query_size (query_of l.query.now) + 5
+abbrev pub decreases-is_within_anew : goal.decreases-is_within_anew
+decreases-is_within_anew g l = relations_size (drop l.visible.from l.visible.relations.now) + 8 * query_size (query_of l.query.now) + 5
 
-abbrev pub decreases-items_alone : goal.decreases-items_alone
-decreases-items_alone g l = relations_size (drop l.visible.from l.visible.relations.now) + 8 * query_size (query_of l.query.now) + 4
+abbrev pub decreases-item_set : goal.decreases-item_set
+decreases-item_set g l = relations_size (drop l.visible.from l.visible.relations.now) + 8 * query_size (query_of l.query.now) + 4
 
 abbrev pub decreases-items_over : goal.decreases-items_over
 decreases-items_over g l = relations_size (drop l.visible.from l.visible.relations.now) + 8 * query_size (query_of l.query.now) + 2
 
-abbrev pub decreases-item_or_null : goal.decreases-item_or_null
-decreases-item_or_null g l = relations_size (drop l.visible.from l.visible.relations.now) + 8 * query_size (query_of l.query.now) + 1
+abbrev pub decreases-scalar_anew : goal.decreases-scalar_anew
+decreases-scalar_anew g l = relations_size (drop l.visible.from l.visible.relations.now) + 8 * query_size (query_of l.query.now) + 6
 
 abbrev pub decreases-is_met : goal.decreases-is_met
 decreases-is_met g l = relations_size (drop l.visible.from l.visible.relations.now) + 8 * terms_size (maybe_term l.condition.now) + 3
@@ -205,7 +205,7 @@ invariant-put_judgements-loop-policy g l =
 abbrev pub invariant-items_over-loop-row : goal.invariant-items_over-loop-row
 invariant-items_over-loop-row g l =
     let sees = shows (drop l.visible.from l.visible.relations.now) l.env.user.now in
-    let asked = λ (rows : List (List Value)). gathered with_item [] (λ row. item_if (meets (maybe_term l.query.condition) sees (inside row (env_of l.env))) (item_of (items_for l.has_items (terms_of l.query.items.items)) sees (inside row (env_of l.env)))) rows in
+    let asked = λ (rows : List (List Value)). gathered with_item [] (λ row. item_if (meets (maybe_term l.query.condition) sees (inside row (env_of l.env))) (item_of (terms_of l.query.items.items) sees (inside row (env_of l.env)))) rows in
     let now = g.S.Tables.state l.fn.source in
     record {
       stands : g.S.Tables.state l.source ≡ now;

@@ -7,5 +7,5 @@ pub returns : goal.returns
 returns c =
     c.in_ok-add_all.ensures
     ∙ ap (λ first. all_arrived first c.as_slice.result.now) c.new-copied.ensures.nobody
-    ∙ ap (all_arrived []) c.as_slice.ensures.keys
-    ∙ all_arrived_distinct [] c.args.set.now.keys (λ y there. refl) c.len-distinct.ensures.unique
+    ∙ all_arrived_distinct [] c.as_slice.result.now (λ y there. refl) c.as_slice.ensures.distinct
+    ∙ c.as_slice.ensures.txns
