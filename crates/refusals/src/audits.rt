@@ -5,9 +5,9 @@ use crate::scenario::{Scenario, is_text, play};
 use rls_check::rls_audit::{
     Line, Second, Unshown, in_order, line_of_record, read_line, write_line,
 };
+use rls_check::rls_guard::rls_catalog::Change;
+use rls_check::rls_guard::rls_catalog::rls_value::{Items, Refusal, RowId};
 use rls_check::{Audit, Converter, Finding, Reader, Why};
-use rls_guard::rls_catalog::Change;
-use rls_guard::rls_catalog::rls_value::{Items, Refusal, RowId};
 use rls_session::rls_core::{Core, Record};
 use std::alloc::Global;
 

@@ -2,11 +2,11 @@
 
 use crate::opening::{INFORMATION, outcome_of, state_after};
 use crate::scenario::{Scenario, play};
-use rls_conflict::Conflicts;
-use rls_guard::rls_catalog::Delta;
-use rls_guard::rls_catalog::rls_value::{Cause, Refusal};
-use rls_guard::rls_equality::are_both_same;
+use rls_check::rls_guard::rls_catalog::Delta;
+use rls_check::rls_guard::rls_catalog::rls_value::{Cause, Refusal};
+use rls_check::rls_guard::rls_equality::are_both_same;
 use rls_session::rls_access::{Effect, Outcome};
+use rls_session::rls_core::rls_conflict::Conflicts;
 use std::alloc::Global;
 
 /// The keys of one table that a transaction notes before its rows stand for them.

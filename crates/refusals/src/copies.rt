@@ -2,11 +2,11 @@
 
 use crate::opening::{GRANTS, INFORMATION, changes_of, state_after};
 use crate::scenario::{Scenario, play};
-use rls_guard::rls_catalog::rls_expr::{Expr, Policy, TableDef};
-use rls_guard::rls_catalog::rls_value::{
+use rls_check::rls_guard::rls_catalog::rls_expr::{Expr, Policy, TableDef};
+use rls_check::rls_guard::rls_catalog::rls_value::{
     Cause, GrantFault, Name, Object, Privilege, Refusal, Row, Text, Value, Why,
 };
-use rls_guard::rls_catalog::{Catalog, Change, Delta, Grant, Verdict};
+use rls_check::rls_guard::rls_catalog::{Catalog, Change, Delta, Grant, Verdict};
 use std::alloc::Global;
 
 /// What is copied.

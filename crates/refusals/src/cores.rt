@@ -6,10 +6,10 @@ use crate::scenario::{
     made_again, play, tell,
 };
 use rls_check::rls_audit::{line_of_record, write_line};
-use rls_guard::rls_catalog::rls_value::Refusal;
-use rls_guard::rls_catalog::rls_value::shared::Share;
-use rls_guard::rls_equality::Same;
-use rls_guard::rls_role::rls_statement::Statement;
+use rls_check::rls_guard::rls_catalog::rls_value::Refusal;
+use rls_check::rls_guard::rls_catalog::rls_value::shared::Share;
+use rls_check::rls_guard::rls_equality::Same;
+use rls_check::rls_guard::rls_role::rls_statement::Statement;
 use rls_session::rls_core::{Begin, Core, Event, Posted, Record, run};
 use std::alloc::Global;
 

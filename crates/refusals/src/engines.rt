@@ -8,7 +8,7 @@ use crate::scenario::{
     CHANGED, NOT_MADE, OTHER_CAUSE, REFUSED_AGAIN, Scenario, begin, end, made, made_again, play,
     tell,
 };
-use rls_guard::rls_catalog::rls_value::Refusal;
+use rls_check::rls_guard::rls_catalog::rls_value::Refusal;
 use rls_session::rls_access::Reply;
 use rls_session::rls_engine::{
     Book, CommitFault, Engine, Named, PostFault, Receipt, Records, Seen, Told, Txn,

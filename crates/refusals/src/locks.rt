@@ -2,10 +2,12 @@
 
 use crate::opening::{GRANTS, are_same_objects, changes_of, state_after};
 use crate::scenario::{Scenario, play};
-use rls_conflict::rls_siread::{LockTable, Sireads, covered, promote, written};
-use rls_guard::rls_catalog::Delta;
-use rls_guard::rls_catalog::rls_value::{Name, Object, Refusal, Row, Value};
-use rls_guard::rls_source::Footprint;
+use rls_check::rls_guard::rls_catalog::Delta;
+use rls_check::rls_guard::rls_catalog::rls_value::{Name, Object, Refusal, Row, Value};
+use rls_check::rls_guard::rls_source::Footprint;
+use rls_session::rls_core::rls_conflict::rls_siread::{
+    LockTable, Sireads, covered, promote, written,
+};
 use std::alloc::Global;
 
 /// The keys of one table that a transaction notes before its rows stand for them.

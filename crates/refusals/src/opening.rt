@@ -1,11 +1,11 @@
 //! States, cores and statements that scenarios begin on.
 
-use rls_agreement::agrees_on;
-use rls_guard::rls_catalog::rls_value::shared::Share;
-use rls_guard::rls_catalog::rls_value::{Name, Object, Refusal};
-use rls_guard::rls_catalog::{Catalog, Delta};
-use rls_guard::rls_role::rls_statement::Statement;
-use rls_guard::rls_source::{Footprint, Plain};
+use rls_check::rls_agreement::agrees_on;
+use rls_check::rls_guard::rls_catalog::rls_value::shared::Share;
+use rls_check::rls_guard::rls_catalog::rls_value::{Name, Object, Refusal};
+use rls_check::rls_guard::rls_catalog::{Catalog, Delta};
+use rls_check::rls_guard::rls_role::rls_statement::Statement;
+use rls_check::rls_guard::rls_source::{Footprint, Plain};
 use rls_session::rls_access::{Ctx, Effect, Mode, Outcome, run_statement};
 use rls_session::rls_core::{Begin, Core};
 use rls_session::rls_text::parse;

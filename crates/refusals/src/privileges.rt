@@ -2,13 +2,15 @@
 
 use crate::opening::{CREWS, GRANTS, INFORMATION, state_after};
 use crate::scenario::{Scenario, play};
-use rls_guard::rls_catalog::rls_value::{Items, Kind, Name, Privilege, Reference, Refusal, Truth};
-use rls_guard::rls_catalog::{Catalog, Delta, Side, Verdict};
-use rls_guard::rls_grant::{grant, holds, missing, option, revoke};
-use rls_guard::rls_policy::{applying, combine, is_exempt};
-use rls_guard::rls_role::rls_statement::Statement;
-use rls_guard::rls_role::{can_set, grant_member, has, revoke_member};
-use rls_guard::rls_source::{Plain, Reads};
+use rls_check::rls_guard::rls_catalog::rls_value::{
+    Items, Kind, Name, Privilege, Reference, Refusal, Truth,
+};
+use rls_check::rls_guard::rls_catalog::{Catalog, Delta, Side, Verdict};
+use rls_check::rls_guard::rls_grant::{grant, holds, missing, option, revoke};
+use rls_check::rls_guard::rls_policy::{applying, combine, is_exempt};
+use rls_check::rls_guard::rls_role::rls_statement::Statement;
+use rls_check::rls_guard::rls_role::{can_set, grant_member, has, revoke_member};
+use rls_check::rls_guard::rls_source::{Plain, Reads};
 use rls_session::rls_text::parse;
 use std::alloc::Global;
 

@@ -1,7 +1,7 @@
 //! A call under test: it is made on an object while `tools/refusals` refuses one of its requests for memory, the object is compared
 //! with its twin, and the call is made again.
 
-use rls_guard::rls_catalog::rls_value::Refusal;
+use rls_check::rls_guard::rls_catalog::rls_value::Refusal;
 use std::alloc::Global;
 
 /// A public call, and an object that it is made on.

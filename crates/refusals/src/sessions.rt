@@ -6,7 +6,7 @@ ghost use Rattle.rls_session.specs.rls_script.specs.Spelled.{AsksTexts};
 use crate::scenario::{
     NOT_MADE, OTHER_CAUSE, REFUSED_AGAIN, Scenario, begin, end, made, made_again, play, tell,
 };
-use rls_guard::rls_catalog::rls_value::{Name, Refusal};
+use rls_check::rls_guard::rls_catalog::rls_value::{Name, Refusal};
 use rls_session::rls_engine::{Engine, Named, Records, Seen};
 use rls_session::rls_script::{Answer, render};
 use rls_session::{At, Label, NoGate, Notes, Session};

@@ -2,10 +2,10 @@
 
 use crate::opening::{GRANTS, are_same_objects, changes_of, everything, has_all, state_after};
 use crate::scenario::{Scenario, play};
-use rls_agreement::agrees_on;
-use rls_guard::rls_catalog::rls_value::{Items, Name, Object, Refusal, Row, Value};
-use rls_guard::rls_catalog::{Catalog, Change, RoleDef};
-use rls_guard::rls_source::{Footprint, Plain, Recording, RowSource, StatementSource};
+use rls_check::rls_agreement::agrees_on;
+use rls_check::rls_guard::rls_catalog::rls_value::{Items, Name, Object, Refusal, Row, Value};
+use rls_check::rls_guard::rls_catalog::{Catalog, Change, RoleDef};
+use rls_check::rls_guard::rls_source::{Footprint, Plain, Recording, RowSource, StatementSource};
 use rls_overlay::Overlay;
 use std::alloc::Global;
 

@@ -3,10 +3,10 @@
 use crate::opening::{GRANTS, changes_of, context, state_after};
 use crate::scenario::{Scenario, is_text, play};
 use rls_check::rls_audit::rls_printing::{print, print_command};
-use rls_guard::rls_catalog::Catalog;
-use rls_guard::rls_catalog::rls_value::Refusal;
-use rls_guard::rls_role::rls_statement::{Command, Statement};
-use rls_guard::rls_source::Plain;
+use rls_check::rls_guard::rls_catalog::Catalog;
+use rls_check::rls_guard::rls_catalog::rls_value::Refusal;
+use rls_check::rls_guard::rls_role::rls_statement::{Command, Statement};
+use rls_check::rls_guard::rls_source::Plain;
 use rls_session::rls_access::{Ctx, Effect, Outcome, run_statement};
 use rls_session::rls_text::{parse, parse_command};
 use std::alloc::Global;

@@ -2,9 +2,9 @@
 
 use crate::opening::{GRANTS, are_same_states, changes_of, everything, state_after};
 use crate::scenario::{Scenario, play};
-use rls_agreement::agrees_on;
-use rls_guard::rls_catalog::rls_value::{Name, Refusal, Row, Value};
-use rls_guard::rls_catalog::{Catalog, Delta};
+use rls_check::rls_agreement::agrees_on;
+use rls_check::rls_guard::rls_catalog::rls_value::{Name, Refusal, Row, Value};
+use rls_check::rls_guard::rls_catalog::{Catalog, Delta};
 use rls_session::rls_core::rls_rows::{State, Versions};
 use std::alloc::Global;
 

@@ -2,12 +2,12 @@
 
 use crate::opening::{GRANTS, state_after};
 use crate::scenario::{Scenario, play};
-use rls_guard::rls_catalog::Catalog;
-use rls_guard::rls_catalog::rls_expr::{
+use rls_check::rls_guard::rls_catalog::Catalog;
+use rls_check::rls_guard::rls_catalog::rls_expr::{
     Expr, NamedTable, Scope, TableDef, columns_of, resolve_columns,
 };
-use rls_guard::rls_catalog::rls_value::{Name, Refusal, Row, Text, Value};
-use rls_guard::rls_role::rls_statement::Statement;
+use rls_check::rls_guard::rls_catalog::rls_value::{Name, Refusal, Row, Text, Value};
+use rls_check::rls_guard::rls_role::rls_statement::Statement;
 use rls_session::rls_text::parse;
 use std::alloc::Global;
 

@@ -13,9 +13,9 @@ use Rattle.rls_catalog.specs.declared.change.Change.{Change}
 use Rattle.rls_catalog.specs.declared.change.Change.TheVariants as c
 use Rattle.rls_catalog.specs.{declared.change.RowChange.RowChange, declared.role.RoleDef.RoleDef, declared.role.Membership.Membership, declared.grant.Grant.Grant}
 use Rattle.rls_statement.specs.declared.statement.Statement.{Statement}
-use Rattle.rls_guard.specs.{declared.reply.Reply.Reply, declared.reply.Decision.Decision, declared.effect.Effect.Effect}
-use Rattle.rls_guard.specs.declared.effect.Effect.TheVariants as effect
-use Rattle.rls_guard.specs.Effects.{changes_of}
+use Rattle.rls_core.specs.rls_guard.specs.{declared.reply.Reply.Reply, declared.reply.Decision.Decision, declared.effect.Effect.Effect}
+use Rattle.rls_core.specs.rls_guard.specs.declared.effect.Effect.TheVariants as effect
+use Rattle.rls_core.specs.rls_guard.specs.Effects.{changes_of}
 use Rattle.rls_text.specs.{ParseResults.IsParseResult, ParseResults.IsSpelled, ParseResults.first_limit, Grammar.Spells, Words.words_of, declared.token.Token.Token}
 use Rattle.rls_printing.specs.Outputs.{output_tokens_text}
 use Rattle.rls_printing.specs.StatementForms as form

@@ -24,3 +24,4 @@ pub use Rattle.rls_core.specs.rls_conflict
 pub use Rattle.rls_core.specs.rls_ddl
 pub use Rattle.rls_core.specs.rls_dml
 pub use Rattle.rls_printing
+pub use Rattle.rls_text

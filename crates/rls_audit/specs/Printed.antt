@@ -8,7 +8,7 @@ use Rattle.rls_statement.specs.declared.statement.Statement.{Statement}
 use Rattle.rls_statement.specs.declared.statement.Statement.TheVariants.{CreatePolicy}
 use Rattle.rls_printing.specs.Outputs.{output_tokens_text}
 use Rattle.rls_printing.specs.StatementForms as form
-use Rattle.rls_guard.specs.declared.effect.Effect.{Effect}
+use Rattle.rls_core.specs.rls_guard.specs.declared.effect.Effect.{Effect}
 use Rattle.rls_core.specs.Records.{Record}
 use Rattle.rls_audit.specs.declared.contents.TableShape.{TableShape}
 use Rattle.rls_audit.specs.declared.changes.Changed.{Changed}

@@ -8,9 +8,9 @@ use Rattle.rls_catalog.specs.declared.change.Change.{Change}
 use Rattle.rls_catalog.specs.declared.change.Change.TheVariants as c
 use Rattle.rls_statement.specs.declared.statement.Statement.{Statement}
 use Rattle.rls_statement.specs.declared.statement.Statement.TheVariants.{CreatePolicy}
-use Rattle.rls_guard.specs.declared.effect.Effect.{Effect}
-use Rattle.rls_guard.specs.declared.effect.Effect.TheVariants as effect
-use Rattle.rls_guard.specs.Effects.{changes_of}
+use Rattle.rls_core.specs.rls_guard.specs.declared.effect.Effect.{Effect}
+use Rattle.rls_core.specs.rls_guard.specs.declared.effect.Effect.TheVariants as effect
+use Rattle.rls_core.specs.rls_guard.specs.Effects.{changes_of}
 use Rattle.rls_text.specs.{ParseResults.IsSpelled, declared.token.Token.Token}
 use Rattle.rls_core.specs.Records.{Record}
 use Rattle.rls_audit.specs.RefusalCodecs.{IsAudited}

@@ -7,7 +7,7 @@ use crate::refusals::Audited;
 use rls_catalog::Verdict;
 use rls_catalog::shared_map::Share;
 use rls_codec::{Coded, Unread, is_word, item, json_of, require_length};
-use rls_guard::{Decision, Reply};
+use rls_core::rls_guard::{Decision, Reply};
 use serde_json::{Value, json};
 use std::alloc::{AllocError, Global};
 

@@ -28,4 +28,5 @@ pub use refusals::Audited;
 pub use rls_core;
 pub use rls_core::{rls_access, rls_rows};
 pub use rls_printing;
+pub use rls_text;
 pub use showing::{Unshown, line_of_record, printed};

@@ -8,7 +8,7 @@ use crate::changes::Changed;
 use crate::format::{Audit, Format};
 use crate::refusals::Audited;
 use rls_codec::{Coded, Unread, has_size, json_of, member, require_size};
-use rls_guard::{Decision, Mode, Reply};
+use rls_core::rls_guard::{Decision, Mode, Reply};
 use rls_value::{Items, Name, Text};
 use serde_json::{Value, json};
 use std::alloc::{AllocError, Global};

@@ -17,7 +17,7 @@ use Rattle.rls_catalog.specs.declared.change.Change.{Change}
 use Rattle.rls_catalog.specs.declared.change.Change.TheVariants as c
 use Rattle.rls_statement.specs.declared.statement.Statement.{Statement}
 use Rattle.rls_statement.specs.declared.statement.Statement.TheVariants as st
-use Rattle.rls_text.specs.{ParseResults.IsParseResult, ParseResults.IsSpelled, Words.words_of, declared.token.Token.Token}
+use Rattle.rls_audit.specs.rls_text.specs.{ParseResults.IsParseResult, ParseResults.IsSpelled, Words.words_of, declared.token.Token.Token}
 use Rattle.rls_audit.specs.Reading.{IsStatementText, IsPolicyText}
 use Rattle.rls_audit.specs.Shows.{NamesColumn, SpellsPolicy, ShowsChanged}
 use Rattle.rls_audit.specs.Showing.{HasKey, CanTell}

@@ -8,9 +8,9 @@ use Rattle.rls_expr.specs.declared.policy.Policy.{Policy}
 use Rattle.rls_statement.specs.declared.statement.Statement.{Statement}
 use Rattle.rls_statement.specs.declared.statement.Statement.TheVariants as st
 use Rattle.rls_audit.specs.rls_access.specs.Transactions.{Begin}
-use Rattle.rls_guard.specs.{declared.context.Mode.Mode, declared.reply.Reply.Reply, declared.reply.Decision.Decision}
-use Rattle.rls_text.specs.{ParseResults.IsSpelled, Words.words_of}
-use Rattle.rls_text.proofs.Laws.{one_statement}
+use Rattle.rls_explain.specs.rls_meaning.specs.rls_guard.specs.{declared.context.Mode.Mode, declared.reply.Reply.Reply, declared.reply.Decision.Decision}
+use Rattle.rls_audit.specs.rls_text.specs.{ParseResults.IsSpelled, Words.words_of}
+use Rattle.rls_audit.specs.rls_text.proofs.Laws.{one_statement}
 use Rattle.rls_audit.specs.Reading.{HasStatement, HasPolicies, IsPolicyText}
 use Rattle.rls_audit.specs.Shows.{SpellsPolicy}
 use Rattle.rls_audit.specs.declared.changes.Changed.{Changed}

@@ -12,8 +12,4 @@ pub mod Stored
 pub mod Wholes
 pub use Rattle.rls_audit
 pub use Rattle.rls_audit.specs.rls_access
-pub use Rattle.rls_audit.specs.rls_core
-pub use Rattle.rls_audit.specs.rls_ddl
-pub use Rattle.rls_audit.specs.rls_dml
-pub use Rattle.rls_audit.specs.rls_printing
 pub use Rattle.rls_explain.specs.rls_meaning

@@ -2,13 +2,13 @@
 
 ghost use Rattle.std.specs.Prelude.{◌≡◌, ◌↔◌, true, map, IfOk, OnOk};
 ghost use Rattle.rls_catalog.specs.State.{AgreesOn};
-ghost use Rattle.rls_source.specs.Footprints.{with_reads};
+ghost use Rattle.rls_explain.specs.rls_meaning.specs.rls_guard.specs.rls_source.specs.Footprints.{with_reads};
 ghost use Rattle.rls_check.specs.Checking.{wide_of};
 
 use rls_agreement::agrees_on;
 use rls_audit::rls_rows::State;
 use rls_catalog::Change;
-use rls_source::Footprint;
+use rls_explain::rls_guard::rls_source::Footprint;
 use rls_value::Object;
 use std::alloc::{AllocError, Global};
 

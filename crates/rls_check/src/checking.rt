@@ -13,7 +13,7 @@ use crate::finding::Finding;
 use crate::ordering::places_of;
 use crate::running::{RanAlong, run_along};
 use crate::stored::Stored;
-use rls_source::uncovered_stays;
+use rls_explain::rls_guard::rls_source::uncovered_stays;
 use std::alloc::{AllocError, Global};
 
 impl Audit {

@@ -3,7 +3,7 @@
 ghost use Rattle.std.specs.Prelude.{◌≡◌, map, IfOk};
 ghost use Rattle.std.specs.List.{All, AllZip};
 ghost use Rattle.rls_statement.specs.declared.statement.Statement.{Statement};
-ghost use Rattle.rls_text.specs.{ParseResults.IsSpelled, Words.words_of};
+ghost use Rattle.rls_audit.specs.rls_text.specs.{ParseResults.IsSpelled, Words.words_of};
 ghost use Rattle.rls_audit.specs.Reading.{HasStatement, HasPolicies, IsStatementText, IsPolicyText};
 ghost use Rattle.rls_audit.specs.Shows.{SpellsPolicy};
 ghost use Rattle.rls_check.specs.Keeping as spec;
@@ -11,10 +11,10 @@ ghost use Rattle.rls_check.specs.Keeping.{IsMade, Keeps, KeepsAnswer, KeepsPut, 
 
 use crate::transaction::{Answer, Put, Transaction};
 use rls_audit::rls_core::Begin;
+use rls_audit::rls_text::parse;
 use rls_audit::{Answered, Changed, Shown, TableShape};
 use rls_expr::{Column, Policy, TableDef};
 use rls_statement::Statement;
-use rls_text::parse;
 use rls_value::shared::Share;
 use rls_value::{Items, Name, Refusal, Text};
 use std::alloc::{AllocError, Global};

@@ -26,6 +26,7 @@ pub use finding::Finding;
 pub use laws::{
     conversions_are_same, lines_are_shown, meant_lines_are_read, read_texts_begin_audits,
 };
+pub use rls_agreement;
 pub use rls_audit;
-pub use rls_explain::rls_meaning;
+pub use rls_explain::{rls_guard, rls_meaning};
 pub use transaction::{Answer, Put, Transaction};

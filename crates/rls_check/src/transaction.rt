@@ -3,8 +3,8 @@
 use rls_audit::rls_core::Begin;
 use rls_audit::{Audited, GrantShape};
 use rls_catalog::{Membership, RoleDef};
+use rls_explain::rls_guard::{Decision, Reply};
 use rls_expr::{Policy, TableDef};
-use rls_guard::{Decision, Reply};
 use rls_statement::Statement;
 use rls_value::shared::Share;
 use rls_value::{Items, Name, Row, RowId};

@@ -2,7 +2,7 @@
 
 ghost use Rattle.std.specs.Prelude.{◌≡◌, IfOk};
 
-use rls_guard::Mode;
+use rls_meaning::rls_guard::Mode;
 use rls_value::Name;
 use std::alloc::AllocError;
 use std::marker::Model;

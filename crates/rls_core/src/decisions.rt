@@ -4,8 +4,8 @@ ghost use Rattle.std.specs.Prelude.{◌≡◌, ◌<◌, true, length, slice_get,
 ghost use Rattle.rls_core.specs.Decided.{said_by, said_at, decision_of, decisions_by, AreSaid, StandsAt, Extends};
 
 use rls_catalog::{Side, Verdict};
-use rls_guard::Decision;
-use rls_guard::rls_equality::Same;
+use rls_meaning::rls_guard::Decision;
+use rls_meaning::rls_guard::rls_equality::Same;
 use rls_value::{Items, Kind, RowId};
 use std::alloc::{AllocError, Global};
 use std::marker::Model;
@@ -43,8 +43,8 @@ pub struct DecisionView<'a> {
 
 impl Model for Decisions {
     ghost use Rattle.std.specs.Prelude.{List};
-    ghost use Rattle.rls_guard.specs.declared.reply.Decision.{Decision as Judged};
-    ghost use Rattle.rls_guard.specs.contracts.reply.Decision as decision;
+    ghost use Rattle.rls_meaning.specs.rls_guard.specs.declared.reply.Decision.{Decision as Judged};
+    ghost use Rattle.rls_meaning.specs.rls_guard.specs.contracts.reply.Decision as decision;
     ghost use Rattle.std.specs.Coded.{coded_list};
 
     ghost Value = { List Judged };

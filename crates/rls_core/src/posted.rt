@@ -1,11 +1,11 @@
 //! A statement that was posted.
 
 ghost use Rattle.std.specs.Prelude.{◌≡◌, IfOk};
-ghost use Rattle.rls_guard.specs.Effects.{changes_of};
+ghost use Rattle.rls_meaning.specs.rls_guard.specs.Effects.{changes_of};
 ghost use Rattle.rls_core.specs.Posted.{decisions_of, without_decisions};
 
 use crate::decisions::Decisions;
-use rls_guard::{Decision, Effect};
+use rls_meaning::rls_guard::{Decision, Effect};
 use rls_statement::Statement;
 use rls_value::Items;
 use rls_value::shared::Share;

@@ -8,7 +8,7 @@ use crate::posted::Posted;
 use rls_catalog::Delta;
 use rls_catalog::shared_map::Share;
 use rls_conflict::Transaction;
-use rls_source::Footprint;
+use rls_meaning::rls_guard::rls_source::Footprint;
 use rls_value::Items;
 use std::alloc::AllocError;
 use std::marker::Model;

@@ -13,7 +13,7 @@ use Rattle.rls_catalog.specs.State.{State}
 use Rattle.rls_catalog.specs.Changed.{changed, changed_all}
 use Rattle.rls_catalog.specs.declared.change.Change.{Change}
 use Rattle.rls_statement.specs.declared.statement.Statement.{Statement}
-use Rattle.rls_guard.specs.Effects.{changes_of}
+use Rattle.rls_core.specs.rls_guard.specs.Effects.{changes_of}
 use Rattle.rls_core.specs.rls_access.specs.{Statements.effect_in, Transactions.Begin, Transactions.may_begin}
 use Rattle.rls_history.specs.Structures.{is_dangerous}
 use Rattle.rls_core.specs.rls_conflict.specs.Begun.{at_number}

@@ -23,7 +23,7 @@ pub use place::Place;
 pub use receipt::Receipt;
 pub use rls_core;
 pub use rls_core::rls_access;
-pub use rls_guard::rls_equality;
+pub use rls_core::rls_guard::rls_equality;
 pub use seen::Seen;
 pub use step::Step;
 pub use txn::{CommitFault, PostFault, Txn};

@@ -6,7 +6,7 @@ use Rattle.rls_value.specs.declared.verb.PolicyKind.TheVariants as pk
 use Rattle.rls_catalog.specs.{declared.verdict.Side.Side, declared.verdict.Verdict.Verdict}
 use Rattle.rls_catalog.specs.declared.verdict.Side.TheVariants as side
 use Rattle.rls_catalog.specs.declared.verdict.Verdict.TheVariants as v
-use Rattle.rls_guard.specs.declared.reply.Decision.{Decision}
+use Rattle.rls_meaning.specs.rls_guard.specs.declared.reply.Decision.{Decision}
 use Rattle.rls_explain.specs.declared.explanation.Said.{Said}
 
 -- a truth value

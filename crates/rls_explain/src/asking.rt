@@ -3,7 +3,7 @@
 ghost use Rattle.std.specs.Prelude.{◌≡◌, IfOk};
 ghost use Rattle.rls_value.specs.Giving.{Gives};
 ghost use Rattle.rls_expr.specs.Scopes.{in_scope};
-ghost use Rattle.rls_guard.specs.RolePrivileges.{role_privileges_in};
+ghost use Rattle.rls_meaning.specs.rls_guard.specs.RolePrivileges.{role_privileges_in};
 ghost use Rattle.rls_judging.specs.{Handed.rows_borrowed, ScannedRows.pinned_key};
 ghost use Rattle.rls_meaning.specs.Showing.{rows_at_key};
 ghost use Rattle.rls_meaning.specs.rls_expansion.specs.Expanding as expanding;
@@ -11,10 +11,10 @@ ghost use Rattle.rls_explain.specs.Found as spec;
 
 use rls_catalog::BorrowedRow;
 use rls_expr::{Expr, FromTable};
-use rls_guard::role_privileges_of;
 use rls_judging::{CheckContext, qualifying_rows_of, scanned_rows};
 use rls_meaning::rls_expansion::{PolicyExpansion, expansion_of};
-use rls_source::{Reads, RowSource};
+use rls_meaning::rls_guard::rls_source::{Reads, RowSource};
+use rls_meaning::rls_guard::role_privileges_of;
 use rls_value::{Items, Kind, Name, Refusal};
 use std::alloc::{AllocError, Global};
 

@@ -17,4 +17,5 @@ pub use explaining::explain_row;
 pub use explanation::{Explained, Explanation, Said};
 pub use laws::explanations_mean;
 pub use rls_meaning;
+pub use rls_meaning::rls_guard;
 pub use texts::DecisionText;

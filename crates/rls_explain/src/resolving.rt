@@ -3,16 +3,16 @@
 ghost use Rattle.std.specs.Prelude.{◌≡◌, [], ◌∷◌, ◌++◌, map, IfOk, OnOk};
 ghost use Rattle.std.specs.Option.{option_map};
 ghost use Rattle.rls_expr.specs.{Scopes.in_scope, Resolving.resolved as resolved_over};
-ghost use Rattle.rls_guard.specs.Naming.{names_over};
+ghost use Rattle.rls_meaning.specs.rls_guard.specs.Naming.{names_over};
 ghost use Rattle.rls_meaning.specs.Resolving.{resolved};
 ghost use Rattle.rls_meaning.specs.rls_dml.specs.{Checking.names_over_none, Inserting.places_from, Inserting.tuple_resolved, Inserting.tuples_tables};
 ghost use Rattle.rls_meaning.specs.rls_expansion.specs.Used.{all_tables, tables_if};
 ghost use Rattle.rls_explain.specs.Found as spec;
 
 use rls_expr::{Column, Expr, FromTable, NamedTable, Scope, TableDef, resolve_columns};
-use rls_guard::Found;
 use rls_meaning::rls_expansion::{put_all_tables, put_tables, put_tables_if};
-use rls_source::RowSource;
+use rls_meaning::rls_guard::Found;
+use rls_meaning::rls_guard::rls_source::RowSource;
 use rls_statement::{Assignment, Insert, Update};
 use rls_value::{Items, Name};
 use std::alloc::{AllocError, Global};

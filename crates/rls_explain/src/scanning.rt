@@ -18,7 +18,7 @@ use crate::resolving::{condition_in, tables_of};
 use rls_expr::{Expr, FromTable, TableDef};
 use rls_meaning::rls_access::Ctx;
 use rls_meaning::rls_expansion::PolicyExpansion;
-use rls_source::RowSource;
+use rls_meaning::rls_guard::rls_source::RowSource;
 use rls_statement::{Delete, Select};
 use rls_value::{Items, Kind, Name, RowId};
 use std::alloc::{AllocError, Global};

@@ -11,8 +11,8 @@ use Rattle.rls_catalog.specs.declared.verdict.Side.TheVariants as side
 use Rattle.rls_source.specs.{Askings.followed_by, Askings.known, Named.table_or_undefined, Readings.read_then, Readings.unread, Sequences.each_of}
 use Rattle.rls_statement.specs.{declared.changing.Delete.Delete, declared.changing.Update.Update, declared.statement.Insert.Insert, declared.statement.Select.Select, declared.statement.Statement.Statement}
 use Rattle.rls_statement.specs.declared.statement.Statement.TheVariants as statement
-use Rattle.rls_guard.specs.rls_evaluation.specs.{Environments.alone, Environments.over, Gathering.gathered, Showing.shows}
-use Rattle.rls_guard.specs.{Naming.named, declared.context.Ctx.Ctx, declared.reply.Decision.Decision, RolePrivileges.role_privileges_in, RolePrivileges.role_privileges_of, RolePrivileges.role_privileges_reads}
+use Rattle.rls_check.specs.rls_meaning.specs.rls_guard.specs.rls_evaluation.specs.{Environments.alone, Environments.over, Gathering.gathered, Showing.shows}
+use Rattle.rls_check.specs.rls_meaning.specs.rls_guard.specs.{Naming.named, declared.context.Ctx.Ctx, declared.reply.Decision.Decision, RolePrivileges.role_privileges_in, RolePrivileges.role_privileges_of, RolePrivileges.role_privileges_reads}
 use Rattle.rls_check.specs.rls_meaning.specs.rls_depth.specs.rls_expansion.specs.{declared.expansion.PolicyExpansion.PolicyExpansion, Expanding.judges_new, Expanding.judges_old, Expanding.permission_checks, Used.all_tables, Used.tables_if}
 use Rattle.rls_check.specs.rls_meaning.specs.rls_depth.proofs.{Tables.within_first, Tables.within_last, Walking.ok_same}
 use Rattle.rls_check.specs.rls_access.specs.rls_judging.specs.{ScannedRows.pinned_key, ScannedRows.scanned_rows, ScannedRows.scanned_rows_with, Judging.decisions_of, Judging.judged_all, Judging.qualifying_rows_of, Valuing.assignments_of, Valuing.tuples_of, Valuing.values_on, Valuing.values_put, Valuing.values_set, Valuing.with_row_values, Valuing.with_values}

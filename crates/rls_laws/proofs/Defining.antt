@@ -19,10 +19,10 @@ use Rattle.rls_statement.specs.{declared.statement.AlterPolicy.AlterPolicy, decl
 use Rattle.rls_statement.specs.declared.statement.RowSecurity.TheVariants as security
 use Rattle.rls_statement.specs.declared.statement.Statement.TheVariants as st
 use Rattle.rls_statement.specs.declared.statement.SetRole.TheVariants as set
-use Rattle.rls_guard.specs.{declared.context.Ctx.Ctx, Effects.writes, Naming.there_or_undefined}
-use Rattle.rls_guard.specs.rls_grant.specs.Grantors.{all_privileges}
-use Rattle.rls_check.specs.rls_ddl.specs.{AlteringPolicies.has_no_place_for, AlteringPolicies.with_altered, AlteringRoles.role_altered, AlteringTables.altered, CreatingRoles.role_with, NamedPolicies.policy_or_undefined, SettingRoles.sets}
-use Rattle.rls_check.specs.rls_ddl.proofs.PolicyOrderLaws.{altered_in_order}
+use Rattle.rls_check.specs.rls_meaning.specs.rls_guard.specs.{declared.context.Ctx.Ctx, Effects.writes, Naming.there_or_undefined}
+use Rattle.rls_check.specs.rls_meaning.specs.rls_guard.specs.rls_grant.specs.Grantors.{all_privileges}
+use Rattle.rls_check.specs.rls_meaning.specs.rls_ddl.specs.{AlteringPolicies.has_no_place_for, AlteringPolicies.with_altered, AlteringRoles.role_altered, AlteringTables.altered, CreatingRoles.role_with, NamedPolicies.policy_or_undefined, SettingRoles.sets}
+use Rattle.rls_check.specs.rls_meaning.specs.rls_ddl.proofs.PolicyOrderLaws.{altered_in_order}
 use Rattle.rls_check.specs.Keeping.{HasFirstKey, IsFirstNamed, place_of}
 use Rattle.rls_check.specs.rls_audit.specs.Showing.{HasKey, IsSpellable}
 use Rattle.rls_check.specs.rls_meaning.specs.{Analysing.checked, Analysing.of_condition, Analysing.place_in, Grants.put_grant, Naming.grantees_in, Naming.role_in, Naming.roles_in, Naming.table_in, Parts.Expression, Parts.Part, Parts.Subquery, Parts.around_in, Parts.is_there, Parts.names_in, Parts.parts, Resolving.resolved}

@@ -9,7 +9,7 @@ use Rattle.rls_catalog.specs.{declared.role.Membership.Membership, State.name_or
 use Rattle.rls_source.specs.Sequences.{put_before}
 use Rattle.rls_statement.specs.{declared.statement.MembershipOption.MembershipOption, declared.statement.MembershipOptions.MembershipOptions}
 use Rattle.rls_statement.specs.declared.statement.MembershipOption.TheVariants as option
-use Rattle.rls_guard.specs.rls_role.specs.{Granting.membership_with, Revoking.without}
+use Rattle.rls_check.specs.rls_meaning.specs.rls_guard.specs.rls_role.specs.{Granting.membership_with, Revoking.without}
 use Rattle.rls_check.specs.rls_meaning.specs.Memberships.{memberships_left, put_membership}
 use Rattle.rls_laws.specs.InOrder.{MembershipsAscend}
 use Rattle.rls_laws.proofs.Ascending.{mapped_ascends, put_ascends}

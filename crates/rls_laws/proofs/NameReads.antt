@@ -10,7 +10,7 @@ use Rattle.rls_catalog.specs.State.{State}
 use Rattle.rls_source.specs.{Askings.known, Named.table_or_undefined}
 use Rattle.rls_statement.specs.{declared.changing.Assignment.Assignment, declared.statement.Selected.Selected}
 use Rattle.rls_statement.specs.declared.statement.Selected.TheVariants as selected
-use Rattle.rls_guard.specs.Naming.{named, there_or_undefined}
+use Rattle.rls_check.specs.rls_meaning.specs.rls_guard.specs.Naming.{named, there_or_undefined}
 use Rattle.rls_check.specs.rls_access.specs.rls_dml.specs.{Checking.returning_names, Checking.selection_names, Checking.where_names, Inserting.tuples_names, Updating.assignments_names}
 use Rattle.rls_check.specs.rls_meaning.specs.{Analysing.items_of, Parts.tables_of}
 use Rattle.rls_check.specs.rls_meaning.proofs.{Listing.flat_append, NamedParts.tuples_names_told, NamedParts.where_names_told, Parts.tables_told}

@@ -9,7 +9,7 @@ use Rattle.std.proofs.lemmas.List.Elements.{All-contains_itself, All-weaker, rec
 use Rattle.rls_value.specs.{declared.object.Object.Object, declared.refusal.Refusal.Refusal, Objects.object_order}
 use Rattle.rls_catalog.specs.State.{State}
 use Rattle.rls_source.specs.{Askings.Asking, Askings.asked_if, Askings.followed_by, Askings.known, Footprints.footprint_of, Footprints.with_object, Footprints.with_reads, Readings.Reading, Readings.next_reads}
-use Rattle.rls_guard.specs.rls_evaluation.specs.Gathering.{gathered}
+use Rattle.rls_check.specs.rls_meaning.specs.rls_guard.specs.rls_evaluation.specs.Gathering.{gathered}
 
 -- ---- lists
 

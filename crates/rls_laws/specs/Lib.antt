@@ -5,5 +5,3 @@ pub mod Walks
 pub mod Subqueries
 pub mod Reads
 pub use Rattle.rls_check
-pub use Rattle.rls_check.specs.rls_audit
-pub use Rattle.rls_check.specs.rls_core

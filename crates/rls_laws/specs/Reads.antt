@@ -11,8 +11,8 @@ use Rattle.rls_source.specs.{Sequences.each_of}
 use Rattle.rls_statement.specs.{declared.changing.Delete.Delete, declared.changing.Update.Update, declared.statement.GrantRoles.GrantRoles, declared.statement.Insert.Insert, declared.statement.Select.Select, declared.statement.Statement.Statement}
 use Rattle.rls_statement.specs.declared.statement.SetRole.TheVariants as set
 use Rattle.rls_statement.specs.declared.statement.Statement.TheVariants as statement
-use Rattle.rls_guard.specs.declared.context.Ctx.{Ctx}
-use Rattle.rls_guard.specs.rls_evaluation.specs.Environments.{Environment}
+use Rattle.rls_check.specs.rls_meaning.specs.rls_guard.specs.declared.context.Ctx.{Ctx}
+use Rattle.rls_check.specs.rls_meaning.specs.rls_guard.specs.rls_evaluation.specs.Environments.{Environment}
 use Rattle.rls_check.specs.rls_access.specs.rls_dml.specs.{declared.analysed_insert.AnalysedInsert.AnalysedInsert, declared.analysed_update.AnalysedUpdate.AnalysedUpdate, declared.deleting.AnalysedDelete.AnalysedDelete, declared.selecting.AnalysedSelect.AnalysedSelect, Inserting.numbered, Writing.keys_of}
 use Rattle.rls_check.specs.rls_access.specs.rls_judging.specs.ScannedRows.{pinned_key}
 use Rattle.rls_check.specs.rls_meaning.specs.{Analysing.items_of, Commands.Command, Commands.required, Deleting.delete_parts, Inserting.insert_parts, Inserting.row_of_tuple, Naming.table_in, Parts.tables_of, Policies.conditions, Rows.qualifying, Selecting.select_parts, Updating.new_version, Updating.set_and_where, Updating.update_parts}

@@ -2,8 +2,8 @@
 use Rattle.std.specs.Prelude.{ℕ, List}
 use Rattle.std.specs.List.{All}
 use Rattle.rls_catalog.specs.State.{State, policies_of}
-use Rattle.rls_check.specs.rls_core.specs.{Events.Event, Records.Record}
-use Rattle.rls_check.specs.rls_core.specs.Events.Event.{Posts}
+use Rattle.rls_check.specs.rls_audit.specs.rls_core.specs.{Events.Event, Records.Record}
+use Rattle.rls_check.specs.rls_audit.specs.rls_core.specs.Events.Event.{Posts}
 use Rattle.rls_check.specs.rls_audit.specs.Showing.{IsPolicySpellable, IsSpellable}
 
 -- texts create each policy of each table

@@ -11,7 +11,7 @@ use Rattle.rls_value.specs.declared.refusal.NameKind.TheVariants as kind
 use Rattle.rls_expr.specs.{declared.table.Column.Column, declared.table.TableDef.TableDef, Naming.Step, Naming.names_all, Scopes.InScope, Tables.category_of, Tables.column_named, Terms.Term, Terms.terms_of, Typing.type_of}
 use Rattle.rls_expr.specs.Resolving as resolving
 use Rattle.rls_catalog.specs.{Membership.Within, State.State}
-use Rattle.rls_source.specs.{Named.found_or, Sequences.each_of}
+use Rattle.rls_guard.specs.rls_source.specs.{Named.found_or, Sequences.each_of}
 use Rattle.rls_statement.specs.{declared.changing.Assignment.Assignment, declared.changing.Delete.Delete, declared.changing.Update.Update, declared.statement.Insert.Insert, declared.statement.Select.Select, declared.statement.Selected.Selected}
 use Rattle.rls_statement.specs.declared.statement.Selected.TheVariants as selected
 use Rattle.rls_guard.specs.{declared.context.Ctx.Ctx, Checks.is_unsupported}

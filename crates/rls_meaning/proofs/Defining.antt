@@ -12,7 +12,7 @@ use Rattle.rls_value.specs.declared.refusal.Why.TheVariants as why
 use Rattle.rls_expr.specs.{declared.policy.Grantee.Grantee, declared.policy.Policy.Policy, declared.table.Column.Column, declared.table.TableDef.TableDef, Naming.names_all, Resolving.Names, Resolving.resolved, Scopes.InScope, Tables.column_named, Terms.Term, Terms.terms_of, Typing.takes_boolean, Typing.type_of}
 use Rattle.rls_catalog.specs.{Membership.Within, State.State, State.grants_of, State.policies_of, State.role_of, State.table_of, Paths.can_set, PolicyLists.has_policy, PolicyLists.with_policy, PolicyLists.without_policy}
 use Rattle.rls_catalog.specs.declared.change.Change.TheVariants as change
-use Rattle.rls_source.specs.{Asked.grants_at, Asked.policies_at, Asked.role_at, Asked.table_at, Askings.Asking, Askings.asked_if, Askings.known, Named.found_or, Sequences.each_of}
+use Rattle.rls_guard.specs.rls_source.specs.{Asked.grants_at, Asked.policies_at, Asked.role_at, Asked.table_at, Askings.Asking, Askings.asked_if, Askings.known, Named.found_or, Sequences.each_of}
 use Rattle.rls_statement.specs.{declared.statement.AlterPolicy.AlterPolicy, declared.statement.AlterRole.AlterRole, declared.statement.AlterTable.AlterTable, declared.statement.CreatePolicy.CreatePolicy, declared.statement.CreateRole.CreateRole, declared.statement.CreateTable.CreateTable, declared.statement.DropPolicy.DropPolicy, declared.statement.MarkedColumn.MarkedColumn, declared.statement.SetRole.SetRole}
 use Rattle.rls_statement.specs.declared.statement.SetRole.TheVariants as set
 use Rattle.rls_guard.specs.{declared.context.Ctx.Ctx, declared.effect.Effect.Effect, Checks.superuser_or_denied, Effects.writes, Naming.named, Naming.names_over, RolePrivileges.ownership, RolePrivileges.role_privileges_in, Support.is_unsupported}

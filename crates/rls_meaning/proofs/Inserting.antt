@@ -6,7 +6,7 @@ use Rattle.rls_value.specs.declared.verb.Kind.TheVariants as k
 use Rattle.rls_expr.specs.{declared.table.TableDef.TableDef, Terms.Term}
 use Rattle.rls_catalog.specs.{declared.stored.Stored.Stored, Membership.Within, State.State}
 use Rattle.rls_catalog.specs.declared.verdict.Side.TheVariants as side
-use Rattle.rls_source.specs.{Readings.read_then, Readings.unread, Sequences.each_of}
+use Rattle.rls_guard.specs.rls_source.specs.{Readings.read_then, Readings.unread, Sequences.each_of}
 use Rattle.rls_statement.specs.{declared.statement.Insert.Insert}
 use Rattle.rls_guard.specs.rls_evaluation.specs.{Environments.Environment, Environments.alone, Eval.Shows, Eval.value_of, Gathering.gathered, Showing.shows}
 use Rattle.rls_guard.specs.{declared.context.Ctx.Ctx, declared.effect.Effect.Effect, declared.reply.Decision.Decision, Effects.shown, RolePrivileges.role_privileges_in}

@@ -8,7 +8,7 @@ use Rattle.rls_catalog.specs.{Membership.nobody, Membership.reached_of, State.St
 use Rattle.rls_catalog.specs.declared.change.Change.TheVariants as change
 use Rattle.rls_catalog.specs.declared.verdict.Side.TheVariants as side
 use Rattle.rls_catalog.specs.declared.verdict.Verdict.TheVariants as verdict
-use Rattle.rls_source.specs.Asked.{rows_at}
+use Rattle.rls_guard.specs.rls_source.specs.Asked.{rows_at}
 use Rattle.rls_statement.specs.declared.privileges.Extent.{Extent}
 use Rattle.rls_statement.specs.declared.statement.Selected.TheVariants as selected
 use Rattle.rls_statement.specs.declared.statement.SetRole.TheVariants as set

@@ -6,7 +6,7 @@ use Rattle.rls_value.specs.{declared.refusal.Refusal.Refusal, declared.verb.Kind
 use Rattle.rls_value.specs.declared.verb.Kind.TheVariants as k
 use Rattle.rls_value.specs.declared.refusal.Refusal.TheVariants.{Recursion}
 use Rattle.rls_expr.specs.{declared.columns.SelectedTable.SelectedTable, Terms.Term}
-use Rattle.rls_source.specs.Sequences.{each_or_refused}
+use Rattle.rls_guard.specs.rls_source.specs.Sequences.{each_or_refused}
 use Rattle.rls_catalog.specs.{declared.verdict.Side.Side, Membership.Within, State.State, State.table_of}
 use Rattle.rls_catalog.specs.declared.verdict.Side.TheVariants as side
 use Rattle.rls_guard.specs.rls_evaluation.specs.{declared.relation.SecurityQuals.SecurityQuals, Environments.Environment, Eval.Shows, Eval.value_of, Showing.shows}

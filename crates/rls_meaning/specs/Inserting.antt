@@ -8,7 +8,7 @@ use Rattle.rls_value.specs.declared.verb.Kind.TheVariants as k
 use Rattle.rls_expr.specs.{declared.table.TableDef.TableDef, Selecting.selected_of, Terms.Term, declared.table.Column.Column}
 use Rattle.rls_catalog.specs.{declared.change.Change.Change, declared.stored.Stored.Stored, State.State}
 use Rattle.rls_catalog.specs.declared.verdict.Side.TheVariants as side
-use Rattle.rls_source.specs.{Sequences.each_of}
+use Rattle.rls_guard.specs.rls_source.specs.{Sequences.each_of}
 use Rattle.rls_statement.specs.{declared.statement.Insert.Insert, declared.statement.Selected.Selected}
 use Rattle.rls_statement.specs.declared.statement.Statement.TheVariants as statement
 use Rattle.rls_guard.specs.rls_evaluation.specs.{Environments.alone}

@@ -28,3 +28,4 @@ pub use Rattle.rls_access.specs.rls_ddl
 pub use Rattle.rls_access.specs.rls_dml
 pub use Rattle.rls_depth
 pub use Rattle.rls_depth.specs.rls_expansion
+pub use Rattle.rls_guard

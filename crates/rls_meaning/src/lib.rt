@@ -10,3 +10,4 @@ pub use laws::{
 pub use rls_access;
 pub use rls_depth;
 pub use rls_depth::rls_expansion;
+pub use rls_guard;

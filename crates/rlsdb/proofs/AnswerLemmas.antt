@@ -2,7 +2,7 @@
 use Rattle.std.proofs.Common.{◌≡◌, refl, ◌++◌, ◌∷◌, [], ℕ, Bool, true, false, List, Option, Some, None, is_some, sym, ap, subst, ◌∙◌, append-nil}
 use Rattle.std.specs.Borrow.{Bor}
 use Rattle.rls_value.specs.declared.row.RowId.{RowId}
-use Rattle.rls_laws.specs.rls_core.specs.Records.{Record}
+use Rattle.rls_laws.specs.rls_check.specs.rls_audit.specs.rls_core.specs.Records.{Record}
 use Rattle.rls_laws.specs.rls_check.specs.declared.audit.Audit.{Audit}
 use Rattle.rls_laws.specs.rls_check.specs.declared.finding.Finding.{Finding}
 use Rattle.rls_laws.specs.rls_check.specs.declared.explaining.Why.{Why}

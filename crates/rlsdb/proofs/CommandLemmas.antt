@@ -1,7 +1,7 @@
 -- How the program ends, from what was done.
 use Rattle.std.proofs.Common.{◌≡◌, refl, ℕ, Bool, true, List, [], Option, Result, Ok, Err, IfOk, inl, inr, sym, subst}
 use Rattle.std.specs.Borrow.{Bor}
-use Rattle.rls_laws.specs.rls_core.specs.Records.{Record}
+use Rattle.rls_laws.specs.rls_check.specs.rls_audit.specs.rls_core.specs.Records.{Record}
 use Rattle.rls_session.specs.rls_script.specs.Streams.{GrewBy}
 use Rattle.rlsdb.specs.declared.fault.Fault.{Fault}
 use Rattle.rlsdb.specs.declared.command_line.Mistake.{Mistake}

@@ -3,7 +3,7 @@ use Rattle.std.specs.Prelude.{◌≡◌, ◌++◌, ◌∷◌, [], ℕ, List, Boo
 use Rattle.std.specs.Borrow.{Bor}
 use Rattle.std.specs.Fmt.{decimal}
 use Rattle.rls_value.specs.declared.row.RowId.{RowId}
-use Rattle.rls_laws.specs.rls_core.specs.Records.{Record}
+use Rattle.rls_laws.specs.rls_check.specs.rls_audit.specs.rls_core.specs.Records.{Record}
 use Rattle.rls_laws.specs.rls_check.specs.declared.audit.Audit.{Audit}
 use Rattle.rls_laws.specs.rls_check.specs.declared.finding.Finding.{Finding}
 use Rattle.rls_laws.specs.rls_check.specs.declared.finding.Finding.TheVariants as f

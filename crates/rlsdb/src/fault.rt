@@ -4,7 +4,7 @@ ghost use Rattle.std.specs.Prelude.{◌≡◌};
 ghost use Rattle.std.specs.IoError.{error_kind};
 ghost use Rattle.std.specs.declared.io.ErrorKind.TheVariants.{OutOfMemory};
 ghost use Rattle.rls_session.specs.rls_script.specs.declared.fault.RunFault.TheVariants.{NoMemory, Foreign, Write};
-ghost use Rattle.rls_laws.specs.rls_audit.specs.declared.showing.Unshown.TheVariants.{Never};
+ghost use Rattle.rls_laws.specs.rls_check.specs.rls_audit.specs.declared.showing.Unshown.TheVariants.{Never};
 ghost use Rattle.rlsdb.specs.declared.fault.Fault.TheVariants.{Ended};
 ghost use Rattle.rlsdb.specs.Faults.{line_fault};
 

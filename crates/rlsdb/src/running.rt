@@ -3,9 +3,9 @@
 ghost use Rattle.std.specs.Prelude.{◌≡◌, ◌⊎◌, ◌+◌, ◌<◌, ◌++◌, [], List, length, option_map, true, IfOk, OnOk, IsErrOf};
 ghost use Rattle.std.specs.List.{All};
 ghost use Rattle.std.specs.Io.Buffered.{writer_buffer};
-ghost use Rattle.rls_laws.specs.rls_audit.specs.Showing.{AreTexts};
-ghost use Rattle.rls_laws.specs.rls_core.specs.Calls.{IsOrderBy};
-ghost use Rattle.rls_laws.specs.rls_core.specs.Records.{Record};
+ghost use Rattle.rls_laws.specs.rls_check.specs.rls_audit.specs.Showing.{AreTexts};
+ghost use Rattle.rls_laws.specs.rls_check.specs.rls_audit.specs.rls_core.specs.Calls.{IsOrderBy};
+ghost use Rattle.rls_laws.specs.rls_check.specs.rls_audit.specs.rls_core.specs.Records.{Record};
 ghost use Rattle.rls_session.specs.rls_script.specs.Streams.{GrewBy};
 ghost use Rattle.rlsdb.specs.Answers.{IsAudited, IsRunText, RunsGiven};
 ghost use Rattle.rlsdb.specs.AuditLines.{WritesAudit, WritesRecords};
