@@ -4,8 +4,8 @@ use Rattle.std.specs.List.{All}
 use Rattle.rls_value.specs.declared.refusal.Refusal.{Refusal}
 use Rattle.rls_expr.specs.declared.policy.Policy.{Policy}
 use Rattle.rls_expr.specs.declared.table.TableDef.{TableDef}
-use Rattle.rls_catalog.specs.declared.change.Change.{Change}
-use Rattle.rls_catalog.specs.declared.change.Change.TheVariants as c
+use Rattle.rls_core.specs.rls_guard.specs.rls_catalog.specs.declared.change.Change.{Change}
+use Rattle.rls_core.specs.rls_guard.specs.rls_catalog.specs.declared.change.Change.TheVariants as c
 use Rattle.rls_statement.specs.declared.statement.Statement.{Statement}
 use Rattle.rls_statement.specs.declared.statement.Statement.TheVariants.{CreatePolicy}
 use Rattle.rls_core.specs.rls_guard.specs.declared.effect.Effect.{Effect}

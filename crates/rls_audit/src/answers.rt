@@ -4,9 +4,9 @@ ghost use Rattle.rls_audit.specs.AnswerCodecs as codec;
 
 use crate::format::{Audit, Format};
 use crate::refusals::Audited;
-use rls_catalog::Verdict;
-use rls_catalog::shared_map::Share;
 use rls_codec::{Coded, Unread, is_word, item, json_of, require_length};
+use rls_core::rls_guard::rls_catalog::Verdict;
+use rls_core::rls_guard::rls_catalog::shared_map::Share;
 use rls_core::rls_guard::{Decision, Reply};
 use serde_json::{Value, json};
 use std::alloc::{AllocError, Global};

@@ -6,8 +6,8 @@ ghost use Rattle.rls_codec.specs.Reading.{Reads};
 ghost use Rattle.serde_json.specs.View.{view};
 
 use crate::format::{Audit, Format};
-use rls_catalog::{Membership, RoleDef};
 use rls_codec::{Coded, Unread, item, json_of, require_length};
+use rls_core::rls_guard::rls_catalog::{Membership, RoleDef};
 use rls_expr::{Column, Grantee};
 use rls_value::{Items, Name, Privilege};
 use serde_json::{Value, json};

@@ -2,7 +2,7 @@
 
 ghost use Rattle.std.specs.Prelude.{◌≡◌, IfOk};
 
-use rls_catalog::shared_map::{HasKey, Shared, SharedList};
+use rls_core::rls_guard::rls_catalog::shared_map::{HasKey, Shared, SharedList};
 use rls_value::Items;
 use std::alloc::{AllocError, Global};
 

@@ -10,7 +10,7 @@ ghost use Rattle.rls_audit.specs.Lines as spec;
 ghost use Rattle.rls_audit.specs.Lines.{in_object_order, object_of};
 ghost use Rattle.rls_audit.specs.Ordered.{is_in_order, leads};
 
-use rls_catalog::Change;
+use rls_core::rls_guard::rls_catalog::Change;
 use rls_value::Name;
 use std::alloc::{AllocError, Global};
 use std::cmp::Ordering;

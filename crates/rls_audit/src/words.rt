@@ -7,9 +7,9 @@ ghost use Rattle.rls_value.specs.Refusals.{name_kind_text};
 ghost use Rattle.rls_value.specs.Words.{privilege_word, kind_word, tag_text};
 
 use crate::format::{Audit, Format};
-use rls_catalog::Side;
 use rls_codec::{Coded, Unread, Worded, read_word, write_word};
 use rls_core::rls_guard::Mode;
+use rls_core::rls_guard::rls_catalog::Side;
 use rls_value::{ColType, DefinedKind, Kind, Limit, NameKind, Privilege, Tag};
 use serde_json::Value;
 use std::alloc::{AllocError, Global};

@@ -2,8 +2,8 @@
 
 use rls_audit::rls_access::Mode;
 use rls_audit::rls_core::{Begin, Core};
+use rls_audit::rls_text::parse;
 use rls_statement::Statement;
-use rls_text::parse;
 use rls_value::shared::Share;
 use rls_value::{Name, Refusal};
 use std::alloc::Global;

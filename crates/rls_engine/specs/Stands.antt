@@ -1,9 +1,9 @@
 -- What a transaction stands on.
 use Rattle.std.specs.Prelude.{◌≡◌, ℕ, List, [], length, Option, Some, None, refl}
 use Rattle.std.specs.Coded.{Coded, code_by, coded×}
-use Rattle.rls_catalog.specs.State.{State}
-use Rattle.rls_catalog.specs.StateCode.{state_code}
-use Rattle.rls_catalog.specs.Changed.{changed_all}
+use Rattle.rls_core.specs.rls_guard.specs.rls_catalog.specs.State.{State}
+use Rattle.rls_core.specs.rls_guard.specs.rls_catalog.specs.StateCode.{state_code}
+use Rattle.rls_core.specs.rls_guard.specs.rls_catalog.specs.Changed.{changed_all}
 use Rattle.rls_core.specs.rls_guard.specs.rls_source.specs.Footprints.{footprint_of}
 use Rattle.rls_statement.specs.declared.statement.Statement.{Statement}
 use Rattle.rls_core.specs.rls_guard.specs.declared.effect.Effect.{Effect}
