@@ -57,10 +57,6 @@ nothing bytes Fact is = record { more = []; grew = sym (append-nil bytes); fact 
 pub grew_more : (old new : List ℕ) (P Q : List ℕ → Type 0) → ((written : List ℕ) → P written → Q written) → GrewBy old new P → GrewBy old new Q
 grew_more old new P Q step it = record { more = it.more; grew = it.grew; fact = step it.more it.fact }
 
--- what was written of it
-pub some_of : (old new : List ℕ) (Fact : List ℕ → Type 0) → GrewBy old new Fact → (written : List ℕ) × Fact written
-some_of old new Fact it = (it.more, it.fact)
-
 -- the lines of the audit in the second format
 pub migration : (before after old new : List ℕ) (converter : Converter) → Reads before after (λ texts. (written : List (List ℕ)) × (new ≡ old ++ ended_lines written) × HasConverted texts written converter)
     → ((texts written : List (List ℕ)) → HasConverted texts written converter → AreConverted texts written) → Reads before after (λ texts. GrewBy old new (IsMigrationOf texts))

@@ -16,17 +16,17 @@ use Rattle.rlsdb.specs.Faults.{EndsAnswer, EndsMistake}
 use Rattle.rlsdb.proofs.AnswerLemmas.{grew_more, nothing}
 
 -- what was asked came to this
-pub comes : (request : Request) (came : Result Bool Fault) → IfOk came (λ done. (written : List ℕ) × Answers request written done) → ComesTo request came
-comes request (Ok done) is = is
-comes request (Err fault) is = tt
+pub comes : (request : Request) (before now : List ℕ) (came : Result Bool Fault) → IfOk came (λ done. GrewBy before now (λ written. Answers request written done)) → ComesTo request before now came
+comes request before now (Ok done) is = is
+comes request before now (Err fault) is = tt
 
 -- the program ends as what the words ask for came out
-pub by_request : (words : List (List ℕ)) (status : ℕ) (request : Request) (came : Result Bool Fault) → Asks words request → IfOk came (λ done. (written : List ℕ) × Answers request written done) → EndsAnswer came status → EndsWords words status
-by_request words status request came asks is ends = inl (request, came, asks, comes request came is, ends)
+pub by_request : (words : List (List ℕ)) (before now : List ℕ) (status : ℕ) (request : Request) (came : Result Bool Fault) → Asks words request → IfOk came (λ done. GrewBy before now (λ written. Answers request written done)) → EndsAnswer came status → EndsWords words before now status
+by_request words before now status request came asks is ends = inl (request, came, asks, comes request before now came is, ends)
 
 -- or by what is wrong with them
-pub by_mistake : (words : List (List ℕ)) (status : ℕ) (mistake : Mistake) → IsMistaken words mistake → EndsMistake mistake status → EndsWords words status
-by_mistake words status mistake is ends = inr (mistake, is, ends)
+pub by_mistake : (words : List (List ℕ)) (before now : List ℕ) (status : ℕ) (mistake : Mistake) → IsMistaken words mistake → EndsMistake mistake status → EndsWords words before now status
+by_mistake words before now status mistake is ends = inr (mistake, is, ends)
 
 -- the answer to what was asked for
 pub answered : (request asked : Request) (done : Bool) (old new : List ℕ) (P : List ℕ → Type 0) → request ≡ asked → ((written : List ℕ) → P written → Answers asked written done) → GrewBy old new P → GrewBy old new (λ written. Answers request written done)

@@ -1,5 +1,6 @@
 -- The exit status of the program, by its words.
 use Rattle.std.specs.Prelude.{◌⊎◌, ℕ, List, Bool, Result, Ok, Err}
+use Rattle.rls_session.specs.rls_script.specs.Streams.{GrewBy}
 use Rattle.rlsdb.specs.declared.fault.Fault.{Fault}
 use Rattle.rlsdb.specs.declared.words.Request.{Request}
 use Rattle.rlsdb.specs.declared.command_line.Mistake.{Mistake}
@@ -7,13 +8,13 @@ use Rattle.rlsdb.specs.Answers.{Answers}
 use Rattle.rlsdb.specs.CommandLine.{Asks, IsMistaken}
 use Rattle.rlsdb.specs.Faults.{EndsAnswer, EndsMistake}
 
--- what a command comes to where it comes to no fault
-abbrev pub ComesTo : Request → Result Bool Fault → Type 0
-ComesTo request (Ok done) = (written : List ℕ) × Answers request written done
-ComesTo request (Err fault) = Unit {0}
+-- the output took the answer, where the command comes to no fault
+abbrev pub ComesTo : Request → (before now : List ℕ) → Result Bool Fault → Type 0
+ComesTo request before now (Ok done) = GrewBy before now (λ written. Answers request written done)
+ComesTo request before now (Err fault) = Unit {0}
 
--- the status: by what the words ask for came to, or by what is wrong with them
-abbrev pub EndsWords : List (List ℕ) → ℕ → Type 0
-EndsWords words status =
-    ((request : Request) × (came : Result Bool Fault) × Asks words request × ComesTo request came × EndsAnswer came status)
+-- the status: by what the words ask for came to, with what the output took, or by what is wrong with them
+abbrev pub EndsWords : List (List ℕ) → (before now : List ℕ) → ℕ → Type 0
+EndsWords words before now status =
+    ((request : Request) × (came : Result Bool Fault) × Asks words request × ComesTo request before now came × EndsAnswer came status)
     ⊎ ((mistake : Mistake) × IsMistaken words mistake × EndsMistake mistake status)

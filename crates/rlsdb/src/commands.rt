@@ -53,20 +53,24 @@ pub fn run<W: Threads + Wait + Clock + Sync>(rt: &HostRuntime, waits: &W) -> u8
     let Ok(words) = words.collect::<Vec<String>>(rt.alloc()) else {
         return report(rt, Fault::Ended(RunFault::NoMemory));
     };
-    run_words(rt, waits, words.as_slice())
+    match DeviceOut::new(rt.alloc(), io::writer(rt)) {
+        Ok(mut output) => run_words(rt, waits, words.as_slice(), &mut output),
+        Err(error) => report(rt, Fault::from(error)),
+    }
 }
 
-/// The same of these words.
+/// Does what these words ask for. The status goes with what the output took.
 #[tactic(auto, using(crate::proofs::CommandLemmas::by_request, crate::proofs::CommandLemmas::by_mistake))]
-fn run_words<W: Threads + Wait + Clock + Sync, T: AsStr>(
+fn run_words<W: Threads + Wait + Clock + Sync, T: AsStr, D: Write + Drop>(
     rt: &HostRuntime,
     waits: &W,
     words: &[T],
+    output: &mut DeviceOut<D>,
 ) -> u8
-    ensures { EndsWords (map T.text words.now) result }
+    ensures { EndsWords (map T.text words.now) output.old.taken.bytes output.new.taken.bytes result }
 {
     match command_line::request_of(rt.alloc(), words) {
-        Ok(request) => end(rt, serve(rt, waits, request)),
+        Ok(request) => end(rt, serve(rt, waits, request, output)),
         Err(mistake) => explain(rt, mistake),
     }
 }
@@ -94,17 +98,16 @@ fn unread_words(rt: &HostRuntime, error: &io::Error) -> u8
     USAGE
 }
 
-/// Does what is asked for, with the standard output. False where the answer is no.
-#[tactic(auto, using(crate::proofs::AnswerLemmas::some_of))]
-fn serve<'a, W: Threads + Wait + Clock + Sync>(
+/// Does what is asked for, and gives on all that was written. False where the answer is no.
+fn serve<'a, W: Threads + Wait + Clock + Sync, D: Write + Drop>(
     rt: &HostRuntime,
     waits: &W,
     request: Request<'a>,
+    output: &mut DeviceOut<D>,
 ) -> Result<bool, Fault<'a>>
-    ensures { IfOk result (λ done. (written : List ℕ) × Answers request.entry written done) }
+    ensures { IfOk result (λ done. GrewBy output.old.taken.bytes output.new.taken.bytes (λ written. Answers request.entry written done)) }
 {
-    let mut output = DeviceOut::new(rt.alloc(), io::writer(rt))?;
-    let came = answer(rt, waits, request, &mut output);
+    let came = answer(rt, waits, request, output);
     let finished = output.finish();
     let done = came?;
     finished?;
@@ -195,11 +198,6 @@ fn report(rt: &HostRuntime, fault: Fault<'_>) -> u8
 fn report_run(rt: &HostRuntime, fault: RunFault) -> u8
     ensures { result ≡ 1 }
 {
-    match fault {
-        RunFault::Foreign => {}
-        fault => {
-            let _ = eprintln!(rt; "rlsdb: {fault}");
-        }
-    }
+    let _ = eprintln!(rt; "rlsdb: {fault}");
     FAULT
 }
