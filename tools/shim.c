@@ -157,13 +157,16 @@ static int own_stream(int file) {
     return fcntl(file, F_DUPFD, FILES);
 }
 
-// Writes on in the child's own folder.
-static void own_file(int file) {
+// Writes on in the child's own folder, if the file has a name there.
+static void own_file(int file, int has_name) {
     char path[PATH];
     ssize_t size = readlink(path_of(file), path, sizeof path - 1);
     path[size < 0 ? 0 : size] = 0;
-    const char *name = name_in_home(path);
-    if (!name) return;
+    const char *name = has_name ? name_in_home(path) : NULL;
+    if (!name) {
+        syscall(SYS_close, own_stream(file));
+        return;
+    }
     unlink_own(name);
     put_copy(file, syscall(SYS_open, in(own, name), O_RDWR | O_CREAT | O_EXCL, 0600));
 }
@@ -190,7 +193,7 @@ static void own_files(void) {
         struct stat found;
         if (file == 1 || file == 2 || fstat(file, &found) || !S_ISREG(found.st_mode)) continue;
         if ((fcntl(file, F_GETFL) & O_ACCMODE) == O_RDONLY) reopen(file);
-        else own_file(file);
+        else own_file(file, found.st_nlink > 0);
     }
     if (own[0] && chdir(own)) own[0] = 0;
 }
