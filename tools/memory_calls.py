@@ -39,8 +39,8 @@ PARTS = {
     "Catalog::rows": "SharedMap::runs",
     "Overlay::new": "OwnChanges::new",
     "Footprint::note_all": "Footprint::from_reads Footprint::note Footprint::to_vec",
-    "grant_member": """Holdings::into_items Holdings::put SharedList::put Delta::push Reads::note Reads::note_all effective_roles_by note_walk noted_members noted_role
-        reached require_roles role_named""",
+    "grant_member": """Delta::push Holdings::into_items Holdings::put Reads::note Reads::note_all SharedList::put
+        effective_roles_by note_walk noted_members noted_role reached require_roles role_named""",
     "revoke_member": "SharedList::remove",
     "has": "effective_roles_of",
     "option": "options",
