@@ -39,8 +39,8 @@ PARTS = {
     "Catalog::rows": "SharedMap::runs",
     "Overlay::new": "OwnChanges::new",
     "Footprint::note_all": "Footprint::from_reads Footprint::note Footprint::to_vec",
-    "grant_member": """SharedList::put Delta::push Reads::note Reads::note_all effective_roles_by note_walk noted_members noted_role
-        reached require_roles role_named""",
+    "grant_member": """Delta::push Holdings::into_items Holdings::put Reads::note Reads::note_all SharedList::put
+        effective_roles_by note_walk noted_members noted_role reached require_roles role_named""",
     "revoke_member": "SharedList::remove",
     "has": "effective_roles_of",
     "option": "options",
@@ -54,12 +54,15 @@ PARTS = {
     "Core::order": "Conflicts::order",
     "run": "Begin::copy Core::happen",
     "Session::execute": "Session::execute_at ask_of request_for",
-    "line_of_record": "Audited::copy_of Decisions::copy_all",
+    "line_of_record": "Audited::copy_of Decisions::copy_all printed",
     "Audit::explain": "explain_row",
 }
 
 # Calls that only runs of the program make, since they read a script and write answers, and their parts.
-WHOLE = {"run_script": "read_script write_answer", "run_threads": "Notes::join Plan::into_parts read_plan"}
+WHOLE = {
+    "run_script": "read_script run_script_telling write_answer",
+    "run_threads": "Notes::join Plan::into_parts read_plan run_threads_telling",
+}
 
 
 def callers():

@@ -10,6 +10,9 @@
 //                    memory    each request of the whole run
 //                    devices   each read and write of the whole run, but for writes to standard error
 //     SHIM_REPORT    a file to which each child writes how it ended (not for calls and always)
+//     SHIM_OWN       a folder that isn't there: each child makes it and has it in place of the one that the program began in, with
+//                    the same files, so that what it writes, renames or removes is its own
+//     SHIM_OUT       the file of which a child then tells what is in it
 //     SHIM_STEP      tries each one of so many only (1)
 //     SHIM_NUMBER    tries that one alone, and forks nothing, so that threads can start; the report is how many there were
 //     SHIM_HOW       how a device goes wrong where nothing forks: failing, interrupted or short
@@ -18,6 +21,7 @@
 // A call under test stands between two lines of standard output, `? NAME` and `.`: requests elsewhere aren't refused. A child ends
 // with the first whole line behind that; a line `! NAME: request N ..` says where one died.
 #define _GNU_SOURCE
+#include <dirent.h>
 #include <dlfcn.h>
 #include <errno.h>
 #include <fcntl.h>
@@ -34,7 +38,7 @@
 #include <ucontext.h>
 #include <unistd.h>
 
-enum { HANG = 60, FILES = 100, LINE = 200 };
+enum { HANG = 60, FILES = 100, LINE = 200, PATH = 4096 };
 enum tries { NOTHING, CALLS, ALWAYS, MEMORY, DEVICES };
 enum how { REFUSED, FAILING, INTERRUPTED, SHORT };
 static const char *const words[] = {"refused", "failing", "interrupted", "short"};
@@ -47,8 +51,47 @@ static long step = 1, alone, number;          // which are tried, which one alon
 static int is_busy, is_child, moves_bytes;
 static int fails[2];                          // whether each further read, and each further write, fails
 static int report = -1, kept[3] = {-1, -1, -1}; // the report; this child's standard output and error, and its OUT
-static int out = -1;                          // OUT, once the program has created it
+static const char *out;                       // the name of OUT
+static char home[PATH], own[PATH];            // the folder that the program began in, and the one that a child has in its place
 static long before;                           // the bytes of standard output when this child began
+
+// ---- folders
+
+// The path's name in the folder that the program began in, or none.
+static const char *name_in_home(const char *path) {
+    size_t size = strlen(home);
+    return size && strncmp(path, home, size) == 0 && path[size] == '/' ? path + size + 1 : NULL;
+}
+
+// Where that path is a child's.
+static const char *here(const char *path) {
+    const char *name = is_child && own[0] ? name_in_home(path) : NULL;
+    return name ? name : path;
+}
+
+// Does this to each name in a folder; how many there are.
+static long each_of(const char *folder, void (*does)(const char *)) {
+    long names = 0;
+    DIR *opened = opendir(folder);
+    for (struct dirent *found; opened && (found = readdir(opened));) {
+        if (found->d_name[0] == '.') continue;
+        names++;
+        if (does) does(found->d_name);
+    }
+    if (opened) closedir(opened);
+    return names;
+}
+
+static const char *in(const char *folder, const char *name) {
+    static char paths[2][2 * PATH];
+    static int next;
+    char *path = paths[next = !next];
+    snprintf(path, sizeof paths[0], "%s/%s", folder, name);
+    return path;
+}
+
+static void link_own(const char *name) { link(in(home, name), in(own, name)); }
+static void unlink_own(const char *name) { syscall(SYS_unlink, in(own, name)); }
 
 // ---- the end of a child
 
@@ -62,8 +105,9 @@ static void put(const void *bytes, size_t size) { syscall(SYS_write, report, byt
 static void put_head(int status) {
     char head[LINE];
     const char *kind = how == REFUSED ? "request" : fails[0] ? "read" : fails[1] ? "write" : "device";
-    put(head, snprintf(head, sizeof head, "%s %s %ld %d %ld %ld %ld %ld\n", kind, words[how], number, status, before,
-                       size_of(kept[0]), size_of(kept[1]), size_of(kept[2])));
+    if (is_child && own[0]) kept[2] = syscall(SYS_open, out, O_RDONLY);
+    put(head, snprintf(head, sizeof head, "%s %s %ld %d %ld %ld %ld %ld %ld\n", kind, words[how], number, status, before,
+                       is_child && own[0] ? each_of(".", NULL) : 0, size_of(kept[0]), size_of(kept[1]), size_of(kept[2])));
 }
 
 static void put_file(int file) {
@@ -96,19 +140,35 @@ static const char *path_of(int file) {
     return path;
 }
 
-// Puts a copy of the file in its place, with the same offset, and gives another descriptor of the copy.
-static int copied(int file, int place) {
-    int from = syscall(SYS_open, path_of(file), O_RDONLY), copy = memfd_create("copy", 0);
+// Puts a copy of the file, which is empty so far, in its place, with the same offset.
+static void put_copy(int file, int copy) {
+    int from = syscall(SYS_open, path_of(file), O_RDONLY);
     char block[4096];
     for (ssize_t size; (size = syscall(SYS_read, from, block, sizeof block)) > 0;) syscall(SYS_write, copy, block, size);
     syscall(SYS_close, from);
-    if (place >= 0) {
-        lseek(copy, lseek(place, 0, SEEK_CUR), SEEK_SET);
-        dup2(copy, place);
-    }
-    int other = fcntl(copy, F_DUPFD, FILES);
+    lseek(copy, lseek(file, 0, SEEK_CUR), SEEK_SET);
+    dup2(copy, file);
     syscall(SYS_close, copy);
-    return other;
+}
+
+// Writes on in memory; another descriptor of that.
+static int own_stream(int file) {
+    put_copy(file, memfd_create("copy", 0));
+    return fcntl(file, F_DUPFD, FILES);
+}
+
+// Writes on in the child's own folder, if the file has a name there.
+static void own_file(int file, int has_name) {
+    char path[PATH];
+    ssize_t size = readlink(path_of(file), path, sizeof path - 1);
+    path[size < 0 ? 0 : size] = 0;
+    const char *name = has_name ? name_in_home(path) : NULL;
+    if (!name) {
+        syscall(SYS_close, own_stream(file));
+        return;
+    }
+    unlink_own(name);
+    put_copy(file, syscall(SYS_open, in(own, name), O_RDWR | O_CREAT | O_EXCL, 0600));
 }
 
 // Reads the file on from the same place, without moving the parent's.
@@ -120,36 +180,22 @@ static void reopen(int file) {
     syscall(SYS_close, other);
 }
 
-static int is_same(int one, int other) {
-    struct stat first, second;
-    return one >= 0 && fstat(one, &first) == 0 && fstat(other, &second) == 0 && first.st_dev == second.st_dev && first.st_ino == second.st_ino;
-}
-
 // Gives this child files of its own, so that what it writes and reads doesn't reach the parent's.
 static void own_files(void) {
     before = size_of(1);
-    kept[0] = copied(1, 1);
-    kept[1] = copied(2, 2);
-    int place = -1;
+    kept[0] = own_stream(1);
+    kept[1] = own_stream(2);
+    if (own[0]) {
+        mkdir(own, 0700);
+        each_of(home, link_own);
+    }
     for (int file = 0; file < FILES; file++) {
         struct stat found;
         if (file == 1 || file == 2 || fstat(file, &found) || !S_ISREG(found.st_mode)) continue;
-        if (is_same(out, file)) place = file;
-        else reopen(file);
+        if ((fcntl(file, F_GETFL) & O_ACCMODE) == O_RDONLY) reopen(file);
+        else own_file(file, found.st_nlink > 0);
     }
-    if (out >= 0) kept[2] = copied(out, place);
-}
-
-// The program creates OUT. A child's is its own.
-static int created(const char *path, int flags, int mode) {
-    if (is_child) {
-        int file = memfd_create("out", 0);
-        kept[2] = fcntl(file, F_DUPFD, FILES);
-        return file;
-    }
-    int file = syscall(SYS_open, path, flags, mode);
-    if (file >= 0) out = fcntl(file, F_DUPFD, FILES);
-    return file;
+    if (own[0] && chdir(own)) own[0] = 0;
 }
 
 int open(const char *path, int flags, ...) {
@@ -157,9 +203,11 @@ int open(const char *path, int flags, ...) {
     va_start(rest, flags);
     int mode = flags & O_CREAT ? va_arg(rest, int) : 0;
     va_end(rest);
-    int is_tried = tries == MEMORY || tries == DEVICES;
-    return is_tried && !alone && flags & O_CREAT ? created(path, flags, mode) : (int)syscall(SYS_open, path, flags, mode);
+    return syscall(SYS_open, here(path), flags, mode);
 }
+
+int unlink(const char *path) { return syscall(SYS_unlink, here(path)); }
+int rename(const char *from, const char *to) { return syscall(SYS_rename, here(from), here(to)); }
 
 // ---- forks
 
@@ -174,7 +222,7 @@ static void put_signal(int status) {
         int size = snprintf(text, sizeof text, "! %s: request %ld ended by signal %d\n", name, number, WTERMSIG(status));
         syscall(SYS_write, 1, text, size);
     } else {
-        put(text, snprintf(text, sizeof text, "%s %s %ld %d 0 -1 -1 -1\n", tries == MEMORY ? "request" : "device", words[how], number, -WTERMSIG(status)));
+        put(text, snprintf(text, sizeof text, "%s %s %ld %d 0 0 -1 -1 -1\n", tries == MEMORY ? "request" : "device", words[how], number, -WTERMSIG(status)));
     }
 }
 
@@ -193,6 +241,10 @@ static int is_tried_here(enum how met) {
     int status = 0;
     while (waitpid(child, &status, 0) < 0 && errno == EINTR) {}
     if (WIFSIGNALED(status)) put_signal(status);
+    if (own[0]) {
+        each_of(own, unlink_own);
+        rmdir(own);
+    }
     is_busy = 0;
     return 0;
 }
@@ -363,6 +415,8 @@ __attribute__((constructor)) static void begin(void) {
     alone = number_in("SHIM_NUMBER", 0);
     moves_bytes = getenv("SHIM_BYTES") != NULL;
     for (enum how i = FAILING; i <= SHORT; i++) if (is_set_to("SHIM_HOW", words[i])) how = i;
+    out = getenv("SHIM_OUT");
+    if (out && getenv("SHIM_OWN") && getcwd(home, sizeof home)) snprintf(own, sizeof own, "%s", getenv("SHIM_OWN"));
     const char *path = getenv("SHIM_REPORT");
     if (path) report = fcntl(syscall(SYS_open, path, O_WRONLY | O_CREAT | O_APPEND, 0600), F_DUPFD, FILES);
     on_exit(tell, NULL);

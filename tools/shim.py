@@ -11,8 +11,8 @@ HERE = os.path.dirname(os.path.abspath(__file__))
 HANG = 300
 
 # What was tried (`request`, `read` or `write`), how it went wrong, its place; the status, a signal's number below zero; how much
-# the program had written before; what it then had written, and OUT, which is None where there is none.
-Ended = collections.namedtuple("Ended", "kind how place status before out err file")
+# the program had written before; how many files its folder then had, what it had written, and OUT, which is None where there is none.
+Ended = collections.namedtuple("Ended", "kind how place status before files out err file")
 
 
 def built(folder):
@@ -34,20 +34,21 @@ def children_of(report):
     while place < len(report):
         end = report.index(b"\n", place)
         kind, how, *numbers = report[place:end].decode().split()
-        number, status, before, *sizes = map(int, numbers)
+        number, status, before, files, *sizes = map(int, numbers)
         parts, place = [], end + 1
         for size in sizes:
             parts.append(report[place:place + size] if size >= 0 else None)
             place += max(size, 0)
-        yield Ended(kind, how, number, status, before, *parts)
+        yield Ended(kind, how, number, status, before, files, *parts)
 
 
 def run(program, words, folder, library, tries, **settings):
-    """Runs the program in the folder: its status, what it wrote, and how each child ended."""
+    """Runs the program in the folder: its status, what it wrote, and how each child ended. A child has a copy of the folder."""
     with tempfile.TemporaryDirectory() as own:
         paths = [f"{own}/{name}" for name in ("out", "err", "report")]
+        settings |= {"report": paths[2], "own": f"{own}/folder"}
         with open(paths[0], "wb") as out, open(paths[1], "wb") as err:
-            done = subprocess.run([program, *words], cwd=folder, env=settings_of(library, program, tries, report=paths[2], **settings),
+            done = subprocess.run([program, *words], cwd=folder, env=settings_of(library, program, tries, **settings),
                                   stdin=subprocess.DEVNULL, stdout=out, stderr=err, timeout=HANG)
         out, err, report = map(read, paths)
         return done.returncode, out, err, [*children_of(report)]

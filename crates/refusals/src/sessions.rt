@@ -176,7 +176,7 @@ fn tried<N: Named, R: Wait + Clock + Print>(
 
 /// Whether the answer is written so.
 fn is_written(alloc: Global, answer: &Answer, wanted: &str) -> bool {
-    match render(alloc, "p", answer) {
+    match render(alloc, false, "p", answer) {
         Ok(bytes) => bytes.as_slice() == wanted.as_bytes(),
         Err(_) => false,
     }
@@ -203,7 +203,7 @@ impl<'b> Scenario for Rendering<'b> {
     type Answer = Vec<u8>;
 
     fn call(&mut self, alloc: Global) -> Result<Vec<u8>, Refusal> {
-        Ok(render(alloc, "p", self.answer)?)
+        Ok(render(alloc, false, "p", self.answer)?)
     }
 
     fn is_answer(&self, answer: &Vec<u8>, _alloc: Global) -> Result<bool, Refusal> {
