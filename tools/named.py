@@ -9,13 +9,15 @@ it lists but those below another of them.
 Of docs/PROVED.md: a row of the table '| Crate | In plain words | .. |' names calls, laws, clauses and parts of definitions of that
 crate; each crate with contracts has a row. In a row of '| Call | Clause | .. |' each clause is one of a function or a trait that
 the row calls by its name, or a law; each definition is one of some crate; a wrong body in bold is in must-fail/, another one in
-mutants/; a test in italics is a case of conformance/, another one a function of the crates of tests.
+mutants/; a test in italics is a case of conformance/, another one a function of the crates of tests. The toolchain that the page names
+is what `rt version` prints.
 """
 import collections
 import functools
 import glob
 import os
 import re
+import subprocess
 
 from crates import TOP, below, crates_of, libraries, read
 
@@ -146,10 +148,17 @@ def called(text):
         yield from (f"{call.strip()}: {it}" for it in [*wrong_bodies(wrong), *tests(test)])
 
 
+def toolchain(text):
+    """Whether the page names another toolchain than the one that is here."""
+    here = subprocess.run(["rt", "version"], stdout=subprocess.PIPE, text=True, check=True).stdout.strip()
+    said = re.search(r"`rt version`: ([^)]*)\)", text)
+    return [] if said and said[1] == here else [f"the toolchain here is {here}"]
+
+
 def faults():
     """What the pages name that isn't there, by page."""
     found = {page: list(missing_files(read(f"{TOP}/{page}"))) for page in PAGES}
     found["docs/ARCHITECTURE.md"] += house(read(f"{TOP}/docs/ARCHITECTURE.md"))
     page = read(f"{TOP}/docs/PROVED.md")
-    found["docs/PROVED.md"] += [*proved(page), *called(page)]
+    found["docs/PROVED.md"] += [*proved(page), *called(page), *toolchain(page)]
     return found
