@@ -1,7 +1,7 @@
 """What the pages of the house name, looked up in the sources: files, crates, calls, clauses, wrong bodies and tests.
 
 Of each page: a path in backticks is there, and so is a file NAME.rt or NAME.antt, in backticks or in a picture, in the src/, specs/
-or proofs/ of some crate. A word in capitals stands for a name, and such a path is left out.
+or proofs/ of some crate. A word in capitals stands for a name, and such a path is left out. Two pages stay below a size.
 
 Of docs/ARCHITECTURE.md's table '| Crate | .. | Over |': it has a row for each crate of crates.txt, and Over has the crates that
 it lists but those below another of them.
@@ -22,6 +22,7 @@ import subprocess
 from crates import TOP, below, crates_of, libraries, read
 
 PAGES = ["CONTRIBUTING.md", "docs/ARCHITECTURE.md", "docs/DECISIONS.md", "docs/DEFINITIONS.md", "docs/PROVED.md"]
+AT_MOST = {"docs/DECISIONS.md": 25_000, "docs/DEFINITIONS.md": 15_000}
 TESTS = ["rls_tests", "rls_core_tests", "rls_session_tests"]
 WITHOUT_CONTRACTS = {"refusals", *TESTS}
 TICKED = re.compile(r"`([^`]+)`")
@@ -159,6 +160,8 @@ def faults():
     """What the pages name that isn't there, by page."""
     found = {page: list(missing_files(read(f"{TOP}/{page}"))) for page in PAGES}
     found["docs/ARCHITECTURE.md"] += house(read(f"{TOP}/docs/ARCHITECTURE.md"))
+    for page, bytes_at_most in AT_MOST.items():
+        found[page] += [f"it has more than {bytes_at_most} bytes"] * (os.path.getsize(f"{TOP}/{page}") > bytes_at_most)
     page = read(f"{TOP}/docs/PROVED.md")
     found["docs/PROVED.md"] += [*proved(page), *called(page), *toolchain(page)]
     return found
