@@ -1,5 +1,5 @@
 -- Which lines may stand next, and that there is none where a line is refused.
-use Rattle.std.specs.Prelude.{◌≡◌, refl, ◌⊎◌, ◌+◌, ℕ, Bool, true, false, List, Option, Some, Result, Ok, Err, IfOk, OnOk, IsUtf8}
+use Rattle.std.specs.Prelude.{◌≡◌, refl, ◌⊎◌, ◌+◌, ◌^◌, ◌<◌, ℕ, Bool, true, false, List, Option, Some, Result, Ok, Err, IfOk, OnOk, IsUtf8}
 use Rattle.std.specs.BTreeSet.{BTreeSet}
 use Rattle.std.proofs.Common.{ap, sym, ◌∙◌, subst, inl, inr}
 use Rattle.rls_value.specs.declared.refusal.Refusal.{Refusal}
@@ -11,6 +11,12 @@ use Rattle.rls_check.specs.declared.form.Stage.{Stage}
 use Rattle.rls_check.specs.declared.form.Stage.TheVariants as stage
 use Rattle.rls_check.specs.declared.form.Form.{Form}
 use Rattle.rls_check.specs.Forms.{Follows, Stands, IsNext, IsBehind, IsRefused, HeadOf, FollowerOf, IsFoundAmong, IsTakenAmong}
+
+-- ---- counting
+
+-- what is a number below 2^64 is below it
+pub fewer : (m n : ℕ) → (n < 2 ^ 64) × (m ≡ n) → m < 2 ^ 64
+fewer m n h = subst (λ (k : ℕ). k < 2 ^ 64) (sym h.1) h.0
 
 -- ---- one line
 

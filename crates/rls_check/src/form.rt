@@ -130,6 +130,7 @@ impl Form {
     }
 
     /// The line is read.
+    #[tactic(auto, using(crate::proofs::FormLemmas::fewer))]
     fn go_on(&mut self, line: &Line, second: bool) -> Result<(), AllocError>
         ensures { OnOk result (IsBehind self.old line.now second self.new) }
     {
