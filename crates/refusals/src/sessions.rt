@@ -57,7 +57,7 @@ fn play_engine<N: Named, R: Wait + Clock + Print>(rt: &R, alloc: Global, engine:
     requires wide { N.parts ≡ 18446744073709551615 }
     requires texts { AsksTexts N.asks }
 {
-    let mut notes = Notes::new(alloc, TAG);
+    let mut notes = Notes::new(alloc, TAG, false);
     match connected(rt, alloc, engine, notes.seen()) {
         Ok(session) => {
             let mut session = session;
