@@ -1,5 +1,5 @@
 -- Some audit begins with what was read: with it and the end behind it they are one, where that isn't read yet.
-use Rattle.std.specs.Prelude.{◌≡◌, refl, ◌++◌, ◌^◌, ◌<◌, ◌≤◌, ℕ, suc, Bool, true, List, [], ◌∷◌, map, length, Option, Some, option_map, option_and_then, codes, decimal, IsUtf8}
+use Rattle.std.specs.Prelude.{◌≡◌, refl, ◌++◌, ◌^◌, ◌<◌, ◌≤◌, ℕ, suc, Bool, true, List, [], ◌∷◌, map, length, Option, Some, option_map, option_and_then, codes, decimal}
 use Rattle.std.specs.List.{AllZip}
 use Rattle.std.proofs.Common.{ap, sym, ◌∙◌, subst, arith, append-nil}
 use Rattle.std.proofs.lemmas.Fmt.{IsAscii-decimal}
@@ -17,16 +17,14 @@ use Rattle.serde_json.specs.Written.{blank, compact_text, outline}
 use Rattle.serde_json.proofs.{Numbers.number_of-decimal, Texts.print-outline, Texts.unless_float-number_of, Writing.read_back}
 use Rattle.rls_codec.specs.Looking.{Anything}
 use Rattle.rls_audit.specs.declared.lines.Shown.{Shown}
-use Rattle.rls_audit.specs.declared.lines.Line.{Line}
 use Rattle.rls_audit.specs.declared.lines.Line.TheVariants.{Head, Txn, End}
 use Rattle.rls_audit.specs.LineCodecs as codec
-use Rattle.rls_audit.specs.Reading.{MeansLine}
 use Rattle.rls_check.specs.declared.form.Stage.{Stage}
 use Rattle.rls_check.specs.declared.form.Stage.TheVariants as stage
 use Rattle.rls_check.specs.declared.form.Form.{Form}
 use Rattle.rls_check.specs.declared.audit.Reader.{Reader}
 use Rattle.rls_check.specs.declared.converting.Converter.{Converter}
-use Rattle.rls_check.specs.Wholes.{IsTextOf, AreAudit, BeginAudit, lines_at, IsReadAs, HasRead, HasConverted}
+use Rattle.rls_check.specs.Wholes.{IsTextOf, BeginAudit, lines_at, IsReadAs, HasRead, HasConverted}
 use Rattle.rls_check.proofs.KeepingLemmas.{zip_push}
 
 -- ---- what is read of a text

@@ -1,18 +1,16 @@
 -- What texts mean is one list of lines, where the columns of keys are told by their names; and texts that mean an audit are one.
-use Rattle.std.specs.Prelude.{◌≡◌, refl, ◌≢◌, ◌+◌, ◌++◌, ◌<◌, ◌≤◌, ℕ, zero, suc, Bool, List, [], ◌∷◌, map, length, get_or, Option, Some, IsUtf8}
+use Rattle.std.specs.Prelude.{◌≡◌, refl, ◌≢◌, ◌+◌, ◌++◌, ◌<◌, ◌≤◌, ℕ, zero, suc, Bool, List, [], ◌∷◌, map, length, Option, Some, IsUtf8}
 use Rattle.std.specs.List.{All, AllByRecursion, AllZip, flat_map}
 use Rattle.std.proofs.Common.{ap, sym, ◌∙◌, subst, arith, append_assoc, length-append}
 use Rattle.std.proofs.lemmas.List.Elements.{All-append, All-nil, All-from_recursion, recursion_from_All}
 use Rattle.rls_value.specs.declared.refusal.Refusal.{Refusal}
 use Rattle.rls_value.specs.declared.object.Object.{Object}
-use Rattle.rls_value.specs.declared.object.Object.TheVariants as o
-use Rattle.rls_expr.specs.{declared.policy.Policy.Policy, declared.table.Column.Column, declared.table.TableDef.TableDef}
+use Rattle.rls_expr.specs.{declared.table.Column.Column, declared.table.TableDef.TableDef}
 use Rattle.rls_statement.specs.declared.statement.Statement.{Statement}
 use Rattle.rls_catalog.specs.declared.change.Change.{Change}
 use Rattle.rls_explain.specs.rls_meaning.specs.rls_guard.specs.{declared.reply.Reply.Reply, declared.reply.Decision.Decision, declared.effect.Effect.Effect, Effects.changes_of}
-use Rattle.rls_audit.specs.rls_text.specs.Words.{words_of}
 use Rattle.rls_audit.specs.rls_access.specs.Transactions.{Begin}
-use Rattle.rls_audit.specs.rls_core.specs.Records.{Record, record_at, nobody}
+use Rattle.rls_audit.specs.rls_core.specs.Records.{Record, record_at}
 use Rattle.rls_audit.specs.declared.contents.TableShape.{TableShape}
 use Rattle.rls_audit.specs.declared.changes.Changed.{Changed}
 use Rattle.rls_audit.specs.declared.changes.Changed.TheVariants as c
@@ -25,10 +23,9 @@ use Rattle.rls_audit.specs.ChangeCodecs as codec
 use Rattle.rls_audit.specs.Lines.{Content, Written, written_by, content_of, answered, lines_from, audit_of, ordered_changes, in_object_order}
 use Rattle.rls_audit.specs.Lines as lines
 use Rattle.rls_audit.specs.Reading.{MeansLine}
-use Rattle.rls_audit.specs.Shows.{NamesColumn, SpellsPolicy, ShowsTable, ShowsContent, ShowsChanged, ShowsAnswered, ShowsTxn, ShowsLine, Means}
+use Rattle.rls_audit.specs.Shows.{NamesColumn, ShowsTable, ShowsContent, ShowsChanged, ShowsAnswered, ShowsTxn, ShowsLine, Means}
 use Rattle.rls_check.specs.declared.transaction.Answer.{Answer}
 use Rattle.rls_check.specs.declared.transaction.Put.{Put}
-use Rattle.rls_check.specs.declared.transaction.Put.TheVariants as put
 use Rattle.rls_check.specs.declared.transaction.Transaction.{Transaction}
 use Rattle.rls_check.specs.declared.audit.Audit.{Audit}
 use Rattle.rls_check.specs.Audited.{answered_of, written_of, shown_of, lines_between, lines_of}
