@@ -5,16 +5,17 @@ use Rattle.std.proofs.Common.{ap, sym, ◌∙◌, subst, arith, append-nil}
 use Rattle.std.proofs.lemmas.Fmt.{IsAscii-decimal}
 use Rattle.std.proofs.lemmas.List.Elements.{All-nil}
 use Rattle.std.proofs.lemmas.Str.{IsUtf8-append, IsUtf8-from_ascii}
+use Rattle.json.specs.Token.{Token}
 use Rattle.json.specs.Json as json
 use Rattle.json.specs.Lex.{tokens}
 use Rattle.json.specs.Print.{quoted, ArePrintable}
 use Rattle.json.specs.Tree as tree
 use Rattle.json.specs.Tree.{json_tokens}
-use Rattle.json.proofs.Printed.{Decimals.IsNumber-decimal, Tokens.tokens-print, Utf8.IsUtf8-are_ascii, Utf8.IsUtf8-quoted}
-use Rattle.serde_json.specs.Data.{Num, unsigned, Data, number, array, object, no_items, member, no_members, put, depth}
+use Rattle.json.proofs.Printed.{Decimals.IsNumber-decimal, Tokens.tokens-print, Trees.value-json_tokens, Utf8.IsUtf8-are_ascii, Utf8.IsUtf8-quoted}
+use Rattle.serde_json.specs.Data.{Num, unsigned, Data, number, array, object, no_items, member, no_members, put}
 use Rattle.serde_json.specs.Read.{read, of_json, of_members, max_depth}
-use Rattle.serde_json.specs.Written.{blank, compact_text, outline}
-use Rattle.serde_json.proofs.{Numbers.number_of-decimal, Texts.print-outline, Texts.unless_float-number_of, Writing.read_back}
+use Rattle.serde_json.specs.Written.{compact_text, outline}
+use Rattle.serde_json.proofs.{Numbers.number_of-decimal, Texts.print-outline}
 use Rattle.rls_codec.specs.Looking.{Anything}
 use Rattle.rls_audit.specs.declared.lines.Shown.{Shown}
 use Rattle.rls_audit.specs.declared.lines.Line.TheVariants.{Head, Txn, End}
@@ -29,17 +30,20 @@ use Rattle.rls_check.proofs.KeepingLemmas.{zip_push}
 
 -- ---- what is read of a text
 
-reads_text : (d : Data) → of_json (outline d) ≡ Some d → blank (outline d) ≡ outline d → tree.depth (outline d) ≤ depth d → ArePrintable (json_tokens (outline d)) → depth d ≤ max_depth → read (compact_text d) ≡ Some d
-reads_text d of same shallow printable low =
-    read_back d (json_tokens (outline d)) (compact_text d) (outline d, refl, of, shallow, same) (ap tokens (sym (print-outline d)) ∙ tokens-print (json_tokens (outline d)) printable) low
+-- what the JSON of a whole text stands for
+abbrev whole_of : Option (json.Json × List Token) → Option Data
+whole_of found = option_and_then of_json (option_and_then (λ (p : json.Json × List Token). json.if_last p.0 p.1) found)
+
+-- what is written without floats is read
+reads_text : (d : Data) → of_json (outline d) ≡ Some d → tree.depth (outline d) ≤ max_depth → ArePrintable (json_tokens (outline d)) → read (compact_text d) ≡ Some d
+reads_text d is low printable =
+    let cut : tokens (compact_text d) ≡ json_tokens (outline d) = ap tokens (sym (print-outline d)) ∙ tokens-print (json_tokens (outline d)) printable in
+    ap whole_of (ap (json.value max_depth) (cut ∙ sym (append-nil (json_tokens (outline d)))) ∙ value-json_tokens (outline d) max_depth [] low) ∙ is
 
 -- ---- the head
 
 abbrev head_data : Data
 head_data = object (member (codes "format") (number (unsigned 2)) no_members)
-
-abbrev head_outline : List ℕ → json.Json
-head_outline digits = json.object (json.member (codes "format") (json.number digits) json.no_members)
 
 abbrev head_of : Option Num → Option Data
 head_of found = option_map object (option_and_then (λ (d : Data). of_members json.no_members (put (codes "format") d no_members)) (option_map number found))
@@ -49,9 +53,7 @@ unfolding ArePrintable
 head_printable = (tt, (tt, (IsNumber-decimal 2 (omega arith), (tt, tt))))
 
 head_reads : read (compact_text head_data) ≡ Some head_data
-head_reads =
-    let two = number_of-decimal 2 (omega arith) in
-    reads_text head_data (ap head_of two) (ap head_outline (unless_float-number_of (decimal 2) (unsigned 2) two)) (omega arith) head_printable (omega arith)
+head_reads = reads_text head_data (ap head_of (number_of-decimal 2 (omega arith))) (omega arith) head_printable
 
 head_means : IsTextOf true (compact_text head_data) Head
 head_means = (
@@ -67,9 +69,6 @@ head_means = (
 abbrev end_data : ℕ → Data
 end_data n = object (member (codes "end") (number (unsigned n)) (member (codes "order") (array no_items) no_members))
 
-abbrev end_outline : List ℕ → json.Json
-end_outline digits = json.object (json.member (codes "end") (json.number digits) (json.member (codes "order") (json.array json.no_items) json.no_members))
-
 abbrev end_of : Option Num → Option Data
 end_of found = option_map object (option_and_then (λ (d : Data). of_members (json.member (codes "order") (json.array json.no_items) json.no_members) (put (codes "end") d no_members)) (option_map number found))
 
@@ -78,9 +77,7 @@ unfolding ArePrintable
 end_printable n h = (tt, (tt, (IsNumber-decimal n h, (tt, (tt, (tt, (tt, tt)))))))
 
 end_reads : (n : ℕ) → n < 2 ^ 64 → read (compact_text (end_data n)) ≡ Some (end_data n)
-end_reads n h =
-    let same = number_of-decimal n h in
-    reads_text (end_data n) (ap end_of same) (ap end_outline (unless_float-number_of (decimal n) (unsigned n) same)) (omega arith) (end_printable n h) (omega arith)
+end_reads n h = reads_text (end_data n) (ap end_of (number_of-decimal n h)) (omega arith) (end_printable n h)
 
 abbrev behind_order : List ℕ
 behind_order = 58 ∷ 91 ∷ 93 ∷ 125 ∷ []
