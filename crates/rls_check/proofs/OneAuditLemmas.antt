@@ -1,5 +1,5 @@
 -- What texts mean is one list of lines, where the columns of keys are told by their names; and texts that mean an audit are one.
-use Rattle.std.specs.Prelude.{◌≡◌, refl, ◌≢◌, ◌+◌, ◌++◌, ◌<◌, ◌≤◌, ℕ, zero, suc, Bool, List, [], ◌∷◌, map, length, Option, Some, IsUtf8}
+use Rattle.std.specs.Prelude.{◌≡◌, refl, ◌≢◌, ◌+◌, ◌++◌, ◌<◌, ◌≤◌, ℕ, zero, suc, Bool, List, [], ◌∷◌, map, length, Option, Some, Result, IsUtf8}
 use Rattle.std.specs.List.{All, AllByRecursion, AllZip, flat_map}
 use Rattle.std.proofs.Common.{ap, sym, ◌∙◌, subst, arith, append_assoc, length-append}
 use Rattle.std.proofs.lemmas.List.Elements.{All-append, All-nil, All-from_recursion, recursion_from_All}
