@@ -21,40 +21,44 @@ Examples:
     rlsdb check AUDIT
     rlsdb explain AUDIT 16 1 10.2
 
-Exit statuses: 0 done, refused statements included; 1 a read or write fault, or want of memory; 2 a usage fault;
-3 a check says no, a line of an audit is bad, or there is no such decision.";
+Exit status:
+    0  done, even if statements were refused
+    1  a file cannot be read or written, or memory ran out
+    2  usage
+    3  `check` says no, a line of an audit is bad, or there is no such decision";
 
 const AFTER_RUN: &str = "\
-A FILE has a command a line: `LABEL: \\connect ROLE` or `LABEL: STATEMENT`. The role `postgres` is there from the start:
+Each line of FILE is a command: `LABEL: \\connect ROLE` or `LABEL: STATEMENT`. The superuser `postgres` exists from the start:
 
     p: \\connect postgres
     p: CREATE TABLE t (a int)
     p: SELECT * FROM t
 
-A label is 1 to 63 lower case letters, digits or underscores; up to 64 labels have a session each.
-Empty lines and lines that begin with `--` are skipped; every answer is written as `LABEL: TEXT`.
-With --threads each label runs its lines on a thread of its own up to the next line `==`, and answers are written label by label.
+A label is 1 to 63 lower case letters, digits or underscores. Each label has its own session; there may be up to 64.
+Empty lines and lines that begin with `--` are skipped. Each answer is written as `LABEL: TEXT`.
+With --threads each label runs its lines on its own thread up to the next line `==`. Answers are then written label by label.
 
 Example: rlsdb run FILE --threads --audit AUDIT";
 
 const AFTER_ORDER: &str = "\
-The numbers of its transactions are written, one a line.
+Writes the numbers of the transactions of AUDIT in serial order, one for each line.
 
 Example: rlsdb order AUDIT";
 
 const AFTER_CHECK: &str = "\
-What is found first is written: `yes`, `no: order`, `no: reply T.S`, `no: changes T` or `no: state`.
+Writes `yes`, or the first fault that it finds: `no: order`, `no: reply T.S` (transaction T, statement S), `no: changes T` or
+`no: state`.
 
 Example: rlsdb check AUDIT";
 
 const AFTER_EXPLAIN: &str = "\
-TXN is the number of a transaction, STATEMENT that of its statement, counted from 1. Without a ROW all decisions are written,
-with one its own, and what each policy says of it.
+TXN is the number of a transaction in AUDIT, STATEMENT the number of its statement, counted from 1. Without ROW it writes all
+decisions of the statement; with ROW only those on this row, each with the value of every policy that applies.
 
 Example: rlsdb explain AUDIT 16 1 10.2";
 
 const AFTER_MIGRATE: &str = "\
-AUDIT is read twice, so it is no pipe. OUT is another file, and is written once the whole AUDIT is found to be one.
+AUDIT is read twice, so it cannot be a pipe. OUT must be another file. It is written only if the whole AUDIT is valid.
 
 Example: rlsdb migrate AUDIT OUT";
 
@@ -242,7 +246,7 @@ fn run_command<'a>(alloc: Global) -> Result<Command<'a>, AllocError>
     ensures app { IfOk result (λ made. app_of made ≡ run_line) }
     ensures local { IfOk result (λ made. (out-Command made).has_globals ≡ false) }
 {
-    let about = "Runs a script on an empty database and writes each answer under its label";
+    let about = "Runs a script on an empty database and writes every answer";
     let script = file(
         alloc,
         "FILE",
@@ -263,7 +267,7 @@ fn threads<'a>(alloc: Global) -> Arg<'a>
     Arg::new(alloc, "threads")
         .long("threads")
         .action(ArgAction::SetTrue)
-        .help("Give each label a thread of its own")
+        .help("Run each label on its own thread")
 }
 
 fn audit_out<'a>(alloc: Global) -> Arg<'a>
@@ -273,7 +277,7 @@ fn audit_out<'a>(alloc: Global) -> Arg<'a>
     Arg::new(alloc, "audit")
         .long("audit")
         .value_name("OUT")
-        .help("Write an audit of the run to this file")
+        .help("Write an audit of the run to the file OUT")
 }
 
 fn terse_conflicts<'a>(alloc: Global) -> Arg<'a>
@@ -283,7 +287,7 @@ fn terse_conflicts<'a>(alloc: Global) -> Arg<'a>
     Arg::new(alloc, "terse-conflicts")
         .long("terse-conflicts")
         .action(ArgAction::SetTrue)
-        .help("Answer 40001 without naming rows, keys and transactions")
+        .help("Leave rows, keys and transactions out of the text of a 40001")
 }
 
 fn order_command<'a>(alloc: Global) -> Result<Command<'a>, AllocError>
@@ -301,7 +305,7 @@ fn check_command<'a>(alloc: Global) -> Result<Command<'a>, AllocError>
     ensures local { IfOk result (λ made. (out-Command made).has_globals ≡ false) }
 {
     let about =
-        "Runs the transactions of an audit in its order, and says whether all is as it says";
+        "Runs the transactions of an audit again in its order, and compares every answer and change";
     let command = named(alloc, "check", about, AFTER_CHECK);
     let command = command.arg(audit(alloc))?;
     Ok(command)
@@ -311,9 +315,9 @@ fn explain_command<'a>(alloc: Global) -> Result<Command<'a>, AllocError>
     ensures app { IfOk result (λ made. app_of made ≡ explain_line) }
     ensures local { IfOk result (λ made. (out-Command made).has_globals ≡ false) }
 {
-    let about = "Writes why a statement of an audit did what it did";
-    let txn = file(alloc, "TXN", "The transaction's number");
-    let statement = file(alloc, "STATEMENT", "The statement's number in it, from 1");
+    let about = "Explains the result of a statement of an audit, row by row";
+    let txn = file(alloc, "TXN", "The number of the transaction");
+    let statement = file(alloc, "STATEMENT", "The number of the statement in it, from 1");
     let command = named(alloc, "explain", about, AFTER_EXPLAIN);
     let command = command.arg(audit(alloc))?;
     let command = command.arg(txn)?;
