@@ -1,7 +1,7 @@
 -- A walk through the words of a line, by the grammar's rules. What may follow is a list of stacks: each has the items that
 -- stand one behind another, the next one on top.
-use Rattle.std.specs.Prelude.{◌≡◌, ℕ, zero, suc, Bool, true, false, not, if◌then◌else◌, List, [], ◌∷◌, ◌++◌, map, flat_map, Option, Some, None}
-use Rattle.std.specs.List.{list_any}
+use Rattle.std.specs.Prelude.{◌≡◌, ℕ, zero, suc, Bool, true, false, not, if◌then◌else◌, List, [], ◌∷◌, ◌++◌, map, Option, Some, None, refl}
+use Rattle.std.specs.List.{flat_map, list_any}
 use Rattle.std.specs.Str.{bytes_eq}
 use denote.Enum.Bare.{sameb}
 use Rattle.rls_value.specs.Names.{reserved}
@@ -46,9 +46,13 @@ opened_one (i.Part phrase ∷ rest) = map (λ items. items ++ rest) (alternative
 opened_one stack = stack ∷ []
 
 -- again and again
-abbrev pub opened : ℕ → List (List Item) → List (List Item)
+unfoldable pub opened : ℕ → List (List Item) → List (List Item)
 opened zero stacks = stacks
 opened (suc n) stacks = opened n (flat_map opened_one stacks)
+
+-- so often that a phrase is left on top only where the grammar goes round
+unfoldable pub ready_of : List (List Item) → List (List Item)
+ready_of stacks = opened 24 stacks
 
 -- what stands behind the word, where it may stand on top
 abbrev pub behind_one : Token → List Item → List (List Item)
@@ -68,3 +72,17 @@ is_next token (item ∷ rest) = fits item token
 -- what may begin a line
 abbrev pub start : List Item
 start = i.Part p.Command ∷ i.Part p.Semicolon ∷ []
+
+-- there is none
+abbrev pub is_empty : List (List Item) → Bool
+is_empty [] = true
+is_empty (stack ∷ stacks) = false
+
+-- from a place on, where this may follow: the first word that nothing takes, with what could stand there, or the end
+unfoldable pub fault_from : ℕ → List (List Item) → List Token → Option (ℕ × List (List Item))
+fault_from place ready [] = if◌then◌else◌ {A = Option (ℕ × List (List Item))} (list_any may_end ready) None (Some (place, ready))
+fault_from place ready (token ∷ tokens) = if◌then◌else◌ {A = Option (ℕ × List (List Item))} (is_empty (flat_map (behind_one token) ready)) (Some (place, ready)) (fault_from (suc place) (ready_of (flat_map (behind_one token) ready)) tokens)
+
+-- of a whole line
+unfoldable pub fault_of : List Token → Option (ℕ × List (List Item))
+fault_of tokens = fault_from 0 (ready_of (start ∷ [])) tokens

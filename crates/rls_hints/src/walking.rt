@@ -1,7 +1,7 @@
 //! The walk through the words of a line, with all that may stand behind those that were met.
 
-ghost use Rattle.std.specs.Prelude.{◌≡◌, ◌++◌, ◌∷◌, [], map, flat_map, IfOk, OnOk, Some};
-ghost use Rattle.std.specs.List.{list_any};
+ghost use Rattle.std.specs.Prelude.{◌≡◌, ◌++◌, ◌∷◌, [], map, option_map, IfOk, OnOk};
+ghost use Rattle.std.specs.List.{flat_map, list_any};
 ghost use Rattle.rls_hints.specs.Walking as spec;
 
 use crate::grammar::{Item, Phrase, RULES};
@@ -22,7 +22,9 @@ pub struct Fault {
 }
 
 /// The first word that can't stand where it does, or the end of the line.
-pub fn find_fault(alloc: Global, words: &[Placed]) -> Result<Option<Fault>, AllocError> {
+pub fn find_fault(alloc: Global, words: &[Placed]) -> Result<Option<Fault>, AllocError>
+    ensures { IfOk result (λ found. option_map (λ fault. (fault.place, fault.ready.items)) found ≡ spec.fault_of (map (λ word. word.token) words.now)) }
+{
     let mut ready = begin(alloc)?;
     for (place, word) in words.iter().enumerate() {
         let behind = all_behind(alloc, ready.as_slice(), &word.token)?;
@@ -45,7 +47,9 @@ pub fn find_fault(alloc: Global, words: &[Placed]) -> Result<Option<Fault>, Allo
 }
 
 /// What may begin a line.
-fn begin(alloc: Global) -> Result<Vec<Items<Item>>, AllocError> {
+fn begin(alloc: Global) -> Result<Vec<Items<Item>>, AllocError>
+    ensures { IfOk result (λ ready. ready.items ≡ spec.ready_of (spec.start ∷ [])) }
+{
     let mut stacks = Vec::new(alloc);
     let start = [Item::Part(Phrase::Command), Item::Part(Phrase::Semicolon)];
     push(alloc, &start, &[], &mut stacks)?;
@@ -86,7 +90,7 @@ fn is_first(stack: &[Item], token: &Token) -> bool
 
 /// The stacks with a phrase on top opened, again and again.
 fn open_all(alloc: Global, stacks: Vec<Items<Item>>) -> Result<Vec<Items<Item>>, AllocError>
-    ensures { IfOk result (λ ready. ready.items ≡ spec.opened 24 stacks.items) }
+    ensures { IfOk result (λ ready. ready.items ≡ spec.ready_of stacks.items) }
 {
     let mut ready = stacks;
     for _turn in 0..ROUNDS {
