@@ -1,2 +1,4 @@
 pub mod Alive
 pub mod Spelled
+pub mod Blaming
+pub mod Reads

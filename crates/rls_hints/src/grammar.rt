@@ -84,6 +84,8 @@ pub enum Phrase {
     Settings,
     MoreSettings,
     ChosenRole,
+    CommitWord,
+    RollbackWord,
     Work,
     WorkWord,
     Modes,
@@ -115,7 +117,7 @@ pub struct Rule {
 }
 
 /// All rules.
-pub const RULES: [Rule; 206] = [
+pub const RULES: [Rule; 208] = [
     // what a line asks for
     Rule {
         phrase: Phrase::Command,
@@ -194,19 +196,11 @@ pub const RULES: [Rule; 206] = [
     },
     Rule {
         phrase: Phrase::Command,
-        items: &[Word("commit"), Part(Phrase::Work)],
+        items: &[Part(Phrase::CommitWord), Part(Phrase::Work)],
     },
     Rule {
         phrase: Phrase::Command,
-        items: &[Word("end"), Part(Phrase::Work)],
-    },
-    Rule {
-        phrase: Phrase::Command,
-        items: &[Word("rollback"), Part(Phrase::Work)],
-    },
-    Rule {
-        phrase: Phrase::Command,
-        items: &[Word("abort"), Part(Phrase::Work)],
+        items: &[Part(Phrase::RollbackWord), Part(Phrase::Work)],
     },
     Rule {
         phrase: Phrase::Semicolon,
@@ -1113,6 +1107,22 @@ pub const RULES: [Rule; 206] = [
         items: &[Name],
     },
     // blocks
+    Rule {
+        phrase: Phrase::CommitWord,
+        items: &[Word("commit")],
+    },
+    Rule {
+        phrase: Phrase::CommitWord,
+        items: &[Word("end")],
+    },
+    Rule {
+        phrase: Phrase::RollbackWord,
+        items: &[Word("rollback")],
+    },
+    Rule {
+        phrase: Phrase::RollbackWord,
+        items: &[Word("abort")],
+    },
     Rule {
         phrase: Phrase::Work,
         items: &[],

@@ -2,9 +2,13 @@
 #![tactic(auto)]
 
 mod grammar;
+mod laws;
+mod reading;
 mod token;
 mod walking;
 
 pub use grammar::{Item, Phrase, RULES, Rule};
+pub use laws::{blamed_begins_nothing, spelled_is_taken};
+pub use reading::read_words;
 pub use token::{Mark, Placed, Token};
 pub use walking::{Fault, find_fault, is_next, may_end};
