@@ -1,3 +1,4 @@
 pub mod Walking
 pub mod Beginnings
 pub mod Reading
+pub mod Expected
