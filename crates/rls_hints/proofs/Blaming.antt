@@ -7,7 +7,7 @@ use Rattle.rls_text.specs.declared.token.Token.Token as TextToken
 use Rattle.rls_text.specs.Commands.{SpellsCommand}
 use Rattle.rls_hints.specs.declared.token.Token.{Token}
 use Rattle.rls_hints.specs.declared.grammar.Item.{Item}
-use Rattle.rls_hints.specs.Walking.{ready_of, behind_one, may_end, is_empty, fault_from, fault_of}
+use Rattle.rls_hints.specs.Walking.{ready_of, behind_one, may_end, is_empty, fault_from, fault_in, fault_of}
 use Rattle.rls_hints.specs.Beginnings.{seen, IsBlamed, IsNoBeginning}
 use Rattle.rls_hints.proofs.Spelled.{spelled_taken}
 
@@ -49,7 +49,7 @@ same_behind (word ∷ words) rest place ready found h inside = go (is_empty (fla
 
 -- So it blames no word of a command, and no word with which one goes on.
 pub rightly_blamed : (words : List TextToken) (place : ℕ) (ready : List (List Item)) → fault_of (map seen words) ≡ Some (place, ready) → IsBlamed words place
-unfolding fault_of
+unfolding fault_in
 rightly_blamed words place ready h = record {
   inside = λ inside rest command spelled.
       let taken = spelled_taken (take (place + 1) words ++ rest) command spelled in

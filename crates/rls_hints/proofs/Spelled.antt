@@ -18,7 +18,7 @@ use Rattle.rls_text.specs.WaysBack as back
 use Rattle.rls_hints.specs.declared.grammar.Item.{Item}
 use Rattle.rls_hints.specs.declared.grammar.Item.TheVariants as i
 use Rattle.rls_hints.specs.declared.grammar.Phrase.TheVariants as p
-use Rattle.rls_hints.specs.Walking.{alternatives, fits, start, ready_of, fault_of}
+use Rattle.rls_hints.specs.Walking.{alternatives, fits, start, ready_of, fault_in, fault_of}
 use Rattle.rls_hints.specs.Beginnings.{seen}
 use Rattle.rls_hints.proofs.Alive.{Reads, row, by_row, by_perhaps, by_many, by_both, by_mapped, by_checked, by_either, by_token, by_after, reads_one, Leads, nothing_leads}
 
@@ -550,7 +550,7 @@ append_none (x ∷ xs) = ap (λ ys. x ∷ ys) (append_none xs)
 
 -- What spells a command is taken to its end.
 pub spelled_taken : (words : List TextToken) (command : Command) → SpellsCommand words command → fault_of (map seen words) ≡ None
-unfolding fault_of ready_of
+unfolding fault_in ready_of
 spelled_taken words command h =
     let leads : Leads start words = subst (λ ws. Leads start ws) (append_none words) (command_reads words [] command [] h nothing_leads) in
     leads 24 0 (start ∷ []) (inl refl)

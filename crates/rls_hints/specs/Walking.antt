@@ -83,6 +83,10 @@ unfoldable pub fault_from : ℕ → List (List Item) → List Token → Option (
 fault_from place ready [] = if◌then◌else◌ {A = Option (ℕ × List (List Item))} (list_any may_end ready) None (Some (place, ready))
 fault_from place ready (token ∷ tokens) = if◌then◌else◌ {A = Option (ℕ × List (List Item))} (is_empty (flat_map (behind_one token) ready)) (Some (place, ready)) (fault_from (suc place) (ready_of (flat_map (behind_one token) ready)) tokens)
 
--- of a whole line
-unfoldable pub fault_of : List Token → Option (ℕ × List (List Item))
-fault_of tokens = fault_from 0 (ready_of (start ∷ [])) tokens
+-- of all words, where these items are what may begin
+unfoldable pub fault_in : List Item → List Token → Option (ℕ × List (List Item))
+fault_in items tokens = fault_from 0 (ready_of (items ∷ [])) tokens
+
+-- of a command
+abbrev pub fault_of : List Token → Option (ℕ × List (List Item))
+fault_of tokens = fault_in start tokens

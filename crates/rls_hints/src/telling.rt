@@ -4,7 +4,7 @@ use crate::expected::{is_expected, nearest_keyword, push_expected, push_upper};
 use crate::grammar::Item;
 use crate::reading::read_words;
 use crate::token::{Placed, Token};
-use crate::walking::{Fault, find_fault};
+use crate::walking::{COMMAND, Fault, ROLE, find_fault};
 use rls_text::parse_command;
 use rls_value::{Refusal, is_reserved};
 use std::alloc::{AllocError, Global};
@@ -25,13 +25,40 @@ pub fn hint_of(
     place: Place<'_>,
     command: &str,
 ) -> Result<Option<String>, AllocError> {
+    match command.strip_prefix("\\connect") {
+        Some(behind) if begins_white(behind.as_bytes()) => connect_hint(alloc, place, behind),
+        _ => command_hint(alloc, place, command),
+    }
+}
+
+fn begins_white(bytes: &[u8]) -> bool {
+    matches!(bytes, [] | [b' ' | b'\t' | b'\n' | b'\r', ..])
+}
+
+/// What is told of what stands behind `\\connect`.
+fn connect_hint(
+    alloc: Global,
+    place: Place<'_>,
+    behind: &str,
+) -> Result<Option<String>, AllocError> {
+    let words = read_words(alloc, behind)?;
+    let hint = words_hint(alloc, place, &ROLE, words.as_slice());
+    drop(words);
+    hint
+}
+
+fn command_hint(
+    alloc: Global,
+    place: Place<'_>,
+    command: &str,
+) -> Result<Option<String>, AllocError> {
     match parse_command(alloc, command) {
         Ok(taken) => {
             drop(taken);
             Ok(None)
         }
         Err(Refusal::NoMemory) => Err(AllocError),
-        Err(Refusal::Syntax) => Ok(Some(syntax_hint(alloc, place, command)?)),
+        Err(Refusal::Syntax) => syntax_hint(alloc, place, command),
         Err(refusal) => {
             let text = format!(in alloc; "{refusal}");
             drop(refusal);
@@ -51,24 +78,41 @@ fn limit_hint(alloc: Global, place: Place<'_>, text: String) -> Result<String, A
     hint
 }
 
-fn syntax_hint(alloc: Global, place: Place<'_>, command: &str) -> Result<String, AllocError> {
+fn syntax_hint(
+    alloc: Global,
+    place: Place<'_>,
+    command: &str,
+) -> Result<Option<String>, AllocError> {
     let words = read_words(alloc, command)?;
-    let hint = words_hint(alloc, place, words.as_slice());
+    let hint = words_hint(alloc, place, &COMMAND, words.as_slice());
     drop(words);
-    hint
+    match hint? {
+        Some(hint) => Ok(Some(hint)),
+        None => Ok(Some(whole_hint(alloc, place)?)),
+    }
 }
 
-fn words_hint(alloc: Global, place: Place<'_>, words: &[Placed]) -> Result<String, AllocError> {
-    match find_fault(alloc, words)? {
+// The words are those of a statement, and it is none.
+fn whole_hint(alloc: Global, place: Place<'_>) -> Result<String, AllocError> {
+    format!(in alloc;
+        "{}:{}:1: the words are in place, but something is said twice, or cannot stand together\n",
+        place.file, place.line
+    )
+}
+
+fn words_hint(
+    alloc: Global,
+    place: Place<'_>,
+    start: &[Item],
+    words: &[Placed],
+) -> Result<Option<String>, AllocError> {
+    match find_fault(alloc, start, words)? {
         Some(fault) => {
             let hint = fault_hint(alloc, place, words, &fault);
             drop(fault);
-            hint
+            Ok(Some(hint?))
         }
-        None => format!(in alloc;
-            "{}:{}:1: the words are in place, but the statement says something twice, or says what cannot stand together\n",
-            place.file, place.line
-        ),
+        None => Ok(None),
     }
 }
 

@@ -12,7 +12,13 @@ use std::alloc::{AllocError, Global};
 /// How many phrases may be opened one inside another, or left out one behind another, before a word.
 const ROUNDS: usize = 24;
 
-/// A word that no statement has there.
+/// What a command begins with.
+pub const COMMAND: [Item; 2] = [Item::Part(Phrase::Command), Item::Part(Phrase::Semicolon)];
+
+/// What stands behind `\\connect`.
+pub const ROLE: [Item; 1] = [Item::Name];
+
+/// A word that can't stand where it does.
 #[derive(Drop)]
 pub struct Fault {
     /// The number of the word, from 0; that of all words where it is the end of the line.
@@ -22,10 +28,14 @@ pub struct Fault {
 }
 
 /// The first word that can't stand where it does, or the end of the line.
-pub fn find_fault(alloc: Global, words: &[Placed]) -> Result<Option<Fault>, AllocError>
-    ensures { IfOk result (λ found. option_map (λ fault. (fault.place, fault.ready.items)) found ≡ spec.fault_of (map (λ word. word.token) words.now)) }
+pub fn find_fault(
+    alloc: Global,
+    start: &[Item],
+    words: &[Placed],
+) -> Result<Option<Fault>, AllocError>
+    ensures { IfOk result (λ found. option_map (λ fault. (fault.place, fault.ready.items)) found ≡ spec.fault_in start.now (map (λ word. word.token) words.now)) }
 {
-    let mut ready = begin(alloc)?;
+    let mut ready = begin(alloc, start)?;
     for (place, word) in words.iter().enumerate() {
         let behind = all_behind(alloc, ready.as_slice(), &word.token)?;
         if behind.is_empty() {
@@ -46,13 +56,12 @@ pub fn find_fault(alloc: Global, words: &[Placed]) -> Result<Option<Fault>, Allo
     }
 }
 
-/// What may begin a line.
-fn begin(alloc: Global) -> Result<Vec<Items<Item>>, AllocError>
-    ensures { IfOk result (λ ready. ready.items ≡ spec.ready_of (spec.start ∷ [])) }
+/// What may begin.
+fn begin(alloc: Global, start: &[Item]) -> Result<Vec<Items<Item>>, AllocError>
+    ensures { IfOk result (λ ready. ready.items ≡ spec.ready_of (start.now ∷ [])) }
 {
     let mut stacks = Vec::new(alloc);
-    let start = [Item::Part(Phrase::Command), Item::Part(Phrase::Semicolon)];
-    push(alloc, &start, &[], &mut stacks)?;
+    push(alloc, &[], start, &mut stacks)?;
     open_all(alloc, stacks)
 }
 
@@ -89,6 +98,7 @@ fn is_first(stack: &[Item], token: &Token) -> bool
 }
 
 /// The stacks with a phrase on top opened, again and again.
+#[tactic(auto, using(crate::proofs::Walks::open_begin, crate::proofs::Walks::open_next, crate::proofs::Walks::open_end))]
 fn open_all(alloc: Global, stacks: Vec<Items<Item>>) -> Result<Vec<Items<Item>>, AllocError>
     ensures { IfOk result (λ ready. ready.items ≡ spec.ready_of stacks.items) }
 {
