@@ -35,7 +35,7 @@ fn begins_white(bytes: &[u8]) -> bool {
     matches!(bytes, [] | [b' ' | b'\t' | b'\n' | b'\r', ..])
 }
 
-/// What is told of what stands behind `\\connect`.
+/// What is told of what stands behind `\connect`.
 fn connect_hint(
     alloc: Global,
     place: Place<'_>,

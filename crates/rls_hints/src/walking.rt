@@ -15,7 +15,7 @@ const ROUNDS: usize = 24;
 /// What a command begins with.
 pub const COMMAND: [Item; 2] = [Item::Part(Phrase::Command), Item::Part(Phrase::Semicolon)];
 
-/// What stands behind `\\connect`.
+/// What stands behind `\connect`.
 pub const ROLE: [Item; 1] = [Item::Name];
 
 /// A word that can't stand where it does.

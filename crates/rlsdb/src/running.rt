@@ -13,6 +13,7 @@ ghost use Rattle.rlsdb.specs.AuditLines.{WritesAudit, WritesRecords};
 use crate::audit_file::write_audit_line;
 use crate::device::{DeviceIn, DeviceOut};
 use crate::fault::Fault;
+use crate::hinting::Hinted;
 use crate::out_file::OutFile;
 use crate::same_file::{STANDARD_INPUT, require_own};
 use crate::words::ScriptFile;
@@ -93,7 +94,17 @@ where
     ensures emptied { OnOk result (writer_buffer output.new.writer ≡ []) }
 {
     let mut input = DeviceIn::new(rt.alloc(), reader)?;
-    let ran = run_on(rt.alloc(), waits, run, &mut input, output);
+    let ran = if run.hints {
+        run_on(
+            rt.alloc(),
+            waits,
+            run,
+            &mut Hinted::new(rt, run.file, input),
+            output,
+        )
+    } else {
+        run_on(rt.alloc(), waits, run, &mut input, output)
+    };
     let finished = output.finish();
     let book = ran?;
     finished?;
