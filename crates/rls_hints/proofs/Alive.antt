@@ -1,14 +1,14 @@
 -- What a walk may go on with: where a stack leads to words, a walk that has it doesn't stop at one of them.
 use Rattle.std.proofs.Common.{◌≡◌, ℕ, zero, suc, Bool, true, false, ◌||◌, if◌then◌else◌, List, [], ◌∷◌, ◌++◌, ◌⊎◌, map, Option, Some, None, refl, inl, inr, sym, ap, subst, append_assoc}
 use Rattle.std.specs.Prelude.{slice_get, take, drop}
-use Rattle.std.specs.List.{flat_map, list_any}
+use Rattle.std.specs.List.{filter, flat_map, list_any}
 use Rattle.rls_text.specs.declared.token.Token.Token as TextToken
 use Rattle.rls_text.specs.Lang.{only, Both, Mapped, Either, Perhaps, Many, Checked, One}
 use Rattle.rls_hints.specs.declared.token.Token.{Token}
 use Rattle.rls_hints.specs.declared.grammar.Item.{Item}
 use Rattle.rls_hints.specs.declared.grammar.Item.TheVariants as i
 use Rattle.rls_hints.specs.declared.grammar.Phrase.{Phrase}
-use Rattle.rls_hints.specs.Walking.{alternatives, fits, is_open, opened_one, opened, ready_of, behind_one, may_end, is_empty, fault_from}
+use Rattle.rls_hints.specs.Walking.{Coming, Whatever, End, This, Found, alternatives, fits, is_open, may_begin, opened_one, opened, ready_of, behind_one, may_end, is_empty, fault_from}
 use Rattle.rls_hints.specs.Beginnings.{seen}
 
 -- ---- a list that has a value
@@ -59,69 +59,111 @@ not_empty x (y ∷ xs) h = refl
 
 -- ---- stacks that lead to words
 
--- however often phrases are opened, a walk that has the stack doesn't stop at one of the words, nor at their end
-pub Leads : List Item → List TextToken → Type 0
-Leads stack words = (n place : ℕ) (stacks : List (List Item)) → In stack stacks → fault_from place (opened n stacks) (map seen words) ≡ None
+-- what comes first of the words
+abbrev pub first_of : List TextToken → Coming
+first_of [] = End
+first_of (word ∷ words) = This (seen word)
+
+-- the walk, where this was opened so far of the stacks
+unfoldable pub goes_from : ℕ → List (List Item) → List (List Item) → List TextToken → Found
+goes_from place stacks ready [] = if◌then◌else◌ {A = Found} (list_any may_end ready) None (Some (place, ready_of Whatever stacks))
+goes_from place stacks ready (word ∷ words) = if◌then◌else◌ {A = Found} (is_empty (flat_map (behind_one (seen word)) ready)) (Some (place, ready_of Whatever stacks)) (fault_from (suc place) (flat_map (behind_one (seen word)) ready) (map seen words))
+
+-- The stack may stand before the words, and however often phrases are still opened, a walk that has it doesn't stop at one of the words, nor at
+-- their end.
+pub record Leads (stack : List Item) (words : List TextToken) : Type 0 where
+  pub begins : may_begin (first_of words) stack ≡ true
+  pub goes : (n place : ℕ) (stacks now : List (List Item)) → In stack now → goes_from place stacks (opened n (first_of words) now) words ≡ None
+
+-- a walk that begins with the stack
+pub leads_from : (stack : List Item) (words : List TextToken) (place : ℕ) (stacks : List (List Item)) → Leads stack words → In stack stacks → fault_from place stacks (map seen words) ≡ None
+unfolding fault_from goes_from ready_of
+leads_from stack [] place stacks leads h = leads.goes 16 place stacks stacks h
+leads_from stack (word ∷ words) place stacks leads h = leads.goes 16 place stacks stacks h
 
 -- what is no phrase stays on top
-stays : (item : Item) (rest : List Item) (n : ℕ) (stacks : List (List Item)) → opened_one (item ∷ rest) ≡ (item ∷ rest) ∷ [] → In (item ∷ rest) stacks → In (item ∷ rest) (opened n stacks)
+stays : (next : Coming) (stack : List Item) (n : ℕ) (now : List (List Item)) → opened_one next stack ≡ stack ∷ [] → In stack now → In stack (opened n next now)
 unfolding opened
-stays item rest zero stacks e h = h
-stays item rest (suc n) stacks e h = stays item rest n (flat_map opened_one stacks) e (in_flat opened_one (item ∷ rest) (item ∷ rest) stacks h (rw e (inl refl)))
-
-nothing_stays : (n : ℕ) (stacks : List (List Item)) → In [] stacks → In [] (opened n stacks)
-unfolding opened
-nothing_stays zero stacks h = h
-nothing_stays (suc n) stacks h = nothing_stays n (flat_map opened_one stacks) (in_flat opened_one [] [] stacks h (inl refl))
+stays next stack zero now e h = h
+stays next stack (suc n) now e h = stays next stack n (flat_map (opened_one next) now) e (in_flat (opened_one next) stack stack now h (subst (λ opened. In stack opened) (sym e) (inl refl)))
 
 -- where a word is taken the walk goes on
-goes_on : (place : ℕ) (ready : List (List Item)) (token : Token) (tokens : List Token) → is_empty (flat_map (behind_one token) ready) ≡ false
-    → fault_from (suc place) (ready_of (flat_map (behind_one token) ready)) tokens ≡ None → fault_from place ready (token ∷ tokens) ≡ None
-unfolding fault_from
-goes_on place ready token tokens some more = rw some more
+goes_on : (place : ℕ) (stacks ready : List (List Item)) (word : TextToken) (words : List TextToken) (stack : List Item) → In stack (flat_map (behind_one (seen word)) ready) → Leads stack words → goes_from place stacks ready (word ∷ words) ≡ None
+unfolding goes_from
+goes_on place stacks ready word words stack behind leads = rw (not_empty stack _ behind) (leads_from stack words (suc place) _ leads behind)
 
 -- where the line may end it isn't blamed for its end
-ends : (place : ℕ) (ready : List (List Item)) → list_any may_end ready ≡ true → fault_from place ready [] ≡ None
-unfolding fault_from
-ends place ready h = rw h refl
+ends : (place : ℕ) (stacks ready : List (List Item)) (stack : List Item) → In stack ready → may_end stack ≡ true → goes_from place stacks ready [] ≡ None
+unfolding goes_from
+ends place stacks ready stack h e = rw (in_any may_end stack ready h e) refl
 
 -- what takes all leads to all
 any_leads : (words : List TextToken) → Leads (i.Any ∷ []) words
-unfolding ready_of
-any_leads [] n place stacks h = ends place (opened n stacks) (in_any may_end (i.Any ∷ []) (opened n stacks) (stays i.Any [] n stacks refl h) refl)
-any_leads (word ∷ words) n place stacks h =
-    let ready = opened n stacks in
-    let here : In (i.Any ∷ []) ready = stays i.Any [] n stacks refl h in
-    let behind : In (i.Any ∷ []) (flat_map (behind_one (seen word)) ready) = in_flat (behind_one (seen word)) (i.Any ∷ []) (i.Any ∷ []) ready here (inl refl) in
-    goes_on place ready (seen word) (map seen words) (not_empty _ _ behind) (any_leads words 24 (suc place) _ behind)
+any_leads [] = record { begins = refl; goes = λ n place stacks now h. ends place stacks (opened n End now) (i.Any ∷ []) (stays End (i.Any ∷ []) n now refl h) refl }
+any_leads (word ∷ words) = record {
+  begins = refl;
+  goes = λ n place stacks now h.
+    let ready = opened n (This (seen word)) now in
+    let here : In (i.Any ∷ []) ready = stays (This (seen word)) (i.Any ∷ []) n now refl h in
+    goes_on place stacks ready word words (i.Any ∷ []) (in_flat (behind_one (seen word)) (i.Any ∷ []) (i.Any ∷ []) ready here (inl refl)) (any_leads words)
+}
 
--- so does a phrase that isn't opened
-open_leads : (item : Item) (rest : List Item) (place : ℕ) (ready : List (List Item)) (words : List TextToken) → is_open item ≡ true → In (item ∷ rest) ready → fault_from place ready (map seen words) ≡ None
-unfolding ready_of
-open_leads item rest place ready [] o h = ends place ready (in_any may_end (item ∷ rest) ready h o)
-open_leads item rest place ready (word ∷ words) o h =
-    let behind : In (i.Any ∷ []) (flat_map (behind_one (seen word)) ready) = in_flat (behind_one (seen word)) (item ∷ rest) (i.Any ∷ []) ready h (rw o (inl refl)) in
-    goes_on place ready (seen word) (map seen words) (not_empty _ _ behind) (any_leads words 24 (suc place) _ behind)
+-- a phrase that isn't opened takes all
+phrase_goes : (phrase : Phrase) (rest : List Item) (words : List TextToken) (place : ℕ) (stacks ready : List (List Item)) → In (i.Part phrase ∷ rest) ready → goes_from place stacks ready words ≡ None
+phrase_goes phrase rest [] place stacks ready h = ends place stacks ready (i.Part phrase ∷ rest) h refl
+phrase_goes phrase rest (word ∷ words) place stacks ready h = goes_on place stacks ready word words (i.Any ∷ []) (in_flat (behind_one (seen word)) (i.Part phrase ∷ rest) (i.Any ∷ []) ready h (inl refl)) (any_leads words)
 
 -- nothing leads to the end
 pub nothing_leads : Leads [] []
-nothing_leads n place stacks h = ends place (opened n stacks) (in_any may_end [] (opened n stacks) (nothing_stays n stacks h) refl)
+nothing_leads = record { begins = refl; goes = λ n place stacks now h. ends place stacks (opened n End now) [] (stays End [] n now refl h) refl }
+
+or_true : (a : Bool) → (a || true) ≡ true
+or_true true = refl
+or_true false = refl
 
 -- a word that the item stands for, and then what the rest leads to
-word_leads : (item : Item) (rest : List Item) (word : TextToken) (words : List TextToken) → is_open item ≡ false → fits item (seen word) ≡ true → opened_one (item ∷ rest) ≡ (item ∷ rest) ∷ [] → Leads rest words → Leads (item ∷ rest) (word ∷ words)
-unfolding ready_of
-word_leads item rest word words closed fit same more n place stacks h =
-    let ready = opened n stacks in
-    let here : In (item ∷ rest) ready = stays item rest n stacks same h in
-    let behind : In rest (flat_map (behind_one (seen word)) ready) = in_flat (behind_one (seen word)) (item ∷ rest) rest ready here (rw (closed, fit) (inl refl)) in
-    goes_on place ready (seen word) (map seen words) (not_empty _ _ behind) (more 24 (suc place) _ behind)
+word_leads : (item : Item) (rest : List Item) (word : TextToken) (words : List TextToken) → is_open item ≡ false → fits item (seen word) ≡ true → ((next : Coming) → opened_one next (item ∷ rest) ≡ (item ∷ rest) ∷ []) → Leads rest words → Leads (item ∷ rest) (word ∷ words)
+word_leads item rest word words closed fit same more = record {
+  begins = rw (fit) (or_true (is_open item));
+  goes = λ n place stacks now h.
+    let ready = opened n (This (seen word)) now in
+    let here : In (item ∷ rest) ready = stays (This (seen word)) (item ∷ rest) n now (same (This (seen word))) h in
+    goes_on place stacks ready word words rest (in_flat (behind_one (seen word)) (item ∷ rest) rest ready here (rw (closed, fit) (inl refl))) more
+}
+
+-- a row may begin as what it begins may
+row_begins : (next : Coming) (items rest : List Item) → may_begin next (items ++ rest) ≡ true → may_begin next items ≡ true
+row_begins Whatever items rest h = refl
+row_begins End [] rest h = refl
+row_begins End (item ∷ items) rest h = h
+row_begins (This token) [] rest h = refl
+row_begins (This token) (item ∷ items) rest h = h
+
+in_filter : {A : Type 0} (test : A → Bool) (x : A) (xs : List A) → In x xs → test x ≡ true → In x (filter test xs)
+in_filter test x [] h t = absurd h
+in_filter test x (z ∷ xs) h t = elim h [
+  | inl e ↦ (let passes : test z ≡ true = subst (λ y. test y ≡ true) (sym e) t in rw passes (inl e))
+  | inr more ↦ go (test z) (in_filter test x xs more t)
+]
+  where
+    go : (b : Bool) → In x (filter test xs) → In x (if◌then◌else◌ {A = List _} b (z ∷ filter test xs) (filter test xs))
+    go true h = inr h
+    go false h = h
+
+phrase_begins : (words : List TextToken) (phrase : Phrase) (rest : List Item) → may_begin (first_of words) (i.Part phrase ∷ rest) ≡ true
+phrase_begins [] phrase rest = refl
+phrase_begins (word ∷ words) phrase rest = refl
 
 -- what may stand for a phrase, and what the rest leads to behind it
 part_leads : (phrase : Phrase) (items rest : List Item) (words : List TextToken) → In items (alternatives phrase) → Leads (items ++ rest) words → Leads (i.Part phrase ∷ rest) words
-unfolding opened
-part_leads phrase items rest words one more zero place stacks h = open_leads (i.Part phrase) rest place stacks words refl h
-part_leads phrase items rest words one more (suc n) place stacks h =
-    more n place (flat_map opened_one stacks) (in_flat opened_one (i.Part phrase ∷ rest) (items ++ rest) stacks h (in_map (λ its. its ++ rest) items (alternatives phrase) one))
+part_leads phrase items rest words one more = record { begins = phrase_begins words phrase rest; goes = go }
+  where
+    go : (n place : ℕ) (stacks now : List (List Item)) → In (i.Part phrase ∷ rest) now → goes_from place stacks (opened n (first_of words) now) words ≡ None
+    unfolding opened
+    go zero place stacks now h = phrase_goes phrase rest words place stacks now h
+    go (suc n) place stacks now h =
+        let row : In items (filter (may_begin (first_of words)) (alternatives phrase)) = in_filter (may_begin (first_of words)) items (alternatives phrase) one (row_begins (first_of words) items rest more.begins) in
+        more.goes n place stacks (flat_map (opened_one (first_of words)) now) (in_flat (opened_one (first_of words)) (i.Part phrase ∷ rest) (items ++ rest) now h (in_map (λ its. its ++ rest) items (filter (may_begin (first_of words)) (alternatives phrase)) row))
 
 -- ---- languages that items read
 
@@ -130,12 +172,12 @@ pub Reads : {A : Type 0} → (List TextToken → A → Type 0) → List Item →
 Reads {A} p items = (front words : List TextToken) (a : A) (rest : List Item) → p front a → Leads rest words → Leads (items ++ rest) (front ++ words)
 
 -- a word or a sign
-pub reads_only : (item : Item) (token : TextToken) → is_open item ≡ false → ((rest : List Item) → opened_one (item ∷ rest) ≡ (item ∷ rest) ∷ []) → fits item (seen token) ≡ true → Reads (only token) (item ∷ [])
-reads_only item token closed same fit front words a rest h more = rw h (word_leads item rest token words closed fit (same rest) more)
+pub reads_only : (item : Item) (token : TextToken) → is_open item ≡ false → ((next : Coming) (rest : List Item) → opened_one next (item ∷ rest) ≡ (item ∷ rest) ∷ []) → fits item (seen token) ≡ true → Reads (only token) (item ∷ [])
+reads_only item token closed same fit front words a rest h more = rw h (word_leads item rest token words closed fit (λ next. same next rest) more)
 
 -- a word of a kind
-pub reads_one : {A : Type 0} (item : Item) (f : TextToken → Option A) → is_open item ≡ false → ((rest : List Item) → opened_one (item ∷ rest) ≡ (item ∷ rest) ∷ []) → ((t : TextToken) (a : A) → f t ≡ Some a → fits item (seen t) ≡ true) → Reads (One f) (item ∷ [])
-reads_one item f closed same fit front words a rest h more = rw (h.alone) (word_leads item rest h.token words closed (fit h.token a h.value) (same rest) more)
+pub reads_one : {A : Type 0} (item : Item) (f : TextToken → Option A) → is_open item ≡ false → ((next : Coming) (rest : List Item) → opened_one next (item ∷ rest) ≡ (item ∷ rest) ∷ []) → ((t : TextToken) (a : A) → f t ≡ Some a → fits item (seen t) ≡ true) → Reads (One f) (item ∷ [])
+reads_one item f closed same fit front words a rest h more = rw (h.alone) (word_leads item rest h.token words closed (fit h.token a h.value) (λ next. same next rest) more)
 
 -- nothing
 reads_nothing : (rest : List Item) (words front : List TextToken) → front ≡ [] → Leads rest words → Leads rest (front ++ words)
@@ -250,9 +292,9 @@ head_closed (i.Part phrase) h = cc
 head_closed i.Any h = cc
 head_closed _ h = refl
 
-head_same : (item : Item) → is_head item ≡ true → (rest : List Item) → opened_one (item ∷ rest) ≡ (item ∷ rest) ∷ []
-head_same (i.Part phrase) h rest = cc
-head_same _ h rest = refl
+head_same : (item : Item) → is_head item ≡ true → (next : Coming) (rest : List Item) → opened_one next (item ∷ rest) ≡ (item ∷ rest) ∷ []
+head_same (i.Part phrase) h next rest = cc
+head_same _ h next rest = refl
 
 both_true : (a b : Bool) → if◌then◌else◌ {A = Bool} a b false ≡ true → (a ≡ true) × (b ≡ true)
 both_true true b h = (refl, h)

@@ -7,45 +7,42 @@ use Rattle.rls_text.specs.declared.token.Token.Token as TextToken
 use Rattle.rls_text.specs.Commands.{SpellsCommand}
 use Rattle.rls_hints.specs.declared.token.Token.{Token}
 use Rattle.rls_hints.specs.declared.grammar.Item.{Item}
-use Rattle.rls_hints.specs.Walking.{ready_of, behind_one, may_end, is_empty, fault_from, fault_in, fault_of}
+use Rattle.rls_hints.specs.Walking.{Whatever, End, This, Found, ready_of, behind_one, may_end, is_empty, fault_from, fault_in, fault_of}
 use Rattle.rls_hints.specs.Beginnings.{seen, IsBlamed, IsNoBeginning}
 use Rattle.rls_hints.proofs.Spelled.{spelled_taken}
 
-Found : Type 0
-Found = Option (ℕ × List (List Item))
-
 -- it stops at no earlier place
-later : (tokens : List Token) (place : ℕ) (ready : List (List Item)) (found : ℕ × List (List Item)) → fault_from place ready tokens ≡ Some found → place ≤ found.0
+later : (tokens : List Token) (place : ℕ) (stacks : List (List Item)) (found : ℕ × List (List Item)) → fault_from place stacks tokens ≡ Some found → place ≤ found.0
 unfolding fault_from
-later [] place ready found h = go (list_any may_end ready) h
+later [] place stacks found h = go (list_any may_end (ready_of End stacks)) h
   where
-    go : (b : Bool) → if◌then◌else◌ {A = Found} b None (Some (place, ready)) ≡ Some found → place ≤ found.0
+    go : (b : Bool) → if◌then◌else◌ {A = Found} b None (Some (place, ready_of Whatever stacks)) ≡ Some found → place ≤ found.0
     go true e = cc
-    go false e = let same : (place, ready) ≡ found = cc e in subst (λ f. place ≤ f.0) same (omega arith)
-later (token ∷ tokens) place ready found h = go (is_empty (flat_map (behind_one token) ready)) h
+    go false e = let same : (place, ready_of Whatever stacks) ≡ found = cc e in subst (λ f. place ≤ f.0) same (omega arith)
+later (token ∷ tokens) place stacks found h = go (is_empty (flat_map (behind_one token) (ready_of (This token) stacks))) h
   where
-    go : (b : Bool) → if◌then◌else◌ {A = Found} b (Some (place, ready)) (fault_from (suc place) (ready_of (flat_map (behind_one token) ready)) tokens) ≡ Some found → place ≤ found.0
-    go true e = let same : (place, ready) ≡ found = cc e in subst (λ f. place ≤ f.0) same (omega arith)
-    go false e = let more = later tokens (suc place) (ready_of (flat_map (behind_one token) ready)) found e in omega (arith, more)
+    go : (b : Bool) → if◌then◌else◌ {A = Found} b (Some (place, ready_of Whatever stacks)) (fault_from (suc place) (flat_map (behind_one token) (ready_of (This token) stacks)) tokens) ≡ Some found → place ≤ found.0
+    go true e = let same : (place, ready_of Whatever stacks) ≡ found = cc e in subst (λ f. place ≤ f.0) same (omega arith)
+    go false e = let more = later tokens (suc place) (flat_map (behind_one token) (ready_of (This token) stacks)) found e in omega (arith, more)
 
 -- whatever stands behind the word at which it stops
-same_behind : (words rest : List TextToken) (place : ℕ) (ready : List (List Item)) (found : ℕ × List (List Item)) → fault_from place ready (map seen words) ≡ Some found → found.0 < place + length words
-    → fault_from place ready (map seen (take (suc found.0 - place) words ++ rest)) ≡ Some found
+same_behind : (words rest : List TextToken) (place : ℕ) (stacks : List (List Item)) (found : ℕ × List (List Item)) → fault_from place stacks (map seen words) ≡ Some found → found.0 < place + length words
+    → fault_from place stacks (map seen (take (suc found.0 - place) words ++ rest)) ≡ Some found
 unfolding fault_from
-same_behind [] rest place ready found h inside = let e = later [] place ready found h in absurd (omega (arith, e, inside))
-same_behind (word ∷ words) rest place ready found h inside = go (is_empty (flat_map (behind_one (seen word)) ready)) refl h
+same_behind [] rest place stacks found h inside = let e = later [] place stacks found h in absurd (omega (arith, e, inside))
+same_behind (word ∷ words) rest place stacks found h inside = go (is_empty (flat_map (behind_one (seen word)) (ready_of (This (seen word)) stacks))) refl h
   where
-    go : (b : Bool) → is_empty (flat_map (behind_one (seen word)) ready) ≡ b → if◌then◌else◌ {A = Found} b (Some (place, ready)) (fault_from (suc place) (ready_of (flat_map (behind_one (seen word)) ready)) (map seen words)) ≡ Some found
-        → fault_from place ready (map seen (take (suc found.0 - place) (word ∷ words) ++ rest)) ≡ Some found
+    go : (b : Bool) → is_empty (flat_map (behind_one (seen word)) (ready_of (This (seen word)) stacks)) ≡ b → if◌then◌else◌ {A = Found} b (Some (place, ready_of Whatever stacks)) (fault_from (suc place) (flat_map (behind_one (seen word)) (ready_of (This (seen word)) stacks)) (map seen words)) ≡ Some found
+        → fault_from place stacks (map seen (take (suc found.0 - place) (word ∷ words) ++ rest)) ≡ Some found
     go true none e =
-        let same : (place, ready) ≡ found = cc e in
+        let same : (place, ready_of Whatever stacks) ≡ found = cc e in
         let here : place ≡ found.0 = ap (λ f. f.0) same in
         let one : suc found.0 - place ≡ suc 0 = omega (arith, here) in
         rw (one, none) e
     go false some e =
         let more : suc place ≤ found.0 = later (map seen words) (suc place) _ found e in
         let less : suc found.0 - place ≡ suc (suc found.0 - suc place) = omega (arith, more) in
-        rw (less, some) (same_behind words rest (suc place) (ready_of (flat_map (behind_one (seen word)) ready)) found e (omega (arith, inside)))
+        rw (less, some) (same_behind words rest (suc place) (flat_map (behind_one (seen word)) (ready_of (This (seen word)) stacks)) found e (omega (arith, inside)))
 
 -- So it blames no word of a command, and no word with which one goes on.
 pub rightly_blamed : (words : List TextToken) (place : ℕ) (ready : List (List Item)) → fault_of (map seen words) ≡ Some (place, ready) → IsBlamed words place

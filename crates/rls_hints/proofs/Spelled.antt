@@ -18,9 +18,9 @@ use Rattle.rls_text.specs.WaysBack as back
 use Rattle.rls_hints.specs.declared.grammar.Item.{Item}
 use Rattle.rls_hints.specs.declared.grammar.Item.TheVariants as i
 use Rattle.rls_hints.specs.declared.grammar.Phrase.TheVariants as p
-use Rattle.rls_hints.specs.Walking.{alternatives, fits, start, ready_of, fault_in, fault_of}
+use Rattle.rls_hints.specs.Walking.{alternatives, fits, start, fault_in, fault_of}
 use Rattle.rls_hints.specs.Beginnings.{seen}
-use Rattle.rls_hints.proofs.Alive.{Reads, row, by_row, by_perhaps, by_many, by_both, by_mapped, by_checked, by_either, by_token, by_after, reads_one, Leads, nothing_leads}
+use Rattle.rls_hints.proofs.Alive.{Reads, row, by_row, by_perhaps, by_many, by_both, by_mapped, by_checked, by_either, by_token, by_after, reads_one, Leads, leads_from, nothing_leads}
 
 -- ---- words of a kind
 
@@ -51,15 +51,15 @@ text_fits w.Bad x h = cc (back.text_begins w.Bad x h)
 
 name_reads : Reads g.name.spells (i.Name ∷ [])
 unfolding g.name
-name_reads = reads_one i.Name v.name_of refl (λ rest. refl) name_fits
+name_reads = reads_one i.Name v.name_of refl (λ next rest. refl) name_fits
 
 digits_reads : Reads g.digits.spells (i.Number ∷ [])
 unfolding g.digits
-digits_reads = reads_one i.Number v.number_of refl (λ rest. refl) number_fits
+digits_reads = reads_one i.Number v.number_of refl (λ next rest. refl) number_fits
 
 text_reads : Reads g.text.spells (i.Text ∷ [])
 unfolding g.text
-text_reads = by_mapped (reads_one i.Text v.text_of refl (λ rest. refl) text_fits)
+text_reads = by_mapped (reads_one i.Text v.text_of refl (λ next rest. refl) text_fits)
 
 -- ---- names and items
 
@@ -550,7 +550,7 @@ append_none (x ∷ xs) = ap (λ ys. x ∷ ys) (append_none xs)
 
 -- What spells a command is taken to its end.
 pub spelled_taken : (words : List TextToken) (command : Command) → SpellsCommand words command → fault_of (map seen words) ≡ None
-unfolding fault_in ready_of
+unfolding fault_in
 spelled_taken words command h =
     let leads : Leads start words = subst (λ ws. Leads start ws) (append_none words) (command_reads words [] command [] h nothing_leads) in
-    leads 24 0 (start ∷ []) (inl refl)
+    leads_from start words 0 (start ∷ []) leads (inl refl)

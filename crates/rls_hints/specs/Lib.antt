@@ -1,3 +1,4 @@
+pub mod Keywords
 pub mod Walking
 pub mod Beginnings
 pub mod Reading

@@ -1,5 +1,6 @@
 //! The grammar, as data: for each phrase the rows of what may stand for it.
 
+use crate::keyword::Keyword;
 use crate::token::Mark;
 use Item::{Name, Number, Part, Sign, Text, Word};
 
@@ -98,8 +99,7 @@ pub enum Phrase {
 /// What stands in a rule.
 #[derive(Clone, Copy)]
 pub enum Item {
-    /// This keyword, in lower case.
-    Word(&'static str),
+    Word(Keyword),
     Sign(Mark),
     Name,
     Number,
@@ -126,11 +126,11 @@ pub const RULES: [Rule; 208] = [
     Rule {
         phrase: Phrase::Command,
         items: &[
-            Word("insert"),
-            Word("into"),
+            Word(Keyword::Insert),
+            Word(Keyword::Into),
             Name,
             Part(Phrase::ColumnsMaybe),
-            Word("values"),
+            Word(Keyword::Values),
             Part(Phrase::Tuple),
             Part(Phrase::MoreTuples),
             Part(Phrase::Returning),
@@ -139,9 +139,9 @@ pub const RULES: [Rule; 208] = [
     Rule {
         phrase: Phrase::Command,
         items: &[
-            Word("update"),
+            Word(Keyword::Update),
             Name,
-            Word("set"),
+            Word(Keyword::Set),
             Part(Phrase::Assigned),
             Part(Phrase::MoreAssigned),
             Part(Phrase::Where),
@@ -151,8 +151,8 @@ pub const RULES: [Rule; 208] = [
     Rule {
         phrase: Phrase::Command,
         items: &[
-            Word("delete"),
-            Word("from"),
+            Word(Keyword::Delete),
+            Word(Keyword::From),
             Name,
             Part(Phrase::Where),
             Part(Phrase::Returning),
@@ -160,39 +160,57 @@ pub const RULES: [Rule; 208] = [
     },
     Rule {
         phrase: Phrase::Command,
-        items: &[Word("create"), Part(Phrase::Created)],
+        items: &[Word(Keyword::Create), Part(Phrase::Created)],
     },
     Rule {
         phrase: Phrase::Command,
-        items: &[Word("alter"), Part(Phrase::Altered)],
+        items: &[Word(Keyword::Alter), Part(Phrase::Altered)],
     },
     Rule {
         phrase: Phrase::Command,
-        items: &[Word("drop"), Word("policy"), Name, Word("on"), Name],
+        items: &[
+            Word(Keyword::Drop),
+            Word(Keyword::Policy),
+            Name,
+            Word(Keyword::On),
+            Name,
+        ],
     },
     Rule {
         phrase: Phrase::Command,
-        items: &[Word("grant"), Part(Phrase::Granted)],
+        items: &[Word(Keyword::Grant), Part(Phrase::Granted)],
     },
     Rule {
         phrase: Phrase::Command,
-        items: &[Word("revoke"), Part(Phrase::Revoked)],
+        items: &[Word(Keyword::Revoke), Part(Phrase::Revoked)],
     },
     Rule {
         phrase: Phrase::Command,
-        items: &[Word("set"), Word("role"), Part(Phrase::ChosenRole)],
+        items: &[
+            Word(Keyword::Set),
+            Word(Keyword::Role),
+            Part(Phrase::ChosenRole),
+        ],
     },
     Rule {
         phrase: Phrase::Command,
-        items: &[Word("reset"), Word("role")],
+        items: &[Word(Keyword::Reset), Word(Keyword::Role)],
     },
     Rule {
         phrase: Phrase::Command,
-        items: &[Word("begin"), Part(Phrase::Work), Part(Phrase::Modes)],
+        items: &[
+            Word(Keyword::Begin),
+            Part(Phrase::Work),
+            Part(Phrase::Modes),
+        ],
     },
     Rule {
         phrase: Phrase::Command,
-        items: &[Word("start"), Word("transaction"), Part(Phrase::Modes)],
+        items: &[
+            Word(Keyword::Start),
+            Word(Keyword::Transaction),
+            Part(Phrase::Modes),
+        ],
     },
     Rule {
         phrase: Phrase::Command,
@@ -221,15 +239,15 @@ pub const RULES: [Rule; 208] = [
     },
     Rule {
         phrase: Phrase::Item,
-        items: &[Word("true")],
+        items: &[Word(Keyword::True)],
     },
     Rule {
         phrase: Phrase::Item,
-        items: &[Word("false")],
+        items: &[Word(Keyword::False)],
     },
     Rule {
         phrase: Phrase::Item,
-        items: &[Word("null")],
+        items: &[Word(Keyword::Null)],
     },
     Rule {
         phrase: Phrase::Item,
@@ -245,7 +263,7 @@ pub const RULES: [Rule; 208] = [
     },
     Rule {
         phrase: Phrase::Item,
-        items: &[Word("current_user")],
+        items: &[Word(Keyword::CurrentUser)],
     },
     Rule {
         phrase: Phrase::Minus,
@@ -283,9 +301,9 @@ pub const RULES: [Rule; 208] = [
     Rule {
         phrase: Phrase::Select,
         items: &[
-            Word("select"),
+            Word(Keyword::Select),
             Part(Phrase::Selected),
-            Word("from"),
+            Word(Keyword::From),
             Name,
             Part(Phrase::Alias),
             Part(Phrase::Where),
@@ -298,7 +316,7 @@ pub const RULES: [Rule; 208] = [
     Rule {
         phrase: Phrase::Selected,
         items: &[
-            Word("count"),
+            Word(Keyword::Count),
             Sign(Mark::Open),
             Sign(Mark::Star),
             Sign(Mark::Close),
@@ -322,7 +340,7 @@ pub const RULES: [Rule; 208] = [
     },
     Rule {
         phrase: Phrase::As,
-        items: &[Word("as")],
+        items: &[Word(Keyword::As)],
     },
     Rule {
         phrase: Phrase::Where,
@@ -330,7 +348,7 @@ pub const RULES: [Rule; 208] = [
     },
     Rule {
         phrase: Phrase::Where,
-        items: &[Word("where"), Part(Phrase::Expression)],
+        items: &[Word(Keyword::Where), Part(Phrase::Expression)],
     },
     Rule {
         phrase: Phrase::Returning,
@@ -338,7 +356,7 @@ pub const RULES: [Rule; 208] = [
     },
     Rule {
         phrase: Phrase::Returning,
-        items: &[Word("returning"), Part(Phrase::Returned)],
+        items: &[Word(Keyword::Returning), Part(Phrase::Returned)],
     },
     Rule {
         phrase: Phrase::Returned,
@@ -359,7 +377,11 @@ pub const RULES: [Rule; 208] = [
     },
     Rule {
         phrase: Phrase::MoreOr,
-        items: &[Word("or"), Part(Phrase::Conjunction), Part(Phrase::MoreOr)],
+        items: &[
+            Word(Keyword::Or),
+            Part(Phrase::Conjunction),
+            Part(Phrase::MoreOr),
+        ],
     },
     Rule {
         phrase: Phrase::Conjunction,
@@ -371,7 +393,11 @@ pub const RULES: [Rule; 208] = [
     },
     Rule {
         phrase: Phrase::MoreAnd,
-        items: &[Word("and"), Part(Phrase::Test), Part(Phrase::MoreAnd)],
+        items: &[
+            Word(Keyword::And),
+            Part(Phrase::Test),
+            Part(Phrase::MoreAnd),
+        ],
     },
     Rule {
         phrase: Phrase::Test,
@@ -388,7 +414,7 @@ pub const RULES: [Rule; 208] = [
     },
     Rule {
         phrase: Phrase::Nots,
-        items: &[Word("not"), Part(Phrase::Nots)],
+        items: &[Word(Keyword::Not), Part(Phrase::Nots)],
     },
     Rule {
         phrase: Phrase::NullTests,
@@ -397,9 +423,9 @@ pub const RULES: [Rule; 208] = [
     Rule {
         phrase: Phrase::NullTests,
         items: &[
-            Word("is"),
+            Word(Keyword::Is),
             Part(Phrase::Not),
-            Word("null"),
+            Word(Keyword::Null),
             Part(Phrase::NullTests),
         ],
     },
@@ -409,7 +435,7 @@ pub const RULES: [Rule; 208] = [
     },
     Rule {
         phrase: Phrase::Not,
-        items: &[Word("not")],
+        items: &[Word(Keyword::Not)],
     },
     Rule {
         phrase: Phrase::Compared,
@@ -455,7 +481,7 @@ pub const RULES: [Rule; 208] = [
         phrase: Phrase::In,
         items: &[
             Part(Phrase::Not),
-            Word("in"),
+            Word(Keyword::In),
             Sign(Mark::Open),
             Part(Phrase::Choices),
             Sign(Mark::Close),
@@ -512,7 +538,7 @@ pub const RULES: [Rule; 208] = [
     Rule {
         phrase: Phrase::Operand,
         items: &[
-            Word("exists"),
+            Word(Keyword::Exists),
             Sign(Mark::Open),
             Part(Phrase::Select),
             Sign(Mark::Close),
@@ -584,16 +610,16 @@ pub const RULES: [Rule; 208] = [
     // CREATE and ALTER
     Rule {
         phrase: Phrase::Created,
-        items: &[Word("role"), Name, Part(Phrase::Attributes)],
+        items: &[Word(Keyword::Role), Name, Part(Phrase::Attributes)],
     },
     Rule {
         phrase: Phrase::Created,
-        items: &[Word("user"), Name, Part(Phrase::Attributes)],
+        items: &[Word(Keyword::User), Name, Part(Phrase::Attributes)],
     },
     Rule {
         phrase: Phrase::Created,
         items: &[
-            Word("table"),
+            Word(Keyword::Table),
             Name,
             Sign(Mark::Open),
             Part(Phrase::Definition),
@@ -605,9 +631,9 @@ pub const RULES: [Rule; 208] = [
     Rule {
         phrase: Phrase::Created,
         items: &[
-            Word("policy"),
+            Word(Keyword::Policy),
             Name,
-            Word("on"),
+            Word(Keyword::On),
             Name,
             Part(Phrase::Permissive),
             Part(Phrase::For),
@@ -619,7 +645,7 @@ pub const RULES: [Rule; 208] = [
     Rule {
         phrase: Phrase::Altered,
         items: &[
-            Word("role"),
+            Word(Keyword::Role),
             Name,
             Part(Phrase::With),
             Part(Phrase::Attribute),
@@ -629,20 +655,20 @@ pub const RULES: [Rule; 208] = [
     Rule {
         phrase: Phrase::Altered,
         items: &[
-            Word("table"),
+            Word(Keyword::Table),
             Name,
             Part(Phrase::RowChange),
-            Word("row"),
-            Word("level"),
-            Word("security"),
+            Word(Keyword::Row),
+            Word(Keyword::Level),
+            Word(Keyword::Security),
         ],
     },
     Rule {
         phrase: Phrase::Altered,
         items: &[
-            Word("policy"),
+            Word(Keyword::Policy),
             Name,
-            Word("on"),
+            Word(Keyword::On),
             Name,
             Part(Phrase::To),
             Part(Phrase::Using),
@@ -667,31 +693,31 @@ pub const RULES: [Rule; 208] = [
     },
     Rule {
         phrase: Phrase::With,
-        items: &[Word("with")],
+        items: &[Word(Keyword::With)],
     },
     Rule {
         phrase: Phrase::Attribute,
-        items: &[Word("superuser")],
+        items: &[Word(Keyword::Superuser)],
     },
     Rule {
         phrase: Phrase::Attribute,
-        items: &[Word("nosuperuser")],
+        items: &[Word(Keyword::Nosuperuser)],
     },
     Rule {
         phrase: Phrase::Attribute,
-        items: &[Word("login")],
+        items: &[Word(Keyword::Login)],
     },
     Rule {
         phrase: Phrase::Attribute,
-        items: &[Word("nologin")],
+        items: &[Word(Keyword::Nologin)],
     },
     Rule {
         phrase: Phrase::Attribute,
-        items: &[Word("bypassrls")],
+        items: &[Word(Keyword::Bypassrls)],
     },
     Rule {
         phrase: Phrase::Attribute,
-        items: &[Word("nobypassrls")],
+        items: &[Word(Keyword::Nobypassrls)],
     },
     Rule {
         phrase: Phrase::MoreAttributes,
@@ -707,27 +733,27 @@ pub const RULES: [Rule; 208] = [
     },
     Rule {
         phrase: Phrase::ColumnType,
-        items: &[Word("integer")],
+        items: &[Word(Keyword::Integer)],
     },
     Rule {
         phrase: Phrase::ColumnType,
-        items: &[Word("int")],
+        items: &[Word(Keyword::Int)],
     },
     Rule {
         phrase: Phrase::ColumnType,
-        items: &[Word("bigint")],
+        items: &[Word(Keyword::Bigint)],
     },
     Rule {
         phrase: Phrase::ColumnType,
-        items: &[Word("text")],
+        items: &[Word(Keyword::Text)],
     },
     Rule {
         phrase: Phrase::ColumnType,
-        items: &[Word("boolean")],
+        items: &[Word(Keyword::Boolean)],
     },
     Rule {
         phrase: Phrase::ColumnType,
-        items: &[Word("bool")],
+        items: &[Word(Keyword::Bool)],
     },
     Rule {
         phrase: Phrase::Marks,
@@ -739,11 +765,11 @@ pub const RULES: [Rule; 208] = [
     },
     Rule {
         phrase: Phrase::Mark,
-        items: &[Word("not"), Word("null")],
+        items: &[Word(Keyword::Not), Word(Keyword::Null)],
     },
     Rule {
         phrase: Phrase::Mark,
-        items: &[Word("primary"), Word("key")],
+        items: &[Word(Keyword::Primary), Word(Keyword::Key)],
     },
     Rule {
         phrase: Phrase::MoreColumns,
@@ -765,8 +791,8 @@ pub const RULES: [Rule; 208] = [
         phrase: Phrase::Key,
         items: &[
             Sign(Mark::Comma),
-            Word("primary"),
-            Word("key"),
+            Word(Keyword::Primary),
+            Word(Keyword::Key),
             Sign(Mark::Open),
             Name,
             Part(Phrase::MoreNames),
@@ -775,19 +801,19 @@ pub const RULES: [Rule; 208] = [
     },
     Rule {
         phrase: Phrase::RowChange,
-        items: &[Word("enable")],
+        items: &[Word(Keyword::Enable)],
     },
     Rule {
         phrase: Phrase::RowChange,
-        items: &[Word("disable")],
+        items: &[Word(Keyword::Disable)],
     },
     Rule {
         phrase: Phrase::RowChange,
-        items: &[Word("force")],
+        items: &[Word(Keyword::Force)],
     },
     Rule {
         phrase: Phrase::RowChange,
-        items: &[Word("no"), Word("force")],
+        items: &[Word(Keyword::No), Word(Keyword::Force)],
     },
     Rule {
         phrase: Phrase::Permissive,
@@ -795,15 +821,15 @@ pub const RULES: [Rule; 208] = [
     },
     Rule {
         phrase: Phrase::Permissive,
-        items: &[Word("as"), Part(Phrase::PermissiveWord)],
+        items: &[Word(Keyword::As), Part(Phrase::PermissiveWord)],
     },
     Rule {
         phrase: Phrase::PermissiveWord,
-        items: &[Word("permissive")],
+        items: &[Word(Keyword::Permissive)],
     },
     Rule {
         phrase: Phrase::PermissiveWord,
-        items: &[Word("restrictive")],
+        items: &[Word(Keyword::Restrictive)],
     },
     Rule {
         phrase: Phrase::For,
@@ -811,27 +837,27 @@ pub const RULES: [Rule; 208] = [
     },
     Rule {
         phrase: Phrase::For,
-        items: &[Word("for"), Part(Phrase::PolicyKind)],
+        items: &[Word(Keyword::For), Part(Phrase::PolicyKind)],
     },
     Rule {
         phrase: Phrase::PolicyKind,
-        items: &[Word("all")],
+        items: &[Word(Keyword::All)],
     },
     Rule {
         phrase: Phrase::PolicyKind,
-        items: &[Word("select")],
+        items: &[Word(Keyword::Select)],
     },
     Rule {
         phrase: Phrase::PolicyKind,
-        items: &[Word("insert")],
+        items: &[Word(Keyword::Insert)],
     },
     Rule {
         phrase: Phrase::PolicyKind,
-        items: &[Word("update")],
+        items: &[Word(Keyword::Update)],
     },
     Rule {
         phrase: Phrase::PolicyKind,
-        items: &[Word("delete")],
+        items: &[Word(Keyword::Delete)],
     },
     Rule {
         phrase: Phrase::To,
@@ -840,14 +866,14 @@ pub const RULES: [Rule; 208] = [
     Rule {
         phrase: Phrase::To,
         items: &[
-            Word("to"),
+            Word(Keyword::To),
             Part(Phrase::Grantee),
             Part(Phrase::MoreGrantees),
         ],
     },
     Rule {
         phrase: Phrase::Grantee,
-        items: &[Word("public")],
+        items: &[Word(Keyword::Public)],
     },
     Rule {
         phrase: Phrase::Grantee,
@@ -872,7 +898,7 @@ pub const RULES: [Rule; 208] = [
     Rule {
         phrase: Phrase::Using,
         items: &[
-            Word("using"),
+            Word(Keyword::Using),
             Sign(Mark::Open),
             Part(Phrase::Expression),
             Sign(Mark::Close),
@@ -885,8 +911,8 @@ pub const RULES: [Rule; 208] = [
     Rule {
         phrase: Phrase::Check,
         items: &[
-            Word("with"),
-            Word("check"),
+            Word(Keyword::With),
+            Word(Keyword::Check),
             Sign(Mark::Open),
             Part(Phrase::Expression),
             Sign(Mark::Close),
@@ -897,10 +923,10 @@ pub const RULES: [Rule; 208] = [
         phrase: Phrase::Granted,
         items: &[
             Part(Phrase::Privileges),
-            Word("on"),
+            Word(Keyword::On),
             Part(Phrase::Table),
             Name,
-            Word("to"),
+            Word(Keyword::To),
             Part(Phrase::Grantee),
             Part(Phrase::MoreGrantees),
             Part(Phrase::GrantOption),
@@ -911,7 +937,7 @@ pub const RULES: [Rule; 208] = [
         items: &[
             Name,
             Part(Phrase::MoreNames),
-            Word("to"),
+            Word(Keyword::To),
             Name,
             Part(Phrase::MoreNames),
             Part(Phrase::Settings),
@@ -922,10 +948,10 @@ pub const RULES: [Rule; 208] = [
         items: &[
             Part(Phrase::GrantOptionFor),
             Part(Phrase::Privileges),
-            Word("on"),
+            Word(Keyword::On),
             Part(Phrase::Table),
             Name,
-            Word("from"),
+            Word(Keyword::From),
             Part(Phrase::Grantee),
             Part(Phrase::MoreGrantees),
             Part(Phrase::Cascade),
@@ -935,11 +961,11 @@ pub const RULES: [Rule; 208] = [
         phrase: Phrase::Revoked,
         items: &[
             Part(Phrase::MembershipOption),
-            Word("option"),
-            Word("for"),
+            Word(Keyword::Option),
+            Word(Keyword::For),
             Name,
             Part(Phrase::MoreNames),
-            Word("from"),
+            Word(Keyword::From),
             Name,
             Part(Phrase::MoreNames),
             Part(Phrase::Cascade),
@@ -950,7 +976,7 @@ pub const RULES: [Rule; 208] = [
         items: &[
             Name,
             Part(Phrase::MoreNames),
-            Word("from"),
+            Word(Keyword::From),
             Name,
             Part(Phrase::MoreNames),
             Part(Phrase::Cascade),
@@ -959,7 +985,7 @@ pub const RULES: [Rule; 208] = [
     Rule {
         phrase: Phrase::Privileges,
         items: &[
-            Word("all"),
+            Word(Keyword::All),
             Part(Phrase::PrivilegesWord),
             Part(Phrase::ColumnsMaybe),
         ],
@@ -974,7 +1000,7 @@ pub const RULES: [Rule; 208] = [
     },
     Rule {
         phrase: Phrase::PrivilegesWord,
-        items: &[Word("privileges")],
+        items: &[Word(Keyword::Privileges)],
     },
     Rule {
         phrase: Phrase::Privilege,
@@ -982,19 +1008,19 @@ pub const RULES: [Rule; 208] = [
     },
     Rule {
         phrase: Phrase::Privilege,
-        items: &[Word("delete")],
+        items: &[Word(Keyword::Delete)],
     },
     Rule {
         phrase: Phrase::ColumnPrivilege,
-        items: &[Word("select")],
+        items: &[Word(Keyword::Select)],
     },
     Rule {
         phrase: Phrase::ColumnPrivilege,
-        items: &[Word("insert")],
+        items: &[Word(Keyword::Insert)],
     },
     Rule {
         phrase: Phrase::ColumnPrivilege,
-        items: &[Word("update")],
+        items: &[Word(Keyword::Update)],
     },
     Rule {
         phrase: Phrase::MorePrivileges,
@@ -1014,7 +1040,7 @@ pub const RULES: [Rule; 208] = [
     },
     Rule {
         phrase: Phrase::Table,
-        items: &[Word("table")],
+        items: &[Word(Keyword::Table)],
     },
     Rule {
         phrase: Phrase::GrantOption,
@@ -1022,7 +1048,11 @@ pub const RULES: [Rule; 208] = [
     },
     Rule {
         phrase: Phrase::GrantOption,
-        items: &[Word("with"), Word("grant"), Word("option")],
+        items: &[
+            Word(Keyword::With),
+            Word(Keyword::Grant),
+            Word(Keyword::Option),
+        ],
     },
     Rule {
         phrase: Phrase::GrantOptionFor,
@@ -1030,7 +1060,11 @@ pub const RULES: [Rule; 208] = [
     },
     Rule {
         phrase: Phrase::GrantOptionFor,
-        items: &[Word("grant"), Word("option"), Word("for")],
+        items: &[
+            Word(Keyword::Grant),
+            Word(Keyword::Option),
+            Word(Keyword::For),
+        ],
     },
     Rule {
         phrase: Phrase::Cascade,
@@ -1042,35 +1076,35 @@ pub const RULES: [Rule; 208] = [
     },
     Rule {
         phrase: Phrase::CascadeWord,
-        items: &[Word("cascade")],
+        items: &[Word(Keyword::Cascade)],
     },
     Rule {
         phrase: Phrase::CascadeWord,
-        items: &[Word("restrict")],
+        items: &[Word(Keyword::Restrict)],
     },
     Rule {
         phrase: Phrase::MembershipOption,
-        items: &[Word("admin")],
+        items: &[Word(Keyword::Admin)],
     },
     Rule {
         phrase: Phrase::MembershipOption,
-        items: &[Word("inherit")],
+        items: &[Word(Keyword::Inherit)],
     },
     Rule {
         phrase: Phrase::MembershipOption,
-        items: &[Word("set")],
+        items: &[Word(Keyword::Set)],
     },
     Rule {
         phrase: Phrase::Flag,
-        items: &[Word("true")],
+        items: &[Word(Keyword::True)],
     },
     Rule {
         phrase: Phrase::Flag,
-        items: &[Word("option")],
+        items: &[Word(Keyword::Option)],
     },
     Rule {
         phrase: Phrase::Flag,
-        items: &[Word("false")],
+        items: &[Word(Keyword::False)],
     },
     Rule {
         phrase: Phrase::Settings,
@@ -1079,7 +1113,7 @@ pub const RULES: [Rule; 208] = [
     Rule {
         phrase: Phrase::Settings,
         items: &[
-            Word("with"),
+            Word(Keyword::With),
             Part(Phrase::MembershipOption),
             Part(Phrase::Flag),
             Part(Phrase::MoreSettings),
@@ -1100,7 +1134,7 @@ pub const RULES: [Rule; 208] = [
     },
     Rule {
         phrase: Phrase::ChosenRole,
-        items: &[Word("none")],
+        items: &[Word(Keyword::None)],
     },
     Rule {
         phrase: Phrase::ChosenRole,
@@ -1109,19 +1143,19 @@ pub const RULES: [Rule; 208] = [
     // blocks
     Rule {
         phrase: Phrase::CommitWord,
-        items: &[Word("commit")],
+        items: &[Word(Keyword::Commit)],
     },
     Rule {
         phrase: Phrase::CommitWord,
-        items: &[Word("end")],
+        items: &[Word(Keyword::End)],
     },
     Rule {
         phrase: Phrase::RollbackWord,
-        items: &[Word("rollback")],
+        items: &[Word(Keyword::Rollback)],
     },
     Rule {
         phrase: Phrase::RollbackWord,
-        items: &[Word("abort")],
+        items: &[Word(Keyword::Abort)],
     },
     Rule {
         phrase: Phrase::Work,
@@ -1133,11 +1167,11 @@ pub const RULES: [Rule; 208] = [
     },
     Rule {
         phrase: Phrase::WorkWord,
-        items: &[Word("work")],
+        items: &[Word(Keyword::Work)],
     },
     Rule {
         phrase: Phrase::WorkWord,
-        items: &[Word("transaction")],
+        items: &[Word(Keyword::Transaction)],
     },
     Rule {
         phrase: Phrase::Modes,
@@ -1149,19 +1183,23 @@ pub const RULES: [Rule; 208] = [
     },
     Rule {
         phrase: Phrase::Mode,
-        items: &[Word("isolation"), Word("level"), Word("serializable")],
+        items: &[
+            Word(Keyword::Isolation),
+            Word(Keyword::Level),
+            Word(Keyword::Serializable),
+        ],
     },
     Rule {
         phrase: Phrase::Mode,
-        items: &[Word("read"), Part(Phrase::Access)],
+        items: &[Word(Keyword::Read), Part(Phrase::Access)],
     },
     Rule {
         phrase: Phrase::Access,
-        items: &[Word("only")],
+        items: &[Word(Keyword::Only)],
     },
     Rule {
         phrase: Phrase::Access,
-        items: &[Word("write")],
+        items: &[Word(Keyword::Write)],
     },
     Rule {
         phrase: Phrase::MoreModes,

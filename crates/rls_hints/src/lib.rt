@@ -3,6 +3,7 @@
 
 mod expected;
 mod grammar;
+mod keyword;
 mod laws;
 mod nearest;
 mod reading;
@@ -11,8 +12,9 @@ mod token;
 mod walking;
 
 pub use grammar::{Item, Phrase, RULES, Rule};
+pub use keyword::{Keyword, keyword_str};
 pub use laws::{blamed_begins_nothing, spelled_is_taken};
 pub use reading::read_words;
 pub use telling::{Place, hint_of, label_hint};
 pub use token::{Mark, Placed, Token};
-pub use walking::{Fault, find_fault, is_next, may_end};
+pub use walking::{COMMAND, Fault, Next, ROLE, find_fault};

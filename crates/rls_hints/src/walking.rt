@@ -1,22 +1,32 @@
 //! The walk through the words of a line, with all that may stand behind those that were met.
 
-ghost use Rattle.std.specs.Prelude.{◌≡◌, ◌++◌, ◌∷◌, [], map, option_map, IfOk, OnOk};
-ghost use Rattle.std.specs.List.{flat_map, list_any};
+ghost use Rattle.std.specs.Prelude.{◌≡◌, ◌++◌, ◌∷◌, [], map, option_map, Some, IfOk, OnOk};
+ghost use Rattle.std.specs.List.{filter, flat_map, list_all, list_any};
 ghost use Rattle.rls_hints.specs.Walking as spec;
 
 use crate::grammar::{Item, Phrase, RULES};
+use crate::keyword::keyword_str;
 use crate::token::{Placed, Token};
 use rls_value::{Items, is_reserved};
 use std::alloc::{AllocError, Global};
 
 /// How many phrases may be opened one inside another, or left out one behind another, before a word.
-const ROUNDS: usize = 24;
+const ROUNDS: usize = 16;
 
 /// What a command begins with.
 pub const COMMAND: [Item; 2] = [Item::Part(Phrase::Command), Item::Part(Phrase::Semicolon)];
 
 /// What stands behind `\connect`.
 pub const ROLE: [Item; 1] = [Item::Name];
+
+/// What comes next.
+#[derive(Clone, Copy)]
+pub enum Next<'a> {
+    Whatever,
+    /// The end of the line.
+    End,
+    This(&'a Token),
+}
 
 /// A word that can't stand where it does.
 #[derive(Drop)]
@@ -28,6 +38,7 @@ pub struct Fault {
 }
 
 /// The first word that can't stand where it does, or the end of the line.
+#[tactic(auto, unfolding(crate::specs::Walking::fault_from, crate::specs::Walking::fault_in))]
 pub fn find_fault(
     alloc: Global,
     start: &[Item],
@@ -35,38 +46,56 @@ pub fn find_fault(
 ) -> Result<Option<Fault>, AllocError>
     ensures { IfOk result (λ found. option_map (λ fault. (fault.place, fault.ready.items)) found ≡ spec.fault_in start.now (map (λ word. word.token) words.now)) }
 {
-    let mut ready = begin(alloc, start)?;
+    let mut stacks = begin(alloc, start)?;
     for (place, word) in words.iter().enumerate() {
-        let behind = all_behind(alloc, ready.as_slice(), &word.token)?;
+        let behind = all_behind(alloc, stacks.as_slice(), &word.token)?;
         if behind.is_empty() {
             drop(behind);
-            return Ok(Some(Fault { place, ready }));
+            return found(alloc, place, stacks);
         }
-        drop(ready);
-        ready = open_all(alloc, behind)?;
+        drop(stacks);
+        stacks = behind;
     }
-    if may_end(ready.as_slice()) {
-        drop(ready);
+    if may_end(alloc, stacks.as_slice())? {
+        drop(stacks);
         Ok(None)
     } else {
-        Ok(Some(Fault {
-            place: words.len(),
-            ready,
-        }))
+        found(alloc, words.len(), stacks)
     }
 }
 
-/// What may begin.
 fn begin(alloc: Global, start: &[Item]) -> Result<Vec<Items<Item>>, AllocError>
-    ensures { IfOk result (λ ready. ready.items ≡ spec.ready_of (start.now ∷ [])) }
+    ensures { IfOk result (λ stacks. stacks.items ≡ start.now ∷ []) }
 {
     let mut stacks = Vec::new(alloc);
     push(alloc, &[], start, &mut stacks)?;
-    open_all(alloc, stacks)
+    Ok(stacks)
+}
+
+/// The fault at the place, with all that could stand there.
+fn found(alloc: Global, place: usize, stacks: Vec<Items<Item>>) -> Result<Option<Fault>, AllocError>
+    ensures { IfOk result (λ found. option_map (λ fault. (fault.place, fault.ready.items)) found ≡ Some (place, spec.ready_of spec.Whatever stacks.items)) }
+{
+    let ready = open_all(alloc, Next::Whatever, stacks.as_slice());
+    drop(stacks);
+    Ok(Some(Fault {
+        place,
+        ready: ready?,
+    }))
 }
 
 /// Whether the line may end here.
-pub fn may_end(ready: &[Items<Item>]) -> bool
+fn may_end(alloc: Global, stacks: &[Items<Item>]) -> Result<bool, AllocError>
+    ensures { IfOk result (λ may. may ≡ list_any spec.may_end (spec.ready_of spec.End stacks.now)) }
+{
+    let ready = open_all(alloc, Next::End, stacks)?;
+    let may = is_any_ended(ready.as_slice());
+    drop(ready);
+    Ok(may)
+}
+
+/// Whether nothing more has to stand in one of the stacks.
+pub fn is_any_ended(ready: &[Items<Item>]) -> bool
     ensures { result ≡ list_any spec.may_end ready.now }
 {
     ready.iter().any(|stack| is_ended(stack.as_slice()))
@@ -81,78 +110,21 @@ fn is_ended(stack: &[Item]) -> bool
     }
 }
 
-/// Whether the word may stand here.
-pub fn is_next(ready: &[Items<Item>], token: &Token) -> bool
-    ensures { result ≡ list_any (spec.is_next token.now) ready.now }
-{
-    ready.iter().any(|stack| is_first(stack.as_slice(), token))
-}
-
-fn is_first(stack: &[Item], token: &Token) -> bool
-    ensures { result ≡ spec.is_next token.now stack.now }
-{
-    match stack {
-        [first, ..] => fits(*first, token),
-        [] => false,
-    }
-}
-
-/// The stacks with a phrase on top opened, again and again.
-#[tactic(auto, using(crate::proofs::Walks::open_begin, crate::proofs::Walks::open_next, crate::proofs::Walks::open_end))]
-fn open_all(alloc: Global, stacks: Vec<Items<Item>>) -> Result<Vec<Items<Item>>, AllocError>
-    ensures { IfOk result (λ ready. ready.items ≡ spec.ready_of stacks.items) }
-{
-    let mut ready = stacks;
-    for _turn in 0..ROUNDS {
-        let opened = open_once(alloc, ready.as_slice())?;
-        drop(ready);
-        ready = opened;
-    }
-    Ok(ready)
-}
-
-/// Each stack with a phrase on top by those with what may stand for it.
-fn open_once(alloc: Global, stacks: &[Items<Item>]) -> Result<Vec<Items<Item>>, AllocError>
-    ensures { IfOk result (λ opened. opened.items ≡ flat_map spec.opened_one stacks.now) }
-{
-    let mut opened = Vec::with_capacity(alloc, stacks.len())?;
-    for stack in stacks.iter() {
-        push_opened(alloc, stack.as_slice(), &mut opened)?;
-    }
-    Ok(opened)
-}
-
-fn push_opened(
-    alloc: Global,
-    stack: &[Item],
-    opened: &mut Vec<Items<Item>>,
-) -> Result<(), AllocError>
-    ensures { OnOk result (opened.new.items ≡ opened.old.items ++ spec.opened_one stack.now) }
-{
-    match stack {
-        [Item::Part(phrase), rest @ ..] => push_alternatives(alloc, *phrase, rest, opened),
-        _ => push(alloc, &[], stack, opened),
-    }
-}
-
-fn push_alternatives(
-    alloc: Global,
-    phrase: Phrase,
-    rest: &[Item],
-    opened: &mut Vec<Items<Item>>,
-) -> Result<(), AllocError>
-    ensures { OnOk result (opened.new.items ≡ opened.old.items ++ map (λ items. items ++ rest.now) (spec.alternatives phrase)) }
-{
-    for rule in RULES.iter() {
-        if rule.phrase == phrase {
-            push(alloc, rule.items, rest, opened)?;
-        }
-    }
-    Ok(())
-}
-
 /// What stands behind the word, where it may stand.
 fn all_behind(
+    alloc: Global,
+    stacks: &[Items<Item>],
+    token: &Token,
+) -> Result<Vec<Items<Item>>, AllocError>
+    ensures { IfOk result (λ behind. behind.items ≡ flat_map (spec.behind_one token.now) (spec.ready_of (spec.This token.now) stacks.now)) }
+{
+    let ready = open_all(alloc, Next::This(token), stacks)?;
+    let behind = behind_ready(alloc, ready.as_slice(), token);
+    drop(ready);
+    behind
+}
+
+fn behind_ready(
     alloc: Global,
     ready: &[Items<Item>],
     token: &Token,
@@ -181,6 +153,87 @@ fn push_behind(
     }
 }
 
+/// The stacks with a phrase on top opened, again and again.
+#[tactic(auto, using(crate::proofs::Walks::open_begin, crate::proofs::Walks::open_next, crate::proofs::Walks::open_closed, crate::proofs::Walks::open_end))]
+fn open_all(
+    alloc: Global,
+    next: Next<'_>,
+    stacks: &[Items<Item>],
+) -> Result<Vec<Items<Item>>, AllocError>
+    ensures { IfOk result (λ ready. ready.items ≡ spec.ready_of (spec.coming_of next) stacks.now) }
+{
+    let mut ready = open_once(alloc, next, stacks)?;
+    for _turn in 1..ROUNDS {
+        if are_closed(ready.as_slice()) {
+            return Ok(ready);
+        }
+        let opened = open_once(alloc, next, ready.as_slice())?;
+        drop(ready);
+        ready = opened;
+    }
+    Ok(ready)
+}
+
+/// Whether no stack has a phrase on top.
+fn are_closed(stacks: &[Items<Item>]) -> bool
+    ensures { result ≡ list_all spec.is_closed stacks.now }
+{
+    stacks.iter().all(|stack| is_closed(stack.as_slice()))
+}
+
+fn is_closed(stack: &[Item]) -> bool
+    ensures { result ≡ spec.is_closed stack.now }
+{
+    !matches!(stack, [Item::Part(_), ..])
+}
+
+/// Each stack with a phrase on top by those with what may stand for it.
+fn open_once(
+    alloc: Global,
+    next: Next<'_>,
+    stacks: &[Items<Item>],
+) -> Result<Vec<Items<Item>>, AllocError>
+    ensures { IfOk result (λ opened. opened.items ≡ flat_map (spec.opened_one (spec.coming_of next)) stacks.now) }
+{
+    let mut opened = Vec::with_capacity(alloc, stacks.len())?;
+    for stack in stacks.iter() {
+        push_opened(alloc, next, stack.as_slice(), &mut opened)?;
+    }
+    Ok(opened)
+}
+
+fn push_opened(
+    alloc: Global,
+    next: Next<'_>,
+    stack: &[Item],
+    opened: &mut Vec<Items<Item>>,
+) -> Result<(), AllocError>
+    ensures { OnOk result (opened.new.items ≡ opened.old.items ++ spec.opened_one (spec.coming_of next) stack.now) }
+{
+    match stack {
+        [Item::Part(phrase), rest @ ..] => push_alternatives(alloc, next, *phrase, rest, opened),
+        _ => push(alloc, &[], stack, opened),
+    }
+}
+
+#[tactic(auto, unfolding(crate::specs::Walking::alternatives))]
+fn push_alternatives(
+    alloc: Global,
+    next: Next<'_>,
+    phrase: Phrase,
+    rest: &[Item],
+    opened: &mut Vec<Items<Item>>,
+) -> Result<(), AllocError>
+    ensures { OnOk result (opened.new.items ≡ opened.old.items ++ map (λ items. items ++ rest.now) (filter (spec.may_begin (spec.coming_of next)) (spec.alternatives phrase))) }
+{
+    for rule in RULES.iter() {
+        if rule.phrase == phrase && may_begin(next, rule.items) {
+            push(alloc, rule.items, rest, opened)?;
+        }
+    }
+    Ok(())
+}
+
 fn push(
     alloc: Global,
     front: &[Item],
@@ -195,14 +248,22 @@ fn push(
     Ok(())
 }
 
+/// Whether the items may stand before what comes next, as far as the first one tells.
+fn may_begin(next: Next<'_>, items: &[Item]) -> bool
+    ensures { result ≡ spec.may_begin (spec.coming_of next) items.now }
+{
+    match (next, items) {
+        (Next::End, [first, ..]) => is_open(*first),
+        (Next::This(token), [first, ..]) => is_open(*first) || fits(*first, token),
+        _ => true,
+    }
+}
+
 /// Whether anything may follow: a phrase that isn't opened yet, or what takes all.
 fn is_open(item: Item) -> bool
     ensures { result ≡ spec.is_open item }
 {
-    match item {
-        Item::Part(_) | Item::Any => true,
-        _ => false,
-    }
+    matches!(item, Item::Part(_) | Item::Any)
 }
 
 /// Whether the word is what the item stands for.
@@ -210,7 +271,7 @@ fn fits(item: Item, token: &Token) -> bool
     ensures { result ≡ spec.fits item token.now }
 {
     match (item, token) {
-        (Item::Word(keyword), Token::Word(word)) => word.as_str() == keyword,
+        (Item::Word(keyword), Token::Word(word)) => word.as_str() == keyword_str(keyword),
         (Item::Sign(sign), Token::Sign(other)) => sign == *other,
         (Item::Name, Token::Word(word)) => !is_reserved(word.as_str().as_bytes()),
         (Item::Number, Token::Number) => true,
