@@ -103,9 +103,9 @@ any_leads [] = record { begins = refl; goes = λ n place stacks now h. ends plac
 any_leads (word ∷ words) = record {
   begins = refl;
   goes = λ n place stacks now h.
-    let ready = opened n (This (seen word)) now in
-    let here : In (i.Any ∷ []) ready = stays (This (seen word)) (i.Any ∷ []) n now refl h in
-    goes_on place stacks ready word words (i.Any ∷ []) (in_flat (behind_one (seen word)) (i.Any ∷ []) (i.Any ∷ []) ready here (inl refl)) (any_leads words)
+      let ready = opened n (This (seen word)) now in
+      let here : In (i.Any ∷ []) ready = stays (This (seen word)) (i.Any ∷ []) n now refl h in
+      goes_on place stacks ready word words (i.Any ∷ []) (in_flat (behind_one (seen word)) (i.Any ∷ []) (i.Any ∷ []) ready here (inl refl)) (any_leads words);
 }
 
 -- a phrase that isn't opened takes all
@@ -126,9 +126,9 @@ word_leads : (item : Item) (rest : List Item) (word : TextToken) (words : List T
 word_leads item rest word words closed fit same more = record {
   begins = rw (fit) (or_true (is_open item));
   goes = λ n place stacks now h.
-    let ready = opened n (This (seen word)) now in
-    let here : In (item ∷ rest) ready = stays (This (seen word)) (item ∷ rest) n now (same (This (seen word))) h in
-    goes_on place stacks ready word words rest (in_flat (behind_one (seen word)) (item ∷ rest) rest ready here (rw (closed, fit) (inl refl))) more
+      let ready = opened n (This (seen word)) now in
+      let here : In (item ∷ rest) ready = stays (This (seen word)) (item ∷ rest) n now (same (This (seen word))) h in
+      goes_on place stacks ready word words rest (in_flat (behind_one (seen word)) (item ∷ rest) rest ready here (rw (closed, fit) (inl refl))) more;
 }
 
 -- a row may begin as what it begins may
@@ -156,10 +156,10 @@ phrase_begins (word ∷ words) phrase rest = refl
 
 -- what may stand for a phrase, and what the rest leads to behind it
 part_leads : (phrase : Phrase) (items rest : List Item) (words : List TextToken) → In items (alternatives phrase) → Leads (items ++ rest) words → Leads (i.Part phrase ∷ rest) words
+unfolding opened
 part_leads phrase items rest words one more = record { begins = phrase_begins words phrase rest; goes = go }
   where
     go : (n place : ℕ) (stacks now : List (List Item)) → In (i.Part phrase ∷ rest) now → goes_from place stacks (opened n (first_of words) now) words ≡ None
-    unfolding opened
     go zero place stacks now h = phrase_goes phrase rest words place stacks now h
     go (suc n) place stacks now h =
         let row : In items (filter (may_begin (first_of words)) (alternatives phrase)) = in_filter (may_begin (first_of words)) items (alternatives phrase) one (row_begins (first_of words) items rest more.begins) in
