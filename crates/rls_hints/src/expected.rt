@@ -5,11 +5,11 @@ ghost use Rattle.std.specs.List.{list_any};
 ghost use Rattle.rls_hints.specs.Expected as spec;
 
 use crate::grammar::Item;
+use crate::grammar::Item::{Name, Number, Sign, Text, Word};
 use crate::keyword::{Keyword, keyword_str};
 use crate::nearest::Nearest;
 use crate::token::Mark;
 use crate::walking::is_any_ended;
-use Item::{Name, Number, Sign, Text, Word};
 use rls_value::Items;
 use std::alloc::{AllocError, Global};
 

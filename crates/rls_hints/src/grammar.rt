@@ -1,8 +1,8 @@
 //! The grammar, as data: for each phrase the rows of what may stand for it.
 
+use crate::grammar::Item::{Name, Number, Part, Sign, Text, Word};
 use crate::keyword::Keyword;
 use crate::token::Mark;
-use Item::{Name, Number, Part, Sign, Text, Word};
 
 /// A part of the grammar that has rules.
 #[derive(Clone, Copy, PartialEq, Eq)]

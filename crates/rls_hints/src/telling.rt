@@ -73,7 +73,8 @@ pub fn label_hint(alloc: Global, file: &str, line: u64) -> Result<String, AllocE
 }
 
 fn limit_hint(alloc: Global, place: Place<'_>, text: String) -> Result<String, AllocError> {
-    let hint = format!(in alloc; "{}:{}:1: {}\n", place.file, place.line, text);
+    let (file, line) = (place.file, place.line);
+    let hint = format!(in alloc; "{file}:{line}:1: {text}\n");
     drop(text);
     hint
 }
@@ -94,9 +95,9 @@ fn syntax_hint(
 
 // The words are those of a statement, and it is none.
 fn whole_hint(alloc: Global, place: Place<'_>) -> Result<String, AllocError> {
+    let (file, line) = (place.file, place.line);
     format!(in alloc;
-        "{}:{}:1: the words are in place, but something is said twice, or cannot stand together\n",
-        place.file, place.line
+        "{file}:{line}:1: the words are in place, but something is said twice, or cannot stand together\n"
     )
 }
 
@@ -123,10 +124,8 @@ fn fault_hint(
     fault: &Fault,
 ) -> Result<String, AllocError> {
     let column = column_of(place.text, words.get(fault.place));
-    let mut hint = format!(in alloc;
-        "{}:{}:{}: syntax error at ",
-        place.file, place.line, column
-    )?;
+    let (file, line) = (place.file, place.line);
+    let mut hint = format!(in alloc; "{file}:{line}:{column}: syntax error at ")?;
     match words.get(fault.place) {
         Some(word) => push_met(alloc, &mut hint, place.text, word, fault)?,
         None => hint.push_str("the end of the line")?,
