@@ -14,7 +14,7 @@ use Rattle.rls_hints.specs.Beginnings.{seen}
 -- ---- a list that has a value
 
 -- it is in the list
-pub In : {A : Type 0} → A → List A → Type 0
+abbrev pub In : {A : Type 0} → A → List A → Type 0
 In x [] = ⊥
 In x (y ∷ ys) = (y ≡ x) ⊎ In x ys
 
@@ -36,11 +36,6 @@ in_flat f x y (z ∷ xs) h g = elim h [
 in_map : {A B : Type 0} (f : A → B) (x : A) (xs : List A) → In x xs → In (f x) (map f xs)
 in_map f x [] h = absurd h
 in_map f x (z ∷ xs) h = elim h [ inl e ↦ inl (ap f e) | inr more ↦ inr (in_map f x xs more) ]
-
-in_at : {A : Type 0} (k : ℕ) (x : A) (xs : List A) → slice_get xs k ≡ Some x → In x xs
-in_at k x [] h = cc
-in_at zero x (y ∷ xs) h = inl (cc h)
-in_at (suc k) x (y ∷ xs) h = inr (in_at k x xs h)
 
 in_any : {A : Type 0} (test : A → Bool) (x : A) (xs : List A) → In x xs → test x ≡ true → list_any test xs ≡ true
 in_any test x [] h t = absurd h
@@ -168,8 +163,8 @@ part_leads phrase items rest words one more = record { begins = phrase_begins wo
 -- ---- languages that items read
 
 -- the items lead to what the language spells, and then to what follows
-pub Reads : {A : Type 0} → (List TextToken → A → Type 0) → List Item → Type 0
-Reads {A} p items = (front words : List TextToken) (a : A) (rest : List Item) → p front a → Leads rest words → Leads (items ++ rest) (front ++ words)
+abbrev pub Reads : {A : Type 0} → (List TextToken → A → Type 0) → List Item → Type 0
+Reads {A = A} p items = (front words : List TextToken) (a : A) (rest : List Item) → p front a → Leads rest words → Leads (items ++ rest) (front ++ words)
 
 -- a word or a sign
 pub reads_only : (item : Item) (token : TextToken) → is_open item ≡ false → ((next : Coming) (rest : List Item) → opened_one next (item ∷ rest) ≡ (item ∷ rest) ∷ []) → fits item (seen token) ≡ true → Reads (only token) (item ∷ [])
@@ -284,7 +279,7 @@ is_head i.Any = false
 is_head _ = true
 
 abbrev pub are_only : TextToken → List Item → Bool
-are_only token (item ∷ []) = if is_head item then fits item (seen token) else false
+are_only token (item ∷ []) = if◌then◌else◌ {A = Bool} (is_head item) (fits item (seen token)) false
 are_only token _ = false
 
 head_closed : (item : Item) → is_head item ≡ true → is_open item ≡ false
@@ -300,12 +295,15 @@ both_true : (a b : Bool) → if◌then◌else◌ {A = Bool} a b false ≡ true �
 both_true true b h = (refl, h)
 both_true false b h = cc
 
-pub by_token : {token : TextToken} {items : List Item} → are_only token items ≡ true → Reads (only token) items
-by_token {token = token} {items = []} h = cc
-by_token {token = token} {items = item ∷ []} h =
+only_reads : (token : TextToken) (items : List Item) → are_only token items ≡ true → Reads (only token) items
+only_reads token [] h = cc
+only_reads token (item ∷ []) h =
     let parts = both_true (is_head item) (fits item (seen token)) h in
     reads_only item token (head_closed item parts.0) (head_same item parts.0) parts.1
-by_token {token = token} {items = item ∷ other ∷ more} h = cc
+only_reads token (item ∷ other ∷ more) h = cc
+
+pub by_token : {token : TextToken} {items : List Item} → are_only token items ≡ true → Reads (only token) items
+by_token {token = token} {items = items} h = only_reads token items h
 
 -- a word, and then what follows
 pub by_after : {A B : Type 0} {f : Unit {0} × A → B} {token : TextToken} {q : List TextToken → A → Type 0} {items : List Item} → are_only token (take 1 items) ≡ true → Reads q (drop 1 items) → Reads (Mapped f (Both (only token) q)) items

@@ -72,7 +72,7 @@ number_seen n (c ∷ cs) = go (is_digit c) (λ m. number_seen m cs)
     go false more = refl
 
 -- a text ends where it is read to
-read_to : (whole : List ℕ) → Option (List ℕ × List ℕ) → Token × List ℕ
+unfoldable read_to : (whole : List ℕ) → Option (List ℕ × List ℕ) → Token × List ℕ
 read_to whole o = seen_first (text_from whole o)
 
 content_kept : (whole front : List ℕ) (o : Option (List ℕ × List ℕ)) → read_to whole (with_content front o) ≡ read_to whole o

@@ -215,7 +215,7 @@ module _ (inner : Cut tree_of expr_heads expr_more false) (whole : Reads inner.r
 
 expression_reads : (depth : ℕ) → Reads (g.expr depth).rule.spells (i.Part p.Expression ∷ [])
 unfolding g.expr
-expression_reads zero front words a rest h more = absurd h
+expression_reads zero = λ front words a rest h more. absurd h
 expression_reads (suc depth) = or_reads (g.expr depth) (expression_reads depth)
 
 -- ---- SELECT, INSERT, UPDATE and DELETE
@@ -524,7 +524,7 @@ work_reads = by_mapped (by_perhaps p.Work refl refl (by_either (by_row p.WorkWor
 
 begin_reads : Reads b.begin.spells (i.Part p.Command ∷ [])
 unfolding b.begin b.begun_or_started b.begun b.started alternatives
-begin_reads = by_mapped (by_either (by_row p.Command 11 refl (by_after refl (by_both 1 work_reads modes_read))) (by_row p.Command 12 refl (by_after refl (by_after refl modes_read))))
+begin_reads = by_mapped (by_either (by_row p.Command 11 refl (by_after refl (by_mapped (by_both 1 work_reads modes_read)))) (by_row p.Command 12 refl (by_after refl (by_after refl modes_read))))
 
 commit_reads : Reads b.commit.spells (i.Part p.Command ∷ [])
 unfolding b.commit alternatives

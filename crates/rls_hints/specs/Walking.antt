@@ -58,8 +58,9 @@ coming_of (n.This token) = This token.now
 -- the items may stand before what comes next, as far as the first one tells
 abbrev pub may_begin : Coming → List Item → Bool
 may_begin Whatever items = true
-may_begin next [] = true
+may_begin End [] = true
 may_begin End (item ∷ items) = is_open item
+may_begin (This token) [] = true
 may_begin (This token) (item ∷ items) = is_open item || fits item token
 
 -- a stack with a phrase on top, by those with what may stand for it there
