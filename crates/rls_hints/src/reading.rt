@@ -53,13 +53,13 @@ fn next(alloc: Global, chars: &[char]) -> Result<Option<(Placed, &[char])>, Allo
     ensures { IfOk result (λ read. spec.next_placed chars.now ≡ words.read_now read) }
 {
     match behind_blanks(chars) {
-        [first, behind @ ..] => Ok(Some(placed(alloc, *first, behind)?)),
+        [first, behind @ ..] => Ok(Some(word_at(alloc, *first, behind)?)),
         [] => Ok(None),
     }
 }
 
 /// The word that begins with the character, and what follows it.
-fn placed(alloc: Global, first: char, behind: &[char]) -> Result<(Placed, &[char]), AllocError>
+fn word_at(alloc: Global, first: char, behind: &[char]) -> Result<(Placed, &[char]), AllocError>
     ensures { IfOk result (λ read. (read.0.token, read.1.now) ≡ spec.seen_first (words.word_from first behind.now)) }
     ensures left { IfOk result (λ read. read.0.left ≡ length behind.now + 1) }
     ensures behind { IfOk result (λ read. read.0.behind ≡ length read.1.now) }
