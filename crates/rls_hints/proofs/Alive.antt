@@ -1,6 +1,6 @@
 -- What a walk may go on with: where a stack leads to words, a walk that has it doesn't stop at one of them.
 use Rattle.std.proofs.Common.{◌≡◌, ℕ, zero, suc, Bool, true, false, ◌||◌, if◌then◌else◌, List, [], ◌∷◌, ◌++◌, ◌⊎◌, map, Option, Some, None, refl, inl, inr, sym, ap, subst, append_assoc}
-use Rattle.std.specs.Prelude.{slice_get, take, drop}
+use Rattle.std.specs.Prelude.{take, drop}
 use Rattle.std.specs.List.{filter, flat_map, list_any}
 use Rattle.rls_text.specs.declared.token.Token.Token as TextToken
 use Rattle.rls_text.specs.Lang.{only, Both, Mapped, Either, Perhaps, Many, Checked, One}
@@ -141,7 +141,7 @@ in_filter test x (z ∷ xs) h t = elim h [
   | inr more ↦ go (test z) (in_filter test x xs more t)
 ]
   where
-    go : (b : Bool) → In x (filter test xs) → In x (if◌then◌else◌ {A = List _} b (z ∷ filter test xs) (filter test xs))
+    go : (b : Bool) → In x (filter test xs) → In x (if◌then◌else◌ b (z ∷ filter test xs) (filter test xs))
     go true h = inr h
     go false h = h
 
