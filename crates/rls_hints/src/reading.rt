@@ -60,7 +60,7 @@ fn next(alloc: Global, chars: &[char]) -> Result<Option<(Placed, &[char])>, Allo
 
 /// The word that begins with the character, and what follows it.
 fn word_at(alloc: Global, first: char, behind: &[char]) -> Result<(Placed, &[char]), AllocError>
-    ensures { IfOk result (λ read. (read.0.token, read.1.now) ≡ spec.seen_first (words.word_from first behind.now)) }
+    ensures word { IfOk result (λ read. (read.0.token, read.1.now) ≡ spec.seen_first (words.word_from first behind.now)) }
     ensures left { IfOk result (λ read. read.0.left ≡ length behind.now + 1) }
     ensures behind { IfOk result (λ read. read.0.behind ≡ length read.1.now) }
 {
