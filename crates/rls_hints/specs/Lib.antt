@@ -1,0 +1,5 @@
+pub mod Keywords
+pub mod Walking
+pub mod Beginnings
+pub mod Reading
+pub mod Expected
