@@ -4,7 +4,7 @@ use Rattle.std.specs.List.{flat_map, list_all}
 use Rattle.rls_hints.specs.declared.grammar.Item.{Item}
 use Rattle.rls_hints.specs.declared.grammar.Item.TheVariants as i
 use Rattle.rls_hints.specs.Walking.{Coming, opened, opened_one, ready_of, is_closed}
-use Rattle.rls_hints.proofs.Reads.{one_left, none_left}
+use Rattle.rls_hints.proofs.PlacedWords.{one_left, none_left}
 
 pub open_begin : (next : Coming) (stacks : List (List Item)) → ready_of next stacks ≡ opened (16 - 1) next (flat_map (opened_one next) stacks)
 unfolding ready_of opened

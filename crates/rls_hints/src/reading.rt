@@ -27,7 +27,7 @@ fn chars_of(alloc: Global, text: &str) -> Result<Vec<char>, AllocError>
     text.chars().collect(alloc)
 }
 
-#[tactic(auto, using(crate::proofs::Reads::words_begin, crate::proofs::Reads::words_none, crate::proofs::Reads::words_end, crate::proofs::Reads::words_last, crate::proofs::Reads::words_more))]
+#[tactic(auto, using(crate::proofs::PlacedWords::words_begin, crate::proofs::PlacedWords::words_none, crate::proofs::PlacedWords::words_end, crate::proofs::PlacedWords::words_last, crate::proofs::PlacedWords::words_more))]
 fn words_in(alloc: Global, chars: &[char]) -> Result<Vec<Placed>, AllocError>
     ensures { IfOk result (λ placed. placed.items ≡ spec.placed_in (length chars.now) chars.now) }
 {
@@ -198,7 +198,7 @@ fn behind_digits(chars: &[char]) -> &[char]
 }
 
 /// A text, from behind the opening quote.
-#[tactic(auto, using(crate::proofs::Reads::quoted_begins, crate::proofs::Reads::quoted_open, crate::proofs::Reads::quoted_out, crate::proofs::Reads::quoted_ends, crate::proofs::Reads::quoted_more))]
+#[tactic(auto, using(crate::proofs::PlacedWords::quoted_begins, crate::proofs::PlacedWords::quoted_open, crate::proofs::PlacedWords::quoted_out, crate::proofs::PlacedWords::quoted_ends, crate::proofs::PlacedWords::quoted_more))]
 fn quoted(chars: &[char]) -> (Token, &[char])
     ensures { (result.0, result.1.now) ≡ spec.text_or_bad chars.now (spec.behind_quoted (length chars.now) chars.now) }
 {
