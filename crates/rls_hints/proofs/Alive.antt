@@ -2,13 +2,14 @@
 use Rattle.std.proofs.Common.{◌≡◌, ℕ, zero, suc, Bool, true, false, ◌||◌, if◌then◌else◌, List, [], ◌∷◌, ◌++◌, ◌⊎◌, map, Option, Some, None, refl, inl, inr, sym, ap, subst, append_assoc}
 use Rattle.std.specs.Prelude.{take, drop}
 use Rattle.std.specs.List.{filter, flat_map, list_any}
-use Rattle.rls_text.specs.declared.token.Token.Token as TextToken
+use Rattle.rls_text.specs.declared.token.Token.{Token as TextToken}
 use Rattle.rls_text.specs.Lang.{only, Both, Mapped, Either, Perhaps, Many, Checked, One}
 use Rattle.rls_hints.specs.declared.token.Token.{Token}
 use Rattle.rls_hints.specs.declared.grammar.Item.{Item}
 use Rattle.rls_hints.specs.declared.grammar.Item.TheVariants as i
 use Rattle.rls_hints.specs.declared.grammar.Phrase.{Phrase}
-use Rattle.rls_hints.specs.Walking.{Coming, Whatever, End, This, Found, alternatives, fits, is_open, may_begin, opened_one, opened, ready_of, behind_one, may_end, is_empty, fault_from}
+use Rattle.rls_hints.specs.Rows.{alternatives}
+use Rattle.rls_hints.specs.Walking.{Coming, Whatever, End, This, Found, fits, is_open, may_begin, opened_one, opened, ready_of, behind_one, may_end, is_empty, fault_from}
 use Rattle.rls_hints.specs.Beginnings.{seen}
 
 -- ---- a list that has a value
@@ -163,16 +164,16 @@ part_leads phrase items rest words one more = record { begins = phrase_begins wo
 -- ---- languages that items read
 
 -- the items lead to what the language spells, and then to what follows
-abbrev pub Reads : {A : Type 0} → (List TextToken → A → Type 0) → List Item → Type 0
-Reads {A = A} p items = (front words : List TextToken) (a : A) (rest : List Item) → p front a → Leads rest words → Leads (items ++ rest) (front ++ words)
+pub record Reads {A : Type 0} (p : List TextToken → A → Type 0) (items : List Item) : Type 0 where
+  pub read : (front words : List TextToken) (a : A) (rest : List Item) → p front a → Leads rest words → Leads (items ++ rest) (front ++ words)
 
 -- a word or a sign
 pub reads_only : (item : Item) (token : TextToken) → is_open item ≡ false → ((next : Coming) (rest : List Item) → opened_one next (item ∷ rest) ≡ (item ∷ rest) ∷ []) → fits item (seen token) ≡ true → Reads (only token) (item ∷ [])
-reads_only item token closed same fit front words a rest h more = rw h (word_leads item rest token words closed fit (λ next. same next rest) more)
+reads_only item token closed same fit = record { read = λ front words a rest h more. rw h (word_leads item rest token words closed fit (λ next. same next rest) more) }
 
 -- a word of a kind
 pub reads_one : {A : Type 0} (item : Item) (f : TextToken → Option A) → is_open item ≡ false → ((next : Coming) (rest : List Item) → opened_one next (item ∷ rest) ≡ (item ∷ rest) ∷ []) → ((t : TextToken) (a : A) → f t ≡ Some a → fits item (seen t) ≡ true) → Reads (One f) (item ∷ [])
-reads_one item f closed same fit front words a rest h more = rw (h.alone) (word_leads item rest h.token words closed (fit h.token a h.value) (λ next. same next rest) more)
+reads_one item f closed same fit = record { read = λ front words a rest h more. rw (h.alone) (word_leads item rest h.token words closed (fit h.token a h.value) (λ next. same next rest) more) }
 
 -- nothing
 reads_nothing : (rest : List Item) (words front : List TextToken) → front ≡ [] → Leads rest words → Leads rest (front ++ words)
@@ -180,35 +181,46 @@ reads_nothing rest words front e more = rw e more
 
 -- one, and then the other
 pub reads_both : {A B : Type 0} (p : List TextToken → A → Type 0) (q : List TextToken → B → Type 0) (xs ys : List Item) → Reads p xs → Reads q ys → Reads (Both p q) (xs ++ ys)
-reads_both p q xs ys P Q front words r rest h more =
-    rw (h.split, append_assoc h.front h.rest words, append_assoc xs ys rest) (P h.front (h.rest ++ words) r.0 (ys ++ rest) h.one (Q h.rest words r.1 rest h.other more))
+reads_both p q xs ys P Q = record {
+  read = λ front words r rest h more.
+      rw (h.split, append_assoc h.front h.rest words, append_assoc xs ys rest) (P.read h.front (h.rest ++ words) r.0 (ys ++ rest) h.one (Q.read h.rest words r.1 rest h.other more));
+}
 
 pub reads_mapped : {A B : Type 0} (f : A → B) (p : List TextToken → A → Type 0) (items : List Item) → Reads p items → Reads (Mapped f p) items
-reads_mapped f p items P front words b rest h more = P front words h.source rest h.spelled more
+reads_mapped f p items P = record { read = λ front words b rest h more. P.read front words h.source rest h.spelled more }
 
 pub reads_checked : {A : Type 0} (test : A → Bool) (p : List TextToken → A → Type 0) (items : List Item) → Reads p items → Reads (Checked test p) items
-reads_checked test p items P front words a rest h more = P front words a rest h.spelled more
+reads_checked test p items P = record { read = λ front words a rest h more. P.read front words a rest h.spelled more }
 
 -- one or the other, where the items lead to both
 pub reads_either : {A : Type 0} (p q : List TextToken → A → Type 0) (items : List Item) → Reads p items → Reads q items → Reads (Either p q) items
-reads_either p q items P Q front words a rest h more = elim h [ inl x ↦ P front words a rest x more | inr x ↦ Q front words a rest x more ]
+reads_either {A = A} p q items P Q = record { read = go }
+  where
+    go : (front words : List TextToken) (a : A) (rest : List Item) → Either p q front a → Leads rest words → Leads (items ++ rest) (front ++ words)
+    go front words a rest h more = elim h [ inl x ↦ P.read front words a rest x more | inr x ↦ Q.read front words a rest x more ]
 
 -- a phrase, by one of its rules
 pub reads_part : {A : Type 0} (phrase : Phrase) (items : List Item) (p : List TextToken → A → Type 0) → In items (alternatives phrase) → Reads p items → Reads p (i.Part phrase ∷ [])
-reads_part phrase items p one P front words a rest h more = part_leads phrase items rest (front ++ words) one (P front words a rest h more)
+reads_part phrase items p one P = record { read = λ front words a rest h more. part_leads phrase items rest (front ++ words) one (P.read front words a rest h more) }
 
 -- one, or nothing
 pub reads_perhaps : {A : Type 0} (phrase : Phrase) (items : List Item) (p : List TextToken → A → Type 0) → In [] (alternatives phrase) → In items (alternatives phrase) → Reads p items → Reads (Perhaps p) (i.Part phrase ∷ [])
-reads_perhaps phrase items p none one P front words None rest h more = part_leads phrase [] rest (front ++ words) none (reads_nothing rest words front h more)
-reads_perhaps phrase items p none one P front words (Some a) rest h more = part_leads phrase items rest (front ++ words) one (P front words a rest h more)
+reads_perhaps {A = A} phrase items p none one P = record { read = go }
+  where
+    go : (front words : List TextToken) (a : Option A) (rest : List Item) → Perhaps p front a → Leads rest words → Leads (i.Part phrase ∷ rest) (front ++ words)
+    go front words None rest h more = part_leads phrase [] rest (front ++ words) none (reads_nothing rest words front h more)
+    go front words (Some a) rest h more = part_leads phrase items rest (front ++ words) one (P.read front words a rest h more)
 
 -- any number of them
 pub reads_many : {A : Type 0} (phrase : Phrase) (items : List Item) (p : List TextToken → A → Type 0) → In [] (alternatives phrase) → In (items ++ i.Part phrase ∷ []) (alternatives phrase) → Reads p items → Reads (Many p) (i.Part phrase ∷ [])
-reads_many phrase items p none one P front words [] rest h more = part_leads phrase [] rest (front ++ words) none (reads_nothing rest words front h more)
-reads_many phrase items p none one P front words (a ∷ others) rest h more =
-    let again : Leads (i.Part phrase ∷ rest) (h.1 ++ words) = reads_many phrase items p none one P h.1 words others rest h.4 more in
-    let first : Leads (items ++ (i.Part phrase ∷ rest)) (h.0 ++ (h.1 ++ words)) = P h.0 (h.1 ++ words) a (i.Part phrase ∷ rest) h.3 again in
-    part_leads phrase (items ++ i.Part phrase ∷ []) rest (front ++ words) one (rw (h.2, append_assoc h.0 h.1 words, append_assoc items (i.Part phrase ∷ []) rest) first)
+reads_many {A = A} phrase items p none one P = record { read = go }
+  where
+    go : (front words : List TextToken) (all : List A) (rest : List Item) → Many p front all → Leads rest words → Leads (i.Part phrase ∷ rest) (front ++ words)
+    go front words [] rest h more = part_leads phrase [] rest (front ++ words) none (reads_nothing rest words front h more)
+    go front words (a ∷ others) rest h more =
+        let again : Leads (i.Part phrase ∷ rest) (h.1 ++ words) = go h.1 words others rest h.4 more in
+        let first : Leads (items ++ (i.Part phrase ∷ rest)) (h.0 ++ (h.1 ++ words)) = P.read h.0 (h.1 ++ words) a (i.Part phrase ∷ rest) h.3 again in
+        part_leads phrase (items ++ i.Part phrase ∷ []) rest (front ++ words) one (rw (h.2, append_assoc h.0 h.1 words, append_assoc items (i.Part phrase ∷ []) rest) first)
 
 -- ---- the rows of the rules
 

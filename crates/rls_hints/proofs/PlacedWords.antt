@@ -1,9 +1,11 @@
 -- Words that are read one by one.
 use Rattle.std.proofs.Common.{◌≡◌, ℕ, zero, suc, ◌+◌, ◌-◌, ◌<◌, ◌≤◌, Bool, true, false, List, [], ◌∷◌, ◌++◌, length, Option, Some, None, refl, arith, ap, sym, append_assoc, ◌∙◌}
 use Rattle.std.specs.Prelude.{map, min, ◌*◌, if◌then◌else◌}
-use Rattle.rls_text.specs.declared.token.Token.Token as TextToken
+use Rattle.rls_text.specs.declared.token.Token.{Token as TextToken}
 use Rattle.rls_text.specs.declared.token.Token.TheVariants as w
-use Rattle.rls_text.specs.Words.{is_bad, is_digit, number_from, quoted, quoted_in, quoted_and_more, text_from, with_content, next_quoted, next_word, word_and_more, words_in, words_of, behind_blanks}
+use Rattle.std.proofs.lemmas.Bool.{ne_eqb}
+use Rattle.rls_value.specs.Names.{is_letter}
+use Rattle.rls_text.specs.Words.{word_from, is_bad, is_digit, number_from, quoted, quoted_in, quoted_and_more, text_from, with_content, next_quoted, next_word, word_and_more, words_in, words_of, behind_blanks}
 use Rattle.rls_hints.specs.declared.token.Placed.{Placed}
 use Rattle.rls_hints.specs.declared.token.Token.{Token}
 use Rattle.rls_hints.specs.declared.token.Token.TheVariants as t
@@ -70,6 +72,10 @@ number_seen n (c ∷ cs) = go (is_digit c) (λ m. number_seen m cs)
     go : (b : Bool) → ((m : ℕ) → seen_first (number_from m cs) ≡ (t.Number, behind_digits cs)) → seen_first (if◌then◌else◌ {A = TextToken × List ℕ} b (number_from (min (n * 10 + (c - 48)) 18446744073709551615) cs) (w.Number n, c ∷ cs)) ≡ (t.Number, if b then behind_digits cs else c ∷ cs)
     go true more = more _
     go false more = refl
+
+pub digits_seen : (c : ℕ) (cs : List ℕ) → (c ≡ 39 → ⊥) → is_letter c ≡ false → is_digit c ≡ true → (t.Number, behind_digits cs) ≡ seen_first (word_from c cs)
+unfolding word_from
+digits_seen c cs other letter digit = rw (ne_eqb c 39 other, letter, digit) (sym (number_seen (c - 48) cs))
 
 -- a text ends where it is read to
 unfoldable read_to : (whole : List ℕ) → Option (List ℕ × List ℕ) → Token × List ℕ

@@ -1,7 +1,7 @@
 -- Each rule of the grammar, by the items that read what it spells.
 use Rattle.std.proofs.Common.{◌≡◌, ℕ, zero, suc, Bool, true, false, ◌||◌, not, List, [], ◌∷◌, ◌++◌, Option, Some, None, refl, inl, inr, sym, subst, ap}
 use Rattle.std.specs.Prelude.{codes, take, drop, map}
-use Rattle.rls_text.specs.declared.token.Token.Token as TextToken
+use Rattle.rls_text.specs.declared.token.Token.{Token as TextToken}
 use Rattle.rls_text.specs.declared.token.Token.TheVariants as w
 use Rattle.rls_text.specs.declared.token.Symbol.TheVariants as s
 use Rattle.rls_text.specs.{Cut.Cut, Cutting.tree_of, FirstSets.expr_heads, FirstSets.expr_more}
@@ -18,7 +18,8 @@ use Rattle.rls_text.specs.WaysBack as back
 use Rattle.rls_hints.specs.declared.grammar.Item.{Item}
 use Rattle.rls_hints.specs.declared.grammar.Item.TheVariants as i
 use Rattle.rls_hints.specs.declared.grammar.Phrase.TheVariants as p
-use Rattle.rls_hints.specs.Walking.{alternatives, fits, start, fault_in, fault_of}
+use Rattle.rls_hints.specs.Rows.{alternatives}
+use Rattle.rls_hints.specs.Walking.{fits, start, fault_in, fault_of}
 use Rattle.rls_hints.specs.Beginnings.{seen}
 use Rattle.rls_hints.proofs.Alive.{Reads, row, by_row, by_perhaps, by_many, by_both, by_mapped, by_checked, by_either, by_token, by_after, reads_one, Leads, leads_from, nothing_leads}
 
@@ -215,7 +216,7 @@ module _ (inner : Cut tree_of expr_heads expr_more false) (whole : Reads inner.r
 
 expression_reads : (depth : ℕ) → Reads (g.expr depth).rule.spells (i.Part p.Expression ∷ [])
 unfolding g.expr
-expression_reads zero = λ front words a rest h more. absurd h
+expression_reads zero = record { read = λ front words a rest h more. absurd h }
 expression_reads (suc depth) = or_reads (g.expr depth) (expression_reads depth)
 
 -- ---- SELECT, INSERT, UPDATE and DELETE
@@ -539,7 +540,7 @@ unfolding b.transaction b.bare_transaction
 transaction_reads = by_mapped (by_both 1 (by_either begin_reads (by_either commit_reads rollback_reads)) semicolon_reads)
 
 spells_reads : Reads g.Spells start
-spells_reads front words a rest h more = statement_reads h.depth front words a rest h.spelled more
+spells_reads = record { read = λ front words a rest h more. (statement_reads h.depth).read front words a rest h.spelled more }
 
 command_reads : Reads SpellsCommand start
 command_reads = by_either transaction_reads (by_mapped spells_reads)
@@ -552,5 +553,5 @@ append_none (x ∷ xs) = ap (λ ys. x ∷ ys) (append_none xs)
 pub spelled_taken : (words : List TextToken) (command : Command) → SpellsCommand words command → fault_of (map seen words) ≡ None
 unfolding fault_in
 spelled_taken words command h =
-    let leads : Leads start words = subst (λ ws. Leads start ws) (append_none words) (command_reads words [] command [] h nothing_leads) in
+    let leads : Leads start words = subst (λ ws. Leads start ws) (append_none words) (command_reads.read words [] command [] h nothing_leads) in
     leads_from start words 0 (start ∷ []) leads (inl refl)

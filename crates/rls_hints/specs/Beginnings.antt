@@ -1,9 +1,9 @@
 -- What a line stops at: words that no command begins with.
 use Rattle.std.specs.Prelude.{◌≡◌, ◌+◌, ◌<◌, ℕ, List, [], ◌∷◌, ◌++◌, length, map, take}
 use Rattle.rls_statement.specs.declared.command.Command.{Command}
-use Rattle.rls_text.specs.declared.token.Token.Token as TextToken
+use Rattle.rls_text.specs.declared.token.Token.{Token as TextToken}
 use Rattle.rls_text.specs.declared.token.Token.TheVariants as w
-use Rattle.rls_text.specs.declared.token.Symbol.Symbol
+use Rattle.rls_text.specs.declared.token.Symbol.{Symbol}
 use Rattle.rls_text.specs.declared.token.Symbol.TheVariants as s
 use Rattle.rls_text.specs.Commands.{SpellsCommand}
 use Rattle.rls_hints.specs.declared.token.Token.{Token}

@@ -1,8 +1,8 @@
 -- What could stand in a place.
 use Rattle.std.specs.Prelude.{Bool, true, false, List, [], ◌∷◌}
 use denote.Enum.Bare.{sameb}
-use Rattle.rls_hints.specs.contracts.token.Mark.the_type as mark_type
-use Rattle.rls_hints.specs.contracts.keyword.Keyword.the_type as keyword_type
+use Rattle.rls_hints.specs.contracts.token.Mark.{the_type as mark_type}
+use Rattle.rls_hints.specs.contracts.keyword.Keyword.{the_type as keyword_type}
 use Rattle.rls_hints.specs.declared.grammar.Item.{Item}
 use Rattle.rls_hints.specs.declared.grammar.Item.TheVariants as i
 

@@ -1,4 +1,5 @@
 pub mod Keywords
+pub mod Rows
 pub mod Walking
 pub mod Beginnings
 pub mod Reading

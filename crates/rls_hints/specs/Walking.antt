@@ -6,27 +6,17 @@ use Rattle.std.specs.Str.{bytes_eq}
 use denote.Enum.Bare.{sameb}
 use Rattle.rls_value.specs.Names.{reserved}
 use Rattle.rls_hints.specs.Keywords.{keyword_text}
-use Rattle.rls_hints.specs.contracts.token.Mark.the_type as mark_type
-use Rattle.rls_hints.specs.contracts.grammar.Phrase.the_type as phrase_type
+use Rattle.rls_hints.specs.Rows.{alternatives}
+use Rattle.rls_hints.specs.contracts.token.Mark.{the_type as mark_type}
 use Rattle.rls_hints.specs.declared.token.Token.{Token}
 use Rattle.rls_hints.specs.declared.token.Token.TheVariants as t
 use Rattle.rls_hints.specs.declared.grammar.Item.{Item}
 use Rattle.rls_hints.specs.declared.grammar.Item.TheVariants as i
 use Rattle.rls_hints.specs.declared.grammar.Phrase.{Phrase}
 use Rattle.rls_hints.specs.declared.grammar.Phrase.TheVariants as p
-use Rattle.rls_hints.specs.declared.grammar.Rule.{Rule}
+use Rattle.rls_hints.specs.declared.walking.Fault.{Fault}
 use Rattle.rls_hints.specs.declared.walking.Next.{Next}
 use Rattle.rls_hints.specs.declared.walking.Next.TheVariants as n
-use Rattle.rls_hints.specs.declared.grammar.TheConstants.{RULES}
-
--- what the rules of this list let stand for the phrase
-abbrev pub alternatives_in : List Rule → Phrase → List (List Item)
-alternatives_in [] phrase = []
-alternatives_in (rule ∷ rules) phrase = if sameb phrase_type rule.phrase phrase then rule.items.now ∷ alternatives_in rules phrase else alternatives_in rules phrase
-
--- what may stand for the phrase
-unfoldable pub alternatives : Phrase → List (List Item)
-alternatives = alternatives_in RULES
 
 -- the word is what the item stands for
 abbrev pub fits : Item → Token → Bool
@@ -104,6 +94,10 @@ is_empty (stack ∷ stacks) = false
 -- a word that nothing takes: its place, and what could stand there
 abbrev pub Found : Type 0
 Found = Option (ℕ × List (List Item))
+
+-- what a fault tells
+abbrev pub told : Fault → ℕ × List (List Item)
+told fault = (fault.place, fault.ready.items)
 
 -- from a place on, where this may follow: the first word that nothing takes, or the end
 unfoldable pub fault_from : ℕ → List (List Item) → List Token → Found

@@ -1,6 +1,6 @@
 //! The words of a line with their places, up to the first character that begins none.
 
-ghost use Rattle.std.specs.Prelude.{◌≡◌, ◌+◌, true, length, option_map, IfOk};
+ghost use Rattle.std.specs.Prelude.{◌≡◌, ◌+◌, true, false, length, option_map, IfOk};
 ghost use Rattle.std.specs.Str.{chars};
 ghost use Rattle.rls_value.specs.Names as names;
 ghost use Rattle.rls_text.specs.Words as words;
@@ -124,7 +124,7 @@ fn begins_comment(first: char, behind: &[char]) -> bool
 }
 
 /// The word that begins with the character, and what follows it.
-#[tactic(auto, unfolding(rls_text::specs::Words::word_from))]
+#[tactic(auto, using(crate::proofs::PlacedWords::quoted_seen, crate::proofs::PlacedWords::number_seen), unfolding(rls_text::specs::Words::word_from))]
 fn word_from(alloc: Global, first: char, behind: &[char]) -> Result<(Token, &[char]), AllocError>
     ensures { IfOk result (λ read. (read.0, read.1.now) ≡ spec.seen_first (words.word_from first behind.now)) }
 {

@@ -2,10 +2,12 @@
 
 ghost use Rattle.std.specs.Prelude.{◌≡◌, ◌++◌, ◌∷◌, [], map, option_map, Some, IfOk, OnOk};
 ghost use Rattle.std.specs.List.{filter, flat_map, list_all, list_any};
+ghost use Rattle.rls_hints.specs.Rows.{alternatives};
 ghost use Rattle.rls_hints.specs.Walking as spec;
 
-use crate::grammar::{Item, Phrase, RULES};
+use crate::grammar::{Item, Phrase};
 use crate::keyword::keyword_str;
+use crate::rows::rows_of;
 use crate::token::{Placed, Token};
 use rls_value::{Items, is_reserved};
 use std::alloc::{AllocError, Global};
@@ -44,7 +46,7 @@ pub fn find_fault(
     start: &[Item],
     words: &[Placed],
 ) -> Result<Option<Fault>, AllocError>
-    ensures { IfOk result (λ found. option_map (λ fault. (fault.place, fault.ready.items)) found ≡ spec.fault_in start.now (map (λ word. word.token) words.now)) }
+    ensures { IfOk result (λ found. option_map spec.told found ≡ spec.fault_in start.now (map (λ word. word.token) words.now)) }
 {
     let mut stacks = begin(alloc, start)?;
     for (place, word) in words.iter().enumerate() {
@@ -74,7 +76,7 @@ fn begin(alloc: Global, start: &[Item]) -> Result<Vec<Items<Item>>, AllocError>
 
 /// The fault at the place, with all that could stand there.
 fn found(alloc: Global, place: usize, stacks: Vec<Items<Item>>) -> Result<Option<Fault>, AllocError>
-    ensures { IfOk result (λ found. option_map (λ fault. (fault.place, fault.ready.items)) found ≡ Some (place, spec.ready_of spec.Whatever stacks.items)) }
+    ensures { IfOk result (λ found. option_map spec.told found ≡ Some (place, spec.ready_of spec.Whatever stacks.items)) }
 {
     let ready = open_all(alloc, Next::Whatever, stacks.as_slice());
     drop(stacks);
@@ -160,7 +162,7 @@ fn open_all(
     next: Next<'_>,
     stacks: &[Items<Item>],
 ) -> Result<Vec<Items<Item>>, AllocError>
-    ensures { IfOk result (λ ready. ready.items ≡ spec.ready_of (spec.coming_of next) stacks.now) }
+    ensures { IfOk result (λ ready. ready.items ≡ spec.ready_of (spec.coming_of next.entry) stacks.now) }
 {
     let mut ready = open_once(alloc, next, stacks)?;
     for _turn in 1..ROUNDS {
@@ -193,7 +195,7 @@ fn open_once(
     next: Next<'_>,
     stacks: &[Items<Item>],
 ) -> Result<Vec<Items<Item>>, AllocError>
-    ensures { IfOk result (λ opened. opened.items ≡ flat_map (spec.opened_one (spec.coming_of next)) stacks.now) }
+    ensures { IfOk result (λ opened. opened.items ≡ flat_map (spec.opened_one (spec.coming_of next.entry)) stacks.now) }
 {
     let mut opened = Vec::with_capacity(alloc, stacks.len())?;
     for stack in stacks.iter() {
@@ -208,7 +210,7 @@ fn push_opened(
     stack: &[Item],
     opened: &mut Vec<Items<Item>>,
 ) -> Result<(), AllocError>
-    ensures { OnOk result (opened.new.items ≡ opened.old.items ++ spec.opened_one (spec.coming_of next) stack.now) }
+    ensures { OnOk result (opened.new.items ≡ opened.old.items ++ spec.opened_one (spec.coming_of next.entry) stack.now) }
 {
     match stack {
         [Item::Part(phrase), rest @ ..] => push_alternatives(alloc, next, *phrase, rest, opened),
@@ -216,7 +218,6 @@ fn push_opened(
     }
 }
 
-#[tactic(auto, unfolding(crate::specs::Walking::alternatives))]
 fn push_alternatives(
     alloc: Global,
     next: Next<'_>,
@@ -224,11 +225,11 @@ fn push_alternatives(
     rest: &[Item],
     opened: &mut Vec<Items<Item>>,
 ) -> Result<(), AllocError>
-    ensures { OnOk result (opened.new.items ≡ opened.old.items ++ map (λ items. items ++ rest.now) (filter (spec.may_begin (spec.coming_of next)) (spec.alternatives phrase))) }
+    ensures { OnOk result (opened.new.items ≡ opened.old.items ++ map (λ items. items ++ rest.now) (filter (spec.may_begin (spec.coming_of next.entry)) (alternatives phrase))) }
 {
-    for rule in RULES.iter() {
-        if rule.phrase == phrase && may_begin(next, rule.items) {
-            push(alloc, rule.items, rest, opened)?;
+    for row in rows_of(phrase).iter() {
+        if may_begin(next, *row) {
+            push(alloc, *row, rest, opened)?;
         }
     }
     Ok(())
@@ -250,7 +251,7 @@ fn push(
 
 /// Whether the items may stand before what comes next, as far as the first one tells.
 fn may_begin(next: Next<'_>, items: &[Item]) -> bool
-    ensures { result ≡ spec.may_begin (spec.coming_of next) items.now }
+    ensures { result ≡ spec.may_begin (spec.coming_of next.entry) items.now }
 {
     match (next, items) {
         (Next::End, [first, ..]) => is_open(*first),
