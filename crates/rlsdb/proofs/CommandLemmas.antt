@@ -9,7 +9,7 @@ use Rattle.rlsdb.specs.declared.words.Request.{Request}
 use Rattle.rlsdb.specs.declared.words.Request.TheVariants as q
 use Rattle.rlsdb.specs.declared.words.ScriptFile.{ScriptFile}
 use Rattle.rlsdb.specs.declared.words.Explain.{Explain}
-use Rattle.rlsdb.specs.Answers.{Answers, IsAudited, IsCheckOf, IsMigrationOf, IsOrderOf, IsRunText, IsWhyOf}
+use Rattle.rlsdb.specs.Answers.{Answers, IsAudited, IsCheckOf, IsMigrationOf, IsOrderOf, IsParsed, IsRunText, IsWhyOf}
 use Rattle.rlsdb.specs.Commands.{ComesTo, EndsWords}
 use Rattle.rlsdb.specs.CommandLine.{Asks, IsMistaken}
 use Rattle.rlsdb.specs.Faults.{EndsAnswer, EndsMistake}
@@ -54,3 +54,7 @@ explained request asked said old new is grew =
 pub migrated : (request : Request) (from to : Bor (List ℕ)) (bytes taken : List ℕ) → request ≡ q.Migrate from to → ((texts : List (List ℕ)) × IsMigrationOf texts taken) → GrewBy bytes bytes (λ written. Answers request written true)
 migrated request from to bytes taken is it =
     nothing bytes (λ written. Answers request written true) (subst (λ (asked : Request). Answers asked [] true) (sym is) (it.0, taken, it.1, refl, refl))
+
+pub parsed : (request : Request) (name : Bor (List ℕ)) (fine : Bool) (old new : List ℕ) → request ≡ q.Parse name → GrewBy old new (λ written. IsParsed written fine) → GrewBy old new (λ written. Answers request written fine)
+parsed request name fine old new is grew =
+    answered request (q.Parse name) fine old new (λ written. IsParsed written fine) is (λ written it. it) grew

@@ -68,6 +68,10 @@ abbrev pub IsWhyOf : ℕ → ℕ → Option RowId → List (List ℕ) → List �
 IsWhyOf txn statement row texts written said =
     (audit : Audit) × (why : Option Why) × IsAuditOf texts audit × IsExplained audit.transactions audit.order txn statement row why × (written ≡ why_text why) × (said ≡ is_some why)
 
+-- what isn't taken of a script; where all is, nothing is written
+abbrev pub IsParsed : List ℕ → Bool → Type 0
+IsParsed written fine = fine ≡ true → written ≡ []
+
 -- what was written for the request, and what a file took, and whether it is done or answered yes
 abbrev pub Answers : Request → List ℕ → Bool → Type 0
 Answers (q.Run run) written done =
@@ -75,4 +79,5 @@ Answers (q.Run run) written done =
 Answers (q.Order name) written done = (texts : List (List ℕ)) × IsOrderOf texts written × (done ≡ true)
 Answers (q.Check name) written done = (texts : List (List ℕ)) × IsCheckOf texts written done
 Answers (q.Explain asked) written done = (texts : List (List ℕ)) × IsWhyOf asked.txn asked.statement asked.row texts written done
+Answers (q.Parse name) written done = IsParsed written done
 Answers (q.Migrate from to) written done = (texts : List (List ℕ)) × (taken : List ℕ) × IsMigrationOf texts taken × (written ≡ []) × (done ≡ true)

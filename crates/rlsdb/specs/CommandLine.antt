@@ -32,9 +32,13 @@ audit_option = record (new_rule (codes "audit")) { long = Some (codes "audit"); 
 abbrev pub terse_flag : Rule
 terse_flag = record (new_rule (codes "terse-conflicts")) { long = Some (codes "terse-conflicts"); action = Some SetTrue }
 
+-- --hints
+abbrev pub hints_flag : Rule
+hints_flag = record (new_rule (codes "hints")) { long = Some (codes "hints"); action = Some SetTrue }
+
 -- the name, and its words
 abbrev pub run_line : App
-run_line = with_rule (with_rule (with_rule (with_rule (new_app (codes "run")) (needed (codes "FILE"))) threads_flag) audit_option) terse_flag
+run_line = with_rule (with_rule (with_rule (with_rule (with_rule (new_app (codes "run")) (needed (codes "FILE"))) threads_flag) audit_option) terse_flag) hints_flag
 
 abbrev pub order_line : App
 order_line = with_rule (new_app (codes "order")) (needed (codes "AUDIT"))
@@ -48,12 +52,15 @@ explain_line = with_rule (with_rule (with_rule (with_rule (new_app (codes "expla
 abbrev pub migrate_line : App
 migrate_line = with_rule (with_rule (new_app (codes "migrate")) (needed (codes "AUDIT"))) (needed (codes "OUT"))
 
+abbrev pub parse_line : App
+parse_line = with_rule (new_app (codes "parse")) (needed (codes "FILE"))
+
 -- the program has a version, and one of the commands has to be named
 abbrev pub program_line : App
 program_line = on_top (λ (s : Shape). record s { has_version = true; subcommand_required = true }) (new_app (codes "rlsdb"))
 
 abbrev pub command_line : App
-command_line = with_subcommand (with_subcommand (with_subcommand (with_subcommand (with_subcommand program_line run_line.top) order_line.top) check_line.top) explain_line.top) migrate_line.top
+command_line = with_subcommand (with_subcommand (with_subcommand (with_subcommand (with_subcommand (with_subcommand program_line run_line.top) order_line.top) check_line.top) explain_line.top) migrate_line.top) parse_line.top
 
 -- ---- what words ask for
 
@@ -78,6 +85,7 @@ pub record IsRun (rows : List Row) (it : ScriptFile) : Type 0 where
   pub threads : IsFlag (codes "threads") rows it.threads
   pub audit : option_map (λ name. name.now) it.audit ≡ first_of (codes "audit") rows
   pub terse : IsFlag (codes "terse-conflicts") rows it.terse
+  pub hints : IsFlag (codes "hints") rows it.hints
 
 -- a statement of an audit
 pub record IsExplain (rows : List Row) (it : Explain) : Type 0 where
@@ -92,6 +100,7 @@ AsksFor name rows (q.Run it) = (name ≡ codes "run") × IsRun rows it
 AsksFor name rows (q.Order audit) = (name ≡ codes "order") × (first_of (codes "AUDIT") rows ≡ Some audit.now)
 AsksFor name rows (q.Check audit) = (name ≡ codes "check") × (first_of (codes "AUDIT") rows ≡ Some audit.now)
 AsksFor name rows (q.Explain it) = (name ≡ codes "explain") × IsExplain rows it
+AsksFor name rows (q.Parse file) = (name ≡ codes "parse") × (first_of (codes "FILE") rows ≡ Some file.now)
 AsksFor name rows (q.Migrate audit out) = (name ≡ codes "migrate") × (first_of (codes "AUDIT") rows ≡ Some audit.now) × (first_of (codes "OUT") rows ≡ Some out.now)
 
 -- the words ask for it

@@ -4,7 +4,7 @@ ghost use Rattle.std.specs.Prelude.{◌≡◌, false, map, codes, Some, option_m
 ghost use Rattle.clap.specs.Words.{app_of, first_of, found_of, new_app, new_rule, rows_of, rule_of};
 ghost use Rattle.clap.specs.declared.builder.command.Command.TheViews.{out-Command};
 ghost use Rattle.rlsdb.specs.declared.command_line.Mistake.TheVariants.{Words};
-ghost use Rattle.rlsdb.specs.CommandLine.{Asks, AsksFor, IsFlag, IsMistaken, IsNumber, IsOfMemory, IsOwn, IsRow, audit_option, check_line, command_line, explain_line, migrate_line, needed, order_line, program_line, run_line, terse_flag, threads_flag};
+ghost use Rattle.rlsdb.specs.CommandLine.{Asks, AsksFor, IsFlag, IsMistaken, IsNumber, IsOfMemory, IsOwn, IsRow, audit_option, check_line, command_line, explain_line, migrate_line, needed, hints_flag, order_line, parse_line, program_line, run_line, terse_flag, threads_flag};
 
 use crate::words::{Explain, Request, ScriptFile, number_of, row_of};
 use clap::{Arg, ArgAction, ArgMatches, Command};
@@ -62,6 +62,11 @@ AUDIT is read twice, so it cannot be a pipe. OUT must be another file. It is wri
 
 Example: rlsdb migrate AUDIT OUT";
 
+const AFTER_PARSE: &str = "\
+Nothing is run. For each line that isn't taken its place is written, the word that was met, and what could stand there.
+
+Example: rlsdb parse FILE";
+
 const NUMBER: &str = "a decimal number up to 18446744073709551615";
 
 const ROW: &str = "T.N with decimal numbers up to 18446744073709551615 and 4294967295";
@@ -118,6 +123,7 @@ fn request_in<'a>(name: &str, words: &ArgMatches<'a>) -> Result<Request<'a>, Mis
         "check" => Ok(Request::Check(value(words, "AUDIT")?)),
         "explain" => explain_of(words),
         "migrate" => migrate_of(words),
+        "parse" => Ok(Request::Parse(value(words, "FILE")?)),
         _ => Err(Mistake::Nothing),
     }
 }
@@ -131,6 +137,7 @@ fn run_of<'a>(words: &ArgMatches<'a>) -> Result<Request<'a>, Mistake<'a>>
         threads: flag(words, "threads"),
         audit: given(words, "audit"),
         terse: flag(words, "terse-conflicts"),
+        hints: flag(words, "hints"),
     }))
 }
 
@@ -210,6 +217,7 @@ fn command<'a>(alloc: Global) -> Result<Command<'a>, AllocError>
     let program = program.subcommand(check_command(alloc)?)?;
     let program = program.subcommand(explain_command(alloc)?)?;
     let program = program.subcommand(migrate_command(alloc)?)?;
+    let program = program.subcommand(parse_command(alloc)?)?;
     Ok(program)
 }
 
@@ -247,17 +255,21 @@ fn run_command<'a>(alloc: Global) -> Result<Command<'a>, AllocError>
     ensures local { IfOk result (λ made. (out-Command made).has_globals ≡ false) }
 {
     let about = "Runs a script on an empty database and writes every answer";
-    let script = file(
-        alloc,
-        "FILE",
-        "The script to run, or `-` for standard input",
-    );
+    let script = script(alloc, "The script to run, or `-` for standard input");
     let command = named(alloc, "run", about, AFTER_RUN);
     let command = command.arg(script)?;
     let command = command.arg(threads(alloc))?;
     let command = command.arg(audit_out(alloc))?;
     let command = command.arg(terse_conflicts(alloc))?;
+    let command = command.arg(hints(alloc))?;
     Ok(command)
+}
+
+fn script<'a>(alloc: Global, help: &'static str) -> Arg<'a>
+    ensures rule { rule_of result ≡ needed (codes "FILE") }
+    ensures local { result.global ≡ false }
+{
+    file(alloc, "FILE", help)
 }
 
 fn threads<'a>(alloc: Global) -> Arg<'a>
@@ -288,6 +300,16 @@ fn terse_conflicts<'a>(alloc: Global) -> Arg<'a>
         .long("terse-conflicts")
         .action(ArgAction::SetTrue)
         .help("Leave rows, keys and transactions out of the text of a 40001")
+}
+
+fn hints<'a>(alloc: Global) -> Arg<'a>
+    ensures rule { rule_of result ≡ hints_flag }
+    ensures local { result.global ≡ false }
+{
+    Arg::new(alloc, "hints")
+        .long("hints")
+        .action(ArgAction::SetTrue)
+        .help("Show on standard error where a line stops being a statement, and what could stand there")
 }
 
 fn order_command<'a>(alloc: Global) -> Result<Command<'a>, AllocError>
@@ -346,6 +368,17 @@ fn migrate_command<'a>(alloc: Global) -> Result<Command<'a>, AllocError>
     );
     let command = command.arg(audit(alloc))?;
     let command = command.arg(out)?;
+    Ok(command)
+}
+
+fn parse_command<'a>(alloc: Global) -> Result<Command<'a>, AllocError>
+    ensures app { IfOk result (λ made. app_of made ≡ parse_line) }
+    ensures local { IfOk result (λ made. (out-Command made).has_globals ≡ false) }
+{
+    let about = "Says of each line of a script that isn't taken where it goes wrong";
+    let script = script(alloc, "The script to read, or `-` for standard input");
+    let command = named(alloc, "parse", about, AFTER_PARSE);
+    let command = command.arg(script)?;
     Ok(command)
 }
 

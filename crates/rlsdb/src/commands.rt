@@ -12,7 +12,7 @@ use crate::command_line::Mistake;
 use crate::device::DeviceOut;
 use crate::fault::Fault;
 use crate::words::Request;
-use crate::{audits, command_line, running};
+use crate::{audits, command_line, hinting, running};
 use clap::error::ErrorKind;
 use rls_session::rls_script::RunFault;
 use std::convert::AsStr;
@@ -29,7 +29,7 @@ const FAULT: u8 = 1;
 
 const USAGE: u8 = 2;
 
-// A check says no, a line of an audit is bad, or there is no such decision.
+// A check says no, a line of an audit is bad, there is no such decision, or a line of a script isn't taken.
 const NO: u8 = 3;
 
 // What stands behind a mistake of usage.
@@ -115,7 +115,7 @@ fn serve<'a, W: Threads + Wait + Clock + Sync, D: Write + Drop>(
 }
 
 /// Does what is asked for.
-#[tactic(auto, using(crate::proofs::CommandLemmas::ran, crate::proofs::CommandLemmas::ordered, crate::proofs::CommandLemmas::checked, crate::proofs::CommandLemmas::explained, crate::proofs::CommandLemmas::migrated))]
+#[tactic(auto, using(crate::proofs::CommandLemmas::ran, crate::proofs::CommandLemmas::ordered, crate::proofs::CommandLemmas::checked, crate::proofs::CommandLemmas::explained, crate::proofs::CommandLemmas::migrated, crate::proofs::CommandLemmas::parsed))]
 fn answer<'a, W: Threads + Wait + Clock + Sync, D: Write + Drop>(
     rt: &HostRuntime,
     waits: &W,
@@ -141,6 +141,7 @@ fn answer<'a, W: Threads + Wait + Clock + Sync, D: Write + Drop>(
             drop(file);
             Ok(true)
         }
+        Request::Parse(file) => Ok(hinting::parse(rt, file, output)?),
     }
 }
 

@@ -7,6 +7,7 @@ mod command_line;
 mod commands;
 mod device;
 mod fault;
+mod hinting;
 mod out_file;
 mod passed;
 mod running;

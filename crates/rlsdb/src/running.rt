@@ -13,6 +13,7 @@ ghost use Rattle.rlsdb.specs.AuditLines.{WritesAudit, WritesRecords};
 use crate::audit_file::write_audit_line;
 use crate::device::{DeviceIn, DeviceOut};
 use crate::fault::Fault;
+use crate::hinting::Hinted;
 use crate::out_file::OutFile;
 use crate::same_file::{STANDARD_INPUT, require_own};
 use crate::words::ScriptFile;
@@ -93,7 +94,31 @@ where
     ensures emptied { OnOk result (writer_buffer output.new.writer ≡ []) }
 {
     let mut input = DeviceIn::new(rt.alloc(), reader)?;
-    let ran = run_on(rt.alloc(), waits, run, &mut input, output);
+    if run.hints {
+        let mut hinted = Hinted::new(rt, run.file, input);
+        run_input(rt.alloc(), waits, run, &mut hinted, output)
+    } else {
+        run_input(rt.alloc(), waits, run, &mut input, output)
+    }
+}
+
+/// The same of the script that is given.
+fn run_input<'a, W, I, D>(
+    alloc: Global,
+    waits: &W,
+    run: ScriptFile<'a>,
+    input: &mut I,
+    output: &mut DeviceOut<D>,
+) -> Result<Book, Fault<'a>>
+where
+    W: Threads + Wait + Clock + Sync,
+    I: ScriptIn,
+    D: Write + Drop,
+    ensures text { IfOk result (λ book. GrewBy output.old.taken.bytes output.new.taken.bytes (λ written. IsRunText run.entry.threads run.entry.terse written book.seen.committed)) }
+    ensures texts { IfOk result (λ book. All AreTexts book.seen.committed) }
+    ensures emptied { OnOk result (writer_buffer output.new.writer ≡ []) }
+{
+    let ran = run_on(alloc, waits, run, input, output);
     let finished = output.finish();
     let book = ran?;
     finished?;

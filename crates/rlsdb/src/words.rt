@@ -18,6 +18,8 @@ pub struct ScriptFile<'a> {
     pub audit: Option<&'a str>,
     /// Whether serialization failures are told without the objects and the transactions.
     pub terse: bool,
+    /// Whether standard error is told what is wrong with lines that aren't taken.
+    pub hints: bool,
 }
 
 /// A statement of an audit to be explained, and perhaps a row.
@@ -39,6 +41,8 @@ pub enum Request<'a> {
     Explain(Explain<'a>),
     /// From the first file into the second.
     Migrate(&'a str, &'a str),
+    /// What of this script isn't taken.
+    Parse(&'a str),
 }
 
 /// The number below 2^64 that the text is: decimal digits alone.
