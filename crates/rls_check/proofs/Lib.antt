@@ -18,3 +18,4 @@ pub mod OneFindingLemmas
 pub mod ConvertedLemmas
 pub mod ReadLemmas
 pub mod OneAuditLemmas
+pub mod WalkingLemmas

@@ -3,6 +3,7 @@ pub mod Checking
 pub mod Placing
 pub mod Committing
 pub mod Explaining
+pub mod Walking
 pub mod Findings
 pub mod WhyTexts
 pub mod Forms

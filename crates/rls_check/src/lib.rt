@@ -18,6 +18,7 @@ mod running;
 mod stored;
 mod texts;
 mod transaction;
+mod walking;
 
 pub use audit::{Audit, Reader};
 pub use converting::Converter;
@@ -29,3 +30,4 @@ pub use laws::{
 pub use rls_audit;
 pub use rls_explain::rls_meaning;
 pub use transaction::{Answer, Put, Transaction};
+pub use walking::{Turn, Walk};
