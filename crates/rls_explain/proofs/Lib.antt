@@ -6,3 +6,4 @@ pub mod ResolvingLemmas
 pub mod CheckLemmas
 pub mod RowLemmas
 pub mod FoundLemmas
+pub mod OutcomeLemmas

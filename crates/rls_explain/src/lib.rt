@@ -4,17 +4,26 @@
 mod asking;
 mod explaining;
 mod explanation;
+mod fates;
 mod inserting;
+mod insert_outcomes;
 mod judging;
 mod laws;
+mod outcome;
+mod outcome_laws;
+mod outcomes;
 mod resolving;
+mod scan_outcomes;
 mod scanning;
 mod texts;
+mod update_outcomes;
 mod updating;
 mod writing;
 
 pub use explaining::explain_row;
 pub use explanation::{Explained, Explanation, Said};
 pub use laws::explanations_mean;
+pub use outcome::{Fate, Met, Reason, RowOutcome, RowWord};
+pub use outcomes::outcomes;
 pub use rls_meaning;
 pub use texts::DecisionText;

@@ -1,0 +1,23 @@
+//! What is found of a statement's rows is what is meant.
+
+ghost use Rattle.rls_explain.specs.FoundOutcomes.{DeleteIsTold, InsertIsTold, SelectIsTold, UpdateIsTold};
+ghost use Rattle.rls_explain.specs.Found.{InsertHasRoom};
+
+use crate::laws::decisions_found;
+use rls_meaning::expansion_means;
+use rls_meaning::rls_depth::role_means;
+use rls_meaning::rls_expansion::expression_taken;
+
+/// What is found through the policy expansion of a statement that decides on a row is what it did with its rows.
+pub(crate) fn outcomes_found()
+    ensures select { SelectIsTold }
+    ensures insert { InsertIsTold }
+    ensures room { InsertHasRoom }
+    ensures update { UpdateIsTold }
+    ensures delete { DeleteIsTold }
+{
+    decisions_found();
+    expansion_means();
+    role_means();
+    expression_taken()
+}
