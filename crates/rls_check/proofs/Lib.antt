@@ -19,3 +19,4 @@ pub mod ConvertedLemmas
 pub mod ReadLemmas
 pub mod OneAuditLemmas
 pub mod WalkingLemmas
+pub mod WalkedLemmas

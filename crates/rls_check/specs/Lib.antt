@@ -4,6 +4,7 @@ pub mod Placing
 pub mod Committing
 pub mod Explaining
 pub mod Walking
+pub mod WalkLaws
 pub mod Findings
 pub mod WhyTexts
 pub mod Forms

@@ -18,6 +18,7 @@ mod running;
 mod stored;
 mod texts;
 mod transaction;
+mod walked;
 mod walking;
 
 pub use audit::{Audit, Reader};
@@ -30,4 +31,5 @@ pub use laws::{
 pub use rls_audit;
 pub use rls_explain::rls_meaning;
 pub use transaction::{Answer, Put, Transaction};
+pub use walked::walks_tell_the_run;
 pub use walking::{Turn, Walk};
