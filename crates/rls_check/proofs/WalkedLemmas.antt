@@ -46,7 +46,7 @@ agree_along ts s end deltas (place ∷ places) left runs =
     elim runs [
       | inl x ↦
           All-append Agrees (standings_alone place 1 (ctx_of it) s it.answers) (standings_along ts (state_behind it s) places) (agree_alone place 1 (ctx_of it) s it.answers x.2.0)
-              (subst (λ (after : State). All Agrees (standings_along ts after places)) x.2.2 (agree_along ts x.0 end _ places left x.3))
+          (subst (λ (after : State). All Agrees (standings_along ts after places)) x.2.2 (agree_along ts x.0 end _ places left x.3))
       | inr x ↦ (let e : along.Agrees end ≡ along.Differs x.0 = x.2 in absurd (cc))
     ]
 

@@ -156,7 +156,11 @@ fn next_row(next: u32, rows: usize) -> Option<u32>
 }
 
 /// The state with the changes of the effect on.
-pub(crate) fn state_after(alloc: Global, state: &State, effect: &Effect) -> Result<State, AllocError>
+pub(crate) fn state_after(
+    alloc: Global,
+    state: &State,
+    effect: &Effect,
+) -> Result<State, AllocError>
     ensures { IfOk result (λ after. after ≡ changed_all state.now (changes_of effect.now)) }
 {
     match effect {

@@ -255,6 +255,7 @@ tuples_meant tells makes meant g key txn n alike (tuple ∷ tuples) same rows is
   where
     head_same : {A : Type 0} (x y : A) (xs ys : List A) → x ∷ xs ≡ y ∷ ys → x ≡ y
     head_same x y xs ys same = cc
+
     tail_same : {A : Type 0} (x y : A) (xs ys : List A) → x ∷ xs ≡ y ∷ ys → xs ≡ ys
     tail_same x y xs ys same = cc
 

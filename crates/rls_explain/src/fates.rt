@@ -71,12 +71,28 @@ pub fn put_unmet<'c>(
     match fate {
         Fate::Denied(reason) => {
             let word = denied_word(&reason);
-            put_told(alloc, word, table, stored.id(), stored.row(), Some(reason), outcomes)
+            put_told(
+                alloc,
+                word,
+                table,
+                stored.id(),
+                stored.row(),
+                Some(reason),
+                outcomes,
+            )
         }
         Fate::Unmet(truth) => {
             let reason = Some(Reason::Unmet(truth));
             let word = RowWord::Skipped;
-            put_told(alloc, word, table, stored.id(), stored.row(), reason, outcomes)
+            put_told(
+                alloc,
+                word,
+                table,
+                stored.id(),
+                stored.row(),
+                reason,
+                outcomes,
+            )
         }
         Fate::Met => Ok(()),
     }
@@ -200,7 +216,14 @@ fn fate_where<'a, 'c, S: RowSource<'c>>(
     match condition {
         None => Ok(Fate::Met),
         Some(condition) => {
-            let truth = truth_on(alloc, source, &*context.relations, &*context.role, row, condition)?;
+            let truth = truth_on(
+                alloc,
+                source,
+                &*context.relations,
+                &*context.role,
+                row,
+                condition,
+            )?;
             Ok(fate_by(truth))
         }
     }

@@ -157,7 +157,16 @@ fn outcomes_of_tuples<'a, 'c, 'x, S: RowSource<'c>>(
         let columns = from.table.columns.as_slice();
         let places = parts.places.as_slice();
         let made = new_row(alloc, source, context, columns, places, tuple.as_slice());
-        put_new(alloc, source, context, from.name, ended, id, made, &mut outcomes)?;
+        put_new(
+            alloc,
+            source,
+            context,
+            from.name,
+            ended,
+            id,
+            made,
+            &mut outcomes,
+        )?;
         n += 1;
     }
     Ok(Items::from_vec(outcomes))

@@ -148,7 +148,16 @@ fn outcomes_under<'c, 'x, S: RowSource<'c>>(
 {
     let rows = rows_scanned(alloc, source, role, from, &parts.condition)?;
     if ended.done {
-        done_outcomes(alloc, &*source, role, from, parts, ended.returning, expansion, rows.as_slice())
+        done_outcomes(
+            alloc,
+            &*source,
+            role,
+            from,
+            parts,
+            ended.returning,
+            expansion,
+            rows.as_slice(),
+        )
     } else {
         refused_outcomes(alloc, source, role, from, parts, expansion, rows.as_slice())
     }
@@ -170,7 +179,16 @@ fn done_outcomes<'c, 'x, S: RowSource<'c>>(
     let mut outcomes = Vec::new(alloc);
     let context = old_rows(expansion, role);
     for stored in rows {
-        put_updated(alloc, source, context, from, parts, returning, stored, &mut outcomes)?;
+        put_updated(
+            alloc,
+            source,
+            context,
+            from,
+            parts,
+            returning,
+            stored,
+            &mut outcomes,
+        )?;
     }
     Ok(Items::from_vec(outcomes))
 }
@@ -189,7 +207,9 @@ fn put_updated<'a, 'c, 'x, S: RowSource<'c>>(
     ensures { OnOk result (outcomes.new.items ≡ outcomes.old.items ++ spec.scanned_as from.entry.name.now (found.fate_found (S.state source.now) (shows context.entry.relations.now context.entry.role.now) context.entry.role.now context.entry.row_checks.now parts.now.condition stored.now) stored.now (found.changed_by from.entry.name.now returning stored.now (found.version_found (S.state source.now) (shows context.entry.relations.now context.entry.role.now) context.entry.role.now from.entry.table.now.columns parts.now.places.items parts.now.values stored.now))) }
 {
     match fate_of(alloc, source, context, &parts.condition, stored)? {
-        Fate::Met => put_changed(alloc, source, context, from, parts, returning, stored, outcomes),
+        Fate::Met => put_changed(
+            alloc, source, context, from, parts, returning, stored, outcomes,
+        ),
         fate => put_unmet(alloc, from.name, fate, stored, outcomes),
     }
 }
@@ -207,7 +227,14 @@ fn put_changed<'a, 'c, 'x, S: RowSource<'c>>(
 ) -> Result<(), AllocError>
     ensures { OnOk result (outcomes.new.items ≡ outcomes.old.items ++ found.changed_by from.entry.name.now returning stored.now (found.version_found (S.state source.now) (shows context.entry.relations.now context.entry.role.now) context.entry.role.now from.entry.table.now.columns parts.now.places.items parts.now.values stored.now)) }
 {
-    match version_of(alloc, source, context, from.table.columns.as_slice(), parts, stored) {
+    match version_of(
+        alloc,
+        source,
+        context,
+        from.table.columns.as_slice(),
+        parts,
+        stored,
+    ) {
         Ok(row) => put_version(alloc, from.name, returning, stored, row, outcomes),
         Err(Refusal::NoMemory) => Err(AllocError),
         Err(refusal) => {
@@ -232,7 +259,16 @@ fn version_of<'a, 'c, S: RowSource<'c>>(
     let role = &*context.role;
     let places = parts.places.as_slice();
     let terms = parts.values.as_slice();
-    new_version(alloc, source, relations, role, columns, places, terms, stored.row())
+    new_version(
+        alloc,
+        source,
+        relations,
+        role,
+        columns,
+        places,
+        terms,
+        stored.row(),
+    )
 }
 
 /// Tells of a row with what it is now.
@@ -249,7 +285,15 @@ fn put_version<'c>(
     let changed = changed_to(alloc, table, stored, &new)?;
     outcomes.push(changed)?;
     if returning {
-        put_told(alloc, RowWord::Returned, table, stored.id(), &new, None, outcomes)
+        put_told(
+            alloc,
+            RowWord::Returned,
+            table,
+            stored.id(),
+            &new,
+            None,
+            outcomes,
+        )
     } else {
         Ok(())
     }
@@ -320,8 +364,25 @@ fn refused_outcomes<'c, 'x, S: RowSource<'c>>(
     };
     let old = old_rows(expansion, role);
     let new = new_rows(expansion, role);
-    put_scanned(alloc, &*source, old, from.name, &parts.condition, met, rows, &mut outcomes)?;
-    put_refused(alloc, &*source, new, from, parts, &qualifying, &mut outcomes)?;
+    put_scanned(
+        alloc,
+        &*source,
+        old,
+        from.name,
+        &parts.condition,
+        met,
+        rows,
+        &mut outcomes,
+    )?;
+    put_refused(
+        alloc,
+        &*source,
+        new,
+        from,
+        parts,
+        &qualifying,
+        &mut outcomes,
+    )?;
     Ok(Items::from_vec(outcomes))
 }
 
@@ -340,7 +401,15 @@ fn put_refused<'a, 'c, 'x, S: RowSource<'c>>(
     for stored in rows {
         let columns = from.table.columns.as_slice();
         let made = version_of(alloc, source, context, columns, parts, stored);
-        put_refused_one(alloc, source, context, from.name, stored.id(), made, outcomes)?;
+        put_refused_one(
+            alloc,
+            source,
+            context,
+            from.name,
+            stored.id(),
+            made,
+            outcomes,
+        )?;
     }
     Ok(())
 }
@@ -383,7 +452,15 @@ fn put_judged<'a, 'c, S: RowSource<'c>>(
     ensures { OnOk result (outcomes.new.items ≡ outcomes.old.items ++ found.refused_by (S.state source.now) (shows context.entry.relations.now context.entry.role.now) context.entry.role.now context.entry.row_checks.now table.now id (Ok row.now)) }
 {
     match denial_on(alloc, source, context, id, row)? {
-        Some(reason) => put_told(alloc, RowWord::Refused, table, id, row, Some(reason), outcomes),
+        Some(reason) => put_told(
+            alloc,
+            RowWord::Refused,
+            table,
+            id,
+            row,
+            Some(reason),
+            outcomes,
+        ),
         None => put_told(alloc, RowWord::Proposed, table, id, row, None, outcomes),
     }
 }
