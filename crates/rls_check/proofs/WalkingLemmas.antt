@@ -1,20 +1,22 @@
 -- One statement more of a walk.
-use Rattle.std.specs.Prelude.{◌≡◌, refl, ◌+◌, ◌<◌, ◌≤◌, ℕ, zero, suc, List, [], ◌∷◌, ◌++◌, length, drop, get_or, Some, None}
+use Rattle.std.specs.Prelude.{◌≡◌, refl, ◌↔◌, ◌+◌, ◌<◌, ◌≤◌, ℕ, zero, suc, true, List, [], ◌∷◌, ◌++◌, length, drop, get_or, Some, None}
 use Rattle.std.proofs.Common.{ap, sym, ◌∙◌, subst, arith}
 use Rattle.std.proofs.lemmas.List.{drop_more, drop_all}
 use Rattle.rls_catalog.specs.State.{State}
 use Rattle.rls_catalog.specs.Changed.{opening, changed_all}
-use Rattle.rls_guard.specs.{declared.context.Ctx.Ctx, Effects.changes_of}
+use Rattle.rls_guard.specs.{declared.context.Ctx.Ctx, declared.effect.Effect.Effect, Effects.changes_of}
+use Rattle.rls_audit.specs.rls_access.specs.Statements.{role_after}
 use Rattle.rls_audit.specs.rls_access.specs.Transactions.{ctx_after}
 use Rattle.rls_explain.specs.rls_meaning.specs.Meaning.{effect_of}
 use Rattle.rls_audit.specs.rls_core.specs.Alone.{state_alone}
+use Rattle.rls_audit.specs.rls_core.specs.Theory.{read_by}
 use Rattle.rls_check.specs.declared.transaction.Answer.{Answer}
 use Rattle.rls_check.specs.declared.transaction.Transaction.{Transaction}
 use Rattle.rls_check.specs.declared.walking.Running.{Running}
 use Rattle.rls_check.specs.declared.walking.Turn.{Turn}
 use Rattle.rls_check.specs.declared.walking.Walk.{Walk}
 use Rattle.rls_check.specs.Audited.{nobody, transaction_at, asked_of}
-use Rattle.rls_check.specs.Checking.{ctx_of, state_behind, IsPlaced, IsNoOrder}
+use Rattle.rls_check.specs.Checking.{ctx_of, state_behind, IsAnswer, IsPlaced, IsNoOrder}
 use Rattle.rls_check.specs.Walking.{Standing, standing_of, standings_alone, standings_along, IsTurn, IsNext, left, left_alone, state_to_come, IsWalk}
 
 -- ---- the transaction that runs
@@ -23,24 +25,43 @@ use Rattle.rls_check.specs.Walking.{Standing, standing_of, standings_alone, stan
 left_by : ℕ → ℕ → Ctx → State → List Answer → List Standing
 left_by place given ctx s rest = standings_alone place (given + 1) ctx s rest
 
--- its next statement
-pub next_alone : (before after : Running) (turn : Turn) (it : Answer) → before.given < length before.answers → it ≡ get_or before.answers before.given it
-    → after.place ≡ before.place → after.answers ≡ before.answers → after.given ≡ before.given + 1
-    → after.ctx ≡ ctx_after before.ctx (effect_of before.state before.ctx it.statement) → after.state ≡ changed_all before.state (changes_of (effect_of before.state before.ctx it.statement))
-    → IsTurn (standing_of before.place (before.given + 1) before.ctx before.state it) turn → IsNext (left_alone before) turn (left_alone after)
-next_alone before after turn it within is place answers given ctx state tells =
-    let rest : drop before.given before.answers ≡ it ∷ drop (before.given + 1) before.answers = drop_more before.answers before.given it within ∙ ap (λ (x : Answer). x ∷ drop (before.given + 1) before.answers) (sym is) in
-    subst (λ (xs : List Answer). IsNext (left_by before.place before.given before.ctx before.state xs) turn (left_alone after)) (sym rest)
-    (tells, (λ i. left_by (place i) (given i) (ctx i) (state i) (drop (given i) (answers i))))
+-- its next statement, by what is told of it
+module _ (before after : Running) (turn : Turn) (d : Answer) (within : before.given < length before.answers) (answers : after.answers ≡ before.answers) (given : after.given ≡ before.given + 1)
+    (ctx : after.ctx ≡ ctx_after before.ctx turn.outcome.effect) (state : after.state ≡ changed_all before.state (changes_of turn.outcome.effect))
+    (effect : turn.outcome.effect ≡ effect_of before.state before.ctx (get_or before.answers before.given d).statement) where
+  rest_of : drop before.given before.answers ≡ get_or before.answers before.given d ∷ drop (before.given + 1) before.answers
+  rest_of = drop_more before.answers before.given d within
 
--- the state that it will leave stays
-pub same_to_come : (before after : Running) (it : Answer) → before.given < length before.answers → it ≡ get_or before.answers before.given it
-    → after.answers ≡ before.answers → after.given ≡ before.given + 1
-    → after.ctx ≡ ctx_after before.ctx (effect_of before.state before.ctx it.statement) → after.state ≡ changed_all before.state (changes_of (effect_of before.state before.ctx it.statement))
-    → state_to_come after ≡ state_to_come before
-same_to_come before after it within is answers given ctx state =
-    let rest : drop before.given before.answers ≡ it ∷ drop (before.given + 1) before.answers = drop_more before.answers before.given it within ∙ ap (λ (x : Answer). x ∷ drop (before.given + 1) before.answers) (sym is) in
-    (λ i. state_alone (ctx i) (asked_of (drop (given i) (answers i))) (state i)) ∙ sym (ap (λ (xs : List Answer). state_alone before.ctx (asked_of xs) before.state) rest)
+  ctx_then : after.ctx ≡ ctx_after before.ctx (effect_of before.state before.ctx (get_or before.answers before.given d).statement)
+  ctx_then = ctx ∙ ap (ctx_after before.ctx) effect
+
+  state_then : after.state ≡ changed_all before.state (changes_of (effect_of before.state before.ctx (get_or before.answers before.given d).statement))
+  state_then = state ∙ ap (λ (one : Effect). changed_all before.state (changes_of one)) effect
+
+  pub next_alone : after.place ≡ before.place → turn.place ≡ before.place → turn.number ≡ before.given + 1 → turn.before ≡ before.state → turn.ctx ≡ before.ctx
+      → turn.statement ≡ (get_or before.answers before.given d).statement → turn.outcome.footprint ≡ read_by before.ctx (get_or before.answers before.given d).statement before.state
+      → turn.outcome.role ≡ role_after before.ctx.role turn.outcome.effect → (turn.agrees ≡ true) ↔ IsAnswer (get_or before.answers before.given d) turn.outcome.effect
+      → IsNext (left_alone before) turn (left_alone after)
+  next_alone place turn_place number turn_before turn_ctx statement reads role agrees =
+      let it = get_or before.answers before.given d in
+      let tells : IsTurn (standing_of before.place (before.given + 1) before.ctx before.state it) turn = record {
+        place = turn_place;
+        number = number;
+        before = turn_before;
+        ctx = turn_ctx;
+        statement = statement;
+        effect = effect;
+        reads = reads;
+        role = role ∙ ap (role_after before.ctx.role) effect;
+        agrees = subst (λ (one : Effect). (turn.agrees ≡ true) ↔ IsAnswer it one) effect agrees;
+      } in
+      subst (λ (xs : List Answer). IsNext (left_by before.place before.given before.ctx before.state xs) turn (left_alone after)) (sym rest_of)
+      (tells, (λ i. left_by (place i) (given i) (ctx_then i) (state_then i) (drop (given i) (answers i))))
+
+  -- the state that it will leave stays
+  pub same_to_come : state_to_come after ≡ state_to_come before
+  same_to_come =
+      (λ i. state_alone (ctx_then i) (asked_of (drop (given i) (answers i))) (state_then i)) ∙ sym (ap (λ (xs : List Answer). state_alone before.ctx (asked_of xs) before.state) rest_of)
 
 -- ---- all
 
@@ -65,14 +86,14 @@ pub nothing_left : (walk : Walk) → length walk.running.answers ≤ walk.runnin
 nothing_left walk end all = ended walk end ∙ ap (λ (places : List ℕ). standings_along walk.transactions.now walk.running.state places) (drop_all walk.begun walk.places.items all)
 
 -- what is left where the next transaction is at this place
-opened : (walk : Walk) (place : ℕ) → length walk.running.answers ≤ walk.running.given → walk.begun < length walk.places.items → place ≡ get_or walk.places.items walk.begun place
+opened : (walk : Walk) (place : ℕ) → length walk.running.answers ≤ walk.running.given → walk.begun < length walk.places.items → place ≡ get_or walk.places.items walk.begun 0
     → left walk ≡ standings_along walk.transactions.now walk.running.state (place ∷ drop (walk.begun + 1) walk.places.items)
 opened walk place end within is =
     ended walk end ∙ ap (λ (places : List ℕ). standings_along walk.transactions.now walk.running.state places)
-    (drop_more walk.places.items walk.begun place within ∙ ap (λ (x : ℕ). x ∷ drop (walk.begun + 1) walk.places.items) (sym is))
+    (drop_more walk.places.items walk.begun 0 within ∙ ap (λ (x : ℕ). x ∷ drop (walk.begun + 1) walk.places.items) (sym is))
 
 -- the next transaction begins
-pub begun_next : (before after : Walk) (place : ℕ) (it : Transaction) → length before.running.answers ≤ before.running.given → before.begun < length before.places.items → place ≡ get_or before.places.items before.begun place
+pub begun_next : (before after : Walk) (place : ℕ) (it : Transaction) → length before.running.answers ≤ before.running.given → before.begun < length before.places.items → place ≡ get_or before.places.items before.begun 0
     → it ≡ transaction_at before.transactions.now place → after.transactions.now ≡ before.transactions.now → after.places ≡ before.places → after.begun ≡ before.begun + 1
     → after.running.place ≡ place → after.running.answers ≡ it.answers → after.running.given ≡ 0 → after.running.ctx ≡ ctx_of it → after.running.state ≡ before.running.state
     → left after ≡ left before
@@ -88,7 +109,7 @@ none_there (t ∷ ts) zero l = absurd (omega (arith, l))
 none_there (t ∷ ts) (suc place) l = none_there ts place (omega (arith, l))
 
 -- none is there: it has no statement
-pub begun_nobody : (before after : Walk) (place : ℕ) → length before.running.answers ≤ before.running.given → before.begun < length before.places.items → place ≡ get_or before.places.items before.begun place
+pub begun_nobody : (before after : Walk) (place : ℕ) → length before.running.answers ≤ before.running.given → before.begun < length before.places.items → place ≡ get_or before.places.items before.begun 0
     → length before.transactions.now ≤ place → after.transactions.now ≡ before.transactions.now → after.places ≡ before.places → after.begun ≡ before.begun + 1
     → after.running ≡ before.running → left after ≡ left before
 begun_nobody before after place end within is over transactions places begun running =
@@ -103,6 +124,10 @@ pub walk_begun : (ts : List Transaction) (numbers : List ℕ) (walk : Walk) → 
     → IsWalk ts numbers (Some walk)
 walk_begun ts numbers walk placed transactions begun answers state =
     (walk.places.items, placed, ended walk (subst (λ (xs : List Answer). length xs ≤ walk.running.given) (sym answers) (omega arith)) ∙ (λ i. standings_along (transactions i) (state i) (drop (begun i) walk.places.items)), state)
+
+-- a next one stays so
+pub next_of_same : (xs ys more : List Standing) (turn : Turn) → xs ≡ ys → IsNext xs turn more → IsNext ys turn more
+next_of_same xs ys more turn same next = subst (λ (all : List Standing). IsNext all turn more) same next
 
 pub no_walk : (ts : List Transaction) (numbers : List ℕ) → IsNoOrder ts numbers → IsWalk ts numbers None
 no_walk ts numbers none = none

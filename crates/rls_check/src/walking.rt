@@ -1,20 +1,19 @@
 //! The statements of an audit one after another, each run at its place in the serial order.
 
-ghost use Rattle.std.specs.Prelude.{◌≡◌, ◌<◌, ◌≤◌, ◌+◌, [], true, false, length, get_or, IfOk, IfSome, OnOk, OnErr};
+ghost use Rattle.std.specs.Prelude.{◌≡◌, ◌<◌, ◌≤◌, ◌+◌, [], true, false, None, Ok, length, IfOk, IfSome, OnOk, OnErr};
 ghost use Rattle.rls_catalog.specs.Changed.{opening, changed_all};
 ghost use Rattle.rls_guard.specs.Effects.{changes_of};
 ghost use Rattle.rls_audit.specs.rls_access.specs.Statements.{role_after};
 ghost use Rattle.rls_audit.specs.rls_access.specs.Transactions.{ctx_after as context_after};
 ghost use Rattle.rls_audit.specs.rls_core.specs.Theory.{read_by};
 ghost use Rattle.rls_explain.specs.rls_meaning.specs.Meaning.{effect_of};
-ghost use Rattle.rls_check.specs.Audited.{transaction_at};
 ghost use Rattle.rls_check.specs.Checking.{ctx_of, IsPlaced};
 ghost use Rattle.rls_check.specs.Walking.{IsNext, IsWalk, left, left_alone, state_left, state_to_come};
 
 use crate::alone::{ctx_after, first_ctx, state_after};
 use crate::audit::Audit;
 use crate::matching::is_answer;
-use crate::ordering::places_of;
+use crate::ordering::{places_of, transaction_at};
 use crate::stored::Stored;
 use crate::transaction::{Answer, Transaction};
 use rls_audit::rls_access::{Ctx, Outcome, run_statement};
@@ -45,7 +44,7 @@ pub struct Turn {
 
 /// The transaction that runs: how many of its statements were given, and what the next is run in.
 #[derive(Drop)]
-struct Running {
+pub(crate) struct Running {
     place: usize,
     answers: Items<Answer>,
     given: usize,
@@ -104,6 +103,7 @@ fn walk_along<'a>(
 
 impl<'a> Walk<'a> {
     /// The next statement; none at the end.
+    #[tactic(auto, using(crate::proofs::WalkingLemmas::next_of_same))]
     pub fn next(&mut self, alloc: Global) -> Result<Option<Turn>, AllocError>
         ensures turn { IfOk result (IfSome (λ turn. IsNext (left self.old) turn (left self.new))) }
         ensures state { IfOk result (IfSome (λ turn. state_left self.new ≡ changed_all turn.before (changes_of turn.outcome.effect))) }
@@ -154,8 +154,8 @@ impl<'a> Walk<'a> {
         ensures begun { OnOk result (self.new.begun ≡ next + 1) }
     {
         let place = self.places[next];
-        if let Some(stored) = self.transactions.get(place) {
-            let transaction = stored.read(alloc)?;
+        if place < self.transactions.len() {
+            let transaction = transaction_at(self.transactions, place).read(alloc)?;
             self.running.begin(place, transaction)?;
         }
         self.begun = next + 1;
@@ -245,7 +245,7 @@ impl Running {
         let answer = &self.answers.as_slice()[self.given];
         let outcome = outcome_of(alloc, &self.state, &self.ctx, answer.statement.get())?;
         let agrees = is_answer(answer, &outcome.effect);
-        match self.behind(alloc, &outcome) {
+        match self.behind(alloc, answer, &outcome) {
             Ok((state, ctx, statement)) => {
                 let before = mem::replace(&mut self.state, state);
                 let ctx = mem::replace(&mut self.ctx, ctx);
@@ -271,16 +271,16 @@ impl Running {
     fn behind(
         &self,
         alloc: Global,
+        answer: &Answer,
         outcome: &Outcome,
     ) -> Result<(State, Ctx, Share<Statement>), AllocError>
-        requires within { self.now.given < length self.now.answers }
         requires role { outcome.now.role ≡ role_after self.now.ctx.role outcome.now.effect }
         ensures state { IfOk result (λ behind. behind.0 ≡ changed_all self.now.state (changes_of outcome.now.effect)) }
         ensures ctx { IfOk result (λ behind. behind.1 ≡ context_after self.now.ctx outcome.now.effect) }
-        ensures statement { IfOk result (λ behind. (default : Answer) → behind.2 ≡ (get_or self.now.answers self.now.given default).statement) }
+        ensures statement { IfOk result (λ behind. behind.2 ≡ answer.now.statement) }
     {
         let ctx = ctx_after(&self.ctx, outcome)?;
-        match self.state_and_statement(alloc, outcome) {
+        match self.state_and_statement(alloc, answer, outcome) {
             Ok((state, statement)) => Ok((state, ctx, statement)),
             Err(refused) => {
                 drop(ctx);
@@ -292,13 +292,13 @@ impl Running {
     fn state_and_statement(
         &self,
         alloc: Global,
+        answer: &Answer,
         outcome: &Outcome,
     ) -> Result<(State, Share<Statement>), AllocError>
-        requires within { self.now.given < length self.now.answers }
         ensures state { IfOk result (λ both. both.0 ≡ changed_all self.now.state (changes_of outcome.now.effect)) }
-        ensures statement { IfOk result (λ both. (default : Answer) → both.1 ≡ (get_or self.now.answers self.now.given default).statement) }
+        ensures statement { IfOk result (λ both. both.1 ≡ answer.now.statement) }
     {
-        let statement = self.answers.as_slice()[self.given].statement.copy()?;
+        let statement = answer.statement.copy()?;
         match state_after(alloc, &self.state, &outcome.effect) {
             Ok(state) => Ok((state, statement)),
             Err(refused) => {
