@@ -7,3 +7,4 @@ pub mod CheckLemmas
 pub mod RowLemmas
 pub mod FoundLemmas
 pub mod OutcomeLemmas
+pub mod OutcomeLawLemmas

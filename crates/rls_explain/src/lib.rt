@@ -24,6 +24,7 @@ pub use explaining::explain_row;
 pub use explanation::{Explained, Explanation, Said};
 pub use laws::explanations_mean;
 pub use outcome::{Reason, RowOutcome, RowWord};
+pub use outcome_laws::outcomes_tell_rows;
 pub use rls_meaning;
 pub use row_outcomes::outcomes;
 pub use texts::DecisionText;

@@ -2,6 +2,7 @@
 
 ghost use Rattle.rls_explain.specs.FoundOutcomes.{DeleteIsTold, InsertIsTold, SelectIsTold, UpdateIsTold};
 ghost use Rattle.rls_explain.specs.Found.{InsertHasRoom};
+ghost use Rattle.rls_explain.specs.OutcomeLaws.{MetQualify, ScansQualify};
 
 use crate::laws::decisions_found;
 use rls_meaning::expansion_means;
@@ -21,3 +22,10 @@ pub(crate) fn outcomes_found()
     role_means();
     expression_taken()
 }
+
+/// The rows of which it isn't told that policies or WHERE left them out are just those that qualify, in their order: of a SELECT
+/// those that it lists, of an UPDATE or a DELETE those that it changes.
+pub fn outcomes_tell_rows()
+    ensures met { MetQualify }
+    ensures scans { ScansQualify }
+{}
