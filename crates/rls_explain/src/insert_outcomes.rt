@@ -67,7 +67,6 @@ fn inserted_outcomes<'c, S: RowSource<'c>>(
     ensures rows { IfOk result (λ rows. rows ≡ found.told_of (S.state source.old) ctx.now (asked.Insert insert.now) done) }
     ensures state { S.state source.new ≡ S.state source.old }
 {
-    let _told = id;
     outcomes_found();
     let from = FromTable {
         name: &insert.table,

@@ -61,7 +61,6 @@ fn selected_outcomes<'c, S: RowSource<'c>>(
     ensures rows { IfOk result (λ rows. rows ≡ found.told_of (S.state source.old) ctx.now (asked.Select select.now) done) }
     ensures state { S.state source.new ≡ S.state source.old }
 {
-    let _told = (done, id);
     outcomes_found();
     let scope = FromTable {
         name: qualifier_of(select),
@@ -132,7 +131,6 @@ fn deleted_outcomes<'c, S: RowSource<'c>>(
     ensures rows { IfOk result (λ rows. rows ≡ found.told_of (S.state source.old) ctx.now (asked.Delete delete.now) done) }
     ensures state { S.state source.new ≡ S.state source.old }
 {
-    let _told = (done, id);
     outcomes_found();
     let from = FromTable {
         name: &delete.table,

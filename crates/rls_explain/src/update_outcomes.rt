@@ -76,7 +76,6 @@ fn updated_outcomes<'c, S: RowSource<'c>>(
     ensures rows { IfOk result (λ rows. rows ≡ found.told_of (S.state source.old) ctx.now (asked.Update update.now) done) }
     ensures state { S.state source.new ≡ S.state source.old }
 {
-    let _told = id;
     outcomes_found();
     let from = FromTable {
         name: &update.table,
