@@ -4,16 +4,17 @@ use Rattle.std.specs.Fmt.{decimal}
 use Rattle.std.specs.List.{flat_map, list_any}
 use Rattle.rls_value.specs.{declared.row.RowId.RowId, declared.value.Value.Value, Names.one_of, Objects.row_id_text, Values.literal_text, Words.kind_word}
 use Rattle.rls_expr.specs.declared.table.Column.{Column}
+use Rattle.rls_expr.specs.declared.table.TableDef.{TableDef}
 use Rattle.rls_catalog.specs.{declared.verdict.Verdict.Verdict, State.State, State.is_same_id, State.table_of}
 use Rattle.rls_catalog.specs.declared.verdict.Verdict.TheVariants as v
 use Rattle.rls_statement.specs.{declared.statement.Statement.Statement, Tags.tag_of}
 use Rattle.rls_statement.specs.declared.statement.Statement.TheVariants as statement
-use Rattle.rls_explain.specs.rls_meaning.specs.rls_access.specs.rls_dml.specs.Listings.{listing}
 use Rattle.rls_audit.specs.Printed.{printed_text}
 use Rattle.rls_explain.specs.declared.outcome.{RowWord.RowWord, Reason.Reason, RowOutcome.RowOutcome}
 use Rattle.rls_explain.specs.declared.outcome.RowWord.TheVariants as w
 use Rattle.rls_explain.specs.declared.outcome.Reason.TheVariants.{Denied, Unmet}
-use Rattle.rls_explain.specs.{Outcomes.outcomes_in, Texts.truth_word}
+use Rattle.rls_explain.specs.{Outcomes.outcomes_with, Texts.truth_word}
+use Rattle.rls_guard.specs.{declared.context.Ctx.Ctx, declared.effect.Effect.Effect}
 use Rattle.rls_check.specs.declared.filtering.ShownFilter.{ShownFilter}
 use Rattle.rls_check.specs.WhyTexts.{came_text}
 use Rattle.rls_check.specs.Walking.{Standing}
@@ -107,11 +108,20 @@ is_denied_word w.Refused = true
 is_denied_word word = false
 
 -- it is counted where each isn't asked for
+abbrev pub is_hidden_word : RowWord → Bool
+is_hidden_word w.Hidden = true
+is_hidden_word word = false
+
+abbrev pub is_barred_word : RowWord → Bool
+is_barred_word w.Barred = true
+is_barred_word word = false
+
+abbrev pub is_skipped_word : RowWord → Bool
+is_skipped_word w.Skipped = true
+is_skipped_word word = false
+
 abbrev pub is_left_word : RowWord → Bool
-is_left_word w.Hidden = true
-is_left_word w.Barred = true
-is_left_word w.Skipped = true
-is_left_word word = false
+is_left_word word = is_hidden_word word || (is_barred_word word || is_skipped_word word)
 
 abbrev pub is_wanted : ShownFilter → RowOutcome → Bool
 is_wanted it one = names_it it.tables one.table && (rows_it it.rows one.id && (not it.denied || is_denied_word one.word))
@@ -130,16 +140,21 @@ target_of (statement.Update asked) = Some asked.table
 target_of (statement.Delete asked) = Some asked.table
 target_of asked = None
 
--- the columns of the table
+-- the columns of a table that is there
+abbrev pub columns_if : Option TableDef → List Column
+columns_if (Some table) = table.columns
+columns_if None = []
+
+-- those of the table
 abbrev pub columns_of : State → List ℕ → List Column
 columns_of s name = columns_if (table_of s name)
 
 -- who ran which statement
-abbrev pub head_line : Standing → List ℕ
-head_line it = codes "txn " ++ (decimal it.ctx.txn ++ (codes " statement " ++ (decimal it.number ++ (codes " role " ++ (it.ctx.role ++ (codes ": " ++ printed_text it.shown.statement))))))
+abbrev pub head_line : ℕ → Ctx → Statement → List ℕ
+head_line number ctx asked = codes "txn " ++ (decimal ctx.txn ++ (codes " statement " ++ (decimal number ++ (codes " role " ++ (ctx.role ++ (codes ": " ++ printed_text asked))))))
 
-abbrev pub reply_line : Standing → List ℕ
-reply_line it = codes "reply: " ++ came_text (tag_of it.shown.statement) it.effect
+abbrev pub reply_line : Statement → Effect → List ℕ
+reply_line asked effect = codes "reply: " ++ came_text (tag_of asked) effect
 
 -- how many there are
 abbrev pub rows_word : ℕ → List ℕ
@@ -149,3 +164,54 @@ rows_word n = codes " rows"
 abbrev pub count_line : RowWord → List ℕ → ℕ → List (List ℕ)
 count_line word table 0 = []
 count_line word table n = (codes "  " ++ (row_word word ++ (codes " " ++ (table ++ (codes ": " ++ (decimal n ++ rows_word n)))))) ∷ []
+
+-- those of them that are only counted, in this order
+abbrev pub is_hidden : RowOutcome → Bool
+is_hidden one = is_hidden_word one.word
+
+abbrev pub is_barred : RowOutcome → Bool
+is_barred one = is_barred_word one.word
+
+abbrev pub is_skipped : RowOutcome → Bool
+is_skipped one = is_skipped_word one.word
+
+abbrev pub count_lines : List ℕ → List RowOutcome → List (List ℕ)
+count_lines table rows =
+    count_line w.Hidden table (length (filter is_hidden rows)) ++ (count_line w.Barred table (length (filter is_barred rows)) ++ count_line w.Skipped table (length (filter is_skipped rows)))
+
+-- it isn't only counted
+abbrev pub is_told : RowOutcome → Bool
+is_told one = not (is_left_word one.word)
+
+-- each row on its line, or only those that aren't counted
+abbrev pub told_lines : List Column → Bool → List RowOutcome → List (List ℕ)
+told_lines columns true rows = map (row_text columns) rows
+told_lines columns false rows = map (row_text columns) (filter is_told rows)
+
+-- each row on its line, or the others counted
+abbrev pub row_lines : ShownFilter → List Column → List ℕ → List RowOutcome → List (List ℕ)
+row_lines it columns table rows =
+    told_lines columns (is_narrow it || it.all) rows ++ (if is_narrow it || it.all then [] else count_lines table rows)
+
+-- statements that are run in this are asked for
+abbrev pub is_asked_in : ShownFilter → Ctx → Bool
+is_asked_in it ctx = names_it it.roles ctx.role && (names_it it.logins ctx.login && numbers_it it.txns ctx.txn)
+
+-- its lines, with these rows
+abbrev pub block_of : ShownFilter → ℕ → State → Ctx → Statement → Effect → List ℕ → List RowOutcome → List (List ℕ)
+block_of it number s ctx asked effect table rows =
+    if is_narrow it && nat_eq (length rows) 0 then []
+    else head_line number ctx asked ∷ reply_line asked effect ∷ row_lines it (columns_of s table) table rows
+
+-- none of a statement that isn't about rows, or isn't asked for
+abbrev pub block_if : ShownFilter → ℕ → State → Ctx → Statement → Effect → Option (List ℕ) → List (List ℕ)
+block_if it number s ctx asked effect None = []
+block_if it number s ctx asked effect (Some table) = if is_asked_in it ctx then block_of it number s ctx asked effect table (filter (is_wanted it) (outcomes_with s ctx asked effect)) else []
+
+-- what is written of the statement of this number, in this state and context, that comes to this
+abbrev pub block_text : ShownFilter → ℕ → State → Ctx → Statement → Effect → List ℕ
+block_text it number s ctx asked effect = escaped_lines (block_if it number s ctx asked effect (target_of asked))
+
+-- and of all
+abbrev pub shown_text : ShownFilter → List Standing → List ℕ
+shown_text it standings = flat_map (λ standing. block_text it standing.number standing.before standing.ctx standing.shown.statement standing.effect) standings

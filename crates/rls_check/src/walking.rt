@@ -107,6 +107,7 @@ impl<'a> Walk<'a> {
     pub fn next(&mut self, alloc: Global) -> Result<Option<Turn>, AllocError>
         ensures turn { IfOk result (IfSome (λ turn. IsNext (left self.old) turn (left self.new))) }
         ensures state { IfOk result (IfSome (λ turn. state_left self.new ≡ changed_all turn.before (changes_of turn.outcome.effect))) }
+        ensures effect { IfOk result (IfSome (λ turn. turn.outcome.effect ≡ effect_of turn.before turn.ctx turn.statement)) }
         ensures end { result ≡ Ok None → left self.old ≡ [] }
         ensures kept { OnErr result (left self.new ≡ left self.old) }
         ensures stays { OnErr result (state_left self.new ≡ state_left self.old) }
@@ -168,6 +169,7 @@ impl<'a> Walk<'a> {
         requires { self.old.running.given < length self.old.running.answers }
         ensures turn { IfOk result (IfSome (λ turn. IsNext (left self.old) turn (left self.new))) }
         ensures state { IfOk result (IfSome (λ turn. state_left self.new ≡ changed_all turn.before (changes_of turn.outcome.effect))) }
+        ensures effect { IfOk result (IfSome (λ turn. turn.outcome.effect ≡ effect_of turn.before turn.ctx turn.statement)) }
         ensures some { result ≡ Ok None → ⊥ }
         ensures kept { OnErr result (self.new ≡ self.old) }
     {
@@ -240,6 +242,7 @@ impl Running {
         ensures turn { IfOk result (λ turn. IsNext (left_alone self.old) turn (left_alone self.new)) }
         ensures end { OnOk result (state_to_come self.new ≡ state_to_come self.old) }
         ensures state { IfOk result (λ turn. self.new.state ≡ changed_all turn.before (changes_of turn.outcome.effect)) }
+        ensures effect { IfOk result (λ turn. turn.outcome.effect ≡ effect_of turn.before turn.ctx turn.statement) }
         ensures kept { OnErr result (self.new ≡ self.old) }
     {
         let answer = &self.answers.as_slice()[self.given];
