@@ -1,6 +1,6 @@
 //! What comes of the rows that a command scans.
 
-ghost use Rattle.std.specs.Prelude.{◌≡◌, ◌++◌, IfOk, OnOk, Some, None};
+ghost use Rattle.std.specs.Prelude.{◌≡◌, ◌++◌, ◌∷◌, [], IfOk, OnOk, Some, None};
 ghost use Rattle.std.specs.List.{flat_map};
 ghost use Rattle.rls_value.specs.Values.{truth_in};
 ghost use Rattle.rls_catalog.specs.Verdict.{is_same_kind};
@@ -54,48 +54,52 @@ fn put_fate<'c>(
 {
     match fate {
         Fate::Met => put_met(alloc, table, met, stored.id(), stored.row(), outcomes),
-        fate => put_unmet(alloc, table, fate, stored, outcomes),
+        Fate::Denied(reason) => put_denied(alloc, table, reason, stored, outcomes),
+        Fate::Unmet(truth) => put_skipped(alloc, table, truth, stored, outcomes),
     }
 }
 
-/// Tells of a row that isn't met.
-pub fn put_unmet<'c>(
+/// Tells of a row that policies deny.
+pub fn put_denied<'c>(
     alloc: Global,
     table: &Name,
-    fate: Fate,
+    reason: Reason,
     stored: &BorrowedRow<'c>,
     outcomes: &mut Vec<RowOutcome>,
 ) -> Result<(), AllocError>
-    ensures { OnOk result (outcomes.new.items ≡ outcomes.old.items ++ spec.scanned_as table.now fate stored.now []) }
+    ensures { OnOk result (outcomes.new.items ≡ outcomes.old.items ++ spec.told (spec.denied_word reason) table.now stored.now (Some reason) ∷ []) }
 {
-    match fate {
-        Fate::Denied(reason) => {
-            let word = denied_word(&reason);
-            put_told(
-                alloc,
-                word,
-                table,
-                stored.id(),
-                stored.row(),
-                Some(reason),
-                outcomes,
-            )
-        }
-        Fate::Unmet(truth) => {
-            let reason = Some(Reason::Unmet(truth));
-            let word = RowWord::Skipped;
-            put_told(
-                alloc,
-                word,
-                table,
-                stored.id(),
-                stored.row(),
-                reason,
-                outcomes,
-            )
-        }
-        Fate::Met => Ok(()),
-    }
+    let word = denied_word(&reason);
+    put_told(
+        alloc,
+        word,
+        table,
+        stored.id(),
+        stored.row(),
+        Some(reason),
+        outcomes,
+    )
+}
+
+/// Tells of a row of which WHERE isn't true.
+pub fn put_skipped<'c>(
+    alloc: Global,
+    table: &Name,
+    truth: Truth,
+    stored: &BorrowedRow<'c>,
+    outcomes: &mut Vec<RowOutcome>,
+) -> Result<(), AllocError>
+    ensures { OnOk result (outcomes.new.items ≡ outcomes.old.items ++ spec.told RowWord.Skipped table.now stored.now (Some (Reason.Unmet truth)) ∷ []) }
+{
+    put_told(
+        alloc,
+        RowWord::Skipped,
+        table,
+        stored.id(),
+        stored.row(),
+        Some(Reason::Unmet(truth)),
+        outcomes,
+    )
 }
 
 /// Tells of a row that is met, and again where RETURNING lists it.

@@ -3,7 +3,7 @@
 ghost use Rattle.std.specs.Prelude.{◌≡◌, [], ◌∷◌, true, IfOk, IfSome, IfNone};
 ghost use Rattle.rls_meaning.specs.Meaning.{effect_of};
 ghost use Rattle.rls_explain.specs.Explaining.{decisions_of as spec_decisions_of};
-ghost use Rattle.rls_explain.specs.Found.{Decides, are_read as spec_are_read};
+ghost use Rattle.rls_explain.specs.Found.{Decides, are_read as spec_are_read, is_decided};
 ghost use Rattle.rls_explain.specs.FoundOutcomes.{told_of};
 ghost use Rattle.rls_explain.specs.Outcomes as spec;
 
@@ -20,7 +20,7 @@ use std::alloc::{AllocError, Global};
 
 /// What the statement, which comes to this effect, did with each row: those that it scanned, in their order, then the new ones.
 /// The source is only read.
-#[tactic(auto, using(crate::proofs::OutcomeLemmas::nothing_decided))]
+#[tactic(auto, using(crate::proofs::OutcomeLemmas::nothing_decided, crate::proofs::OutcomeLemmas::some_decided))]
 pub fn outcomes<'c, S: RowSource<'c>>(
     alloc: Global,
     source: &mut S,
@@ -49,7 +49,7 @@ pub fn outcomes<'c, S: RowSource<'c>>(
 
 /// The row that is decided on first.
 fn first_id(decisions: &[Decision]) -> Option<RowId>
-    ensures some { IfSome result (λ id. Rattle.rls_explain.specs.Found.is_decided id decisions.now ≡ true) }
+    ensures some { IfSome result (λ id. is_decided id decisions.now ≡ true) }
     ensures none { IfNone result (decisions.now ≡ []) }
 {
     match decisions {

@@ -1,6 +1,7 @@
 //! UPDATE: what it did with the rows that it scans, and their new versions where it was refused.
 
-ghost use Rattle.std.specs.Prelude.{◌≡◌, ◌++◌, Some, Ok, true, is_some, map, IfOk, OnOk};
+ghost use Rattle.std.specs.Prelude.{◌≡◌, ◌++◌, Some, None, Ok, true, is_some, map, List, Result, IfOk, OnOk};
+ghost use Rattle.rls_value.specs.{declared.refusal.Refusal.Refusal as SpecRefusal, declared.value.Value.Value as SpecValue, Giving.Gives};
 ghost use Rattle.std.specs.List.{flat_map};
 ghost use Rattle.rls_catalog.specs.State.{table_of};
 ghost use Rattle.rls_expr.specs.Scopes.{in_scope};
@@ -15,7 +16,7 @@ ghost use Rattle.rls_explain.specs.FoundOutcomes as found;
 ghost use Rattle.rls_explain.specs.Outcomes as spec;
 
 use crate::asking::{expansion_if, new_rows, old_rows, rows_qualifying, rows_scanned};
-use crate::fates::{denial_on, fate_of, put_scanned, put_told, put_unmet};
+use crate::fates::{denial_on, fate_of, put_denied, put_scanned, put_skipped, put_told};
 use crate::outcome::{Fate, Met, RowOutcome, RowWord};
 use crate::outcome_laws::outcomes_found;
 use crate::resolving::{UpdateParts, update_parts};
@@ -209,7 +210,8 @@ fn put_updated<'a, 'c, 'x, S: RowSource<'c>>(
         Fate::Met => put_changed(
             alloc, source, context, from, parts, returning, stored, outcomes,
         ),
-        fate => put_unmet(alloc, from.name, fate, stored, outcomes),
+        Fate::Denied(reason) => put_denied(alloc, from.name, reason, stored, outcomes),
+        Fate::Unmet(truth) => put_skipped(alloc, from.name, truth, stored, outcomes),
     }
 }
 
@@ -252,7 +254,7 @@ fn version_of<'a, 'c, S: RowSource<'c>>(
     parts: &UpdateParts,
     stored: &BorrowedRow<'c>,
 ) -> Result<Row, Refusal>
-    ensures { Rattle.rls_value.specs.Giving.Gives result (found.version_found (S.state source.now) (shows context.entry.relations.now context.entry.role.now) context.entry.role.now columns.now parts.now.places.items parts.now.values stored.now) }
+    ensures { Gives result (found.version_found (S.state source.now) (shows context.entry.relations.now context.entry.role.now) context.entry.role.now columns.now parts.now.places.items parts.now.values stored.now) }
 {
     let relations = &*context.relations;
     let role = &*context.role;
@@ -309,7 +311,7 @@ fn changed_to<'c>(
     ensures id { IfOk result (λ outcome. outcome.id ≡ stored.now.id) }
     ensures row { IfOk result (λ outcome. outcome.row ≡ stored.now.row) }
     ensures new { IfOk result (λ outcome. outcome.new ≡ Some new.now) }
-    ensures reason { IfOk result (λ outcome. outcome.reason ≡ Rattle.std.specs.Prelude.None) }
+    ensures reason { IfOk result (λ outcome. outcome.reason ≡ None) }
 {
     let table = table.copy()?;
     match both_rows(alloc, stored.row(), new) {
@@ -423,7 +425,7 @@ pub fn put_refused_one<'a, 'c, S: RowSource<'c>>(
     made: Result<Row, Refusal>,
     outcomes: &mut Vec<RowOutcome>,
 ) -> Result<(), AllocError>
-    ensures { (given : Rattle.std.specs.Prelude.Result (Rattle.std.specs.Prelude.List Rattle.rls_value.specs.declared.value.Value.Value) Rattle.rls_value.specs.declared.refusal.Refusal.Refusal) → Rattle.rls_value.specs.Giving.Gives made given → OnOk result (outcomes.new.items ≡ outcomes.old.items ++ found.refused_by (S.state source.now) (shows context.entry.relations.now context.entry.role.now) context.entry.role.now context.entry.row_checks.now table.now id given) }
+    ensures { (given : Result (List SpecValue) SpecRefusal) → Gives made given → OnOk result (outcomes.new.items ≡ outcomes.old.items ++ found.refused_by (S.state source.now) (shows context.entry.relations.now context.entry.role.now) context.entry.role.now context.entry.row_checks.now table.now id given) }
 {
     match made {
         Ok(row) => {
