@@ -185,8 +185,7 @@ is_told one = not (is_left_word one.word)
 
 -- each row on its line, or only those that aren't counted
 abbrev pub told_lines : List Column → Bool → List RowOutcome → List (List ℕ)
-told_lines columns true rows = map (row_text columns) rows
-told_lines columns false rows = map (row_text columns) (filter is_told rows)
+told_lines columns all rows = map (row_text columns) (filter (λ one. all || is_told one) rows)
 
 -- each row on its line, or the others counted
 abbrev pub row_lines : ShownFilter → List Column → List ℕ → List RowOutcome → List (List ℕ)

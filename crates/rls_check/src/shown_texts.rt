@@ -348,10 +348,17 @@ fn push_count(
 fn push_line(text: &mut Vec<u8>, line: &str) -> Result<(), AllocError>
     ensures { OnOk result (text.new.items ≡ text.old.items ++ spec.escaped_lines (line.now ∷ [])) }
 {
-    for byte in line.as_bytes() {
+    push_escaped(text, line.as_bytes())?;
+    text.push(10)?;
+    Ok(())
+}
+
+fn push_escaped(text: &mut Vec<u8>, bytes: &[u8]) -> Result<(), AllocError>
+    ensures { OnOk result (text.new.items ≡ text.old.items ++ spec.escaped_text bytes.now) }
+{
+    for byte in bytes {
         push_byte(text, *byte)?;
     }
-    text.push(b'\n')?;
     Ok(())
 }
 
