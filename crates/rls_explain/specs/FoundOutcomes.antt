@@ -78,19 +78,27 @@ abbrev pub version_found : State → Shows → List ℕ → List Column → List
 version_found s sees role columns places terms stored = row_written s sees (over role stored.row) columns places terms stored.row
 
 -- an UPDATE that was done
-abbrev pub update_told : State → List ℕ → List ℕ → List Column → List ℕ → List Term → Option Term → Bool → List Stored → Option PolicyExpansion → List RowOutcome
-update_told s role table columns places terms condition returning rows (Some p) =
+abbrev pub update_told : State → List ℕ → List ℕ → List Column → List ℕ → List Term → Option Term → Bool → List Stored → PolicyExpansion → List RowOutcome
+update_told s role table columns places terms condition returning rows p =
     let sees : Shows = shows p.relations role in
     scanned_found s sees role p.old table condition (λ stored. changed_by table returning stored (version_found s sees role columns places terms stored)) rows
-update_told s role table columns places terms condition returning rows None = []
 
 -- one that was refused
-abbrev pub refusal_told : State → List ℕ → List ℕ → List Column → List ℕ → List Term → Option Term → List Stored → Option PolicyExpansion → List RowOutcome
-refusal_told s role table columns places terms condition rows (Some p) =
+abbrev pub refusal_told : State → List ℕ → List ℕ → List Column → List ℕ → List Term → Option Term → List Stored → PolicyExpansion → List RowOutcome
+refusal_told s role table columns places terms condition rows p =
     let sees : Shows = shows p.relations role in
     scanned_found s sees role p.old table condition (met_as table (record { word = w.Matched; returning = false })) rows
     ++ flat_map (λ stored. refused_by s sees role p.new table stored.id (version_found s sees role columns places terms stored)) (qualifying_found s p role condition rows)
-refusal_told s role table columns places terms condition rows None = []
+
+-- as it ended
+abbrev pub ended_told : State → List ℕ → List ℕ → List Column → List ℕ → List Term → Option Term → Bool → Bool → List Stored → PolicyExpansion → List RowOutcome
+ended_told s role table columns places terms condition returning true rows p = update_told s role table columns places terms condition returning rows p
+ended_told s role table columns places terms condition returning false rows p = refusal_told s role table columns places terms condition rows p
+
+-- UPDATE
+abbrev pub updated_told : State → List ℕ → List ℕ → List Column → List ℕ → List Term → Option Term → Bool → Bool → List Stored → Option PolicyExpansion → List RowOutcome
+updated_told s role table columns places terms condition returning done rows (Some p) = ended_told s role table columns places terms condition returning done rows p
+updated_told s role table columns places terms condition returning done rows None = []
 
 -- the rows of tuples, numbered on
 abbrev pub tuples_told : (RowId → Result (List Value) Refusal → List RowOutcome) → (List Term → Result (List Value) Refusal) → ℕ → ℕ → List (List Term) → List RowOutcome
@@ -132,11 +140,6 @@ DeleteIsTold =
     → are_read (decisions_of (effect_of s ctx (statement.Delete asked))) ≡ reads → condition ≡ option_map (resolved s ((asked.table, table) ∷ [])) asked.condition
     → scan_told s ctx.role asked.table condition (record { word = w.Deleted; returning = is_some asked.returning }) (rows_at_key s asked.table (pinned_key ctx.role table.key condition)) (expansion_found s ctx.role (asked.table, table) k.Delete reads (tables_if condition))
     ≡ told_of s ctx (statement.Delete asked) done
-
--- an UPDATE that was done, and one that was refused
-abbrev pub updated_told : State → List ℕ → List ℕ → List Column → List ℕ → List Term → Option Term → Bool → Bool → List Stored → Option PolicyExpansion → List RowOutcome
-updated_told s role table columns places terms condition returning true rows p = update_told s role table columns places terms condition returning rows p
-updated_told s role table columns places terms condition returning false rows p = refusal_told s role table columns places terms condition rows p
 
 abbrev pub UpdateIsTold : Type 0
 UpdateIsTold =

@@ -174,7 +174,7 @@ fn done_outcomes<'c, 'x, S: RowSource<'c>>(
     expansion: &PolicyExpansion<'c>,
     rows: &[BorrowedRow<'c>],
 ) -> Result<Items<RowOutcome>, AllocError>
-    ensures { IfOk result (λ outcomes. outcomes ≡ found.update_told (S.state source.now) role.now from.entry.name.now from.entry.table.now.columns parts.now.places.items parts.now.values parts.now.condition returning rows.now (Some expansion.now)) }
+    ensures { IfOk result (λ outcomes. outcomes ≡ found.update_told (S.state source.now) role.now from.entry.name.now from.entry.table.now.columns parts.now.places.items parts.now.values parts.now.condition returning rows.now expansion.now) }
 {
     let mut outcomes = Vec::new(alloc);
     let context = old_rows(expansion, role);
@@ -354,7 +354,7 @@ fn refused_outcomes<'c, 'x, S: RowSource<'c>>(
     expansion: &PolicyExpansion<'c>,
     rows: &[BorrowedRow<'c>],
 ) -> Result<Items<RowOutcome>, AllocError>
-    ensures rows { IfOk result (λ outcomes. outcomes ≡ found.refusal_told (S.state source.old) role.now from.entry.name.now from.entry.table.now.columns parts.now.places.items parts.now.values parts.now.condition rows.now (Some expansion.now)) }
+    ensures rows { IfOk result (λ outcomes. outcomes ≡ found.refusal_told (S.state source.old) role.now from.entry.name.now from.entry.table.now.columns parts.now.places.items parts.now.values parts.now.condition rows.now expansion.now) }
     ensures state { S.state source.new ≡ S.state source.old }
 {
     let qualifying = rows_qualifying(alloc, source, role, expansion, &parts.condition, rows)?;
