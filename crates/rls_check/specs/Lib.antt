@@ -5,7 +5,6 @@ pub mod Committing
 pub mod Explaining
 pub mod Walking
 pub mod WalkLaws
-pub mod ShownTexts
 pub mod Findings
 pub mod WhyTexts
 pub mod Forms

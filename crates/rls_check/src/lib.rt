@@ -8,7 +8,6 @@ mod checking;
 mod committing;
 mod converting;
 mod explaining;
-mod filtering;
 mod finding;
 mod form;
 mod keeping;
@@ -16,7 +15,6 @@ mod laws;
 mod matching;
 mod ordering;
 mod running;
-mod shown_texts;
 mod stored;
 mod texts;
 mod transaction;
@@ -26,7 +24,6 @@ mod walking;
 pub use audit::{Audit, Reader};
 pub use converting::Converter;
 pub use explaining::Why;
-pub use filtering::ShownFilter;
 pub use finding::Finding;
 pub use laws::{
     conversions_are_same, lines_are_shown, meant_lines_are_read, read_texts_begin_audits,

@@ -6,5 +6,3 @@ pub mod ResolvingLemmas
 pub mod CheckLemmas
 pub mod RowLemmas
 pub mod FoundLemmas
-pub mod OutcomeLemmas
-pub mod OutcomeLawLemmas

@@ -1,7 +1,4 @@
 pub mod Explaining
-pub mod Outcomes
 pub mod Found
-pub mod FoundOutcomes
-pub mod OutcomeLaws
 pub mod Texts
 pub use Rattle.rls_meaning

@@ -105,7 +105,7 @@ fn explained_in<'c, S: RowSource<'c>>(
     }
 }
 
-pub fn decisions_of(effect: &Effect) -> &[Decision]
+fn decisions_of(effect: &Effect) -> &[Decision]
     ensures { result.now ≡ spec.decisions_of effect.now }
 {
     match effect {
@@ -143,7 +143,7 @@ fn is_decided(decisions: &[Decision], id: RowId) -> bool
 }
 
 /// Whether one of them is for SELECT: the command reads its table.
-pub fn are_read(decisions: &[Decision]) -> bool
+fn are_read(decisions: &[Decision]) -> bool
     ensures { result ≡ found.are_read decisions.now }
 {
     decisions.iter().any(|decision| is_select(decision.kind))

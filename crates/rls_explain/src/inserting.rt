@@ -206,7 +206,7 @@ fn put_new<'a, 'c, S: RowSource<'c>>(
 }
 
 /// The row of the tuple; columns without a value are null.
-pub fn new_row<'a, 'c, S: RowSource<'c>>(
+fn new_row<'a, 'c, S: RowSource<'c>>(
     alloc: Global,
     source: &S,
     context: CheckContext<'a, 'c>,

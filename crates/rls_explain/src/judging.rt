@@ -187,7 +187,7 @@ fn judgement_on<'c, S: RowSource<'c>>(
 }
 
 /// What the condition says of the row, which alone is in scope.
-pub fn truth_on<'s, 'a, 'c, S: RowSource<'c>>(
+fn truth_on<'s, 'a, 'c, S: RowSource<'c>>(
     alloc: Global,
     source: &'s S,
     relations: &'a [SecuredRelation<'c>],

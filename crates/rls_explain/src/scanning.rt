@@ -73,7 +73,7 @@ fn explain_selected<'c, S: RowSource<'c>>(
 }
 
 /// What qualifies the table's columns: the alias or, without one, the table's name.
-pub fn qualifier_of(select: &Select) -> &Name
+fn qualifier_of(select: &Select) -> &Name
     ensures { result.now ≡ unwrap_or select.now.alias select.now.table }
 {
     match &select.alias {

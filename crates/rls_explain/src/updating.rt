@@ -205,7 +205,7 @@ fn put_version<'a, 'c, S: RowSource<'c>>(
 }
 
 /// The row with its new values, over itself as it stands.
-pub fn new_version<'a, 'c, S: RowSource<'c>>(
+fn new_version<'a, 'c, S: RowSource<'c>>(
     alloc: Global,
     source: &S,
     relations: &'a [SecuredRelation<'c>],
