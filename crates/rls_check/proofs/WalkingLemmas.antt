@@ -22,7 +22,7 @@ use Rattle.rls_check.specs.Walking.{Standing, standing_of, standings_alone, stan
 -- ---- the transaction that runs
 
 -- what is left of it, by its parts
-left_by : ℕ → ℕ → Ctx → State → List Answer → List Standing
+abbrev left_by : ℕ → ℕ → Ctx → State → List Answer → List Standing
 left_by place given ctx s rest = standings_alone place (given + 1) ctx s rest
 
 -- its next statement, by what is told of it
