@@ -248,7 +248,7 @@ impl Running {
         let answer = &self.answers.as_slice()[self.given];
         let outcome = outcome_of(alloc, &self.state, &self.ctx, answer.statement.get())?;
         let agrees = is_answer(answer, &outcome.effect);
-        match self.behind(alloc, answer, &outcome) {
+        match behind(alloc, &self.state, &self.ctx, answer, &outcome) {
             Ok((state, ctx, statement)) => {
                 let before = mem::replace(&mut self.state, state);
                 let ctx = mem::replace(&mut self.ctx, ctx);
@@ -269,45 +269,46 @@ impl Running {
             }
         }
     }
+}
 
-    /// What the statement behind it is run in, and the statement itself.
-    fn behind(
-        &self,
-        alloc: Global,
-        answer: &Answer,
-        outcome: &Outcome,
-    ) -> Result<(State, Ctx, Share<Statement>), AllocError>
-        requires role { outcome.now.role ≡ role_after self.now.ctx.role outcome.now.effect }
-        ensures state { IfOk result (λ behind. behind.0 ≡ changed_all self.now.state (changes_of outcome.now.effect)) }
-        ensures ctx { IfOk result (λ behind. behind.1 ≡ context_after self.now.ctx outcome.now.effect) }
-        ensures statement { IfOk result (λ behind. behind.2 ≡ answer.now.statement) }
-    {
-        let ctx = ctx_after(&self.ctx, outcome)?;
-        match self.state_and_statement(alloc, answer, outcome) {
-            Ok((state, statement)) => Ok((state, ctx, statement)),
-            Err(refused) => {
-                drop(ctx);
-                Err(refused)
-            }
+/// What the statement behind it is run in, and the statement itself.
+fn behind(
+    alloc: Global,
+    state: &State,
+    ctx: &Ctx,
+    answer: &Answer,
+    outcome: &Outcome,
+) -> Result<(State, Ctx, Share<Statement>), AllocError>
+    requires role { outcome.now.role ≡ role_after ctx.now.role outcome.now.effect }
+    ensures state { IfOk result (λ behind. behind.0 ≡ changed_all state.now (changes_of outcome.now.effect)) }
+    ensures ctx { IfOk result (λ behind. behind.1 ≡ context_after ctx.now outcome.now.effect) }
+    ensures statement { IfOk result (λ behind. behind.2 ≡ answer.now.statement) }
+{
+    let ctx = ctx_after(ctx, outcome)?;
+    match state_and_statement(alloc, state, answer, outcome) {
+        Ok((state, statement)) => Ok((state, ctx, statement)),
+        Err(refused) => {
+            drop(ctx);
+            Err(refused)
         }
     }
+}
 
-    fn state_and_statement(
-        &self,
-        alloc: Global,
-        answer: &Answer,
-        outcome: &Outcome,
-    ) -> Result<(State, Share<Statement>), AllocError>
-        ensures state { IfOk result (λ both. both.0 ≡ changed_all self.now.state (changes_of outcome.now.effect)) }
-        ensures statement { IfOk result (λ both. both.1 ≡ answer.now.statement) }
-    {
-        let statement = answer.statement.copy()?;
-        match state_after(alloc, &self.state, &outcome.effect) {
-            Ok(state) => Ok((state, statement)),
-            Err(refused) => {
-                drop(statement);
-                Err(refused)
-            }
+fn state_and_statement(
+    alloc: Global,
+    state: &State,
+    answer: &Answer,
+    outcome: &Outcome,
+) -> Result<(State, Share<Statement>), AllocError>
+    ensures state { IfOk result (λ both. both.0 ≡ changed_all state.now (changes_of outcome.now.effect)) }
+    ensures statement { IfOk result (λ both. both.1 ≡ answer.now.statement) }
+{
+    let statement = answer.statement.copy()?;
+    match state_after(alloc, state, &outcome.effect) {
+        Ok(state) => Ok((state, statement)),
+        Err(refused) => {
+            drop(statement);
+            Err(refused)
         }
     }
 }
