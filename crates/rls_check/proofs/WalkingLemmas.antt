@@ -4,7 +4,7 @@ use Rattle.std.proofs.Common.{ap, sym, ◌∙◌, subst, arith}
 use Rattle.std.proofs.lemmas.List.{drop_more, drop_all}
 use Rattle.rls_catalog.specs.State.{State}
 use Rattle.rls_catalog.specs.Changed.{opening, changed_all}
-use Rattle.rls_guard.specs.{declared.context.Ctx.Ctx, declared.effect.Effect.Effect, Effects.changes_of}
+use Rattle.rls_explain.specs.rls_meaning.specs.rls_guard.specs.{declared.context.Ctx.Ctx, declared.effect.Effect.Effect, Effects.changes_of}
 use Rattle.rls_audit.specs.rls_access.specs.Statements.{role_after}
 use Rattle.rls_audit.specs.rls_access.specs.Transactions.{ctx_after}
 use Rattle.rls_explain.specs.rls_meaning.specs.Meaning.{effect_of}
@@ -26,24 +26,23 @@ abbrev left_by : ℕ → ℕ → Ctx → State → List Answer → List Standing
 left_by place given ctx s rest = standings_alone place (given + 1) ctx s rest
 
 -- its next statement, by what is told of it
-module _ (before after : Running) (turn : Turn) (d : Answer) (within : before.given < length before.answers) (answers : after.answers ≡ before.answers) (given : after.given ≡ before.given + 1)
+module _ (before after : Running) (turn : Turn) (it : Answer) (within : before.given < length before.answers) (here : it ≡ get_or before.answers before.given it) (answers : after.answers ≡ before.answers) (given : after.given ≡ before.given + 1)
     (ctx : after.ctx ≡ ctx_after before.ctx turn.outcome.effect) (state : after.state ≡ changed_all before.state (changes_of turn.outcome.effect))
-    (effect : turn.outcome.effect ≡ effect_of before.state before.ctx (get_or before.answers before.given d).statement) where
-  rest_of : drop before.given before.answers ≡ get_or before.answers before.given d ∷ drop (before.given + 1) before.answers
-  rest_of = drop_more before.answers before.given d within
+    (effect : turn.outcome.effect ≡ effect_of before.state before.ctx it.statement) where
+  rest_of : drop before.given before.answers ≡ it ∷ drop (before.given + 1) before.answers
+  rest_of = drop_more before.answers before.given it within ∙ ap (λ (one : Answer). one ∷ drop (before.given + 1) before.answers) (sym here)
 
-  ctx_then : after.ctx ≡ ctx_after before.ctx (effect_of before.state before.ctx (get_or before.answers before.given d).statement)
+  ctx_then : after.ctx ≡ ctx_after before.ctx (effect_of before.state before.ctx it.statement)
   ctx_then = ctx ∙ ap (ctx_after before.ctx) effect
 
-  state_then : after.state ≡ changed_all before.state (changes_of (effect_of before.state before.ctx (get_or before.answers before.given d).statement))
+  state_then : after.state ≡ changed_all before.state (changes_of (effect_of before.state before.ctx it.statement))
   state_then = state ∙ ap (λ (one : Effect). changed_all before.state (changes_of one)) effect
 
   pub next_alone : after.place ≡ before.place → turn.place ≡ before.place → turn.number ≡ before.given + 1 → turn.before ≡ before.state → turn.ctx ≡ before.ctx
-      → turn.statement ≡ (get_or before.answers before.given d).statement → turn.outcome.footprint ≡ read_by before.ctx (get_or before.answers before.given d).statement before.state
-      → turn.outcome.role ≡ role_after before.ctx.role turn.outcome.effect → (turn.agrees ≡ true) ↔ IsAnswer (get_or before.answers before.given d) turn.outcome.effect
+      → turn.statement ≡ it.statement → turn.outcome.footprint ≡ read_by before.ctx it.statement before.state
+      → turn.outcome.role ≡ role_after before.ctx.role turn.outcome.effect → (turn.agrees ≡ true) ↔ IsAnswer it turn.outcome.effect
       → IsNext (left_alone before) turn (left_alone after)
   next_alone place turn_place number turn_before turn_ctx statement reads role agrees =
-      let it = get_or before.answers before.given d in
       let tells : IsTurn (standing_of before.place (before.given + 1) before.ctx before.state it) turn = record {
         place = turn_place;
         number = number;
@@ -86,14 +85,14 @@ pub nothing_left : (walk : Walk) → length walk.running.answers ≤ walk.runnin
 nothing_left walk end all = ended walk end ∙ ap (λ (places : List ℕ). standings_along walk.transactions.now walk.running.state places) (drop_all walk.begun walk.places.items all)
 
 -- what is left where the next transaction is at this place
-opened : (walk : Walk) (place : ℕ) → length walk.running.answers ≤ walk.running.given → walk.begun < length walk.places.items → place ≡ get_or walk.places.items walk.begun 0
+opened : (walk : Walk) (place : ℕ) → length walk.running.answers ≤ walk.running.given → walk.begun < length walk.places.items → place ≡ get_or walk.places.items walk.begun place
     → left walk ≡ standings_along walk.transactions.now walk.running.state (place ∷ drop (walk.begun + 1) walk.places.items)
 opened walk place end within is =
     ended walk end ∙ ap (λ (places : List ℕ). standings_along walk.transactions.now walk.running.state places)
-    (drop_more walk.places.items walk.begun 0 within ∙ ap (λ (x : ℕ). x ∷ drop (walk.begun + 1) walk.places.items) (sym is))
+    (drop_more walk.places.items walk.begun place within ∙ ap (λ (x : ℕ). x ∷ drop (walk.begun + 1) walk.places.items) (sym is))
 
 -- the next transaction begins
-pub begun_next : (before after : Walk) (place : ℕ) (it : Transaction) → length before.running.answers ≤ before.running.given → before.begun < length before.places.items → place ≡ get_or before.places.items before.begun 0
+pub begun_next : (before after : Walk) (place : ℕ) (it : Transaction) → length before.running.answers ≤ before.running.given → before.begun < length before.places.items → place ≡ get_or before.places.items before.begun place
     → it ≡ transaction_at before.transactions.now place → after.transactions.now ≡ before.transactions.now → after.places ≡ before.places → after.begun ≡ before.begun + 1
     → after.running.place ≡ place → after.running.answers ≡ it.answers → after.running.given ≡ 0 → after.running.ctx ≡ ctx_of it → after.running.state ≡ before.running.state
     → left after ≡ left before
@@ -109,7 +108,7 @@ none_there (t ∷ ts) zero l = absurd (omega (arith, l))
 none_there (t ∷ ts) (suc place) l = none_there ts place (omega (arith, l))
 
 -- none is there: it has no statement
-pub begun_nobody : (before after : Walk) (place : ℕ) → length before.running.answers ≤ before.running.given → before.begun < length before.places.items → place ≡ get_or before.places.items before.begun 0
+pub begun_nobody : (before after : Walk) (place : ℕ) → length before.running.answers ≤ before.running.given → before.begun < length before.places.items → place ≡ get_or before.places.items before.begun place
     → length before.transactions.now ≤ place → after.transactions.now ≡ before.transactions.now → after.places ≡ before.places → after.begun ≡ before.begun + 1
     → after.running ≡ before.running → left after ≡ left before
 begun_nobody before after place end within is over transactions places begun running =

@@ -2,7 +2,7 @@
 
 ghost use Rattle.std.specs.Prelude.{◌≡◌, ◌<◌, ◌≤◌, ◌+◌, [], true, false, None, Ok, length, IfOk, IfSome, OnOk, OnErr};
 ghost use Rattle.rls_catalog.specs.Changed.{opening, changed_all};
-ghost use Rattle.rls_guard.specs.Effects.{changes_of};
+ghost use Rattle.rls_explain.specs.rls_meaning.specs.rls_guard.specs.Effects.{changes_of};
 ghost use Rattle.rls_audit.specs.rls_access.specs.Statements.{role_after};
 ghost use Rattle.rls_audit.specs.rls_access.specs.Transactions.{ctx_after as context_after};
 ghost use Rattle.rls_audit.specs.rls_core.specs.Theory.{read_by};
@@ -18,8 +18,8 @@ use crate::stored::Stored;
 use crate::transaction::{Answer, Transaction};
 use rls_audit::rls_access::{Ctx, Outcome, run_statement};
 use rls_audit::rls_rows::State;
+use rls_explain::rls_guard::Mode;
 use rls_explain::rls_meaning::statement_means;
-use rls_guard::Mode;
 use rls_statement::Statement;
 use rls_value::shared::Share;
 use rls_value::{Items, Name};
@@ -105,10 +105,12 @@ impl<'a> Walk<'a> {
     /// The next statement; none at the end.
     #[tactic(auto, using(crate::proofs::WalkingLemmas::next_of_same))]
     pub fn next(&mut self, alloc: Global) -> Result<Option<Turn>, AllocError>
-        ensures turn { IfOk result (IfSome (λ turn. IsNext (left self.old) turn (left self.new))) }
-        ensures state { IfOk result (IfSome (λ turn. state_left self.new ≡ changed_all turn.before (changes_of turn.outcome.effect))) }
-        ensures effect { IfOk result (IfSome (λ turn. turn.outcome.effect ≡ effect_of turn.before turn.ctx turn.statement)) }
+        ensures turn { IfOk result (λ found. IfSome found (λ turn. IsNext (left self.old) turn (left self.new))) }
+        ensures state { IfOk result (λ found. IfSome found (λ turn. state_left self.new ≡ changed_all turn.before (changes_of turn.outcome.effect))) }
+        ensures effect { IfOk result (λ found. IfSome found (λ turn. turn.outcome.effect ≡ effect_of turn.before turn.ctx turn.statement)) }
         ensures end { result ≡ Ok None → left self.old ≡ [] }
+        ensures ended { result ≡ Ok None → left self.new ≡ [] }
+        ensures last { result ≡ Ok None → state_left self.new ≡ state_left self.old }
         ensures kept { OnErr result (left self.new ≡ left self.old) }
         ensures stays { OnErr result (state_left self.new ≡ state_left self.old) }
     {
@@ -167,9 +169,9 @@ impl<'a> Walk<'a> {
     #[tactic(auto, using(crate::proofs::WalkingLemmas::given_next))]
     fn give_next(&mut self, alloc: Global) -> Result<Option<Turn>, AllocError>
         requires { self.old.running.given < length self.old.running.answers }
-        ensures turn { IfOk result (IfSome (λ turn. IsNext (left self.old) turn (left self.new))) }
-        ensures state { IfOk result (IfSome (λ turn. state_left self.new ≡ changed_all turn.before (changes_of turn.outcome.effect))) }
-        ensures effect { IfOk result (IfSome (λ turn. turn.outcome.effect ≡ effect_of turn.before turn.ctx turn.statement)) }
+        ensures turn { IfOk result (λ found. IfSome found (λ turn. IsNext (left self.old) turn (left self.new))) }
+        ensures state { IfOk result (λ found. IfSome found (λ turn. state_left self.new ≡ changed_all turn.before (changes_of turn.outcome.effect))) }
+        ensures effect { IfOk result (λ found. IfSome found (λ turn. turn.outcome.effect ≡ effect_of turn.before turn.ctx turn.statement)) }
         ensures some { result ≡ Ok None → ⊥ }
         ensures kept { OnErr result (self.new ≡ self.old) }
     {
