@@ -1,9 +1,12 @@
 -- What is opened again and again.
-use Rattle.std.proofs.Common.{◌≡◌, ℕ, zero, suc, ◌+◌, ◌-◌, ◌<◌, ◌≤◌, Bool, true, false, ◌&&◌, List, [], ◌∷◌, ◌++◌, refl, arith, ap, sym, ◌∙◌}
+use Rattle.std.proofs.Common.{◌≡◌, ℕ, zero, suc, ◌+◌, ◌-◌, ◌<◌, ◌≤◌, Bool, true, false, ◌&&◌, List, [], ◌∷◌, ◌++◌, refl, arith, ap, sym, subst, ◌∙◌}
+use Rattle.std.specs.Prelude.{map, drop, length, get_or}
 use Rattle.std.specs.List.{flat_map, list_all}
+use Rattle.std.proofs.lemmas.List.{drop_more}
 use Rattle.rls_hints.specs.declared.grammar.Item.{Item}
 use Rattle.rls_hints.specs.declared.grammar.Item.TheVariants as i
-use Rattle.rls_hints.specs.Walking.{Coming, opened, opened_one, ready_of, is_closed}
+use Rattle.rls_hints.specs.declared.token.Placed.{Placed}
+use Rattle.rls_hints.specs.Walking.{Coming, This, opened, opened_one, ready_of, is_closed, is_empty, behind_one, fault_from}
 use Rattle.rls_hints.proofs.PlacedWords.{one_left, none_left}
 
 pub open_begin : (next : Coming) (stacks : List (List Item)) → ready_of next stacks ≡ opened (16 - 1) next (flat_map (opened_one next) stacks)
@@ -37,3 +40,12 @@ pub open_closed : (next : Coming) (n : ℕ) (stacks : List (List Item)) → list
 unfolding opened
 open_closed next zero stacks h = refl
 open_closed next (suc n) stacks h = rw (closed_all next stacks h) (open_closed next n stacks h)
+
+-- where a word is taken the walk goes on behind it
+pub walk_on : (place : ℕ) (stacks behind : List (List Item)) (words : List Placed) (word : Placed) → place < length words → word ≡ get_or words place word → behind ≡ flat_map (behind_one word.token) (ready_of (This word.token) stacks) → is_empty behind ≡ false
+    → fault_from place stacks (map (λ w. w.token) (drop place words)) ≡ fault_from (place + 1) behind (map (λ w. w.token) (drop (place + 1) words))
+unfolding fault_from
+walk_on place stacks behind words word within here e some =
+    let none : is_empty (flat_map (behind_one word.token) (ready_of (This word.token) stacks)) ≡ false = subst (λ b. is_empty b ≡ false) e some in
+    let next : suc place ≡ place + 1 = omega arith in
+    rw (drop_more words place word within, sym here, none, next, e) refl

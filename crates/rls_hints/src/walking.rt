@@ -51,7 +51,7 @@ pub fn find_fault(
     let mut stacks = begin(alloc, start)?;
     for (place, word) in words.iter().enumerate() {
         let behind = all_behind(alloc, stacks.as_slice(), &word.token)?;
-        if behind.is_empty() {
+        if is_empty(behind.as_slice()) {
             drop(behind);
             return found(alloc, place, stacks);
         }
@@ -64,6 +64,13 @@ pub fn find_fault(
     } else {
         found(alloc, words.len(), stacks)
     }
+}
+
+/// Whether there is none.
+fn is_empty(stacks: &[Items<Item>]) -> bool
+    ensures { result ≡ spec.is_empty stacks.now }
+{
+    matches!(stacks, [])
 }
 
 fn begin(alloc: Global, start: &[Item]) -> Result<Vec<Items<Item>>, AllocError>
