@@ -1,5 +1,6 @@
 -- One statement more of a walk.
-use Rattle.std.specs.Prelude.{◌≡◌, refl, ◌↔◌, ◌+◌, ◌<◌, ◌≤◌, ℕ, zero, suc, true, List, [], ◌∷◌, ◌++◌, length, drop, get_or, Some, None}
+use Rattle.std.specs.Prelude.{◌≡◌, refl, ◌↔◌, ◌+◌, ◌<◌, ◌≤◌, ℕ, zero, suc, true, List, [], ◌∷◌, ◌++◌, length, drop, get_or, Option, Some, None, Result, IfOk, IfSome}
+use Rattle.std.specs.declared.alloc.AllocError.{AllocError}
 use Rattle.std.proofs.Common.{ap, sym, ◌∙◌, subst, arith}
 use Rattle.std.proofs.lemmas.List.{drop_more, drop_all}
 use Rattle.rls_catalog.specs.State.{State}
@@ -65,6 +66,7 @@ module _ (before after : Running) (turn : Turn) (it : Answer) (within : before.g
 -- ---- all
 
 next_of_both : (xs ys more : List Standing) (turn : Turn) → IsNext xs turn ys → IsNext (xs ++ more) turn (ys ++ more)
+next_of_both [] ys more turn next = elim next [ ]
 next_of_both (x ∷ xs) ys more turn next = (next.0, ap (λ (zs : List Standing). zs ++ more) next.1)
 
 -- the next statement of the transaction that runs is the next of all
@@ -96,9 +98,9 @@ pub begun_next : (before after : Walk) (place : ℕ) (it : Transaction) → leng
     → it ≡ transaction_at before.transactions.now place → after.transactions.now ≡ before.transactions.now → after.places ≡ before.places → after.begun ≡ before.begun + 1
     → after.running.place ≡ place → after.running.answers ≡ it.answers → after.running.given ≡ 0 → after.running.ctx ≡ ctx_of it → after.running.state ≡ before.running.state
     → left after ≡ left before
-begun_next before after place it end within is it_is transactions places begun at answers given ctx state =
+begun_next before after place it end within is it_is transactions places begun here answers given ctx state =
     let begins : left after ≡ standings_alone place 1 (ctx_of it) before.running.state it.answers ++ standings_along before.transactions.now (state_behind it before.running.state) (drop (before.begun + 1) before.places.items) =
-    (λ i. left_by (at i) (given i) (ctx i) (state i) (drop (given i) (answers i)) ++ standings_along (transactions i) (state_alone (ctx i) (asked_of (drop (given i) (answers i))) (state i)) (drop (begun i) (places i).items)) in
+    (λ i. left_by (here i) (given i) (ctx i) (state i) (drop (given i) (answers i)) ++ standings_along (transactions i) (state_alone (ctx i) (asked_of (drop (given i) (answers i))) (state i)) (drop (begun i) (places i).items)) in
     begins ∙ ap (λ (x : Transaction). standings_alone place 1 (ctx_of x) before.running.state x.answers ++ standings_along before.transactions.now (state_behind x before.running.state) (drop (before.begun + 1) before.places.items)) it_is
     ∙ sym (opened before place end within is)
 
@@ -125,8 +127,8 @@ walk_begun ts numbers walk placed transactions begun answers state =
     (walk.places.items, placed, ended walk (subst (λ (xs : List Answer). length xs ≤ walk.running.given) (sym answers) (omega arith)) ∙ (λ i. standings_along (transactions i) (state i) (drop (begun i) walk.places.items)), state)
 
 -- a next one stays so
-pub next_of_same : (xs ys more : List Standing) (turn : Turn) → xs ≡ ys → IsNext xs turn more → IsNext ys turn more
-next_of_same xs ys more turn same next = subst (λ (all : List Standing). IsNext all turn more) same next
+pub next_of_same : (r : Result (Option Turn) AllocError) (xs ys more : List Standing) → xs ≡ ys → IfOk r (λ found. IfSome found (λ turn. IsNext xs turn more)) → IfOk r (λ found. IfSome found (λ turn. IsNext ys turn more))
+next_of_same r xs ys more same next = subst (λ (all : List Standing). IfOk r (λ found. IfSome found (λ turn. IsNext all turn more))) same next
 
 pub no_walk : (ts : List Transaction) (numbers : List ℕ) → IsNoOrder ts numbers → IsWalk ts numbers None
 no_walk ts numbers none = none
