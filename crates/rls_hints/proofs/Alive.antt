@@ -4,7 +4,6 @@ use Rattle.std.specs.Prelude.{take, drop}
 use Rattle.std.specs.List.{filter, flat_map, list_any}
 use Rattle.rls_text.specs.declared.token.Token.{Token as TextToken}
 use Rattle.rls_text.specs.Lang.{only, Both, Mapped, Either, Perhaps, Many, Checked, One}
-use Rattle.rls_hints.specs.declared.token.Token.{Token}
 use Rattle.rls_hints.specs.declared.grammar.Item.{Item}
 use Rattle.rls_hints.specs.declared.grammar.Item.TheVariants as i
 use Rattle.rls_hints.specs.declared.grammar.Phrase.{Phrase}

@@ -1,14 +1,12 @@
 -- A word at which the walk stops ends no beginning of a command, since the walk knows no more than the words up to it.
-use Rattle.std.proofs.Common.{◌≡◌, ℕ, zero, suc, ◌+◌, ◌-◌, ◌<◌, ◌≤◌, Bool, true, false, List, [], ◌∷◌, ◌++◌, length, Option, Some, None, refl, arith, sym, ap, subst, ◌∙◌}
-use Rattle.std.specs.Prelude.{map, take, drop, if◌then◌else◌}
+use Rattle.std.proofs.Common.{◌≡◌, ℕ, suc, ◌+◌, ◌-◌, ◌<◌, ◌≤◌, Bool, true, false, List, [], ◌∷◌, ◌++◌, length, Some, None, refl, arith, sym, ap, subst, ◌∙◌}
+use Rattle.std.specs.Prelude.{map, take, if◌then◌else◌}
 use Rattle.std.specs.List.{flat_map, list_any}
-use Rattle.rls_statement.specs.declared.command.Command.{Command}
 use Rattle.rls_text.specs.declared.token.Token.{Token as TextToken}
-use Rattle.rls_text.specs.Commands.{SpellsCommand}
 use Rattle.rls_hints.specs.declared.token.Token.{Token}
 use Rattle.rls_hints.specs.declared.grammar.Item.{Item}
 use Rattle.rls_hints.specs.Walking.{Whatever, End, This, Found, ready_of, behind_one, may_end, is_empty, fault_from, fault_in, fault_of, start}
-use Rattle.rls_hints.specs.Beginnings.{seen, IsBlamed, IsNoBeginning}
+use Rattle.rls_hints.specs.Beginnings.{seen, IsBlamed}
 use Rattle.rls_hints.proofs.Spelled.{spelled_taken}
 
 -- it stops at no earlier place

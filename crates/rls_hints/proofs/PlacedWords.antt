@@ -5,7 +5,7 @@ use Rattle.rls_text.specs.declared.token.Token.{Token as TextToken}
 use Rattle.rls_text.specs.declared.token.Token.TheVariants as w
 use Rattle.std.proofs.lemmas.Bool.{ne_eqb}
 use Rattle.rls_value.specs.Names.{is_letter}
-use Rattle.rls_text.specs.Words.{word_from, is_bad, is_digit, number_from, quoted, quoted_in, quoted_and_more, text_from, with_content, next_quoted, next_word, word_and_more, words_in, words_of, behind_blanks}
+use Rattle.rls_text.specs.Words.{word_from, is_digit, number_from, quoted, quoted_in, quoted_and_more, text_from, with_content, next_quoted, next_word, word_and_more, words_in, words_of, behind_blanks}
 use Rattle.rls_hints.specs.declared.token.Placed.{Placed}
 use Rattle.rls_hints.specs.declared.token.Token.{Token}
 use Rattle.rls_hints.specs.declared.token.Token.TheVariants as t

@@ -1,21 +1,19 @@
 -- Each rule of the grammar, by the items that read what it spells.
-use Rattle.std.proofs.Common.{◌≡◌, ℕ, zero, suc, Bool, true, false, ◌||◌, not, List, [], ◌∷◌, ◌++◌, Option, Some, None, refl, inl, inr, sym, subst, ap}
+use Rattle.std.proofs.Common.{◌≡◌, ℕ, zero, suc, Bool, true, false, ◌||◌, List, [], ◌∷◌, ◌++◌, Some, None, refl, inl, subst, ap}
 use Rattle.std.specs.Prelude.{codes, take, drop, map}
 use Rattle.rls_text.specs.declared.token.Token.{Token as TextToken}
 use Rattle.rls_text.specs.declared.token.Token.TheVariants as w
 use Rattle.rls_text.specs.declared.token.Symbol.TheVariants as s
 use Rattle.rls_text.specs.{Cut.Cut, Cutting.tree_of, FirstSets.expr_heads, FirstSets.expr_more}
-use Rattle.rls_text.specs.Lang.{only, Both, Mapped, Either, Perhaps, Many, Checked, One, Never}
+use Rattle.rls_text.specs.Lang.{only, Both, Perhaps, Many}
 use Rattle.rls_text.specs.Grammar as g
 use Rattle.rls_text.specs.Transactions as b
 use Rattle.rls_text.specs.Commands.{SpellsCommand}
 use Rattle.rls_statement.specs.declared.command.Command.{Command}
-use Rattle.rls_statement.specs.declared.statement.Statement.{Statement}
-use Rattle.rls_text.specs.Rule.{with_comma, listed}
+use Rattle.rls_text.specs.Rule.{with_comma}
 use Rattle.rls_text.specs.Cut as cut
 use Rattle.rls_text.specs.Values as v
 use Rattle.rls_text.specs.WaysBack as back
-use Rattle.rls_hints.specs.declared.grammar.Item.{Item}
 use Rattle.rls_hints.specs.declared.grammar.Item.TheVariants as i
 use Rattle.rls_hints.specs.declared.grammar.Phrase.TheVariants as p
 use Rattle.rls_hints.specs.Rows.{alternatives}

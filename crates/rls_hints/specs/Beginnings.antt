@@ -1,5 +1,5 @@
 -- What a line stops at: words that no command begins with.
-use Rattle.std.specs.Prelude.{◌≡◌, ◌+◌, ◌<◌, ℕ, List, [], ◌∷◌, ◌++◌, length, map, take}
+use Rattle.std.specs.Prelude.{◌≡◌, ◌+◌, ◌<◌, ℕ, List, ◌++◌, length, take}
 use Rattle.rls_statement.specs.declared.command.Command.{Command}
 use Rattle.rls_text.specs.declared.token.Token.{Token as TextToken}
 use Rattle.rls_text.specs.declared.token.Token.TheVariants as w

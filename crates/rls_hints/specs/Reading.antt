@@ -1,8 +1,8 @@
 -- The words of a line with their places, as `rls_text` reads them.
-use Rattle.std.specs.Prelude.{ℕ, zero, suc, ◌+◌, Bool, true, false, if◌then◌else◌, List, [], ◌∷◌, length, Option, Some, None}
+use Rattle.std.specs.Prelude.{ℕ, zero, suc, Bool, true, false, if◌then◌else◌, List, [], ◌∷◌, length, Option, Some, None}
 use Rattle.std.specs.Str.{chars}
 use Rattle.rls_text.specs.declared.token.Token.{Token as TextToken}
-use Rattle.rls_text.specs.Words.{is_bad, is_digit, behind_blanks, next_word, next_quoted}
+use Rattle.rls_text.specs.Words.{is_digit, behind_blanks, next_word, next_quoted}
 use Rattle.rls_hints.specs.declared.token.Token.{Token}
 use Rattle.rls_hints.specs.declared.token.Token.TheVariants as t
 use Rattle.rls_hints.specs.declared.token.Placed.{Placed}

@@ -1,6 +1,6 @@
 -- A walk through the words of a line, by the grammar's rules. What may follow is a list of stacks: each has the items that
 -- stand one behind another, the next one on top.
-use Rattle.std.specs.Prelude.{◌≡◌, ℕ, zero, suc, Bool, true, false, not, ◌||◌, if◌then◌else◌, List, [], ◌∷◌, ◌++◌, map, Option, Some, None}
+use Rattle.std.specs.Prelude.{ℕ, zero, suc, Bool, true, false, not, ◌||◌, if◌then◌else◌, List, [], ◌∷◌, ◌++◌, map, Option, Some, None}
 use Rattle.std.specs.List.{filter, flat_map, list_any}
 use Rattle.std.specs.Str.{bytes_eq}
 use denote.Enum.Bare.{sameb}
@@ -12,7 +12,6 @@ use Rattle.rls_hints.specs.declared.token.Token.{Token}
 use Rattle.rls_hints.specs.declared.token.Token.TheVariants as t
 use Rattle.rls_hints.specs.declared.grammar.Item.{Item}
 use Rattle.rls_hints.specs.declared.grammar.Item.TheVariants as i
-use Rattle.rls_hints.specs.declared.grammar.Phrase.{Phrase}
 use Rattle.rls_hints.specs.declared.grammar.Phrase.TheVariants as p
 use Rattle.rls_hints.specs.declared.walking.Fault.{Fault}
 use Rattle.rls_hints.specs.declared.walking.Next.{Next}
