@@ -25,7 +25,7 @@ Exit status:
     0  done, even if statements were refused
     1  a file cannot be read or written, or memory ran out
     2  usage
-    3  `check` says no, a line of an audit is bad, or there is no such decision";
+    3  `check` says no, a line of an audit is bad, there is no such decision, or `parse` finds a line that is no statement";
 
 const AFTER_RUN: &str = "\
 Each line of FILE is a command: `LABEL: \\connect ROLE` or `LABEL: STATEMENT`. The superuser `postgres` exists from the start:
@@ -63,7 +63,8 @@ AUDIT is read twice, so it cannot be a pipe. OUT must be another file. It is wri
 Example: rlsdb migrate AUDIT OUT";
 
 const AFTER_PARSE: &str = "\
-Nothing is run. For each line that isn't taken its place is written, the word that was met, and what could stand there.
+Runs nothing. For each line that is no statement it writes the place, the word at which the line goes wrong, and what could
+stand there.
 
 Example: rlsdb parse FILE";
 
