@@ -14,7 +14,7 @@ mod walking;
 
 pub use grammar::{Item, Phrase};
 pub use keyword::{Keyword, keyword_str};
-pub use laws::{blamed_begins_nothing, spelled_is_taken};
+pub use laws::{blamed_begins_nothing, spelled_is_taken, words_are_read};
 pub use reading::read_words;
 pub use rows::rows_of;
 pub use telling::{Place, hint_of, label_hint};

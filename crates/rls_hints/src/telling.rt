@@ -6,7 +6,7 @@ use crate::reading::read_words;
 use crate::token::{Placed, Token};
 use crate::walking::{COMMAND, Fault, ROLE, find_fault};
 use rls_text::parse_command;
-use rls_value::{Refusal, is_reserved};
+use rls_value::{Limit, Refusal, is_reserved};
 use std::alloc::{AllocError, Global};
 
 /// A line of a script.
@@ -35,12 +35,30 @@ fn begins_white(bytes: &[u8]) -> bool {
     matches!(bytes, [] | [b' ' | b'\t' | b'\n' | b'\r', ..])
 }
 
-/// What is told of what stands behind `\connect`.
+/// What is told of what stands behind `\connect`. As for a session, the limits on words come first.
 fn connect_hint(
     alloc: Global,
     place: Place<'_>,
     behind: &str,
 ) -> Result<Option<String>, AllocError> {
+    match parse_command(alloc, behind) {
+        Ok(taken) => {
+            drop(taken);
+            role_hint(alloc, place, behind)
+        }
+        Err(Refusal::NoMemory) => Err(AllocError),
+        Err(Refusal::Limit(limit)) => match limit {
+            Limit::Columns | Limit::Nesting | Limit::Subqueries => role_hint(alloc, place, behind),
+            limit => refusal_hint(alloc, place, Refusal::Limit(limit)),
+        },
+        Err(refusal) => {
+            drop(refusal);
+            role_hint(alloc, place, behind)
+        }
+    }
+}
+
+fn role_hint(alloc: Global, place: Place<'_>, behind: &str) -> Result<Option<String>, AllocError> {
     let words = read_words(alloc, behind)?;
     let hint = words_hint(alloc, place, &ROLE, words.as_slice());
     drop(words);
@@ -59,17 +77,23 @@ fn command_hint(
         }
         Err(Refusal::NoMemory) => Err(AllocError),
         Err(Refusal::Syntax) => syntax_hint(alloc, place, command),
-        Err(refusal) => {
-            let text = format!(in alloc; "{refusal}");
-            drop(refusal);
-            Ok(Some(limit_hint(alloc, place, text?)?))
-        }
+        Err(refusal) => refusal_hint(alloc, place, refusal),
     }
 }
 
 /// What is told of a line without a label.
 pub fn label_hint(alloc: Global, file: &str, line: u64) -> Result<String, AllocError> {
     format!(in alloc; "{file}:{line}:1: no label: a line is `LABEL: STATEMENT`\n")
+}
+
+fn refusal_hint(
+    alloc: Global,
+    place: Place<'_>,
+    refusal: Refusal,
+) -> Result<Option<String>, AllocError> {
+    let text = format!(in alloc; "{refusal}");
+    drop(refusal);
+    Ok(Some(limit_hint(alloc, place, text?)?))
 }
 
 fn limit_hint(alloc: Global, place: Place<'_>, text: String) -> Result<String, AllocError> {

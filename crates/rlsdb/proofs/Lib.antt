@@ -3,4 +3,5 @@ pub mod BookLemmas
 pub mod CommandLemmas
 pub mod CommandLineLemmas
 pub mod LineLemmas
+pub mod ParsingLemmas
 pub mod WordLemmas

@@ -51,6 +51,7 @@ fn parse_from<'a, R: Read + Drop, O: ScriptOut>(
 }
 
 /// The same of these lines.
+#[tactic(auto, using(crate::proofs::ParsingLemmas::none_parsed, crate::proofs::ParsingLemmas::more_parsed, crate::proofs::ParsingLemmas::no_more_parsed))]
 fn parse_lines<O: ScriptOut>(
     alloc: Global,
     name: &str,
@@ -72,6 +73,7 @@ fn parse_lines<O: ScriptOut>(
     Ok(fine)
 }
 
+#[tactic(auto, using(crate::proofs::ParsingLemmas::none_parsed, crate::proofs::ParsingLemmas::some_parsed))]
 fn parse_line<O: ScriptOut>(
     alloc: Global,
     name: &str,
@@ -126,44 +128,65 @@ pub struct Hinted<'r, R: Read + Drop> {
     file: &'r str,
     number: u64,
     line: Vec<u8>,
+    // Memory sufficed for all of the line.
+    is_whole: bool,
 }
 
 impl<'r, R: Read + Drop> Hinted<'r, R> {
     pub fn new(rt: &'r HostRuntime, file: &'r str, device: DeviceIn<R>) -> Hinted<'r, R>
-        ensures { result.device ≡ device.entry }
+        ensures { result.device ≡ device }
     {
         Hinted {
             device,
             rt,
             file,
-            number: 0,
+            number: 1,
             line: Vec::new(rt.alloc()),
+            is_whole: true,
         }
     }
 
-    // What memory doesn't suffice for isn't told.
+    // As in a script: a line ends before LF or CR LF, or at the end.
     fn note(&mut self, byte: Option<u8>)
         ensures { self.new.device ≡ self.old.device }
     {
         match byte {
-            Some(b'\n') => self.tell(),
-            Some(byte) => {
-                let _ = self.line.push(byte);
+            Some(b'\n') => {
+                self.tell(without_return(self.line.as_slice()));
+                self.begin_line();
             }
+            Some(byte) => self.keep(byte),
             None if self.line.is_empty() => (),
-            None => self.tell(),
+            None => {
+                self.tell(self.line.as_slice());
+                self.begin_line();
+            }
         }
     }
 
-    fn tell(&mut self)
+    fn keep(&mut self, byte: u8)
+        ensures { self.new.device ≡ self.old.device }
+    {
+        if self.line.push(byte).is_err() {
+            self.is_whole = false;
+        }
+    }
+
+    fn begin_line(&mut self)
         ensures { self.new.device ≡ self.old.device }
     {
         self.number = self.number.saturating_add(1);
-        let line = without_return(self.line.as_slice());
-        if let Ok(Some(hint)) = hint_in(self.rt.alloc(), self.file, self.number, line) {
-            let _ = eprint!(self.rt; "{hint}");
-        }
         self.line.clear();
+        self.is_whole = true;
+    }
+
+    // What memory doesn't suffice for isn't told.
+    fn tell(&self, line: &[u8]) {
+        if self.is_whole {
+            if let Ok(Some(hint)) = hint_in(self.rt.alloc(), self.file, self.number, line) {
+                let _ = eprint!(self.rt; "{hint}");
+            }
+        }
     }
 }
 
