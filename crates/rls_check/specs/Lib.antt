@@ -3,8 +3,6 @@ pub mod Checking
 pub mod Placing
 pub mod Committing
 pub mod Explaining
-pub mod Walking
-pub mod WalkLaws
 pub mod Findings
 pub mod WhyTexts
 pub mod Forms
