@@ -310,7 +310,9 @@ fn hints<'a>(alloc: Global) -> Arg<'a>
     Arg::new(alloc, "hints")
         .long("hints")
         .action(ArgAction::SetTrue)
-        .help("Show on standard error where a line stops being a statement, and what could stand there")
+        .help(
+            "Show on standard error where a line stops being a statement, and what could stand there",
+        )
 }
 
 fn order_command<'a>(alloc: Global) -> Result<Command<'a>, AllocError>
@@ -340,7 +342,11 @@ fn explain_command<'a>(alloc: Global) -> Result<Command<'a>, AllocError>
 {
     let about = "Explains the result of a statement of an audit, row by row";
     let txn = file(alloc, "TXN", "The number of the transaction");
-    let statement = file(alloc, "STATEMENT", "The number of the statement in it, from 1");
+    let statement = file(
+        alloc,
+        "STATEMENT",
+        "The number of the statement in it, from 1",
+    );
     let command = named(alloc, "explain", about, AFTER_EXPLAIN);
     let command = command.arg(audit(alloc))?;
     let command = command.arg(txn)?;
