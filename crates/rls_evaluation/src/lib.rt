@@ -1,6 +1,7 @@
 //! The value of an expression with subqueries, over a source, and what row security says of a row.
 #![tactic(auto)]
 
+mod cached_index;
 mod cached_subplan;
 mod datum;
 mod deciding;
