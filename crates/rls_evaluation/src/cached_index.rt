@@ -52,7 +52,7 @@ impl CachedIndex {
     fn is_for(&self, from: usize, table: &Name, columns: &[usize]) -> bool
         ensures { result ≡ true → IsIndexFor self.now from table.now columns.now }
     {
-        self.from == from && self.columns.as_slice() == columns && self.table == *table
+        self.from == from && self.columns.as_slice() == columns && self.table.is(table)
     }
 
     /// Those of the rows that have the values in the columns. The index is made of the rows, if it isn't made yet.
