@@ -211,12 +211,12 @@ impl ExecutionState {
     }
 }
 
-/// The place, where answers are kept there.
+/// The place, where answers are kept there and one is to be looked for.
 fn kept_at(cached_subplans: &[CachedSubplan], place: usize) -> Option<usize>
     requires { place < length cached_subplans.now }
     ensures { IfSome result (λ kept. kept ≡ place) }
 {
-    if cached_subplans[place].is_kept {
+    if cached_subplans[place].is_kept && cached_subplans[place].is_due {
         Some(place)
     } else {
         None

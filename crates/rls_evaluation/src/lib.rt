@@ -13,6 +13,7 @@ mod outer_values;
 mod plain;
 mod read_set;
 mod relation;
+mod reuse;
 mod scope;
 mod tableless;
 mod tables;
