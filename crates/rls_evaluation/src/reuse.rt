@@ -1,10 +1,10 @@
 //! Whether answers that are kept are found again.
 
 /// So many may be missed before answers are looked for only now and then.
-const PATIENCE: u64 = 512;
+const PATIENCE: u64 = 256;
 
 /// One that is found makes up for so many that are missed.
-const WORTH: u64 = 2;
+const WORTH: u64 = 3;
 
 /// Then one in so many is looked for.
 const RARELY: u64 = 16;
