@@ -65,8 +65,6 @@ pub struct CachedSubplan {
     pub reuse: Reuse,
     /// Whether answers are kept: not of a subquery with a sum.
     pub is_kept: bool,
-    /// Whether one is looked for now.
-    pub is_due: bool,
 }
 
 impl CachedSubplan {
@@ -92,7 +90,6 @@ impl CachedSubplan {
                 size: 0,
                 reuse: Reuse::new(),
                 is_kept,
-                is_due: true,
             }),
             Err(refused) => {
                 drop(columns);
@@ -157,7 +154,14 @@ impl CachedSubplan {
         ensures same { (relations : List SecuredRelation) (user : List ℕ) (s : State) (read_set : List Object) → IsCached relations user s read_set self.old → IsCached relations user s read_set self.new }
         ensures is_for { (from : ℕ) (asks : Asks) (q : Query) → IsFor self.old from asks q → IsFor self.new from asks q }
     {
-        self.is_due = self.reuse.ask();
+        self.reuse.ask();
+    }
+
+    /// Whether none is looked for now, since they are seldom found.
+    fn rests(&mut self) -> bool
+        ensures { (relations : List SecuredRelation) (user : List ℕ) (s : State) (read_set : List Object) → IsCached relations user s read_set self.old → IsCached relations user s read_set self.new }
+    {
+        self.reuse.rests()
     }
 
     /// Keeps the answer for the rows in scope, where there is room.
@@ -207,6 +211,17 @@ impl CachedSubplan {
             }
         }
     }
+}
+
+/// Whether at the place no answer is looked for now.
+pub fn rests_at(cached_subplans: &mut Vec<CachedSubplan>, place: usize) -> bool
+    ensures { (relations : List SecuredRelation) (user : List ℕ) (s : State) (read_set : List Object) → AreCached relations user s read_set cached_subplans.old.items → AreCached relations user s read_set cached_subplans.new.items }
+{
+    if place >= cached_subplans.len() {
+        return false;
+    }
+    let cached_subplan = &mut cached_subplans[place];
+    cached_subplan.rests()
 }
 
 /// The place of what is kept of the subquery, which is made where there is none; it is sought at the place `next` first.

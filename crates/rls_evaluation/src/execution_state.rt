@@ -9,7 +9,7 @@ ghost use Rattle.rls_verdict.specs.rls_catalog.specs.State.{State};
 ghost use Rattle.rls_evaluation.specs.{declared.relation.SecuredRelation.SecuredRelation, declared.cached_subplan.Asks.Asks, Holding.Holds, Holding.found_in, CachedSubplans.FoundAt, CachedSubplans.IsAnswer, CachedSubplans.IsAtPlace, CachedSubplans.IsKnown, Eval.among_items, Eval.first_item, Eval.has_row, Showing.shows, Scoping.datum_value, Scoping.env_of};
 
 use crate::cached_index::CachedIndex;
-use crate::cached_subplan::{Answer, Asks, CachedSubplan, keep_at, place_for};
+use crate::cached_subplan::{Answer, Asks, CachedSubplan, keep_at, place_for, rests_at};
 use crate::datum::Datum;
 use crate::read_set::ReadSet;
 use crate::scope::Env;
@@ -97,7 +97,8 @@ impl ExecutionState {
         }
     }
 
-    /// The place of what is kept of the subquery, which is made where there is none; none where answers aren't kept.
+    /// The place of what is kept of the subquery, which is made where there is none; none where answers aren't
+    /// kept, or none is looked for now.
     pub fn place_of(
         &mut self,
         alloc: Global,
@@ -109,7 +110,11 @@ impl ExecutionState {
         ensures read_set { self.new.read_set ≡ self.old.read_set }
         ensures holds { OnOk result ((relations : List SecuredRelation) (user : List ℕ) (s : State) → Holds relations user s self.old → Holds relations user s self.new) }
     {
-        let next = self.next;
+        let next = wrapped(self.next, self.cached_subplans.len());
+        if rests_at(&mut self.cached_subplans, next) {
+            self.next = next.wrapping_add(1);
+            return Ok(None);
+        }
         let place = place_for(alloc, &mut self.cached_subplans, next, from, asks, query)?;
         self.next = place + 1;
         Ok(kept_at(&self.cached_subplans, place))
@@ -211,12 +216,17 @@ impl ExecutionState {
     }
 }
 
-/// The place, where answers are kept there and one is to be looked for.
+/// The place or, behind the last one, the first.
+fn wrapped(place: usize, len: usize) -> usize {
+    if place < len { place } else { 0 }
+}
+
+/// The place, where answers are kept there.
 fn kept_at(cached_subplans: &[CachedSubplan], place: usize) -> Option<usize>
     requires { place < length cached_subplans.now }
     ensures { IfSome result (λ kept. kept ≡ place) }
 {
-    if cached_subplans[place].is_kept && cached_subplans[place].is_due {
+    if cached_subplans[place].is_kept {
         Some(place)
     } else {
         None

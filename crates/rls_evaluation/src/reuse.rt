@@ -1,46 +1,50 @@
 //! Whether answers that are kept are found again.
 
 /// So many may be missed before answers are looked for only now and then.
-const PATIENCE: u64 = 256;
+const PATIENCE: u64 = 64;
 
 /// One that is found makes up for so many that are missed.
-const WORTH: u64 = 3;
+const WORTH: u64 = 4;
 
 /// Then one in so many is looked for.
 const RARELY: u64 = 16;
 
-/// How often answers were asked for, looked for, and missed.
+/// How often answers were looked for, and missed.
 #[derive(Clone, Copy)]
 pub struct Reuse {
-    asked: u64,
-    due: u64,
+    looked_for: u64,
     missed: u64,
     found: u64,
-    passed: u64,
+    counted: u64,
+    passed_over: u64,
     patience: u64,
 }
 
 impl Reuse {
     pub fn new() -> Reuse {
         Reuse {
-            asked: 0,
-            due: 0,
+            looked_for: 0,
             missed: 0,
             found: 0,
-            passed: 0,
+            counted: 0,
+            passed_over: 0,
             patience: PATIENCE,
         }
     }
 
-    /// Counts that an answer is asked for; whether to look for it.
-    pub fn ask(&mut self) -> bool {
+    /// Whether an answer is passed over, which isn't looked for then.
+    pub fn rests(&mut self) -> bool {
         self.settle();
-        self.asked = self.asked.wrapping_add(1);
-        let is_due = self.patience > 0 || self.asked % RARELY == 0;
-        if is_due {
-            self.due = self.due.wrapping_add(1);
+        if self.patience > 0 {
+            return false;
         }
-        is_due
+        self.passed_over = self.passed_over.wrapping_add(1);
+        self.passed_over % RARELY != 0
+    }
+
+    /// Counts that an answer is looked for.
+    pub fn ask(&mut self) {
+        self.looked_for = self.looked_for.wrapping_add(1);
     }
 
     /// Counts that it wasn't there.
@@ -50,9 +54,9 @@ impl Reuse {
 
     /// What was looked for and not missed was found.
     fn settle(&mut self) {
-        let found = self.due.saturating_sub(self.missed);
+        let found = self.looked_for.saturating_sub(self.missed);
         let gained = found.saturating_sub(self.found).saturating_mul(WORTH);
-        let lost = self.missed.saturating_sub(self.passed);
+        let lost = self.missed.saturating_sub(self.counted);
         let patience = self.patience.saturating_add(gained).saturating_sub(lost);
         self.patience = if patience > PATIENCE {
             PATIENCE
@@ -60,6 +64,6 @@ impl Reuse {
             patience
         };
         self.found = found;
-        self.passed = self.missed;
+        self.counted = self.missed;
     }
 }
