@@ -115,12 +115,12 @@ index_at relations user s indexes place from table columns index rows found is g
     index_made relations user s index from table columns rows (found.is index is) given
     (subst (IsIndexed relations user s) (sym is) (All-get_or (IsIndexed relations user s) indexes place index found.below all))
 
--- the rows that it gives
-pub index_left : (index : CachedIndex) (values : List Value) (columns : List ℕ) (all rows : List (List Value)) → index.columns.items ≡ columns → rows ≡ matching index.columns.items values all
+-- the rows that stand under the values
+pub rows_left : (columns : List ℕ) (values : List Value) (all rows : List (List Value)) (entries : Entries) → IsIndexOf columns all entries → list_any is_null values ≡ false → rows ≡ rows_under entries values
     → LeavesOut (λ row. has_values columns values row ≡ false) all rows
-index_left index values columns all rows same are = record {
+rows_left columns values all rows entries made full are = record {
   test = has_values columns values;
-  left = are ∙ ap (λ columns. matching columns values all) same;
+  left = are ∙ made values full;
   others = λ row is. is;
 }
 

@@ -6,7 +6,7 @@ ghost use Rattle.rls_value.specs.{declared.value.Value.Value as SqlValue, Values
 ghost use Rattle.rls_expr.specs.{Parts.has_query, Terms.maybe_term};
 ghost use Rattle.rls_expr.specs.Terms as t;
 ghost use Rattle.rls_verdict.specs.rls_catalog.specs.State.{State};
-ghost use Rattle.rls_evaluation.specs.{declared.relation.SecuredRelation.SecuredRelation, Scoping.env_of, Showing.shows, Matching.IsUnmet, Matching.LeavesOut, Matching.has_values, Matching.matching, Matching.values_in, CachedIndexes.AreIndexed, CachedIndexes.FoundIndex, CachedIndexes.IsIndexFor, CachedIndexes.IsIndexOf, CachedIndexes.IsMadeOf, CachedIndexes.rows_under};
+ghost use Rattle.rls_evaluation.specs.{declared.relation.SecuredRelation.SecuredRelation, Scoping.env_of, Showing.shows, Matching.IsUnmet, Matching.LeavesOut, Matching.has_values, Matching.values_in, CachedIndexes.AreIndexed, CachedIndexes.FoundIndex, CachedIndexes.IsIndexFor, CachedIndexes.IsIndexOf, CachedIndexes.IsMadeOf, CachedIndexes.rows_under};
 
 use crate::datum::value_in;
 use crate::execution_state::Rows;
@@ -55,20 +55,35 @@ impl CachedIndex {
         self.from == from && self.columns.as_slice() == columns && self.table.is(table)
     }
 
-    /// Those of the rows that have the values in the columns. The index is made of the rows, if it isn't made yet.
-    fn rows_with(&mut self, alloc: Global, values: &Row, rows: &Rows) -> Result<Rows, AllocError>
+    /// Of these rows, those that have the values in the columns; the index is made of them, if it isn't made yet.
+    fn narrowed(&mut self, alloc: Global, values: &Row, rows: &Rows) -> Result<Rows, AllocError>
         ensures same { IsIndexFor self.new self.old.from self.old.table self.old.columns.items }
         ensures made { OnOk result (IsMadeOf self.old rows.now → IsMadeOf self.new rows.now) }
-        ensures rows { IfOk result (λ it. IsMadeOf self.old rows.now → list_any is_null values.now ≡ false → it ≡ matching self.old.columns.items values.now rows.now) }
+        ensures left { IfOk result (λ it. IsMadeOf self.old rows.now → list_any is_null values.now ≡ false → LeavesOut (λ row. has_values self.old.columns.items values.now row ≡ false) rows.now it) }
+    {
+        self.make(alloc, rows)?;
+        self.rows_with(alloc, values, rows)
+    }
+
+    /// Makes it of these rows, if it isn't made yet.
+    fn make(&mut self, alloc: Global, rows: &Rows) -> Result<(), AllocError>
+        ensures same { IsIndexFor self.new self.old.from self.old.table self.old.columns.items }
+        ensures made { OnOk result (IsMadeOf self.old rows.now → IsMadeOf self.new rows.now) }
+    {
+        if self.by_values.is_none() {
+            let by_values = index_of(alloc, self.columns.as_slice(), rows.as_slice())?;
+            self.by_values = Some(by_values);
+        }
+        Ok(())
+    }
+
+    /// Of these rows, of which it was made if it is made, those that have the values in the columns.
+    fn rows_with(&self, alloc: Global, values: &Row, rows: &Rows) -> Result<Rows, AllocError>
+        ensures { IfOk result (λ it. IsMadeOf self.now rows.now → list_any is_null values.now ≡ false → LeavesOut (λ row. has_values self.now.columns.items values.now row ≡ false) rows.now it) }
     {
         match &self.by_values {
             Some(by_values) => rows_of(alloc, by_values, values),
-            None => {
-                let by_values = index_of(alloc, self.columns.as_slice(), rows.as_slice())?;
-                let found = rows_of(alloc, &by_values, values);
-                self.by_values = Some(by_values);
-                found
-            }
+            None => rows.share(),
         }
     }
 }
@@ -193,7 +208,7 @@ fn matching_rows(
         Some(place) => {
             drop(columns);
             let cached_index = &mut cached_indexes[place];
-            cached_index.rows_with(alloc, values, rows)
+            cached_index.narrowed(alloc, values, rows)
         }
         None => {
             let index = CachedIndex::new(from, table, columns)?;
