@@ -3,7 +3,7 @@ use Rattle.std.specs.Prelude.{◌≡◌, refl, ℕ, zero, suc, nat_eq, List, [],
 use Rattle.std.proofs.Common.{arith, ap, sym, ◌∙◌, subst, append-nil}
 use Rattle.std.proofs.lemmas.Bool.{and_parts, true≢false}
 use Rattle.std.specs.{BTreeMap.is_at, List.list_any, Cmp.Lexicographic.slice_cmp}
-use Rattle.std.specs.Ordering.{is_eq, match_ordering}
+use Rattle.std.specs.Ordering.{is_eq, ordering_then}
 use Rattle.std.specs.declared.cmp.Ordering.{Ordering}
 use Rattle.std.specs.declared.cmp.Ordering.TheVariants.{Less, Equal, Greater}
 use Rattle.rls_value.specs.{declared.refusal.Refusal.Refusal, declared.object.Object.Object, declared.value.Value.Value, declared.truth.Truth.Truth, Values.equal_values, Values.is_null, Values.listed, Values.truth_in, Values.value_at, Values.value_of_truth, Truths.conjunction_of, Truths.is_true}
@@ -330,7 +330,7 @@ null_has_none (column ∷ columns) (Flag a ∷ values) row is = off_right (is_tr
 
 -- ---- the values as a key
 
-chain : (o rest : Ordering) → is_eq (match_ordering o Less rest Greater) ≡ (is_eq o && is_eq rest)
+chain : (o rest : Ordering) → is_eq (ordering_then o rest) ≡ (is_eq o && is_eq rest)
 chain Less rest = refl
 chain Equal rest = refl
 chain Greater rest = refl
