@@ -13,7 +13,7 @@ use Rattle.rls_verdict.specs.rls_catalog.specs.State.{State}
 use Rattle.rls_evaluation.specs.{declared.relation.SecuredRelation.SecuredRelation, declared.cached_index.CachedIndex.CachedIndex, Showing.shows}
 use Rattle.rls_evaluation.specs.Matching.{LeavesOut, has_values, matching, values_in}
 use Rattle.rls_evaluation.specs.CachedIndexes.{AreIndexed, FoundIndex, IsIndexFor, IsIndexOf, IsIndexed, IsMadeOf, IsOfShown, rows_under}
-use Rattle.rls_evaluation.proofs.MatchingLemmas.{all_pass, key_matches}
+use Rattle.rls_evaluation.proofs.MatchingLemmas.{all_pass, key_matches, none_pass, null_has_none}
 
 abbrev Entries : Type 0
 Entries = List (List Value × List (List Value))
@@ -142,3 +142,11 @@ index_pushed relations user s indexes new index grown none all =
 -- nothing is left out
 pub all_left : (IsOut : List Value → Type 0) (all rows : List (List Value)) → rows ≡ all → LeavesOut IsOut all rows
 all_left IsOut all rows same = record { test = λ _. true; left = same ∙ sym (all_pass all); others = λ row is. absurd (true≢false is) }
+
+-- nothing is equal to a null, and all are left out
+pub null_left : (columns : List ℕ) (values : List Value) (all rows : List (List Value)) → rows ≡ [] → list_any is_null values ≡ true → LeavesOut (λ row. has_values columns values row ≡ false) all rows
+null_left columns values all rows none null = record { test = λ _. false; left = none ∙ sym (none_pass all); others = λ row is. null_has_none columns values row null }
+
+-- what is left out is so in further words
+pub left_as : (IsOut IsSo : List Value → Type 0) (all rows : List (List Value)) → ((row : List Value) → IsOut row → IsSo row) → LeavesOut IsOut all rows → LeavesOut IsSo all rows
+left_as IsOut IsSo all rows so left = record { test = left.test; left = left.left; others = λ row is. so row (left.others row is) }

@@ -15,10 +15,10 @@ abbrev pub IsIndexOf : List ℕ → List (List Value) → List (List Value × Li
 IsIndexOf columns all entries = (values : List Value) → list_any is_null values ≡ false → rows_under entries values ≡ matching columns values all
 
 -- it is the index of that table, over the relations from one on, by these columns
-pub record IsIndexFor (index : CachedIndex) (from : ℕ) (table : List ℕ) (columns : List ℕ) : Type 0 where
+pub record IsIndexFor (index : CachedIndex) (from : ℕ) (name : List ℕ) (places : List ℕ) : Type 0 where
   pub at : index.from ≡ from
-  pub table : index.table ≡ table
-  pub columns : index.columns.items ≡ columns
+  pub table : index.table ≡ name
+  pub columns : index.columns.items ≡ places
 
 -- it stands at the place
 pub record FoundIndex (indexes : List CachedIndex) (place from : ℕ) (table : List ℕ) (columns : List ℕ) : Type 0 where
