@@ -10,6 +10,7 @@ use Rattle.rls_evaluation.specs.{Environments.inside, Environments.compared, Env
 use Rattle.rls_evaluation.specs.declared.cached_subplan.Asks.TheVariants as a
 use Rattle.rls_evaluation.specs.CachedSubplans.{IsKnown}
 use Rattle.rls_evaluation.proofs.{Telling.leads_whole, Telling.tells_then, Telling.tells_as, Telling.tells_same, Telling.tells_unread, Telling.tells_on, Telling.tells_item, Telling.tells_given, Telling.on_ok_then, Telling.drop_at, NarrowingLemmas.item_out, NarrowingLemmas.narrows_all, NarrowingLemmas.narrows_some, NarrowingLemmas.tells_narrowed, CachedSubplanLemmas.at_some, CachedSubplanLemmas.comes_of, CachedSubplanLemmas.known_told, CachedSubplanLemmas.set_told, CachedSubplanLemmas.tells_known_again, CachedSubplanLemmas.told_between, CachedSubplanLemmas.within_told, Absorbing.holds_shown, Exempting.given_as, Exempting.tells_exempt, RelationLemmas.shows_found, RelationLemmas.shows_none, RelationLemmas.size_found, RelationLemmas.condition_at, LoopLemmas.and_again, LoopLemmas.or_again, LoopLemmas.and_none, LoopLemmas.or_none, LoopLemmas.and_last, LoopLemmas.or_last, LoopLemmas.terms_turn, LoopLemmas.terms_end, LoopLemmas.rows_turn, LoopLemmas.item_again, LoopLemmas.item_added, LoopLemmas.row_added, LoopLemmas.judgement_added, LoopLemmas.sum_told, LoopLemmas.sum_on}
+use Rattle.std.proofs.lemmas.Result.{IfOk-weaker}
 use Rattle.rls_evaluation.proofs.evaluation.+eval.Goals as goal
 
 pub conjunction-loop-part-init : goal.conjunction-loop-part-init
@@ -345,3 +346,13 @@ shown-returns-then-is_exempt-clause-tells g t c =
 pub rows_for-returns-in-Some-clause-narrows : goal.rows_for-returns-in-Some-clause-narrows
 rows_for-returns-in-Some-clause-narrows g t c =
     narrows_all (ranged_over (query_of c.args.query.now) (shows (drop c.args.visible.from c.args.visible.relations.now) c.args.env.now.user.now) (env_of c.args.env.now)) (shows (drop c.args.visible.from c.args.visible.relations.now) c.args.env.now.user.now c.args.query.now.from.table (Some c.in-Some.key)) (maybe_term c.args.query.now.condition) (env_of c.args.env.now) _ _ _ _ c.seen.result (search rules) c.seen.ensures.tells
+
+pub rows_for-returns-in_ok-all-in-None-clause-narrows : goal.rows_for-returns-in_ok-all-in-None-clause-narrows
+rows_for-returns-in_ok-all-in-None-clause-narrows g t c =
+    narrows_some (ranged_over (query_of c.args.query.now) (shows (drop c.args.visible.from c.args.visible.relations.now) c.args.env.now.user.now) (env_of c.args.env.now)) (shows (drop c.args.visible.from c.args.visible.relations.now) c.args.env.now.user.now c.args.query.now.from.table None) (maybe_term c.args.query.now.condition) (env_of c.args.env.now) _ _ _ _ c.in_ok-all-in-None.all c.narrowed-rows.result (search rules) c.in_ok-all-in-None.ensures.tells
+    (IfOk-weaker c.narrowed-rows.result _ _ (λ it left. left c.args.visible.relations.now c.args.env.now.user.now (g.S.Tables.state c.seen-in-None.new.source) c.in_ok-all-in-None.ensures.holds.indexed (ap (λ s. ((shows (drop c.args.visible.from c.args.visible.relations.now) c.args.env.now.user.now c.args.query.now.from.table None).in_state s).gives) c.in_ok-all-in-None.ensures.tells.stands ∙ c.in_ok-all-in-None.ensures.tells.given)) c.narrowed-rows.ensures.left)
+
+pub rows_for-returns-in_ok-all-in-None-clause-holds : goal.rows_for-returns-in_ok-all-in-None-clause-holds
+rows_for-returns-in_ok-all-in-None-clause-holds g t c =
+    on_ok_then c.narrowed-rows.result _ _
+    (λ indexed. record { ordered = c.in_ok-all-in-None.ensures.holds.ordered; kept = c.in_ok-all-in-None.ensures.holds.kept; cached = c.in_ok-all-in-None.ensures.holds.cached; indexed = indexed c.args.visible.relations.now c.args.env.now.user.now (g.S.Tables.state c.seen-in-None.new.source) c.in_ok-all-in-None.ensures.holds.indexed (ap (λ s. ((shows (drop c.args.visible.from c.args.visible.relations.now) c.args.env.now.user.now c.args.query.now.from.table None).in_state s).gives) c.in_ok-all-in-None.ensures.tells.stands ∙ c.in_ok-all-in-None.ensures.tells.given) }) c.narrowed-rows.ensures.indexed
