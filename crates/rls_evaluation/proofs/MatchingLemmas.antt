@@ -1,6 +1,6 @@
 -- A row that hasn't the values that WHERE sets columns equal to doesn't meet it, and leaving it out changes nothing.
-use Rattle.std.specs.Prelude.{◌≡◌, refl, ℕ, zero, suc, nat_eq, List, [], ◌∷◌, ◌++◌, Bool, true, false, ◌&&◌, Option, Some, None, Result, Ok, Err, cond, filter, if◌then◌else◌}
-use Rattle.std.proofs.Common.{arith, ap, sym, ◌∙◌, subst, append-nil}
+use Rattle.std.specs.Prelude.{◌≡◌, refl, ℕ, zero, suc, nat_eq, List, [], ◌∷◌, Bool, true, false, ◌&&◌, Option, Some, None, Result, Ok, Err, cond, filter, if◌then◌else◌}
+use Rattle.std.proofs.Common.{arith, ap, sym, ◌∙◌, append-nil}
 use Rattle.std.proofs.lemmas.Bool.{and_parts, true≢false}
 use Rattle.std.specs.{BTreeMap.is_at, List.list_any, Cmp.Lexicographic.slice_cmp}
 use Rattle.std.specs.Ordering.{is_eq, ordering_then}
@@ -13,10 +13,10 @@ use Rattle.rls_expr.specs.declared.expr.Comparison.TheVariants as c
 use Rattle.rls_expr.specs.Parts.{has_query, have_query}
 use Rattle.rls_expr.specs.Terms.{Term, Terms, Literal, Column, Var, CurrentUser, Compare, And, Or, Not, IsNull, IsNotNull, InList, NotInList, Exists, InSubquery, NotInSubquery, Scalar, Sum, End, More}
 use Rattle.rls_verdict.specs.rls_catalog.specs.State.{State}
-use Rattle.rls_source.specs.{Readings.Reading, Readings.unread, Readings.next_reads, Readings.read_then, Askings.Asking}
+use Rattle.rls_source.specs.{Readings.unread, Readings.read_then, Askings.Asking}
 use Rattle.rls_evaluation.specs.{Environments.Environment, Environments.inside, Environments.row_at, Environments.compared, Gathering.gathered, Plain.IsPlainly}
-use Rattle.rls_evaluation.specs.Eval.{Shows, and_value}
-use Rattle.rls_evaluation.specs.Keys.{known_value, outer_value, is_column, pin_by, or_else, pin_of_sides, pin_in, pin_among, pin_of, with_pin, pinned}
+use Rattle.rls_evaluation.specs.Eval.{and_value}
+use Rattle.rls_evaluation.specs.Keys.{known_value, outer_value, is_column, pin_by, or_else, pin_in, pin_among, pin_of, with_pin, pinned}
 use Rattle.rls_evaluation.specs.Matching.{IsUnmet, has_values, values_in}
 use Rattle.rls_evaluation.proofs.{UnreadLemmas.AreTogether, UnreadLemmas.neither_left, UnreadLemmas.neither_right, UnreadLemmas.plain, UnreadLemmas.plain_all, ValueSetLemmas.number_ties, ValueSetLemmas.text_ties, ValueSetLemmas.flag_ties, ValueSetLemmas.ties_back}
 

@@ -1,6 +1,6 @@
 -- What is gathered over the rows that may meet WHERE is what is gathered over all.
-use Rattle.std.specs.Prelude.{◌≡◌, refl, List, Bool, false, Option, Some, None, Result, Ok, Err, IfOk, OnOk}
-use Rattle.std.proofs.Common.{ap, sym, ◌∙◌, subst}
+use Rattle.std.specs.Prelude.{◌≡◌, refl, List, Bool, false, Some, None, Result, Ok, Err, IfOk}
+use Rattle.std.proofs.Common.{ap, sym, ◌∙◌}
 use Rattle.std.specs.declared.alloc.AllocError.{AllocError}
 use Rattle.rls_value.specs.{declared.value.Value.Value, declared.object.Object.Object}
 use Rattle.rls_expr.specs.Terms.{Terms}

@@ -9,7 +9,7 @@ use Rattle.rls_source.specs.{Readings.unread, Askings.Asking, Askings.known, Ask
 use Rattle.rls_evaluation.specs.{Environments.inside, Environments.compared, Environments.over, Environments.number_or_null, Environments.joined, Gathering.gathered, Gathering.kept, Gathering.with_row, Showing.shows, Showing.judgements_on, Showing.is_allowed, Showing.is_exempt, Showing.with_judgement, Holding.Holds, Holding.Evaluates, Holding.shown_at, Holding.object_for, Items.any_equal, Items.items_seen, Items.with_item, ValueSets.IsSetOf, Eval.value_of, Eval.together, Eval.and_value, Eval.or_value, Eval.or_equal, Eval.turned, Eval.turned_value, Eval.among_items, Eval.item_equals, Eval.item_if, Eval.item_of, Eval.item_or, Eval.meets, Eval.or_item, Eval.ranged_over, Eval.first_item, Eval.has_row, Eval.sum_from, Scoping.env_of, Scoping.datum_value, Scoping.datum_now, Scoping.maybe_datum, Scoping.maybe_now, Scoping.number_value}
 use Rattle.rls_evaluation.specs.declared.cached_subplan.Asks.TheVariants as a
 use Rattle.rls_evaluation.specs.CachedSubplans.{IsKnown}
-use Rattle.rls_evaluation.proofs.{Telling.leads_whole, Telling.tells_then, Telling.tells_as, Telling.tells_same, Telling.tells_unread, Telling.tells_on, Telling.tells_item, Telling.tells_given, Telling.on_ok_then, Telling.drop_at, NarrowingLemmas.item_out, NarrowingLemmas.narrows_all, NarrowingLemmas.narrows_some, NarrowingLemmas.tells_narrowed, CachedSubplanLemmas.at_some, CachedSubplanLemmas.comes_of, CachedSubplanLemmas.known_told, CachedSubplanLemmas.set_told, CachedSubplanLemmas.tells_known_again, CachedSubplanLemmas.told_between, CachedSubplanLemmas.within_told, Absorbing.holds_shown, Exempting.given_as, Exempting.tells_exempt, RelationLemmas.shows_found, RelationLemmas.shows_none, RelationLemmas.size_found, RelationLemmas.condition_at, LoopLemmas.and_again, LoopLemmas.or_again, LoopLemmas.and_none, LoopLemmas.or_none, LoopLemmas.and_last, LoopLemmas.or_last, LoopLemmas.terms_turn, LoopLemmas.terms_end, LoopLemmas.rows_turn, LoopLemmas.item_again, LoopLemmas.item_added, LoopLemmas.row_added, LoopLemmas.judgement_added, LoopLemmas.sum_told, LoopLemmas.sum_on}
+use Rattle.rls_evaluation.proofs.{Telling.leads_whole, Telling.tells_then, Telling.tells_as, Telling.tells_same, Telling.tells_unread, Telling.tells_item, Telling.tells_given, Telling.on_ok_then, Telling.drop_at, NarrowingLemmas.item_out, NarrowingLemmas.narrows_all, NarrowingLemmas.narrows_some, NarrowingLemmas.tells_narrowed, CachedSubplanLemmas.at_some, CachedSubplanLemmas.comes_of, CachedSubplanLemmas.known_told, CachedSubplanLemmas.set_told, CachedSubplanLemmas.tells_known_again, CachedSubplanLemmas.told_between, CachedSubplanLemmas.within_told, Absorbing.holds_shown, Exempting.given_as, Exempting.tells_exempt, RelationLemmas.shows_found, RelationLemmas.shows_none, RelationLemmas.size_found, RelationLemmas.condition_at, LoopLemmas.and_again, LoopLemmas.or_again, LoopLemmas.and_none, LoopLemmas.or_none, LoopLemmas.and_last, LoopLemmas.or_last, LoopLemmas.terms_turn, LoopLemmas.terms_end, LoopLemmas.rows_turn, LoopLemmas.item_again, LoopLemmas.item_added, LoopLemmas.row_added, LoopLemmas.judgement_added, LoopLemmas.sum_told, LoopLemmas.sum_on}
 use Rattle.std.proofs.lemmas.Result.{IfOk-weaker}
 use Rattle.rls_evaluation.proofs.evaluation.+eval.Goals as goal
 
