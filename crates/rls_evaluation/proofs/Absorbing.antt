@@ -11,7 +11,7 @@ use Rattle.rls_verdict.specs.rls_catalog.specs.State.{State}
 use Rattle.rls_source.specs.{Askings.Asking, Footprints.with_object, Footprints.with_reads, Footprints.is_object, Footprints.is_among, Footprints.IsInOrder, FootprintLaws.is_object_same, FootprintLaws.among_with_object, FootprintLaws.among_with_reads}
 use Rattle.rls_source.proofs.FootprintOrderLaws.{with_object_in_order}
 use Rattle.rls_evaluation.specs.declared.cached_subplan.Answer.TheVariants.{Is, Items, First}
-use Rattle.rls_evaluation.specs.{declared.relation.SecuredRelation.SecuredRelation, declared.cached_subplan.Answer.Answer, declared.cached_subplan.CachedSubplan.CachedSubplan, declared.execution_state.CachedRows.CachedRows, declared.execution_state.ExecutionState.ExecutionState, CachedSubplans.IsAnswer, CachedSubplans.IsCached, CachedSubplans.IsKnown, CachedSubplans.AreCached, Environments.Environment, Eval.Shows, Eval.first_item, Eval.has_row, Items.items_seen, Showing.shows, Holding.IsKept, Holding.Holds, Holding.Evaluates, Holding.at_place, Holding.found_in, Holding.shown_at}
+use Rattle.rls_evaluation.specs.{declared.relation.SecuredRelation.SecuredRelation, declared.cached_subplan.Answer.Answer, declared.cached_subplan.CachedSubplan.CachedSubplan, declared.execution_state.CachedRows.CachedRows, declared.execution_state.ExecutionState.ExecutionState, CachedIndexes.AreIndexed, CachedIndexes.IsIndexed, CachedSubplans.IsAnswer, CachedSubplans.IsCached, CachedSubplans.IsKnown, CachedSubplans.AreCached, Environments.Environment, Eval.Shows, Eval.first_item, Eval.has_row, Items.items_seen, Showing.shows, Holding.IsKept, Holding.Holds, Holding.Evaluates, Holding.at_place, Holding.found_in, Holding.shown_at}
 use Rattle.rls_expr.specs.{ExprTerms.query_of, Terms.Query}
 
 below_none : (x y : Object) (objects : List Object) → object_order x y ≡ Less → AllByRecursion (λ z. object_order y z ≡ Less) objects → is_among objects x ≡ false
@@ -89,10 +89,16 @@ cached_noted relations user s read_set more cached_subplan ordered was = record 
 subplans_same : (relations : List SecuredRelation) (user : List ℕ) (s : State) (read_set : List Object) (old new : List CachedSubplan) → new ≡ old → AreCached relations user s read_set old → AreCached relations user s read_set new
 subplans_same relations user s read_set old new same cached = subst (AreCached relations user s read_set) (sym same) cached
 
+-- the indexes are the same list, in the same state
+indexes_same : (relations : List SecuredRelation) (user : List ℕ) (before after : State) (execution new : ExecutionState) → after ≡ before → new.cached_indexes.items ≡ execution.cached_indexes.items → Holds relations user before execution
+    → AreIndexed relations user after new.cached_indexes.items
+indexes_same relations user before after execution new same is holds =
+    subst (λ s. AreIndexed relations user s new.cached_indexes.items) (sym same) (subst (AreIndexed relations user before) (sym is) holds.indexed)
+
 -- under a further note, in the same state
 pub holds_noted : (relations : List SecuredRelation) (user : List ℕ) (before after : State) (execution new : ExecutionState) (more : Object) → after ≡ before → new.read_set ≡ with_object execution.read_set more → new.cached_rows.entries ≡ execution.cached_rows.entries
-    → new.cached_subplans.items ≡ execution.cached_subplans.items → Holds relations user before execution → Holds relations user after new
-holds_noted relations user before after execution new more same grown kept cached_subplans holds = record {
+    → new.cached_subplans.items ≡ execution.cached_subplans.items → new.cached_indexes.items ≡ execution.cached_indexes.items → Holds relations user before execution → Holds relations user after new
+holds_noted relations user before after execution new more same grown kept cached_subplans cached_indexes holds = record {
   ordered = subst IsInOrder (sym grown) (with_object_in_order execution.read_set more holds.ordered);
   kept = λ place object rows found.
       let was : IsKept relations user before execution.read_set place object rows = holds.kept place object rows (ap (λ cached_rows. found_in cached_rows place object) (sym kept) ∙ found) in
@@ -104,6 +110,7 @@ holds_noted relations user before after execution new more same grown kept cache
       (subst (λ n. AreCached relations user before n execution.cached_subplans.items) (sym grown)
       (All-weaker (IsCached relations user before execution.read_set) (IsCached relations user before (with_object execution.read_set more))
       (λ cached_subplan was. cached_noted relations user before execution.read_set more cached_subplan holds.ordered was) execution.cached_subplans.items holds.cached)));
+  indexed = indexes_same relations user before after execution new same cached_indexes holds;
 }
 
 same_place : (a b : ℕ) → nat_eq a b ≡ true → a ≡ b
@@ -132,10 +139,10 @@ new_if false relations user s read_set at place key object shown rows old is kep
 
 -- with what was just shown
 pub holds_shown : (relations : List SecuredRelation) (user : List ℕ) (before after : State) (old : List Object) (execution new : ExecutionState) (place : ℕ) (object : Object) (rows : List (List Value))
-    → Evaluates (shown_at relations user place object) before after old execution.read_set (Ok rows) → Holds relations user after execution → new.read_set ≡ execution.read_set → new.cached_subplans.items ≡ execution.cached_subplans.items
+    → Evaluates (shown_at relations user place object) before after old execution.read_set (Ok rows) → Holds relations user after execution → new.read_set ≡ execution.read_set → new.cached_subplans.items ≡ execution.cached_subplans.items → new.cached_indexes.items ≡ execution.cached_indexes.items
     → ((other : Object) → lookup (is_at (object_order other)) new.cached_rows.entries ≡ cond (is_object object other) (Some (record { place = place; rows = rows })) (lookup (is_at (object_order other)) execution.cached_rows.entries))
     → Holds relations user after new
-holds_shown relations user before after old execution new place object rows told holds same cached_subplans grown =
+holds_shown relations user before after old execution new place object rows told holds same cached_subplans cached_indexes grown =
     let reads : List Object = ((shown_at relations user place object).in_state before).reads in
     let noted : with_reads execution.read_set reads ≡ execution.read_set =
     ap (λ n. with_reads n reads) told.noted ∙ noted_absorbed old reads (subst IsInOrder told.noted holds.ordered) ∙ sym told.noted in
@@ -150,6 +157,7 @@ holds_shown relations user before after old execution new place object rows told
           (ap (at_place at) (sym (grown other)) ∙ found));
       cached = subplans_same relations user after new.read_set execution.cached_subplans.items new.cached_subplans.items cached_subplans
           (subst (λ n. AreCached relations user after n execution.cached_subplans.items) (sym same) holds.cached);
+      indexed = indexes_same relations user after after execution new refl cached_indexes holds;
     }
 
 none_in_order : (read_set : List Object) → read_set ≡ [] → IsInOrder read_set
@@ -157,13 +165,14 @@ unfolding IsStrictlySortedBy
 none_in_order read_set none = subst IsInOrder (sym none) tt
 
 -- where nothing was read, shown or answered
-pub holds_new : (relations : List SecuredRelation) (user : List ℕ) (s : State) (execution : ExecutionState) → execution.read_set ≡ [] → execution.cached_rows.entries ≡ [] → execution.cached_subplans.items ≡ [] → Holds relations user s execution
-holds_new relations user s execution unread unseen uncached = record {
+pub holds_new : (relations : List SecuredRelation) (user : List ℕ) (s : State) (execution : ExecutionState) → execution.read_set ≡ [] → execution.cached_rows.entries ≡ [] → execution.cached_subplans.items ≡ [] → execution.cached_indexes.items ≡ [] → Holds relations user s execution
+holds_new relations user s execution unread unseen uncached unindexed = record {
   ordered = none_in_order execution.read_set unread;
   kept = λ place object rows found.
       let none : None ≡ Some rows = ap (λ cached_rows. found_in cached_rows place object) (sym unseen) ∙ found in
       absurd (true≢false (sym (ap is_there none)));
   cached = subplans_same relations user s execution.read_set [] execution.cached_subplans.items uncached (All-nil (IsCached relations user s execution.read_set));
+  indexed = subst (AreIndexed relations user s) (sym unindexed) (All-nil (IsIndexed relations user s));
 }
 
 -- a second look adds nothing

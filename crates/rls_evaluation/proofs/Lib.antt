@@ -10,3 +10,7 @@ pub mod ReadSetLemmas
 pub mod PlainLemmas
 pub mod ValueSetLemmas
 pub mod DecidingLemmas
+pub mod UnreadLemmas
+pub mod MatchingLemmas
+pub mod CachedIndexLemmas
+pub mod NarrowingLemmas

@@ -69,18 +69,6 @@ pub tells_on : {A B : Type 0} (first : Asking A) (next : A → Asking B) (before
 tells_on first next before mid after old between new a (Ok b) x y = tells_then first next before mid after old between new a b x y
 tells_on first next before mid after old between new a (Err refused) x y = record { given = tt; noted = tt; stands = y.stands ∙ x.stands }
 
--- what is asked of rows that were shown
-pub tells_over : {A B : Type 0} (first : Asking A) (next : A → Asking B) (before mid after : State) (old between new : List Object) (rows slice : A) (b : B) → slice ≡ rows
-    → Evaluates first before mid old between (Ok rows) → Evaluates (next slice) mid after between new (Ok b) → Evaluates (followed_by first next) before after old new (Ok b)
-tells_over first next before mid after old between new rows slice b same x y =
-    tells_then first next before mid after old between new rows b x (subst (λ xs. Evaluates (next xs) mid after between new (Ok b)) same y)
-
--- the same, whatever comes of it
-pub tells_of : {A B : Type 0} (first : Asking A) (next : A → Asking B) (before mid after : State) (old between new : List Object) (rows slice : A) (result : Result B AllocError) → slice ≡ rows
-    → Evaluates first before mid old between (Ok rows) → Evaluates (next slice) mid after between new result → Evaluates (followed_by first next) before after old new result
-tells_of first next before mid after old between new rows slice result same x y =
-    tells_on first next before mid after old between new rows result x (subst (λ xs. Evaluates (next xs) mid after between new result) same y)
-
 -- an item, the row meeting WHERE
 pub tells_item : (meets : Asking Bool) (item : Asking Value) (before mid after : State) (old between new : List Object) (is : Bool) (v : Value) → is ≡ true
     → Evaluates meets before mid old between (Ok is) → Evaluates item mid after between new (Ok v) → Evaluates (item_if meets item) before after old new (Ok (Some v))

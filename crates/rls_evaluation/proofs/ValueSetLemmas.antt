@@ -55,19 +55,19 @@ flags_tie true false = refl
 flags_tie false true = refl
 flags_tie false false = refl
 
-number_ties : (a : _) (v : Value) → is_true (equal_values (Int a) v) ≡ is_at (listed (Int a)) v
+pub number_ties : (a : _) (v : Value) → is_true (equal_values (Int a) v) ≡ is_at (listed (Int a)) v
 number_ties a (Int b) = true_of (is_eq (int_cmp a b))
 number_ties a (Text t) = refl
 number_ties a (Flag b) = refl
 number_ties a Null = refl
 
-text_ties : (a : _) (v : Value) → is_true (equal_values (Text a) v) ≡ is_at (listed (Text a)) v
+pub text_ties : (a : _) (v : Value) → is_true (equal_values (Text a) v) ≡ is_at (listed (Text a)) v
 text_ties a (Int b) = refl
 text_ties a (Text b) = true_of (bytes_eq a b) ∙ sym (is_eq-slice_cmp a b)
 text_ties a (Flag b) = refl
 text_ties a Null = refl
 
-flag_ties : (a : Bool) (v : Value) → is_true (equal_values (Flag a) v) ≡ is_at (listed (Flag a)) v
+pub flag_ties : (a : Bool) (v : Value) → is_true (equal_values (Flag a) v) ≡ is_at (listed (Flag a)) v
 flag_ties a (Int b) = refl
 flag_ties a (Text b) = refl
 flag_ties a (Flag b) = flags_tie a b
@@ -135,7 +135,7 @@ eq_back Less = refl
 eq_back Equal = refl
 eq_back Greater = refl
 
-ties_back : (a b : Value) → is_at (listed a) b ≡ is_at (listed b) a
+pub ties_back : (a b : Value) → is_at (listed a) b ≡ is_at (listed b) a
 ties_back a b = ap is_eq (listed_total.antisymm a b) ∙ eq_back (listed b a)
 
 or_last : (b c : Bool) → cond c true b ≡ (b || (c || false))

@@ -8,7 +8,9 @@ use Rattle.rls_value.specs.declared.object.Object.TheVariants as o
 use Rattle.rls_verdict.specs.rls_catalog.specs.State.{State}
 use Rattle.rls_source.specs.Footprints.{with_reads, IsInOrder}
 use Rattle.rls_source.specs.Askings.{Asking, known}
-use Rattle.rls_evaluation.specs.{declared.relation.SecuredRelation.SecuredRelation, declared.execution_state.CachedRows.CachedRows, declared.execution_state.ExecutionState.ExecutionState, CachedSubplans.AreCached}
+use Rattle.rls_evaluation.specs.{declared.relation.SecuredRelation.SecuredRelation, declared.execution_state.CachedRows.CachedRows, declared.execution_state.ExecutionState.ExecutionState, CachedIndexes.AreIndexed, CachedSubplans.AreCached}
+use Rattle.rls_expr.specs.Terms.{Terms}
+use Rattle.rls_evaluation.specs.{Environments.Environment, Matching.IsUnmet, Matching.LeavesOut}
 use Rattle.rls_evaluation.specs.Showing.{asked_for, shown_first}
 
 -- a call answers what is asked, unless memory ran out: what is read is added to the read set, each object once, and the
@@ -39,6 +41,13 @@ abbrev pub put_in : {A E : Type 0} → List A → Result (Unit {0}) E → Result
 put_in left (Ok tt) = Ok left
 put_in left (Err refused) = Err refused
 
+-- a call gives rows that a subquery ranges over, and leaves out only such as don't meet WHERE
+pub record Narrows (condition : Terms) (ranged : Asking (List (List Value))) (env : Environment) (before : State) (old new : List Object) (rows : List (List Value)) : Type 0 where
+  pub all : List (List Value)
+  pub given : (ranged.in_state before).gives ≡ Ok all
+  pub noted : new ≡ with_reads old (ranged.in_state before).reads
+  pub left : LeavesOut (IsUnmet condition env) all rows
+
 -- the rows or the key of a table, as they are kept: what the first relation shows of it
 abbrev pub shown_of : List SecuredRelation → List ℕ → Object → Asking (List (List Value))
 shown_of relations user (o.Rows table) = shown_first relations user table None
@@ -68,3 +77,4 @@ pub record Holds (relations : List SecuredRelation) (user : List ℕ) (s : State
   pub ordered : IsInOrder execution.read_set
   pub kept : (place : ℕ) (object : Object) (rows : List (List Value)) → found_in execution.cached_rows.entries place object ≡ Some rows → IsKept relations user s execution.read_set place object rows
   pub cached : AreCached relations user s execution.read_set execution.cached_subplans.items
+  pub indexed : AreIndexed relations user s execution.cached_indexes.items

@@ -14,6 +14,8 @@ pub mod Tableless
 pub mod Wides
 pub mod ValueSets
 pub mod CachedSubplans
+pub mod Matching
+pub mod CachedIndexes
 pub mod Holding
 pub use Rattle.rls_source
 pub use Rattle.rls_verdict.specs.rls_catalog

@@ -11,6 +11,7 @@ ghost use Rattle.rls_evaluation.specs.declared.cached_subplan.Answer.TheVariants
 use crate::datum::{Datum, datum_of};
 use crate::outer_columns::{OuterColumn, named_columns, names_only};
 use crate::outer_values::OuterValues;
+use crate::reuse::Reuse;
 use crate::scope::Env;
 use crate::value_set::ValueSet;
 use rls_equality::is_same_query;
@@ -19,11 +20,8 @@ use rls_value::{Truth, Value};
 use std::alloc::{AllocError, Global};
 use std::collections::BTreeMap;
 
-/// So many answers are made before it is asked whether keeping them pays.
-const TRIED: u64 = 512;
-
 /// The most answers of a subquery that are kept.
-const MOST_ANSWERS: usize = 4096;
+const MOST_ANSWERS: usize = 16384;
 
 /// The most values that the answers of a subquery hold together, where there are several.
 const MOST_VALUES: usize = 65536;
@@ -64,9 +62,8 @@ pub struct CachedSubplan {
     pub answers: BTreeMap<OuterValues, Answer>,
     /// How many values the answers hold.
     pub size: usize,
-    pub asked: u64,
-    pub made: u64,
-    /// Whether answers are kept: not of a subquery with a sum, nor where they are seldom asked for again.
+    pub reuse: Reuse,
+    /// Whether answers are kept: not of a subquery with a sum.
     pub is_kept: bool,
 }
 
@@ -91,8 +88,7 @@ impl CachedSubplan {
                 columns,
                 answers: BTreeMap::new(alloc),
                 size: 0,
-                asked: 0,
-                made: 0,
+                reuse: Reuse::new(),
                 is_kept,
             }),
             Err(refused) => {
@@ -158,23 +154,33 @@ impl CachedSubplan {
         ensures same { (relations : List SecuredRelation) (user : List ℕ) (s : State) (read_set : List Object) → IsCached relations user s read_set self.old → IsCached relations user s read_set self.new }
         ensures is_for { (from : ℕ) (asks : Asks) (q : Query) → IsFor self.old from asks q → IsFor self.new from asks q }
     {
-        self.asked = self.asked.wrapping_add(1);
+        self.reuse.ask();
     }
 
-    /// Keeps the answer for the rows in scope, where there is room and keeping pays.
+    /// Whether none is looked for now, since they are seldom found.
+    fn rests(&mut self) -> bool
+        ensures { (relations : List SecuredRelation) (user : List ℕ) (s : State) (read_set : List Object) → IsCached relations user s read_set self.old → IsCached relations user s read_set self.new }
+    {
+        self.reuse.rests()
+    }
+
+    /// Keeps the answer for the rows in scope, where there is room.
     fn keep(&mut self, alloc: Global, env: &Env, answer: Answer) -> Result<(), AllocError>
         ensures { OnOk result ((relations : List SecuredRelation) (s : State) (read_set : List Object) → IsAnswerOf relations s read_set self.old (env_of env.now) answer → IsCached relations env.now.user.now s read_set self.old → IsCached relations env.now.user.now s read_set self.new) }
     {
-        if !self.takes(answer.size()) {
-            drop(answer);
-            return Ok(());
-        }
-        if self.pays() {
+        if self.takes(answer.size()) {
             return self.put(alloc, env, answer);
         }
         drop(answer);
-        self.close();
+        self.pass();
         Ok(())
+    }
+
+    /// Counts an answer that isn't kept.
+    fn pass(&mut self)
+        ensures { (relations : List SecuredRelation) (user : List ℕ) (s : State) (read_set : List Object) → IsCached relations user s read_set self.old → IsCached relations user s read_set self.new }
+    {
+        self.reuse.miss();
     }
 
     /// Whether an answer of so many values may be kept.
@@ -188,26 +194,13 @@ impl CachedSubplan {
             || (self.answers.len() < MOST_ANSWERS && size <= MOST_VALUES.saturating_sub(self.size))
     }
 
-    /// Whether enough of the answers were found again.
-    fn pays(&self) -> bool {
-        self.made < TRIED || self.asked / 2 >= self.made
-    }
-
-    /// Keeps nothing from now on.
-    fn close(&mut self)
-        ensures { (relations : List SecuredRelation) (user : List ℕ) (s : State) (read_set : List Object) → IsCached relations user s read_set self.new }
-    {
-        self.is_kept = false;
-        self.answers.clear();
-    }
-
     /// Keeps the answer for the rows in scope.
     fn put(&mut self, alloc: Global, env: &Env, answer: Answer) -> Result<(), AllocError>
         ensures { OnOk result (IsPut self.old self.new (outer_values self.old.columns.items (env_of env.now)) answer) }
     {
         match OuterValues::of(alloc, self.columns.as_slice(), env) {
             Ok(values) => {
-                self.made = self.made.wrapping_add(1);
+                self.reuse.miss();
                 self.size = self.size.saturating_add(answer.size());
                 let _ = self.answers.insert(values, answer)?;
                 Ok(())
@@ -218,6 +211,17 @@ impl CachedSubplan {
             }
         }
     }
+}
+
+/// Whether at the place no answer is looked for now.
+pub fn rests_at(cached_subplans: &mut Vec<CachedSubplan>, place: usize) -> bool
+    ensures { (relations : List SecuredRelation) (user : List ℕ) (s : State) (read_set : List Object) → AreCached relations user s read_set cached_subplans.old.items → AreCached relations user s read_set cached_subplans.new.items }
+{
+    if place >= cached_subplans.len() {
+        return false;
+    }
+    let cached_subplan = &mut cached_subplans[place];
+    cached_subplan.rests()
 }
 
 /// The place of what is kept of the subquery, which is made where there is none; it is sought at the place `next` first.

@@ -4,11 +4,12 @@ ghost use Rattle.std.specs.Prelude.{◌≡◌, [], ◌++◌, ◌||◌, false, tr
 ghost use Rattle.rls_value.specs.{declared.truth.Truth.TheVariants.False, declared.value.Value.TheVariants.Null, Truths.disjunction_of};
 ghost use Rattle.rls_expr.specs.Terms as t;
 ghost use Rattle.rls_expr.specs.{Terms.maybe_term, Terms.terms_of, ExprTerms.query_of};
-ghost use Rattle.rls_evaluation.specs.{Items.items_seen, Items.with_item, Scoping.env_of, Scoping.datum_value, Scoping.datum_now, Scoping.maybe_datum, Scoping.maybe_now, Scoping.number_value, Holding.Holds, Holding.Evaluates, Holding.shown_at, Holding.object_for, Holding.asked_of, Holding.is_key, Holding.put_in, CachedSubplans.Comes, Environments.inside, Keys.or_else, Gathering.gathered, Gathering.kept, Gathering.with_row, Showing.shows, Showing.judgements_on, Showing.is_allowed, Eval.value_of, Eval.together, Eval.or_equal, Eval.among_items, Eval.item_equals, Eval.item_of, Eval.item_or, Eval.meets, Eval.or_item, Eval.ranged_over, Eval.turned, Eval.turned_value};
+ghost use Rattle.rls_evaluation.specs.{Items.items_seen, Items.with_item, Scoping.env_of, Scoping.datum_value, Scoping.datum_now, Scoping.maybe_datum, Scoping.maybe_now, Scoping.number_value, Holding.Holds, Holding.Narrows, Holding.Evaluates, Holding.shown_at, Holding.object_for, Holding.asked_of, Holding.is_key, Holding.put_in, CachedSubplans.Comes, Environments.inside, Keys.or_else, Gathering.gathered, Gathering.kept, Gathering.with_row, Showing.shows, Showing.judgements_on, Showing.is_allowed, Eval.value_of, Eval.together, Eval.or_equal, Eval.among_items, Eval.item_equals, Eval.item_of, Eval.item_or, Eval.meets, Eval.or_item, Eval.ranged_over, Eval.turned, Eval.turned_value};
 ghost use Rattle.rls_source.specs.{Askings.followed_by, Footprints.with_object};
 ghost use Rattle.rls_evaluation.specs.Eval as means;
 ghost use Rattle.rls_evaluation.specs.Showing as spec;
 
+use crate::cached_index::narrowed;
 use crate::cached_subplan::{Answer, Asks};
 use crate::datum::{Datum, compare, datum_number, datum_of, datum_truth, equals, joined};
 use crate::deciding::deciding_on;
@@ -744,7 +745,7 @@ pub fn meets_condition<'a, 'c, S: Tables>(
     }
 }
 
-/// The rows that the subquery ranges over.
+/// The rows that the subquery ranges over: those with the whole key that its WHERE sets, or else as many of all as may meet it.
 #[cycle(eval)]
 fn rows_for<'a, 'c, S: Tables>(
     alloc: Global,
@@ -755,19 +756,37 @@ fn rows_for<'a, 'c, S: Tables>(
     env: &Env<'a>,
 ) -> Result<Rows, AllocError>
     requires { Holds visible.relations.now env.now.user.now (S.state source.old) execution.old }
-    ensures tells { Evaluates (ranged_over (query_of query.now) (shows (drop visible.entry.from visible.entry.relations.now) env.now.user.now) (env_of env.now)) (S.state source.old) (S.state source.new) execution.old.read_set execution.new.read_set result }
+    ensures narrows { IfOk result (λ rows. Narrows (maybe_term query.now.condition) (ranged_over (query_of query.now) (shows (drop visible.entry.from visible.entry.relations.now) env.now.user.now) (env_of env.now)) (env_of env.now) (S.state source.old) execution.old.read_set execution.new.read_set rows) }
+    ensures stands { S.state source.new ≡ S.state source.old }
     ensures holds { OnOk result (Holds visible.entry.relations.now env.now.user.now (S.state source.new) execution.new) }
 {
     let key = key_of(alloc, &query.key, &query.condition, env)?;
-    seen(
-        alloc,
-        source,
-        execution,
-        visible,
-        env.user,
-        &query.from.table,
-        key,
-    )
+    let table = &query.from.table;
+    match key {
+        Some(key) => seen(
+            alloc,
+            source,
+            execution,
+            visible,
+            env.user,
+            table,
+            Some(key),
+        ),
+        None => {
+            let all = seen(alloc, source, execution, visible, env.user, table, None)?;
+            let rows = narrowed(
+                alloc,
+                &mut execution.cached_indexes,
+                visible.from,
+                table,
+                &query.condition,
+                env,
+                &all,
+            );
+            drop(all);
+            rows
+        }
+    }
 }
 
 /// What the table shows, by the relations from one on.

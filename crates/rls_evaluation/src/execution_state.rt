@@ -8,7 +8,8 @@ ghost use Rattle.rls_expr.specs.{ExprTerms.query_of, Terms.Query};
 ghost use Rattle.rls_verdict.specs.rls_catalog.specs.State.{State};
 ghost use Rattle.rls_evaluation.specs.{declared.relation.SecuredRelation.SecuredRelation, declared.cached_subplan.Asks.Asks, Holding.Holds, Holding.found_in, CachedSubplans.FoundAt, CachedSubplans.IsAnswer, CachedSubplans.IsAtPlace, CachedSubplans.IsKnown, Eval.among_items, Eval.first_item, Eval.has_row, Showing.shows, Scoping.datum_value, Scoping.env_of};
 
-use crate::cached_subplan::{Answer, Asks, CachedSubplan, keep_at, place_for};
+use crate::cached_index::CachedIndex;
+use crate::cached_subplan::{Answer, Asks, CachedSubplan, keep_at, place_for, rests_at};
 use crate::datum::Datum;
 use crate::read_set::ReadSet;
 use crate::scope::Env;
@@ -67,12 +68,13 @@ pub struct CachedRows {
     pub rows: Rows,
 }
 
-/// The read set, the rows that were shown of each object, and the cached subplans.
+/// The read set, the rows that were shown of each object, the cached subplans, and indexes of rows that were shown.
 #[derive(Drop)]
 pub struct ExecutionState {
     pub read_set: ReadSet,
     pub cached_rows: BTreeMap<Object, CachedRows>,
     pub cached_subplans: Vec<CachedSubplan>,
+    pub cached_indexes: Vec<CachedIndex>,
     /// Where an answer is sought first: expressions are evaluated again and again in the same order.
     pub next: usize,
 }
@@ -83,17 +85,20 @@ impl ExecutionState {
         ensures read_set { result.read_set ≡ [] }
         ensures cached_rows { result.cached_rows.entries ≡ [] }
         ensures cached_subplans { result.cached_subplans.items ≡ [] }
+        ensures cached_indexes { result.cached_indexes.items ≡ [] }
         ensures holds { (relations : List SecuredRelation) (user : List ℕ) (s : State) → Holds relations user s result }
     {
         ExecutionState {
             read_set: ReadSet::new(alloc),
             cached_rows: BTreeMap::new(alloc),
             cached_subplans: Vec::new(alloc),
+            cached_indexes: Vec::new(alloc),
             next: 0,
         }
     }
 
-    /// The place of what is kept of the subquery, which is made where there is none; none where answers aren't kept.
+    /// The place of what is kept of the subquery, which is made where there is none; none where answers aren't
+    /// kept, or none is looked for now.
     pub fn place_of(
         &mut self,
         alloc: Global,
@@ -105,7 +110,11 @@ impl ExecutionState {
         ensures read_set { self.new.read_set ≡ self.old.read_set }
         ensures holds { OnOk result ((relations : List SecuredRelation) (user : List ℕ) (s : State) → Holds relations user s self.old → Holds relations user s self.new) }
     {
-        let next = self.next;
+        let next = wrapped(self.next, self.cached_subplans.len());
+        if rests_at(&mut self.cached_subplans, next) {
+            self.next = next.wrapping_add(1);
+            return Ok(None);
+        }
         let place = place_for(alloc, &mut self.cached_subplans, next, from, asks, query)?;
         self.next = place + 1;
         Ok(kept_at(&self.cached_subplans, place))
@@ -197,12 +206,19 @@ impl ExecutionState {
             read_set,
             cached_rows,
             cached_subplans,
+            cached_indexes,
             ..
         } = self;
         drop(cached_rows);
         drop(cached_subplans);
+        drop(cached_indexes);
         read_set
     }
+}
+
+/// The place or, behind the last one, the first.
+fn wrapped(place: usize, len: usize) -> usize {
+    if place < len { place } else { 0 }
 }
 
 /// The place, where answers are kept there.

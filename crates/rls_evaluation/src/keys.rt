@@ -33,7 +33,8 @@ pub fn key_of(
     }
 }
 
-fn all_pinned(
+/// What the condition sets the columns equal to, if it sets each.
+pub fn all_pinned(
     alloc: Global,
     columns: &[usize],
     condition: &Expr,
@@ -137,6 +138,63 @@ fn outer_value<'a>(level: usize, column: usize, env: &Env<'a>) -> Option<Datum<'
         return None;
     }
     Some(column_value(&env.rows, level - 1, column))
+}
+
+/// The own columns that the condition sets equal to what is known before a row is looked at, each once.
+pub fn equal_columns(alloc: Global, condition: &Expr) -> Result<Vec<usize>, AllocError> {
+    let mut columns = Vec::new(alloc);
+    match condition.node() {
+        Node::And(parts) => put_equal(&mut columns, parts)?,
+        _ => put_equal_in(&mut columns, condition)?,
+    }
+    Ok(columns)
+}
+
+fn put_equal(columns: &mut Vec<usize>, parts: &[Expr]) -> Result<(), AllocError> {
+    for part in parts {
+        put_equal_in(columns, part)?;
+    }
+    Ok(())
+}
+
+fn put_equal_in(columns: &mut Vec<usize>, part: &Expr) -> Result<(), AllocError> {
+    match part.node() {
+        Node::Compare(Comparison::Equal, left, right) => {
+            if let Some(column) = equal_column(left, right) {
+                if !columns.contains(&column) {
+                    columns.push(column)?;
+                }
+            }
+            Ok(())
+        }
+        _ => Ok(()),
+    }
+}
+
+/// The own column on the one side, if the other side is known.
+fn equal_column(left: &Expr, right: &Expr) -> Option<usize> {
+    match own_column(left) {
+        Some(column) if is_known(right) => Some(column),
+        _ => match own_column(right) {
+            Some(column) if is_known(left) => Some(column),
+            _ => None,
+        },
+    }
+}
+
+fn own_column(expr: &Expr) -> Option<usize> {
+    match expr.node() {
+        Node::Var(var) if var.level == 0 => Some(var.column),
+        _ => None,
+    }
+}
+
+fn is_known(expr: &Expr) -> bool {
+    match expr.node() {
+        Node::Literal(_) | Node::CurrentUser => true,
+        Node::Var(var) => var.level > 0,
+        _ => false,
+    }
 }
 
 /// Whether a null is among the values.

@@ -1,6 +1,7 @@
 //! The value of an expression with subqueries, over a source, and what row security says of a row.
 #![tactic(auto)]
 
+mod cached_index;
 mod cached_subplan;
 mod datum;
 mod deciding;
@@ -12,6 +13,7 @@ mod outer_values;
 mod plain;
 mod read_set;
 mod relation;
+mod reuse;
 mod scope;
 mod tableless;
 mod tables;

@@ -9,7 +9,8 @@ use Rattle.rls_source.specs.{Readings.unread, Askings.Asking, Askings.known, Ask
 use Rattle.rls_evaluation.specs.{Environments.inside, Environments.compared, Environments.over, Environments.number_or_null, Environments.joined, Gathering.gathered, Gathering.kept, Gathering.with_row, Showing.shows, Showing.judgements_on, Showing.is_allowed, Showing.is_exempt, Showing.with_judgement, Holding.Holds, Holding.Evaluates, Holding.shown_at, Holding.object_for, Items.any_equal, Items.items_seen, Items.with_item, ValueSets.IsSetOf, Eval.value_of, Eval.together, Eval.and_value, Eval.or_value, Eval.or_equal, Eval.turned, Eval.turned_value, Eval.among_items, Eval.item_equals, Eval.item_if, Eval.item_of, Eval.item_or, Eval.meets, Eval.or_item, Eval.ranged_over, Eval.first_item, Eval.has_row, Eval.sum_from, Scoping.env_of, Scoping.datum_value, Scoping.datum_now, Scoping.maybe_datum, Scoping.maybe_now, Scoping.number_value}
 use Rattle.rls_evaluation.specs.declared.cached_subplan.Asks.TheVariants as a
 use Rattle.rls_evaluation.specs.CachedSubplans.{IsKnown}
-use Rattle.rls_evaluation.proofs.{Telling.leads_whole, Telling.tells_then, Telling.tells_as, Telling.tells_same, Telling.tells_unread, Telling.tells_on, Telling.tells_over, Telling.tells_of, Telling.tells_item, Telling.tells_given, Telling.on_ok_then, Telling.drop_at, CachedSubplanLemmas.at_some, CachedSubplanLemmas.comes_of, CachedSubplanLemmas.known_told, CachedSubplanLemmas.set_told, CachedSubplanLemmas.tells_known_again, CachedSubplanLemmas.told_between, CachedSubplanLemmas.within_told, Absorbing.holds_shown, Exempting.given_as, Exempting.tells_exempt, RelationLemmas.shows_found, RelationLemmas.shows_none, RelationLemmas.size_found, RelationLemmas.condition_at, LoopLemmas.and_again, LoopLemmas.or_again, LoopLemmas.and_none, LoopLemmas.or_none, LoopLemmas.and_last, LoopLemmas.or_last, LoopLemmas.terms_turn, LoopLemmas.terms_end, LoopLemmas.rows_turn, LoopLemmas.item_again, LoopLemmas.item_added, LoopLemmas.row_added, LoopLemmas.judgement_added, LoopLemmas.sum_told, LoopLemmas.sum_on}
+use Rattle.rls_evaluation.proofs.{Telling.leads_whole, Telling.tells_then, Telling.tells_as, Telling.tells_same, Telling.tells_unread, Telling.tells_item, Telling.tells_given, Telling.on_ok_then, Telling.drop_at, NarrowingLemmas.item_out, NarrowingLemmas.narrows_all, NarrowingLemmas.narrows_some, NarrowingLemmas.tells_narrowed, CachedSubplanLemmas.at_some, CachedSubplanLemmas.comes_of, CachedSubplanLemmas.known_told, CachedSubplanLemmas.set_told, CachedSubplanLemmas.tells_known_again, CachedSubplanLemmas.told_between, CachedSubplanLemmas.within_told, Absorbing.holds_shown, Exempting.given_as, Exempting.tells_exempt, RelationLemmas.shows_found, RelationLemmas.shows_none, RelationLemmas.size_found, RelationLemmas.condition_at, LoopLemmas.and_again, LoopLemmas.or_again, LoopLemmas.and_none, LoopLemmas.or_none, LoopLemmas.and_last, LoopLemmas.or_last, LoopLemmas.terms_turn, LoopLemmas.terms_end, LoopLemmas.rows_turn, LoopLemmas.item_again, LoopLemmas.item_added, LoopLemmas.row_added, LoopLemmas.judgement_added, LoopLemmas.sum_told, LoopLemmas.sum_on}
+use Rattle.std.proofs.lemmas.Result.{IfOk-weaker}
 use Rattle.rls_evaluation.proofs.evaluation.+eval.Goals as goal
 
 pub conjunction-loop-part-init : goal.conjunction-loop-part-init
@@ -202,15 +203,18 @@ scalar-returns-in-Some-clause-holds g t c = c.in_ok-place.ensures.holds c.args.v
 
 pub has_row-returns-clause-tells : goal.has_row-returns-clause-tells
 has_row-returns-clause-tells g t c =
-    tells_of (ranged_over (query_of c.args.query.now) (shows (drop c.args.visible.from c.args.visible.relations.now) c.args.env.now.user.now) (env_of c.args.env.now)) (λ rows. gathered (λ row is rest. is || rest) false (λ row. meets (maybe_term c.args.query.now.condition) (shows (drop c.args.visible.from c.args.visible.relations.now) c.args.env.now.user.now) (inside row (env_of c.args.env.now))) rows) _ _ _ _ _ _ c.in_ok-rows.rows c.as_slice.result.now c.is_met-met.result c.as_slice.ensures c.in_ok-rows.ensures.tells c.is_met-met.ensures.tells
+    tells_narrowed (ranged_over (query_of c.args.query.now) (shows (drop c.args.visible.from c.args.visible.relations.now) c.args.env.now.user.now) (env_of c.args.env.now)) (maybe_term c.args.query.now.condition) (env_of c.args.env.now) (λ row is rest. is || rest) false (λ row. meets (maybe_term c.args.query.now.condition) (shows (drop c.args.visible.from c.args.visible.relations.now) c.args.env.now.user.now) (inside row (env_of c.args.env.now))) false _ _ _ _ _ _ c.in_ok-rows.rows c.as_slice.result.now c.is_met-met.result c.as_slice.ensures c.in_ok-rows.ensures.stands c.in_ok-rows.ensures.narrows
+    (λ row s un. un (shows (drop c.args.visible.from c.args.visible.relations.now) c.args.env.now.user.now) s) (λ row rest. refl) c.is_met-met.ensures.tells
 
 pub is_within_anew-returns-clause-tells : goal.is_within_anew-returns-clause-tells
 is_within_anew-returns-clause-tells g t c =
-    tells_of (ranged_over (query_of c.args.query.now) (shows (drop c.args.visible.from c.args.visible.relations.now) c.args.env.now.user.now) (env_of c.args.env.now)) (λ rows. gathered (λ row item rest. or_item (datum_value c.args.value.now) item rest) False (λ row. item_if (meets (maybe_term c.args.query.now.condition) (shows (drop c.args.visible.from c.args.visible.relations.now) c.args.env.now.user.now) (inside row (env_of c.args.env.now))) (item_of (terms_of c.args.query.now.items.items) (shows (drop c.args.visible.from c.args.visible.relations.now) c.args.env.now.user.now) (inside row (env_of c.args.env.now)))) rows) _ _ _ _ _ _ c.in_ok-rows.rows c.as_slice.result.now c.is_item-truth.result c.as_slice.ensures c.in_ok-rows.ensures.tells c.is_item-truth.ensures.tells
+    tells_narrowed (ranged_over (query_of c.args.query.now) (shows (drop c.args.visible.from c.args.visible.relations.now) c.args.env.now.user.now) (env_of c.args.env.now)) (maybe_term c.args.query.now.condition) (env_of c.args.env.now) (λ row item rest. or_item (datum_value c.args.value.now) item rest) False (λ row. item_if (meets (maybe_term c.args.query.now.condition) (shows (drop c.args.visible.from c.args.visible.relations.now) c.args.env.now.user.now) (inside row (env_of c.args.env.now))) (item_of (terms_of c.args.query.now.items.items) (shows (drop c.args.visible.from c.args.visible.relations.now) c.args.env.now.user.now) (inside row (env_of c.args.env.now)))) None _ _ _ _ _ _ c.in_ok-rows.rows c.as_slice.result.now c.is_item-truth.result c.as_slice.ensures c.in_ok-rows.ensures.stands c.in_ok-rows.ensures.narrows
+    (λ row s un. item_out (meets (maybe_term c.args.query.now.condition) (shows (drop c.args.visible.from c.args.visible.relations.now) c.args.env.now.user.now) (inside row (env_of c.args.env.now))) (item_of (terms_of c.args.query.now.items.items) (shows (drop c.args.visible.from c.args.visible.relations.now) c.args.env.now.user.now) (inside row (env_of c.args.env.now))) s (un (shows (drop c.args.visible.from c.args.visible.relations.now) c.args.env.now.user.now) s)) (λ row rest. or_none rest) c.is_item-truth.ensures.tells
 
 pub scalar_anew-returns-clause-tells : goal.scalar_anew-returns-clause-tells
 scalar_anew-returns-clause-tells g t c =
-    tells_of (ranged_over (query_of c.args.query.now) (shows (drop c.args.visible.from c.args.visible.relations.now) c.args.env.now.user.now) (env_of c.args.env.now)) (λ rows. gathered (λ row item rest. item_or item rest) Null (λ row. item_if (meets (maybe_term c.args.query.now.condition) (shows (drop c.args.visible.from c.args.visible.relations.now) c.args.env.now.user.now) (inside row (env_of c.args.env.now))) (item_of (terms_of c.args.query.now.items.items) (shows (drop c.args.visible.from c.args.visible.relations.now) c.args.env.now.user.now) (inside row (env_of c.args.env.now)))) rows) _ _ _ _ _ _ c.in_ok-rows.rows c.as_slice.result.now (datum_now c.first_item-item.result) c.as_slice.ensures c.in_ok-rows.ensures.tells c.first_item-item.ensures.tells
+    tells_narrowed (ranged_over (query_of c.args.query.now) (shows (drop c.args.visible.from c.args.visible.relations.now) c.args.env.now.user.now) (env_of c.args.env.now)) (maybe_term c.args.query.now.condition) (env_of c.args.env.now) (λ row item rest. item_or item rest) Null (λ row. item_if (meets (maybe_term c.args.query.now.condition) (shows (drop c.args.visible.from c.args.visible.relations.now) c.args.env.now.user.now) (inside row (env_of c.args.env.now))) (item_of (terms_of c.args.query.now.items.items) (shows (drop c.args.visible.from c.args.visible.relations.now) c.args.env.now.user.now) (inside row (env_of c.args.env.now)))) None _ _ _ _ _ _ c.in_ok-rows.rows c.as_slice.result.now (datum_now c.first_item-item.result) c.as_slice.ensures c.in_ok-rows.ensures.stands c.in_ok-rows.ensures.narrows
+    (λ row s un. item_out (meets (maybe_term c.args.query.now.condition) (shows (drop c.args.visible.from c.args.visible.relations.now) c.args.env.now.user.now) (inside row (env_of c.args.env.now))) (item_of (terms_of c.args.query.now.items.items) (shows (drop c.args.visible.from c.args.visible.relations.now) c.args.env.now.user.now) (inside row (env_of c.args.env.now))) s (un (shows (drop c.args.visible.from c.args.visible.relations.now) c.args.env.now.user.now) s)) (λ row rest. refl) c.first_item-item.ensures.tells
 
 pub first_item-loop-row-preserved : goal.first_item-loop-row-preserved
 first_item-loop-row-preserved g t c =
@@ -298,8 +302,8 @@ shown_once-returns-in-Ok-clause-tells g t c =
 pub shown_once-returns-in-Ok-clause-holds : goal.shown_once-returns-in-Ok-clause-holds
 shown_once-returns-in-Ok-clause-holds g t c =
     on_ok_then c.remembered.result _ _
-    (holds_shown c.args.visible.relations.now c.args.user.now (g.S.Tables.state c.args.source.now) (g.S.Tables.state c.shown.new.source) c.args.execution.now.read_set c.shown.new.execution (record { read_set = c.shown.new.execution.read_set; cached_rows = c.remembered.new.cached_rows; cached_subplans = c.shown.new.execution.cached_subplans; next = c.shown.new.execution.next }) c.args.visible.from c.args.object c.in-Ok.rows
-    c.in-Ok.ensures.tells c.in-Ok.ensures.holds refl refl) c.remembered.ensures.kept
+    (holds_shown c.args.visible.relations.now c.args.user.now (g.S.Tables.state c.args.source.now) (g.S.Tables.state c.shown.new.source) c.args.execution.now.read_set c.shown.new.execution (record { read_set = c.shown.new.execution.read_set; cached_rows = c.remembered.new.cached_rows; cached_subplans = c.shown.new.execution.cached_subplans; cached_indexes = c.shown.new.execution.cached_indexes; next = c.shown.new.execution.next }) c.args.visible.from c.args.object c.in-Ok.rows
+    c.in-Ok.ensures.tells c.in-Ok.ensures.holds refl refl refl) c.remembered.ensures.kept
 
 pub sum-returns-in_ok-datum-in-len1-up-clause-tells : goal.sum-returns-in_ok-datum-in-len1-up-clause-tells
 sum-returns-in_ok-datum-in-len1-up-clause-tells g t c =
@@ -328,8 +332,8 @@ items_over-loop-row-preserved g t c =
 pub item_set-returns-in-Ok-clause-comes : goal.item_set-returns-in-Ok-clause-comes
 item_set-returns-in-Ok-clause-comes g t c =
     comes_of (items_seen (query_of c.args.query.now) (shows (drop c.args.visible.from c.args.visible.relations.now) c.args.env.now.user.now) (env_of c.args.env.now)) _ _ _ _ c.in-Ok.values c.of.result
-    (tells_over (ranged_over (query_of c.args.query.now) (shows (drop c.args.visible.from c.args.visible.relations.now) c.args.env.now.user.now) (env_of c.args.env.now)) (λ rows. gathered with_item [] (λ row. item_if (meets (maybe_term c.args.query.now.condition) (shows (drop c.args.visible.from c.args.visible.relations.now) c.args.env.now.user.now) (inside row (env_of c.args.env.now))) (item_of (terms_of c.args.query.now.items.items) (shows (drop c.args.visible.from c.args.visible.relations.now) c.args.env.now.user.now) (inside row (env_of c.args.env.now)))) rows)
-    _ _ _ _ _ _ c.in_ok-rows.rows c.as_slice.result.now c.in-Ok.values c.as_slice.ensures c.in_ok-rows.ensures.tells c.in-Ok.ensures.tells) c.of.ensures
+    (tells_narrowed (ranged_over (query_of c.args.query.now) (shows (drop c.args.visible.from c.args.visible.relations.now) c.args.env.now.user.now) (env_of c.args.env.now)) (maybe_term c.args.query.now.condition) (env_of c.args.env.now) with_item [] (λ row. item_if (meets (maybe_term c.args.query.now.condition) (shows (drop c.args.visible.from c.args.visible.relations.now) c.args.env.now.user.now) (inside row (env_of c.args.env.now))) (item_of (terms_of c.args.query.now.items.items) (shows (drop c.args.visible.from c.args.visible.relations.now) c.args.env.now.user.now) (inside row (env_of c.args.env.now)))) None _ _ _ _ _ _ c.in_ok-rows.rows c.as_slice.result.now (Ok c.in-Ok.values) c.as_slice.ensures c.in_ok-rows.ensures.stands c.in_ok-rows.ensures.narrows
+    (λ row s un. item_out (meets (maybe_term c.args.query.now.condition) (shows (drop c.args.visible.from c.args.visible.relations.now) c.args.env.now.user.now) (inside row (env_of c.args.env.now))) (item_of (terms_of c.args.query.now.items.items) (shows (drop c.args.visible.from c.args.visible.relations.now) c.args.env.now.user.now) (inside row (env_of c.args.env.now))) s (un (shows (drop c.args.visible.from c.args.visible.relations.now) c.args.env.now.user.now) s)) (λ row rest. refl) c.in-Ok.ensures.tells) c.of.ensures
 
 pub shown-returns-then-is_exempt-clause-tells : goal.shown-returns-then-is_exempt-clause-tells
 shown-returns-then-is_exempt-clause-tells g t c =
@@ -338,3 +342,17 @@ shown-returns-then-is_exempt-clause-tells g t c =
     (drop_at c.args.visible.relations.now c.args.visible.from c.index-visible-visible.result (omega (arith, c.if-visible.false)) c.index-visible-visible.is)
     (ap (λ relation. is_exempt relation.quals) c.index-visible-visible.is ∙ sym c.is_exempt.ensures ∙ c.if-is_exempt.true) c.in_ok-rows.ensures.tells
     (given_as c.new-then-is_exempt.result _ _ c.new-then-is_exempt.ensures c.into_vec.ensures)
+
+pub rows_for-returns-in-Some-clause-narrows : goal.rows_for-returns-in-Some-clause-narrows
+rows_for-returns-in-Some-clause-narrows g t c =
+    narrows_all (ranged_over (query_of c.args.query.now) (shows (drop c.args.visible.from c.args.visible.relations.now) c.args.env.now.user.now) (env_of c.args.env.now)) (shows (drop c.args.visible.from c.args.visible.relations.now) c.args.env.now.user.now c.args.query.now.from.table (Some c.in-Some.key)) (maybe_term c.args.query.now.condition) (env_of c.args.env.now) _ _ _ _ c.seen.result (search rules) c.seen.ensures.tells
+
+pub rows_for-returns-in_ok-all-in-None-clause-narrows : goal.rows_for-returns-in_ok-all-in-None-clause-narrows
+rows_for-returns-in_ok-all-in-None-clause-narrows g t c =
+    narrows_some (ranged_over (query_of c.args.query.now) (shows (drop c.args.visible.from c.args.visible.relations.now) c.args.env.now.user.now) (env_of c.args.env.now)) (shows (drop c.args.visible.from c.args.visible.relations.now) c.args.env.now.user.now c.args.query.now.from.table None) (maybe_term c.args.query.now.condition) (env_of c.args.env.now) _ _ _ _ c.in_ok-all-in-None.all c.narrowed-rows.result (search rules) c.in_ok-all-in-None.ensures.tells
+    (IfOk-weaker c.narrowed-rows.result _ _ (λ it left. left c.args.visible.relations.now c.args.env.now.user.now (g.S.Tables.state c.seen-in-None.new.source) c.in_ok-all-in-None.ensures.holds.indexed (ap (λ s. ((shows (drop c.args.visible.from c.args.visible.relations.now) c.args.env.now.user.now c.args.query.now.from.table None).in_state s).gives) c.in_ok-all-in-None.ensures.tells.stands ∙ c.in_ok-all-in-None.ensures.tells.given)) c.narrowed-rows.ensures.left)
+
+pub rows_for-returns-in_ok-all-in-None-clause-holds : goal.rows_for-returns-in_ok-all-in-None-clause-holds
+rows_for-returns-in_ok-all-in-None-clause-holds g t c =
+    on_ok_then c.narrowed-rows.result _ _
+    (λ indexed. record { ordered = c.in_ok-all-in-None.ensures.holds.ordered; kept = c.in_ok-all-in-None.ensures.holds.kept; cached = c.in_ok-all-in-None.ensures.holds.cached; indexed = indexed c.args.visible.relations.now c.args.env.now.user.now (g.S.Tables.state c.seen-in-None.new.source) c.in_ok-all-in-None.ensures.holds.indexed (ap (λ s. ((shows (drop c.args.visible.from c.args.visible.relations.now) c.args.env.now.user.now c.args.query.now.from.table None).in_state s).gives) c.in_ok-all-in-None.ensures.tells.stands ∙ c.in_ok-all-in-None.ensures.tells.given) }) c.narrowed-rows.ensures.indexed

@@ -12,8 +12,8 @@ returns-in_ok-note_of-in-Rows-clause-tells g c =
 pub returns-in_ok-note_of-in-Rows-clause-holds : goal.returns-in_ok-note_of-in-Rows-clause-holds
 returns-in_ok-note_of-in-Rows-clause-holds g c =
     on_ok c.all_rows.result _
-    (holds_noted c.args.visible.relations.now c.args.user.now (g.S.Tables.state c.args.source.now) (g.S.Tables.state c.all_rows.new.self) c.args.execution.now (record { read_set = c.note_of.new.read_set; cached_rows = c.args.execution.now.cached_rows; cached_subplans = c.args.execution.now.cached_subplans; next = c.args.execution.now.next }) c.args.object.now
-    c.all_rows.ensures.stands c.in_ok-note_of-in-Rows.ensures refl refl c.requires)
+    (holds_noted c.args.visible.relations.now c.args.user.now (g.S.Tables.state c.args.source.now) (g.S.Tables.state c.all_rows.new.self) c.args.execution.now (record { read_set = c.note_of.new.read_set; cached_rows = c.args.execution.now.cached_rows; cached_subplans = c.args.execution.now.cached_subplans; cached_indexes = c.args.execution.now.cached_indexes; next = c.args.execution.now.next }) c.args.object.now
+    c.all_rows.ensures.stands c.in_ok-note_of-in-Rows.ensures refl refl refl c.requires)
 
 pub returns-in_ok-note_of-in-Key-clause-tells : goal.returns-in_ok-note_of-in-Key-clause-tells
 returns-in_ok-note_of-in-Key-clause-tells g c =
@@ -23,5 +23,5 @@ returns-in_ok-note_of-in-Key-clause-tells g c =
 pub returns-in_ok-note_of-in-Key-clause-holds : goal.returns-in_ok-note_of-in-Key-clause-holds
 returns-in_ok-note_of-in-Key-clause-holds g c =
     on_ok c.rows_with.result _
-    (holds_noted c.args.visible.relations.now c.args.user.now (g.S.Tables.state c.args.source.now) (g.S.Tables.state c.rows_with.new.self) c.args.execution.now (record { read_set = c.note_of-in-Key.new.read_set; cached_rows = c.args.execution.now.cached_rows; cached_subplans = c.args.execution.now.cached_subplans; next = c.args.execution.now.next }) c.args.object.now
-    c.rows_with.ensures.stands c.in_ok-note_of-in-Key.ensures refl refl c.requires)
+    (holds_noted c.args.visible.relations.now c.args.user.now (g.S.Tables.state c.args.source.now) (g.S.Tables.state c.rows_with.new.self) c.args.execution.now (record { read_set = c.note_of-in-Key.new.read_set; cached_rows = c.args.execution.now.cached_rows; cached_subplans = c.args.execution.now.cached_subplans; cached_indexes = c.args.execution.now.cached_indexes; next = c.args.execution.now.next }) c.args.object.now
+    c.rows_with.ensures.stands c.in_ok-note_of-in-Key.ensures refl refl refl c.requires)
