@@ -87,14 +87,14 @@ pub nothing_left : (walk : Walk) → length walk.running.answers ≤ walk.runnin
 nothing_left walk end all = ended walk end ∙ ap (λ (places : List ℕ). standings_along walk.transactions.now walk.running.state places) (drop_all walk.begun walk.places.items all)
 
 -- what is left where the next transaction is at this place
-opened : (walk : Walk) (place : ℕ) → length walk.running.answers ≤ walk.running.given → walk.begun < length walk.places.items → place ≡ get_or walk.places.items walk.begun place
+opened : (walk : Walk) (place : ℕ) → length walk.running.answers ≤ walk.running.given → walk.begun < length walk.places.items → place ≡ get_or walk.places.items walk.begun 0
     → left walk ≡ standings_along walk.transactions.now walk.running.state (place ∷ drop (walk.begun + 1) walk.places.items)
 opened walk place end within is =
     ended walk end ∙ ap (λ (places : List ℕ). standings_along walk.transactions.now walk.running.state places)
-    (drop_more walk.places.items walk.begun place within ∙ ap (λ (x : ℕ). x ∷ drop (walk.begun + 1) walk.places.items) (sym is))
+    (drop_more walk.places.items walk.begun 0 within ∙ ap (λ (x : ℕ). x ∷ drop (walk.begun + 1) walk.places.items) (sym is))
 
 -- the next transaction begins
-pub begun_next : (before after : Walk) (place : ℕ) (it : Transaction) → length before.running.answers ≤ before.running.given → before.begun < length before.places.items → place ≡ get_or before.places.items before.begun place
+pub begun_next : (before after : Walk) (place : ℕ) (it : Transaction) → length before.running.answers ≤ before.running.given → before.begun < length before.places.items → place ≡ get_or before.places.items before.begun 0
     → it ≡ transaction_at before.transactions.now place → after.transactions.now ≡ before.transactions.now → after.places ≡ before.places → after.begun ≡ before.begun + 1
     → after.running.place ≡ place → after.running.answers ≡ it.answers → after.running.given ≡ 0 → after.running.ctx ≡ ctx_of it → after.running.state ≡ before.running.state
     → left after ≡ left before
@@ -110,7 +110,7 @@ none_there (t ∷ ts) zero l = absurd (omega (arith, l))
 none_there (t ∷ ts) (suc place) l = none_there ts place (omega (arith, l))
 
 -- none is there: it has no statement
-pub begun_nobody : (before after : Walk) (place : ℕ) → length before.running.answers ≤ before.running.given → before.begun < length before.places.items → place ≡ get_or before.places.items before.begun place
+pub begun_nobody : (before after : Walk) (place : ℕ) → length before.running.answers ≤ before.running.given → before.begun < length before.places.items → place ≡ get_or before.places.items before.begun 0
     → length before.transactions.now ≤ place → after.transactions.now ≡ before.transactions.now → after.places ≡ before.places → after.begun ≡ before.begun + 1
     → after.running ≡ before.running → left after ≡ left before
 begun_nobody before after place end within is over transactions places begun running =

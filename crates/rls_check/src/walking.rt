@@ -1,6 +1,6 @@
 //! The statements of an audit one after another, each run at its place in the serial order.
 
-ghost use Rattle.std.specs.Prelude.{◌≡◌, ◌<◌, ◌≤◌, ◌+◌, [], true, false, None, Ok, length, IfOk, IfSome, OnOk, OnErr};
+ghost use Rattle.std.specs.Prelude.{◌≡◌, ◌<◌, ◌≤◌, ◌+◌, [], true, false, None, Ok, length, get_or, IfOk, IfSome, OnOk, OnErr};
 ghost use Rattle.rls_catalog.specs.Changed.{opening, changed_all};
 ghost use Rattle.rls_explain.specs.rls_meaning.specs.rls_guard.specs.Effects.{changes_of};
 ghost use Rattle.rls_audit.specs.rls_access.specs.Statements.{role_after};
@@ -146,7 +146,7 @@ impl<'a> Walk<'a> {
     }
 
     /// Begins the transaction that comes next, where the one before it is at its end.
-    #[tactic(auto, using(crate::proofs::WalkingLemmas::begun_next, crate::proofs::WalkingLemmas::begun_nobody))]
+    #[tactic(auto, using(crate::proofs::WalkingLemmas::begun_nobody))]
     fn begin(&mut self, alloc: Global, next: usize) -> Result<(), AllocError>
         requires next { self.old.begun ≡ next }
         requires within { next < length self.old.places.items }
@@ -158,9 +158,28 @@ impl<'a> Walk<'a> {
     {
         let place = self.places[next];
         if place < self.transactions.len() {
-            let transaction = transaction_at(self.transactions, place).read(alloc)?;
-            self.running.begin(place, transaction)?;
+            self.begin_at(alloc, next, place)
+        } else {
+            self.begun = next + 1;
+            Ok(())
         }
+    }
+
+    /// Begins the transaction at the place that comes next.
+    #[tactic(auto, using(crate::proofs::WalkingLemmas::begun_next))]
+    fn begin_at(&mut self, alloc: Global, next: usize, place: usize) -> Result<(), AllocError>
+        requires next { self.old.begun ≡ next }
+        requires within { next < length self.old.places.items }
+        requires place { place ≡ get_or self.old.places.items next 0 }
+        requires there { place < length self.old.transactions.now }
+        requires ended { length self.old.running.answers ≤ self.old.running.given }
+        ensures left { left self.new ≡ left self.old }
+        ensures state { state_left self.new ≡ state_left self.old }
+        ensures places { self.new.places ≡ self.old.places }
+        ensures begun { OnOk result (self.new.begun ≡ next + 1) }
+    {
+        let transaction = transaction_at(self.transactions, place).read(alloc)?;
+        self.running.begin(place, transaction)?;
         self.begun = next + 1;
         Ok(())
     }

@@ -1,4 +1,4 @@
-use Rattle.std.proofs.Common.{◌≡◌, ◌×◌}
+use Rattle.std.specs.Prelude.{◌≡◌}
 use Rattle.rls_check.specs.Walking.{left, state_left}
 use Rattle.rls_check.proofs.walking.Walk.go_to_next.Given as goal
 
