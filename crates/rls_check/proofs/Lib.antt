@@ -18,3 +18,5 @@ pub mod OneFindingLemmas
 pub mod ConvertedLemmas
 pub mod ReadLemmas
 pub mod OneAuditLemmas
+pub mod WalkingLemmas
+pub mod WalkedLemmas

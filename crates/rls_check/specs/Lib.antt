@@ -3,6 +3,8 @@ pub mod Checking
 pub mod Placing
 pub mod Committing
 pub mod Explaining
+pub mod Walking
+pub mod WalkLaws
 pub mod Findings
 pub mod WhyTexts
 pub mod Forms

@@ -102,7 +102,7 @@ impl Alone {
 }
 
 /// What the first statement is run in.
-fn first_ctx(txn: u64, begin: &Begin) -> Result<Ctx, AllocError>
+pub(crate) fn first_ctx(txn: u64, begin: &Begin) -> Result<Ctx, AllocError>
     ensures { IfOk result (λ ctx. ctx ≡ first_ctx txn begin.now) }
 {
     let login = begin.login.copy()?;
@@ -122,7 +122,7 @@ fn first_ctx(txn: u64, begin: &Begin) -> Result<Ctx, AllocError>
 }
 
 /// What the next statement is run in after this outcome.
-fn ctx_after(ctx: &Ctx, outcome: &Outcome) -> Result<Ctx, AllocError>
+pub(crate) fn ctx_after(ctx: &Ctx, outcome: &Outcome) -> Result<Ctx, AllocError>
     requires { outcome.now.role ≡ role_after ctx.now.role outcome.now.effect }
     ensures { IfOk result (λ after. after ≡ ctx_after ctx.now outcome.now.effect) }
 {
@@ -156,7 +156,11 @@ fn next_row(next: u32, rows: usize) -> Option<u32>
 }
 
 /// The state with the changes of the effect on.
-fn state_after(alloc: Global, state: &State, effect: &Effect) -> Result<State, AllocError>
+pub(crate) fn state_after(
+    alloc: Global,
+    state: &State,
+    effect: &Effect,
+) -> Result<State, AllocError>
     ensures { IfOk result (λ after. after ≡ changed_all state.now (changes_of effect.now)) }
 {
     match effect {

@@ -18,6 +18,8 @@ mod running;
 mod stored;
 mod texts;
 mod transaction;
+mod walked;
+mod walking;
 
 pub use audit::{Audit, Reader};
 pub use converting::Converter;
@@ -30,3 +32,5 @@ pub use rls_agreement;
 pub use rls_audit;
 pub use rls_explain::{rls_guard, rls_meaning};
 pub use transaction::{Answer, Put, Transaction};
+pub use walked::walks_tell_the_run;
+pub use walking::{Turn, Walk};
