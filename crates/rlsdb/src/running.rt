@@ -95,11 +95,34 @@ where
 {
     let mut input = DeviceIn::new(rt.alloc(), reader)?;
     if run.hints {
-        let mut hinted = Hinted::new(rt, run.file, input);
-        run_input(rt.alloc(), waits, run, &mut hinted, output)
+        run_hinted(rt, waits, run, input, output)
     } else {
         run_input(rt.alloc(), waits, run, &mut input, output)
     }
+}
+
+/// The same of the script that the device gives, and standard error is told of its lines that aren't taken.
+fn run_hinted<'a, W, R, D>(
+    rt: &HostRuntime,
+    waits: &W,
+    run: ScriptFile<'a>,
+    input: DeviceIn<R>,
+    output: &mut DeviceOut<D>,
+) -> Result<Book, Fault<'a>>
+where
+    W: Threads + Wait + Clock + Sync,
+    R: Read + Drop,
+    D: Write + Drop,
+    ensures text { IfOk result (λ book. GrewBy output.old.taken.bytes output.new.taken.bytes (λ written. IsRunText run.entry.threads run.entry.terse written book.seen.committed)) }
+    ensures texts { IfOk result (λ book. All AreTexts book.seen.committed) }
+    ensures emptied { OnOk result (writer_buffer output.new.writer ≡ []) }
+{
+    let mut hinted = Hinted::new(rt, run.file, input);
+    let ran = run_on(rt.alloc(), waits, run, &mut hinted, output);
+    let finished = output.finish();
+    let book = ran?;
+    finished?;
+    Ok(book)
 }
 
 /// The same of the script that is given.
