@@ -87,17 +87,7 @@ chars_count = refl
 pub chars_mark : (m : Mark) → chars (mark_text m) ≡ mark_text m
 unfolding chars
 chars_mark Mark.Open = refl
-chars_mark Mark.Close = refl
-chars_mark Mark.Comma = refl
-chars_mark Mark.Star = refl
-chars_mark Mark.Plus = refl
-chars_mark Mark.Minus = refl
-chars_mark Mark.Equal = refl
-chars_mark Mark.NotEqual = refl
-chars_mark Mark.Less = refl
-chars_mark Mark.LessOrEqual = refl
-chars_mark Mark.Greater = refl
-chars_mark Mark.GreaterOrEqual = refl
+chars_mark _ = refl
 
 -- words, and those behind them
 pub put_on : {E : Type 0} (s : Option Output) (a b : List OutputToken) (t u : Option Output) (r : Result (Unit {0}) E) → put_all s a ≡ t → OnOk r (put_all t b ≡ u) → OnOk r (put_all s (a ++ b) ≡ u)

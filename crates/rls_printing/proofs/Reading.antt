@@ -337,17 +337,7 @@ reads_sign c rest token ts e b again = reads_word (c ∷ rest) rest token ts e b
 
 mark_longer : (m : Mark) (rest : List ℕ) → length rest < length (mark_text m ++ rest)
 mark_longer Mark.Open rest = omega arith
-mark_longer Mark.Close rest = omega arith
-mark_longer Mark.Comma rest = omega arith
-mark_longer Mark.Star rest = omega arith
-mark_longer Mark.Plus rest = omega arith
-mark_longer Mark.Minus rest = omega arith
-mark_longer Mark.Equal rest = omega arith
-mark_longer Mark.NotEqual rest = omega arith
-mark_longer Mark.Less rest = omega arith
-mark_longer Mark.LessOrEqual rest = omega arith
-mark_longer Mark.Greater rest = omega arith
-mark_longer Mark.GreaterOrEqual rest = omega arith
+mark_longer _ rest = omega arith
 
 -- ---- output tokens
 
@@ -401,45 +391,14 @@ output_token_reads Count ts us rest h f o e again =
 
 -- what follows a word begins with a space, or closes
 ends_next : (ps : List OutputToken) → ends (output_tokens_text false ps) ≡ true
-ends_next [] = refl
-ends_next (Word w ∷ ps) = refl
-ends_next (Qualified q n ∷ ps) = refl
-ends_next (Number z ∷ ps) = refl
-ends_next (Text x ∷ ps) = refl
-ends_next (Count ∷ ps) = refl
 ends_next (Marked Mark.Open ∷ ps) = refl
-ends_next (Marked Mark.Close ∷ ps) = refl
-ends_next (Marked Mark.Comma ∷ ps) = refl
-ends_next (Marked Mark.Star ∷ ps) = refl
-ends_next (Marked Mark.Plus ∷ ps) = refl
-ends_next (Marked Mark.Minus ∷ ps) = refl
-ends_next (Marked Mark.Equal ∷ ps) = refl
-ends_next (Marked Mark.NotEqual ∷ ps) = refl
-ends_next (Marked Mark.Less ∷ ps) = refl
-ends_next (Marked Mark.LessOrEqual ∷ ps) = refl
-ends_next (Marked Mark.Greater ∷ ps) = refl
-ends_next (Marked Mark.GreaterOrEqual ∷ ps) = refl
+ends_next _ = refl
 
 -- a word and those behind it
 word_and_others : (p : OutputToken) (ps : List OutputToken) (ts us : List Token) → tokens_read_of p ≡ Some ts → is_fit p ≡ true → ((tight : Bool) → Reads (output_tokens_text tight ps) us) → Reads (output_token_text p ++ output_tokens_text (opens p) ps) (ts ++ us)
 word_and_others (Marked Mark.Open) ps ts us h f again =
     subst (λ z. Reads (40 ∷ output_tokens_text true ps) (z ++ us)) (some_is (Token.Symbol Symbol.LParen ∷ []) ts h) (reads_sign 40 (output_tokens_text true ps) (Token.Symbol Symbol.LParen) us (open_next (output_tokens_text true ps)) refl (again true))
-word_and_others (Word w) ps ts us h f again = output_token_reads (Word w) ts us (output_tokens_text false ps) h f refl (ends_next ps) (again false)
-word_and_others (Qualified q n) ps ts us h f again = output_token_reads (Qualified q n) ts us (output_tokens_text false ps) h f refl (ends_next ps) (again false)
-word_and_others (Number z) ps ts us h f again = output_token_reads (Number z) ts us (output_tokens_text false ps) h f refl (ends_next ps) (again false)
-word_and_others (Text x) ps ts us h f again = output_token_reads (Text x) ts us (output_tokens_text false ps) h f refl (ends_next ps) (again false)
-word_and_others Count ps ts us h f again = output_token_reads Count ts us (output_tokens_text false ps) h f refl (ends_next ps) (again false)
-word_and_others (Marked Mark.Close) ps ts us h f again = output_token_reads (Marked Mark.Close) ts us (output_tokens_text false ps) h f refl (ends_next ps) (again false)
-word_and_others (Marked Mark.Comma) ps ts us h f again = output_token_reads (Marked Mark.Comma) ts us (output_tokens_text false ps) h f refl (ends_next ps) (again false)
-word_and_others (Marked Mark.Star) ps ts us h f again = output_token_reads (Marked Mark.Star) ts us (output_tokens_text false ps) h f refl (ends_next ps) (again false)
-word_and_others (Marked Mark.Plus) ps ts us h f again = output_token_reads (Marked Mark.Plus) ts us (output_tokens_text false ps) h f refl (ends_next ps) (again false)
-word_and_others (Marked Mark.Minus) ps ts us h f again = output_token_reads (Marked Mark.Minus) ts us (output_tokens_text false ps) h f refl (ends_next ps) (again false)
-word_and_others (Marked Mark.Equal) ps ts us h f again = output_token_reads (Marked Mark.Equal) ts us (output_tokens_text false ps) h f refl (ends_next ps) (again false)
-word_and_others (Marked Mark.NotEqual) ps ts us h f again = output_token_reads (Marked Mark.NotEqual) ts us (output_tokens_text false ps) h f refl (ends_next ps) (again false)
-word_and_others (Marked Mark.Less) ps ts us h f again = output_token_reads (Marked Mark.Less) ts us (output_tokens_text false ps) h f refl (ends_next ps) (again false)
-word_and_others (Marked Mark.LessOrEqual) ps ts us h f again = output_token_reads (Marked Mark.LessOrEqual) ts us (output_tokens_text false ps) h f refl (ends_next ps) (again false)
-word_and_others (Marked Mark.Greater) ps ts us h f again = output_token_reads (Marked Mark.Greater) ts us (output_tokens_text false ps) h f refl (ends_next ps) (again false)
-word_and_others (Marked Mark.GreaterOrEqual) ps ts us h f again = output_token_reads (Marked Mark.GreaterOrEqual) ts us (output_tokens_text false ps) h f refl (ends_next ps) (again false)
+word_and_others p ps ts us h f again = output_token_reads p ts us (output_tokens_text false ps) h f refl (ends_next ps) (again false)
 
 spaced_reads : (none : Bool) (cs : List ℕ) (ts : List Token) → Reads cs ts → Reads (space none ++ cs) ts
 spaced_reads true cs ts h = h

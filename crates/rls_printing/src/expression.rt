@@ -124,7 +124,8 @@ pub fn put_enclosed(buffer: &mut OutputBuffer, expr: &Expr) -> Result<(), AllocE
 {
     buffer.mark(Mark::Open)?;
     put_expr(buffer, expr)?;
-    buffer.mark(Mark::Close)
+    buffer.mark(Mark::Close)?;
+    Ok(())
 }
 
 #[cycle(printing)]
@@ -138,7 +139,8 @@ fn put_comparison(
 {
     put_operand(buffer, left)?;
     buffer.mark(mark_of(how))?;
-    put_operand(buffer, right)
+    put_operand(buffer, right)?;
+    Ok(())
 }
 
 /// Operands with the word between them.
@@ -182,7 +184,8 @@ fn put_null_test(buffer: &mut OutputBuffer, operand: &Expr) -> Result<(), AllocE
 {
     put_operand(buffer, operand)?;
     buffer.word("IS")?;
-    buffer.word("NULL")
+    buffer.word("NULL")?;
+    Ok(())
 }
 
 #[cycle(printing)]
@@ -192,7 +195,8 @@ fn put_not_null_test(buffer: &mut OutputBuffer, operand: &Expr) -> Result<(), Al
     put_operand(buffer, operand)?;
     buffer.word("IS")?;
     buffer.word("NOT")?;
-    buffer.word("NULL")
+    buffer.word("NULL")?;
+    Ok(())
 }
 
 #[cycle(printing)]
@@ -201,7 +205,8 @@ fn put_among(buffer: &mut OutputBuffer, left: &Expr, list: &[Expr]) -> Result<()
 {
     put_operand(buffer, left)?;
     buffer.word("IN")?;
-    put_tuple(buffer, list)
+    put_tuple(buffer, list)?;
+    Ok(())
 }
 
 #[cycle(printing)]
@@ -211,7 +216,8 @@ fn put_not_among(buffer: &mut OutputBuffer, left: &Expr, list: &[Expr]) -> Resul
     put_operand(buffer, left)?;
     buffer.word("NOT")?;
     buffer.word("IN")?;
-    put_tuple(buffer, list)
+    put_tuple(buffer, list)?;
+    Ok(())
 }
 
 #[cycle(printing)]
@@ -228,7 +234,8 @@ fn put_within(buffer: &mut OutputBuffer, left: &Expr, query: &Subquery) -> Resul
 {
     put_operand(buffer, left)?;
     buffer.word("IN")?;
-    put_enclosed_query(buffer, query)
+    put_enclosed_query(buffer, query)?;
+    Ok(())
 }
 
 #[cycle(printing)]
@@ -242,7 +249,8 @@ fn put_not_within(
     put_operand(buffer, left)?;
     buffer.word("NOT")?;
     buffer.word("IN")?;
-    put_enclosed_query(buffer, query)
+    put_enclosed_query(buffer, query)?;
+    Ok(())
 }
 
 /// A sum: its parts, with the signs between them.
@@ -282,7 +290,8 @@ pub fn put_tuple(buffer: &mut OutputBuffer, list: &[Expr]) -> Result<(), AllocEr
 {
     buffer.mark(Mark::Open)?;
     put_list(buffer, list)?;
-    buffer.mark(Mark::Close)
+    buffer.mark(Mark::Close)?;
+    Ok(())
 }
 
 /// Expressions with commas between them.
@@ -316,7 +325,8 @@ fn put_enclosed_query(buffer: &mut OutputBuffer, query: &Subquery) -> Result<(),
 {
     buffer.mark(Mark::Open)?;
     put_query(buffer, query)?;
-    buffer.mark(Mark::Close)
+    buffer.mark(Mark::Close)?;
+    Ok(())
 }
 
 #[cycle(printing)]
@@ -326,7 +336,8 @@ fn put_query(buffer: &mut OutputBuffer, query: &Subquery) -> Result<(), AllocErr
     buffer.word("SELECT")?;
     put_selected(buffer, query.selects, &query.items)?;
     put_from(buffer, &query.from)?;
-    put_where(buffer, &query.condition)
+    put_where(buffer, &query.condition)?;
+    Ok(())
 }
 
 #[cycle(printing)]

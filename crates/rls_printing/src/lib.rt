@@ -1,5 +1,5 @@
 //! Statements of SQL as texts.
-#![tactic(auto)]
+#![tactic(auto, using(crate::proofs::OutputLemmas::put_both))]
 
 mod buffer;
 mod commands;

@@ -1,7 +1,7 @@
 //! Lists, printed.
 
-ghost use Rattle.std.specs.Prelude.{◌≡◌, Some, OnOk};
-ghost use Rattle.rls_printing.specs.{ExprForms.enclosed, Outputs.put_all, Outputs.output_of};
+ghost use Rattle.std.specs.Prelude.{◌≡◌, List, Some, OnOk};
+ghost use Rattle.rls_printing.specs.{ExprForms.enclosed, OutputTokens.OutputToken, Outputs.put_all, Outputs.output_of};
 ghost use Rattle.rls_printing.specs.StatementForms as form;
 
 use crate::buffer::{Mark, OutputBuffer};
@@ -12,25 +12,33 @@ use rls_statement::{Assignment, MarkedColumn};
 use rls_value::{Items, Name};
 use std::alloc::AllocError;
 
-/// Names with commas between them.
-pub fn put_names(buffer: &mut OutputBuffer, names: &[Name]) -> Result<(), AllocError>
-    ensures { OnOk result (put_all (Some (output_of buffer.old)) (form.listed form.name names.now) ≡ Some (output_of buffer.new)) }
+/// An item of a list.
+pub trait Printed {
+    ghost form: { Self → List OutputToken };
+
+    fn put(&self, buffer: &mut OutputBuffer) -> Result<(), AllocError>
+        ensures { OnOk result (put_all (Some (output_of buffer.old)) (form self.now) ≡ Some (output_of buffer.new)) };
+}
+
+/// Items with commas between them.
+pub fn put_listed<P: Printed>(buffer: &mut OutputBuffer, items: &[P]) -> Result<(), AllocError>
+    ensures { OnOk result (put_all (Some (output_of buffer.old)) (form.listed P.form items.now) ≡ Some (output_of buffer.new)) }
 {
-    match names {
+    match items {
         [] => Ok(()),
         [first, rest @ ..] => {
-            put_name(buffer, first)?;
-            put_more_names(buffer, rest)
+            first.put(buffer)?;
+            put_more(buffer, rest)
         }
     }
 }
 
-fn put_more_names(buffer: &mut OutputBuffer, names: &[Name]) -> Result<(), AllocError>
-    ensures { OnOk result (put_all (Some (output_of buffer.old)) (form.also form.name names.now) ≡ Some (output_of buffer.new)) }
+fn put_more<P: Printed>(buffer: &mut OutputBuffer, items: &[P]) -> Result<(), AllocError>
+    ensures { OnOk result (put_all (Some (output_of buffer.old)) (form.also P.form items.now) ≡ Some (output_of buffer.new)) }
 {
-    for name in names {
+    for item in items {
         buffer.mark(Mark::Comma)?;
-        put_name(buffer, name)?;
+        item.put(buffer)?;
     }
     Ok(())
 }
@@ -40,142 +48,58 @@ pub fn put_enclosed_names(buffer: &mut OutputBuffer, names: &[Name]) -> Result<(
     ensures { OnOk result (put_all (Some (output_of buffer.old)) (enclosed (form.listed form.name names.now)) ≡ Some (output_of buffer.new)) }
 {
     buffer.mark(Mark::Open)?;
-    put_names(buffer, names)?;
-    buffer.mark(Mark::Close)
+    put_listed(buffer, names)?;
+    buffer.mark(Mark::Close)?;
+    Ok(())
 }
 
-/// Grantees with commas between them.
-pub fn put_grantees(buffer: &mut OutputBuffer, grantees: &[Grantee]) -> Result<(), AllocError>
-    ensures { OnOk result (put_all (Some (output_of buffer.old)) (form.listed form.grantee grantees.now) ≡ Some (output_of buffer.new)) }
-{
-    match grantees {
-        [] => Ok(()),
-        [first, rest @ ..] => {
-            put_grantee(buffer, first)?;
-            put_more_grantees(buffer, rest)
+impl Printed for Name {
+    ghost form = { form.name };
+
+    fn put(&self, buffer: &mut OutputBuffer) -> Result<(), AllocError> {
+        buffer.word(self.as_str())
+    }
+}
+
+impl Printed for Grantee {
+    ghost form = { form.grantee };
+
+    fn put(&self, buffer: &mut OutputBuffer) -> Result<(), AllocError> {
+        match self {
+            Grantee::Public => buffer.word("PUBLIC"),
+            Grantee::Role(role) => buffer.word(role.as_str()),
         }
     }
 }
 
-fn put_more_grantees(buffer: &mut OutputBuffer, grantees: &[Grantee]) -> Result<(), AllocError>
-    ensures { OnOk result (put_all (Some (output_of buffer.old)) (form.also form.grantee grantees.now) ≡ Some (output_of buffer.new)) }
-{
-    for grantee in grantees {
-        buffer.mark(Mark::Comma)?;
-        put_grantee(buffer, grantee)?;
-    }
-    Ok(())
-}
+/// A row of INSERT.
+impl Printed for Items<Expr> {
+    ghost form = { form.tuple };
 
-/// Rows of INSERT with commas between them.
-pub fn put_tuples(buffer: &mut OutputBuffer, tuples: &[Items<Expr>]) -> Result<(), AllocError>
-    ensures { OnOk result (put_all (Some (output_of buffer.old)) (form.listed form.tuple tuples.now) ≡ Some (output_of buffer.new)) }
-{
-    match tuples {
-        [] => Ok(()),
-        [first, rest @ ..] => {
-            put_row(buffer, first)?;
-            put_more_tuples(buffer, rest)
-        }
+    fn put(&self, buffer: &mut OutputBuffer) -> Result<(), AllocError> {
+        put_tuple(buffer, self.as_slice())
     }
 }
 
-fn put_more_tuples(buffer: &mut OutputBuffer, tuples: &[Items<Expr>]) -> Result<(), AllocError>
-    ensures { OnOk result (put_all (Some (output_of buffer.old)) (form.also form.tuple tuples.now) ≡ Some (output_of buffer.new)) }
-{
-    for tuple in tuples {
-        buffer.mark(Mark::Comma)?;
-        put_row(buffer, tuple)?;
-    }
-    Ok(())
-}
+/// What a column is set to.
+impl Printed for Assignment {
+    ghost form = { form.assignment };
 
-/// What columns are set to, with commas between them.
-pub fn put_assignments(
-    buffer: &mut OutputBuffer,
-    assignments: &[Assignment],
-) -> Result<(), AllocError>
-    ensures { OnOk result (put_all (Some (output_of buffer.old)) (form.listed form.assignment assignments.now) ≡ Some (output_of buffer.new)) }
-{
-    match assignments {
-        [] => Ok(()),
-        [first, rest @ ..] => {
-            put_assignment(buffer, first)?;
-            put_more_assignments(buffer, rest)
-        }
+    fn put(&self, buffer: &mut OutputBuffer) -> Result<(), AllocError> {
+        buffer.word(self.column.as_str())?;
+        buffer.mark(Mark::Equal)?;
+        put_expr(buffer, &self.value)
     }
 }
 
-fn put_more_assignments(
-    buffer: &mut OutputBuffer,
-    assignments: &[Assignment],
-) -> Result<(), AllocError>
-    ensures { OnOk result (put_all (Some (output_of buffer.old)) (form.also form.assignment assignments.now) ≡ Some (output_of buffer.new)) }
-{
-    for assignment in assignments {
-        buffer.mark(Mark::Comma)?;
-        put_assignment(buffer, assignment)?;
+/// A column of a new table.
+impl Printed for MarkedColumn {
+    ghost form = { form.column };
+
+    fn put(&self, buffer: &mut OutputBuffer) -> Result<(), AllocError> {
+        buffer.word(self.column.name.as_str())?;
+        put_column_type(buffer, self.column.kind)?;
+        put_not_null(buffer, self.column.not_null)?;
+        put_is_key(buffer, self.is_key)
     }
-    Ok(())
-}
-
-/// Columns of a new table with commas between them.
-pub fn put_columns(buffer: &mut OutputBuffer, columns: &[MarkedColumn]) -> Result<(), AllocError>
-    ensures { OnOk result (put_all (Some (output_of buffer.old)) (form.listed form.column columns.now) ≡ Some (output_of buffer.new)) }
-{
-    match columns {
-        [] => Ok(()),
-        [first, rest @ ..] => {
-            put_column_definition(buffer, first)?;
-            put_more_columns(buffer, rest)
-        }
-    }
-}
-
-fn put_more_columns(buffer: &mut OutputBuffer, columns: &[MarkedColumn]) -> Result<(), AllocError>
-    ensures { OnOk result (put_all (Some (output_of buffer.old)) (form.also form.column columns.now) ≡ Some (output_of buffer.new)) }
-{
-    for column in columns {
-        buffer.mark(Mark::Comma)?;
-        put_column_definition(buffer, column)?;
-    }
-    Ok(())
-}
-
-fn put_name(buffer: &mut OutputBuffer, name: &Name) -> Result<(), AllocError>
-    ensures { OnOk result (put_all (Some (output_of buffer.old)) (form.name name.now) ≡ Some (output_of buffer.new)) }
-{
-    buffer.word(name.as_str())
-}
-
-fn put_grantee(buffer: &mut OutputBuffer, grantee: &Grantee) -> Result<(), AllocError>
-    ensures { OnOk result (put_all (Some (output_of buffer.old)) (form.grantee grantee.now) ≡ Some (output_of buffer.new)) }
-{
-    match grantee {
-        Grantee::Public => buffer.word("PUBLIC"),
-        Grantee::Role(role) => buffer.word(role.as_str()),
-    }
-}
-
-fn put_row(buffer: &mut OutputBuffer, tuple: &Items<Expr>) -> Result<(), AllocError>
-    ensures { OnOk result (put_all (Some (output_of buffer.old)) (form.tuple tuple.now) ≡ Some (output_of buffer.new)) }
-{
-    put_tuple(buffer, tuple.as_slice())
-}
-
-fn put_assignment(buffer: &mut OutputBuffer, assignment: &Assignment) -> Result<(), AllocError>
-    ensures { OnOk result (put_all (Some (output_of buffer.old)) (form.assignment assignment.now) ≡ Some (output_of buffer.new)) }
-{
-    buffer.word(assignment.column.as_str())?;
-    buffer.mark(Mark::Equal)?;
-    put_expr(buffer, &assignment.value)
-}
-
-fn put_column_definition(buffer: &mut OutputBuffer, column: &MarkedColumn) -> Result<(), AllocError>
-    ensures { OnOk result (put_all (Some (output_of buffer.old)) (form.column column.now) ≡ Some (output_of buffer.new)) }
-{
-    buffer.word(column.column.name.as_str())?;
-    put_column_type(buffer, column.column.kind)?;
-    put_not_null(buffer, column.column.not_null)?;
-    put_is_key(buffer, column.is_key)
 }

@@ -7,7 +7,7 @@ ghost use Rattle.rls_statement.specs.declared.statement.Statement.TheVariants as
 
 use crate::buffer::OutputBuffer;
 use crate::expression::put_enclosed;
-use crate::lists::{put_grantees, put_names};
+use crate::lists::put_listed;
 use crate::privileges::put_privileges;
 use crate::words::{
     put_cascade, put_option_for, put_option_only, put_options, put_permissive, put_policy_kind,
@@ -51,9 +51,10 @@ fn put_description(buffer: &mut OutputBuffer, policy: &Policy) -> Result<(), All
     buffer.word("FOR")?;
     put_policy_kind(buffer, policy.kind)?;
     buffer.word("TO")?;
-    put_grantees(buffer, policy.to.as_slice())?;
+    put_listed(buffer, policy.to.as_slice())?;
     put_using(buffer, &policy.using)?;
-    put_check(buffer, &policy.check)
+    put_check(buffer, &policy.check)?;
+    Ok(())
 }
 
 fn put_using(buffer: &mut OutputBuffer, using: &Option<Share<Expr>>) -> Result<(), AllocError>
@@ -88,7 +89,7 @@ fn put_to_if_any(buffer: &mut OutputBuffer, to: &Option<Items<Grantee>>) -> Resu
         None => Ok(()),
         Some(to) => {
             buffer.word("TO")?;
-            put_grantees(buffer, to.as_slice())
+            put_listed(buffer, to.as_slice())
         }
     }
 }
@@ -104,7 +105,8 @@ pub fn put_alter_policy(
     put_policy_on(buffer, &statement.name, &statement.table)?;
     put_to_if_any(buffer, &statement.to)?;
     put_using(buffer, &statement.using)?;
-    put_check(buffer, &statement.check)
+    put_check(buffer, &statement.check)?;
+    Ok(())
 }
 
 pub fn put_drop_policy(buffer: &mut OutputBuffer, statement: &DropPolicy) -> Result<(), AllocError>
@@ -123,8 +125,9 @@ pub fn put_grant(buffer: &mut OutputBuffer, statement: &GrantPrivileges) -> Resu
     buffer.word("ON")?;
     buffer.word(statement.table.as_str())?;
     buffer.word("TO")?;
-    put_grantees(buffer, statement.to.as_slice())?;
-    put_with_option(buffer, statement.with_option)
+    put_listed(buffer, statement.to.as_slice())?;
+    put_with_option(buffer, statement.with_option)?;
+    Ok(())
 }
 
 pub fn put_revoke(buffer: &mut OutputBuffer, statement: &RevokePrivileges) -> Result<(), AllocError>
@@ -136,18 +139,20 @@ pub fn put_revoke(buffer: &mut OutputBuffer, statement: &RevokePrivileges) -> Re
     buffer.word("ON")?;
     buffer.word(statement.table.as_str())?;
     buffer.word("FROM")?;
-    put_grantees(buffer, statement.from.as_slice())?;
-    put_cascade(buffer, statement.cascade)
+    put_listed(buffer, statement.from.as_slice())?;
+    put_cascade(buffer, statement.cascade)?;
+    Ok(())
 }
 
 pub fn put_grant_roles(buffer: &mut OutputBuffer, statement: &GrantRoles) -> Result<(), AllocError>
     ensures { OnOk result (put_all (Some (output_of buffer.old)) (form.statement (st.GrantRoles statement.now)) ≡ Some (output_of buffer.new)) }
 {
     buffer.word("GRANT")?;
-    put_names(buffer, statement.roles.as_slice())?;
+    put_listed(buffer, statement.roles.as_slice())?;
     buffer.word("TO")?;
-    put_names(buffer, statement.to.as_slice())?;
-    put_options(buffer, statement.options)
+    put_listed(buffer, statement.to.as_slice())?;
+    put_options(buffer, statement.options)?;
+    Ok(())
 }
 
 pub fn put_revoke_roles(
@@ -158,8 +163,9 @@ pub fn put_revoke_roles(
 {
     buffer.word("REVOKE")?;
     put_option_for(buffer, statement.option)?;
-    put_names(buffer, statement.roles.as_slice())?;
+    put_listed(buffer, statement.roles.as_slice())?;
     buffer.word("FROM")?;
-    put_names(buffer, statement.from.as_slice())?;
-    put_cascade(buffer, statement.cascade)
+    put_listed(buffer, statement.from.as_slice())?;
+    put_cascade(buffer, statement.cascade)?;
+    Ok(())
 }

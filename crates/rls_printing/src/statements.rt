@@ -9,7 +9,7 @@ ghost use Rattle.rls_statement.specs.declared.statement.Statement.TheVariants as
 
 use crate::buffer::{Mark, OutputBuffer};
 use crate::expression::{put_list, put_table, put_where};
-use crate::lists::{put_assignments, put_columns, put_enclosed_names, put_tuples};
+use crate::lists::{put_enclosed_names, put_listed};
 use crate::words::{put_attributes, put_row_change};
 use rls_statement::{
     AlterRole, AlterTable, CreateRole, CreateTable, Delete, Insert, MarkedColumn, Select, Selected,
@@ -58,7 +58,8 @@ pub fn put_select(buffer: &mut OutputBuffer, statement: &Select) -> Result<(), A
     buffer.word("SELECT")?;
     put_selected_items(buffer, &statement.items)?;
     put_table(buffer, &statement.table, &statement.alias)?;
-    put_where(buffer, &statement.condition)
+    put_where(buffer, &statement.condition)?;
+    Ok(())
 }
 
 pub fn put_insert(buffer: &mut OutputBuffer, statement: &Insert) -> Result<(), AllocError>
@@ -69,8 +70,9 @@ pub fn put_insert(buffer: &mut OutputBuffer, statement: &Insert) -> Result<(), A
     buffer.word(statement.table.as_str())?;
     put_columns_if_any(buffer, &statement.columns)?;
     buffer.word("VALUES")?;
-    put_tuples(buffer, statement.tuples.as_slice())?;
-    put_returning(buffer, &statement.returning)
+    put_listed(buffer, statement.tuples.as_slice())?;
+    put_returning(buffer, &statement.returning)?;
+    Ok(())
 }
 
 pub fn put_update(buffer: &mut OutputBuffer, statement: &Update) -> Result<(), AllocError>
@@ -79,9 +81,10 @@ pub fn put_update(buffer: &mut OutputBuffer, statement: &Update) -> Result<(), A
     buffer.word("UPDATE")?;
     buffer.word(statement.table.as_str())?;
     buffer.word("SET")?;
-    put_assignments(buffer, statement.assignments.as_slice())?;
+    put_listed(buffer, statement.assignments.as_slice())?;
     put_where(buffer, &statement.condition)?;
-    put_returning(buffer, &statement.returning)
+    put_returning(buffer, &statement.returning)?;
+    Ok(())
 }
 
 pub fn put_delete(buffer: &mut OutputBuffer, statement: &Delete) -> Result<(), AllocError>
@@ -91,7 +94,8 @@ pub fn put_delete(buffer: &mut OutputBuffer, statement: &Delete) -> Result<(), A
     buffer.word("FROM")?;
     buffer.word(statement.table.as_str())?;
     put_where(buffer, &statement.condition)?;
-    put_returning(buffer, &statement.returning)
+    put_returning(buffer, &statement.returning)?;
+    Ok(())
 }
 
 pub fn put_create_role(buffer: &mut OutputBuffer, statement: &CreateRole) -> Result<(), AllocError>
@@ -134,9 +138,10 @@ fn put_elements(
     ensures { OnOk result (put_all (Some (output_of buffer.old)) (enclosed (form.listed form.column columns.now ++ form.key key.now)) ≡ Some (output_of buffer.new)) }
 {
     buffer.mark(Mark::Open)?;
-    put_columns(buffer, columns)?;
+    put_listed(buffer, columns)?;
     put_key(buffer, key)?;
-    buffer.mark(Mark::Close)
+    buffer.mark(Mark::Close)?;
+    Ok(())
 }
 
 pub fn put_create_table(
