@@ -5,13 +5,12 @@ use Rattle.std.proofs.lemmas.List.{get_or_append_left, map_push, take_more}
 use Rattle.std.proofs.lemmas.List.Elements.{All-head, All-tail, All-weaker, All-push}
 use Rattle.rls_meaning.specs.rls_guard.specs.declared.reply.Decision.{Decision}
 use Rattle.rls_core.specs.declared.decisions.Said.{Said}
-use Rattle.rls_core.specs.declared.decisions.Decided.{Decided}
-use Rattle.rls_core.specs.Decided.{said_by, nothing_said, said_at, decision_by, decision_of, decisions_by, AreSaid, StandsAt, Extends}
+use Rattle.rls_core.specs.Decided.{Decided, said_by, nothing_said, decision_by, decision_of, decisions_by, AreSaid, StandsAt, Extends}
 
 told_more : (said more : List Said) (rows : List Decided) → AreSaid said rows → decisions_by (said ++ more) rows ≡ decisions_by said rows
 told_more said more [] are = refl
 told_more said more (row ∷ rows) are =
-    let same : decision_of (said ++ more) row ≡ decision_of said row = ap (decision_by row) (get_or_append_left said more nothing_said row.said (All-head (λ r. r.said < length said) row rows are)) in
+    let same : decision_of (said ++ more) row ≡ decision_of said row = ap (decision_by row.id) (get_or_append_left said more nothing_said row.said (All-head (λ r. r.said < length said) row rows are)) in
     let rest : decisions_by (said ++ more) rows ≡ decisions_by said rows = told_more said more rows (All-tail (λ r. r.said < length said) row rows are) in
     cc
 

@@ -15,5 +15,6 @@ pub mod CallLemmas
 pub mod RefusalLemmas
 pub mod RunLemmas
 mod NewLemmas
+mod SpanLemmas
 mod DecidedLemmas
 mod PostedLemmas

@@ -1,7 +1,7 @@
-//! The decisions of a statement, with what they say of their rows once for all of them.
+//! The decisions of a statement: rows that follow one another are kept as a span, and what is said of many rows once.
 
-ghost use Rattle.std.specs.Prelude.{◌≡◌, ◌<◌, true, length, slice_get, Some, IfOk, OnOk, IfSome, IfNone, ◌≤◌};
-ghost use Rattle.rls_core.specs.Decided.{said_by, said_at, decision_of, decisions_by, AreSaid, StandsAt, Extends};
+ghost use Rattle.std.specs.Prelude.{◌≡◌, ◌<◌, ◌≤◌, ◌+◌, ◌++◌, ◌∷◌, [], ◌↔◌, true, length, map, IfOk, OnOk, IfSome};
+ghost use Rattle.rls_core.specs.Decided.{said_by, decision_by, decision_of, decisions_by, row_in, rows_in, rows_of, AreSpans, AreSaid, StandsAt, Extends};
 
 use rls_catalog::{Side, Verdict};
 use rls_meaning::rls_guard::Decision;
@@ -10,17 +10,19 @@ use rls_value::{Items, Kind, RowId};
 use std::alloc::{AllocError, Global};
 use std::marker::Model;
 
-/// Decisions on rows, seen as their list. A row takes 24 bytes: a verdict stands once for all that have it.
+/// Decisions on rows, seen as their list. A span of rows takes 24 bytes, and a verdict stands once for all that have it.
 #[derive(Drop)]
 pub struct Decisions {
-    rows: Vec<Decided>,
+    spans: Vec<Span>,
     said: Vec<Said>,
 }
 
-/// A row that was judged, and the place of what was said of it.
+/// The rows `first` to `last` of one transaction, and the place of what was said of them.
 #[derive(Drop)]
-struct Decided {
-    id: RowId,
+struct Span {
+    txn: u64,
+    first: u32,
+    last: u32,
     said: u32,
 }
 
@@ -30,15 +32,6 @@ struct Said {
     side: Side,
     kind: Kind,
     verdict: Verdict,
-}
-
-/// One of the decisions, its verdict lent.
-#[derive(Drop)]
-pub struct DecisionView<'a> {
-    pub id: RowId,
-    pub side: Side,
-    pub kind: Kind,
-    pub verdict: &'a Verdict,
 }
 
 impl Model for Decisions {
@@ -51,11 +44,11 @@ impl Model for Decisions {
 
     ghost coded = { coded_list decision.the_row.coded };
 
-    ghost use Rattle.rls_core.specs.Decided.{decisions_by, AreSaid};
+    ghost use Rattle.rls_core.specs.Decided.{decisions_by, rows_of, AreSpans, AreSaid};
 
-    ghost view = { λ it. decisions_by it.said.items it.rows.items };
+    ghost view = { λ it. decisions_by it.said.items (rows_of it.spans.items) };
 
-    ghost invariant = { λ it. AreSaid it.said.items it.rows.items };
+    ghost invariant = { λ it. AreSpans it.spans.items × AreSaid it.said.items (rows_of it.spans.items) };
 }
 
 impl Decisions {
@@ -63,74 +56,87 @@ impl Decisions {
     pub fn new(alloc: Global, decisions: &[Decision]) -> Result<Decisions, AllocError>
         ensures { IfOk result (λ kept. kept ≡ decisions.now) }
     {
-        let mut rows = Vec::with_capacity(alloc, decisions.len())?;
+        let mut spans = Vec::new(alloc);
         let mut said = Vec::new(alloc);
         let mut last = 0;
         for decision in decisions {
             last = place_in(&mut said, last, decision)?;
-            rows.push(Decided {
-                id: decision.id,
-                said: last,
-            })?;
+            put_row(&mut spans, decision.id, last)?;
         }
-        Ok(Decisions { rows, said })
-    }
-
-    pub fn len(&self) -> usize
-        ensures { result ≡ length self.now }
-    {
-        self.rows.len()
-    }
-
-    /// The decision at the place.
-    pub fn get(&self, place: usize) -> Option<DecisionView<'_>>
-        ensures some { IfSome result (λ it. slice_get self.now place ≡ Some (record { id = it.id; side = it.side; kind = it.kind; verdict = it.verdict.now })) }
-        ensures none { IfNone result (length self.now ≤ place) }
-    {
-        match self.rows.get(place) {
-            Some(row) => {
-                let said = &self.said[row.said as usize];
-                Some(DecisionView {
-                    id: row.id,
-                    side: said.side,
-                    kind: said.kind,
-                    verdict: &said.verdict,
-                })
-            }
-            None => None,
-        }
+        spans.shrink_to_fit();
+        Ok(Decisions { spans, said })
     }
 
     /// The decisions, each with its verdict.
     pub fn copy_all(&self, alloc: Global) -> Result<Items<Decision>, AllocError>
         ensures { IfOk result (λ decisions. decisions ≡ self.now) }
     {
-        copies(alloc, self.rows.as_slice(), self.said.as_slice())
+        copies(alloc, self.spans.as_slice(), self.said.as_slice())
     }
 }
 
-fn copies(alloc: Global, rows: &[Decided], said: &[Said]) -> Result<Items<Decision>, AllocError>
-    requires { AreSaid said.now rows.now }
-    ensures { IfOk result (λ decisions. decisions ≡ decisions_by said.now rows.now) }
+fn copies(alloc: Global, spans: &[Span], said: &[Said]) -> Result<Items<Decision>, AllocError>
+    requires spans { AreSpans spans.now }
+    requires said { AreSaid said.now (rows_of spans.now) }
+    ensures { IfOk result (λ decisions. decisions ≡ decisions_by said.now (rows_of spans.now)) }
 {
-    let mut decisions = Vec::with_capacity(alloc, rows.len())?;
-    for row in rows {
-        decisions.push(copy_of(row, said)?)?;
+    let mut decisions = Vec::new(alloc);
+    for span in spans {
+        copy_span(&mut decisions, span, said)?;
     }
     Ok(Items::from_vec(decisions))
 }
 
-fn copy_of(row: &Decided, said: &[Said]) -> Result<Decision, AllocError>
-    requires { row.now.said < length said.now }
-    ensures { IfOk result (λ decision. decision ≡ decision_of said.now row.now) }
+/// Puts the decisions on the rows of the span behind the others.
+fn copy_span(decisions: &mut Vec<Decision>, span: &Span, said: &[Said]) -> Result<(), AllocError>
+    requires rows { span.now.first ≤ span.now.last }
+    requires said { span.now.said < length said.now }
+    ensures { OnOk result (decisions.new.items ≡ decisions.old.items ++ decisions_by said.now (rows_in span.now)) }
 {
-    let one = &said[row.said as usize];
+    let one = &said[span.said as usize];
+    for n in span.first..=span.last {
+        let id = RowId { txn: span.txn, n };
+        decisions.push(copy_of(id, one)?)?;
+    }
+    Ok(())
+}
+
+fn copy_of(id: RowId, one: &Said) -> Result<Decision, AllocError>
+    ensures { IfOk result (λ decision. decision ≡ decision_by id one.now) }
+{
     Ok(Decision {
-        id: row.id,
+        id,
         side: one.side,
         kind: one.kind,
         verdict: one.verdict.copy()?,
     })
+}
+
+/// Puts the row behind the others: into the last span where it goes on with that one, else into a span of its own.
+fn put_row(spans: &mut Vec<Span>, id: RowId, said: u32) -> Result<(), AllocError>
+    requires { AreSpans spans.old.items }
+    ensures rows { OnOk result (rows_of spans.new.items ≡ rows_of spans.old.items ++ record { id = id; said = said } ∷ []) }
+    ensures spans { OnOk result (AreSpans spans.new.items) }
+{
+    let len = spans.len();
+    if len > 0 && goes_on(&spans[len - 1], id, said) {
+        spans[len - 1].last = id.n;
+        return Ok(());
+    }
+    spans.push(Span {
+        txn: id.txn,
+        first: id.n,
+        last: id.n,
+        said,
+    })?;
+    Ok(())
+}
+
+/// Whether the row is the next of the span.
+fn goes_on(span: &Span, id: RowId, said: u32) -> bool
+    ensures { (result ≡ true) ↔ (record { id = id; said = said } ≡ row_in span.now (span.now.last + 1)) }
+{
+    span.txn == id.txn && span.said == said && span.last < id.n && id.n - span.last == 1
 }
 
 /// The place of what the decision says, which is put behind the others where it wasn't said so far.

@@ -19,7 +19,7 @@ mod work;
 
 pub use answer::Answer;
 pub use begin::Begin;
-pub use decisions::{DecisionView, Decisions};
+pub use decisions::Decisions;
 pub use event::Event;
 pub use happening::run;
 pub use headline::committed_are_serial;
