@@ -81,6 +81,10 @@ notes_case last true None old is left kept none = refl
 notes_case last true (Some notes) old is left kept none = absurd (true≢false (sym is ∙ ap (λ found. is_committed_by last (commit_in found)) (sym (left refl)) ∙ none))
 notes_case last false now old is left kept none = kept refl
 
+-- where none is left that committed by the number, the notes of just those are gone
+pub left_notes : (last : ℕ) (old now : Locks) → IsLeft last old now → ((txn : ℕ) → is_gone last now txn ≡ false) → (txn : ℕ) → notes_at now.notes txn ≡ (if is_gone last old txn then None else notes_at old.notes txn)
+left_notes last old now so_far none txn = notes_case last (is_gone last old txn) (notes_at now.notes txn) (notes_at old.notes txn) refl (so_far.left txn) (so_far.kept txn) (none txn)
+
 has_case : (found : Option Notes) (object : Object) → is_among (objects_in found) object ≡ true → is_some found ≡ true
 has_case None object is = absurd (true≢false (sym is))
 has_case (Some notes) object is = refl
@@ -89,7 +93,7 @@ has_case (Some notes) object is = refl
 pub left_all : (last : ℕ) (old now : Locks) → IsLeft last old now → ((object : Object) (txn : ℕ) → is_number_in (held_by now object) txn ≡ is_among (noted_by now txn) object)
     → ((txn : ℕ) → is_gone last now txn ≡ false) → HasForgotten (is_gone last old) old now
 left_all last old now so_far indexed none = record {
-  notes = λ txn. notes_case last (is_gone last old txn) (notes_at now.notes txn) (notes_at old.notes txn) refl (so_far.left txn) (so_far.kept txn) (none txn);
+  notes = left_notes last old now so_far none;
   holders = λ object.
       sym (filter_all (λ txn. not (is_gone last old txn)) (held_by now object) (λ txn there.
       ap (λ found. not (is_committed_by last (commit_in found))) (sym (so_far.left txn (has_case (notes_at now.notes txn) object (sym (indexed object txn) ∙ there))))
@@ -103,7 +107,8 @@ all_gone_if : (gone : Bool) (notes : Notes) → not gone ≡ false → None ≡ 
 all_gone_if true notes is = refl
 all_gone_if false notes is = absurd (true≢false is)
 
-all_gone_case : (last : ℕ) (found : Option Notes) → is_left last found ≡ false → None ≡ (if is_committed_by last (commit_in found) then None else found)
+-- one that isn't left is gone
+pub all_gone_case : (last : ℕ) (found : Option Notes) → is_left last found ≡ false → None ≡ (if is_committed_by last (commit_in found) then None else found)
 all_gone_case last None is = refl
 all_gone_case last (Some notes) is = all_gone_if (is_committed_by last notes.commit) notes is
 

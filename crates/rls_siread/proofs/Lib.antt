@@ -1,6 +1,7 @@
 pub mod CoveringLaws
 pub mod IndexLaws
 pub mod LocksLaws
+pub mod AloneLaws
 pub mod PromotionLaws
 pub mod ForgetLaws
 pub mod CopyLaws

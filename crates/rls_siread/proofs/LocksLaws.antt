@@ -20,7 +20,7 @@ use Rattle.rls_catalog.specs.declared.change.Change.{Change}
 use Rattle.rls_source.specs.Footprints.{with_reads, footprint_of, is_among}
 use Rattle.rls_siread.specs.Covering.{covered_by}
 use Rattle.rls_siread.specs.Locks.{Notes, Locks, is_number_in, is_reader, arrived, all_arrived, with_holders, holders_of, without, held_with, held_by, objects_in, commit_in, held_in, notes_at, noted_by, noting, marked, commit_of, is_committed_by, promoted_notes, HasNoted, HasForgotten, HasPromoted}
-use Rattle.rls_siread.specs.Index.{HolderList, shown, held_at, IsIndexed, CommitsFrom, locks_of}
+use Rattle.rls_siread.specs.Index.{HolderList, shown, held_at, AreTold, IsIndexed, CommitsFrom, locks_of}
 use Rattle.rls_siread.proofs.CoveringLaws.{any_same, reads_covered}
 use Rattle.rls_siread.proofs.PlainLaws.{fresh_is_new, nothing_is_gone}
 
@@ -136,15 +136,21 @@ indexed_case true objects noted object there is = refl
 indexed_case false objects noted object there is = is
 
 -- who holds is told by the notes, once those of one transaction are others
+pub still_told : (old new : List (Object × List ℕ)) (notes left : List (ℕ × Notes)) (txn : ℕ) (objects : List Object) → AreTold old notes
+    → ((object : Object) → held_in new object ≡ held_with (is_among objects object) (held_in old object) txn)
+    → ((t : ℕ) → objects_in (notes_at left t) ≡ (if nat_eq txn t then objects else objects_in (notes_at notes t))) → AreTold new left
+still_told old new notes left txn objects told held noted object t =
+    ap (λ txns. is_number_in txns t) (held object)
+    ∙ held_with_case (is_among objects object) (nat_eq t txn) (held_in old object) txn t refl
+    ∙ ap (λ b. if b then is_among objects object else is_number_in (held_in old object) t) (number_turned t txn)
+    ∙ indexed_case (nat_eq txn t) objects (objects_in (notes_at notes t)) object (is_number_in (held_in old object) t) (told object t)
+    ∙ ap (λ list. is_among list object) (sym (noted t))
+
+-- and the same by the index
 pub still_indexed : (old new : List (Object × HolderList)) (notes left : List (ℕ × Notes)) (txn : ℕ) (objects : List Object) → IsIndexed old notes
     → ((object : Object) → held_at new object ≡ held_with (is_among objects object) (held_at old object) txn)
     → ((t : ℕ) → objects_in (notes_at left t) ≡ (if nat_eq txn t then objects else objects_in (notes_at notes t))) → IsIndexed new left
-still_indexed old new notes left txn objects indexed held noted object t =
-    ap (λ txns. is_number_in txns t) (held object)
-    ∙ held_with_case (is_among objects object) (nat_eq t txn) (held_at old object) txn t refl
-    ∙ ap (λ b. if b then is_among objects object else is_number_in (held_at old object) t) (number_turned t txn)
-    ∙ indexed_case (nat_eq txn t) objects (objects_in (notes_at notes t)) object (is_number_in (held_at old object) t) (indexed object t)
-    ∙ ap (λ list. is_among list object) (sym (noted t))
+still_indexed old new notes left txn objects = still_told (shown old) (shown new) notes left txn objects
 
 renoted_case : (now was : Bool) (txn : ℕ) (held : List ℕ) → is_number_in held txn ≡ was
     → (if was && not now then without (if now && not was then arrived held txn else held) txn else (if now && not was then arrived held txn else held)) ≡ held_with now held txn

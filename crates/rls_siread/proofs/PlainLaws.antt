@@ -13,7 +13,7 @@ use Rattle.rls_value.specs.declared.object.Object.TheVariants as o
 use Rattle.rls_source.specs.Footprints.{with_object, with_reads, is_object, is_among, IsInOrder}
 use Rattle.rls_source.specs.FootprintLaws.{is_object_same, among_with_reads}
 use Rattle.rls_source.proofs.FootprintOrderLaws.{footprint_ordered, with_reads_in_order, same_in_order}
-use Rattle.rls_siread.specs.Promotion.{is_key, is_key_of, is_rows, is_plain, is_crowded, stands_for, promoted}
+use Rattle.rls_siread.specs.Promotion.{is_key, is_key_of, is_rows, is_plain, is_crowded, stands_for, promoted, noted_with}
 
 -- ---- no table is crowded
 
@@ -128,6 +128,20 @@ pub with_fresh_reads : (noted reads fresh : List Object) → IsInOrder noted →
 with_fresh_reads noted reads fresh ordered are =
     same_in_order (with_reads noted fresh) (with_reads noted reads) (with_reads_in_order noted fresh ordered) (with_reads_in_order noted reads ordered) (λ object.
     among_with_reads noted fresh object ∙ fresh_case (is_among reads object) (is_among noted object) (is_among fresh object) (are object) ∙ sym (among_with_reads noted reads object))
+
+-- plain reads are all that is noted, where nothing was
+pub first_noted : (limit : ℕ) (noted reads : List Object) → noted ≡ [] → is_plain limit reads ≡ true → IsInOrder reads → noted_with limit noted reads ≡ reads
+first_noted limit noted reads nothing plain ordered =
+    ap (λ (list : List Object). noted_with limit list reads) nothing
+    ∙ ap (promoted limit) (footprint_ordered reads ordered)
+    ∙ plain_promoted limit reads plain ordered
+
+-- what is fresh of the reads comes to what was noted, where that is plain then
+pub fresh_noted : (limit : ℕ) (noted reads fresh : List Object) → IsInOrder noted → ((object : Object) → is_among fresh object ≡ (is_among reads object && not (is_among noted object)))
+    → is_plain limit (with_reads noted fresh) ≡ true → noted_with limit noted reads ≡ with_reads noted fresh
+fresh_noted limit noted reads fresh ordered are plain =
+    ap (promoted limit) (sym (with_fresh_reads noted reads fresh ordered are))
+    ∙ plain_promoted limit (with_reads noted fresh) plain (with_reads_in_order noted fresh ordered)
 
 new_case : (read noted : Bool) → (read && not noted) ≡ ((read || noted) && not noted)
 new_case true noted = refl

@@ -12,8 +12,8 @@ use Rattle.std.proofs.lemmas.Map.Keys.{sorted_head, sorted_tail}
 use Rattle.rls_value.specs.declared.object.Object.{Object}
 use Rattle.rls_source.specs.Footprints.{is_among}
 use Rattle.rls_siread.specs.Promotion.{noted_with}
-use Rattle.rls_siread.specs.Locks.{Notes, is_number_in, held_with, objects_in, commit_in, notes_at, promoted_notes, held_promoted, HasNoted, HasPromoted}
-use Rattle.rls_siread.specs.Index.{HolderList, held_at, IsIndexed, locks_of}
+use Rattle.rls_siread.specs.Locks.{Notes, is_number_in, held_with, held_in, objects_in, commit_in, notes_at, promoted_notes, held_promoted, HasNoted, HasPromoted}
+use Rattle.rls_siread.specs.Index.{HolderList, held_at, AreTold, IsIndexed, locks_of}
 use Rattle.rls_siread.proofs.LocksLaws.{same_number, number_itself, number_at, number_turned}
 use Rattle.rls_siread.proofs.CopyLaws.{has_number, no_notes}
 
@@ -94,14 +94,14 @@ all_promoted limit notes left first now waiting none so_far = record {
 }
 
 -- who holds the same in a copy is told by the same notes
-pub copy_indexed : (first copied : List (Object × HolderList)) (notes left : List (ℕ × Notes)) → ((object : Object) → held_at copied object ≡ held_at first object) → ((t : ℕ) → notes_at left t ≡ notes_at notes t)
-    → IsIndexed first notes → IsIndexed copied left
-copy_indexed first copied notes left held noted indexed object t =
-    ap (λ list. is_number_in list t) (held object) ∙ indexed object t ∙ ap (λ found. is_among (objects_in found) object) (sym (noted t))
+pub copy_indexed : (first : List (Object × List ℕ)) (copied : List (Object × HolderList)) (notes left : List (ℕ × Notes)) → ((object : Object) → held_at copied object ≡ held_in first object)
+    → ((t : ℕ) → notes_at left t ≡ notes_at notes t) → AreTold first notes → IsIndexed copied left
+copy_indexed first copied notes left held noted told object t =
+    ap (λ list. is_number_in list t) (held object) ∙ told object t ∙ ap (λ found. is_among (objects_in found) object) (sym (noted t))
 
 -- what is promoted in a copy is promoted
-pub copy_promoted : (limit : ℕ) (first copied new : List (Object × HolderList)) (notes left : List (ℕ × Notes)) → ((object : Object) → held_at copied object ≡ held_at first object)
-    → HasPromoted limit (locks_of copied notes) (locks_of new left) → HasPromoted limit (locks_of first notes) (locks_of new left)
+pub copy_promoted : (limit : ℕ) (first : List (Object × List ℕ)) (copied new : List (Object × HolderList)) (notes left : List (ℕ × Notes)) → ((object : Object) → held_at copied object ≡ held_in first object)
+    → HasPromoted limit (locks_of copied notes) (locks_of new left) → HasPromoted limit (record { holders = first; notes = notes }) (locks_of new left)
 copy_promoted limit first copied new notes left held is = record {
   notes = is.notes;
   holders = λ object. is.holders object ∙ ap (held_promoted limit notes object (keys_of notes)) (held object);

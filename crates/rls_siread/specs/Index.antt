@@ -40,18 +40,36 @@ abbrev pub KeepsReady : List (Object × HolderList) → List (Object × HolderLi
 KeepsReady old new txn object = is_ready old txn object ≡ true → is_ready new txn object ≡ true
 
 -- who holds an object is told by the notes
+abbrev pub AreTold : List (Object × List ℕ) → List (ℕ × Notes) → Type 0
+AreTold holders notes = (object : Object) (txn : ℕ) → is_number_in (held_in holders object) txn ≡ is_among (objects_in (notes_at notes txn)) object
+
+-- who holds an object by the index is told by the notes
 abbrev pub IsIndexed : List (Object × HolderList) → List (ℕ × Notes) → Type 0
-IsIndexed entries notes = (object : Object) (txn : ℕ) → is_number_in (held_at entries object) txn ≡ is_among (objects_in (notes_at notes txn)) object
+IsIndexed entries notes = AreTold (shown entries) notes
 
 -- no commit that isn't forgotten has a lower number
 abbrev pub CommitsFrom : ℕ → List (ℕ × Notes) → Type 0
 CommitsFrom least notes = (txn commit : ℕ) → commit_in (notes_at notes txn) ≡ Some commit → least ≤ commit
 
--- the index is told by the notes, and commits by the least number
-pub record IsKept (entries : List (Object × HolderList)) (notes : List (ℕ × Notes)) (least : ℕ) : Type 0 where
-  pub indexed : IsIndexed entries notes
+-- holders are told by the notes, and commits by the least number
+pub record IsKept (holders : List (Object × List ℕ)) (notes : List (ℕ × Notes)) (least : ℕ) : Type 0 where
+  pub told : AreTold holders notes
   pub commits : CommitsFrom least notes
 
 -- what is seen of the index and the notes
 abbrev pub locks_of : List (Object × HolderList) → List (ℕ × Notes) → Locks
 locks_of entries notes = record { holders = shown entries; notes = notes }
+
+-- the transaction alone holds the objects
+abbrev pub held_alone : ℕ → List Object → List (Object × List ℕ)
+held_alone txn [] = []
+held_alone txn (object ∷ objects) = (object, txn ∷ []) ∷ held_alone txn objects
+
+-- who holds each object: where one transaction alone holds any, what it noted; else what the index says
+abbrev pub holders_by : Option ℕ → List (Object × HolderList) → List (ℕ × Notes) → List (Object × List ℕ)
+holders_by None entries notes = shown entries
+holders_by (Some txn) entries notes = held_alone txn (objects_in (notes_at notes txn))
+
+-- what is seen of the one that is alone, the index and the notes
+abbrev pub locks_by : Option ℕ → List (Object × HolderList) → List (ℕ × Notes) → Locks
+locks_by alone entries notes = record { holders = holders_by alone entries notes; notes = notes }

@@ -6,7 +6,7 @@ ghost use Rattle.std.specs.Map.{lookup};
 ghost use Rattle.rls_value.specs.declared.object.Object.{Object as Read};
 ghost use Rattle.rls_value.specs.Objects.{object_order};
 ghost use Rattle.rls_source.specs.Footprints.{is_object, is_among};
-ghost use Rattle.rls_siread.specs.Locks.{arrived, all_arrived, with_holders, without};
+ghost use Rattle.rls_siread.specs.Locks.{arrived, without};
 ghost use Rattle.rls_siread.specs.Index.{shown, held_at, is_ready, KeepsReady};
 
 use crate::holders::Holders;
@@ -97,29 +97,6 @@ impl Index {
     {
         self.holders.insert(object.copy(alloc)?, held)?;
         Ok(())
-    }
-
-    /// The holders of the objects, each once: by object in their order, and within one object in the order of their first
-    /// notes of it.
-    pub(crate) fn find_all(&self, alloc: Global, objects: &Footprint) -> Result<Holders, AllocError>
-        ensures { IfOk result (λ found. found.txns ≡ with_holders (shown self.now.holders.entries) [] objects.now) }
-    {
-        let mut found = Holders::new();
-        for object in objects.iter() {
-            self.find(alloc, object, &mut found)?;
-        }
-        Ok(found)
-    }
-
-    /// Puts the holders of the object behind those found.
-    fn find(&self, alloc: Global, object: &Object, found: &mut Holders) -> Result<(), AllocError>
-        ensures { OnOk result (found.new.txns ≡ all_arrived found.old.txns (held_at self.now.holders.entries object.now)) }
-    {
-        let _in_order = self.holders.len();
-        match self.holders.get(object) {
-            Some(held) => found.add_all(alloc, held.as_slice()),
-            None => Ok(()),
-        }
     }
 
     /// Makes room for the transaction under each of the objects. Nobody holds more or less.

@@ -1,6 +1,7 @@
 //! Read locks: what each transaction noted as read, and who holds each object that is written.
 #![tactic(auto)]
 
+mod alone;
 mod covering;
 mod holders;
 mod index;

@@ -1,9 +1,12 @@
 //! What a transaction noted.
 
-ghost use Rattle.std.specs.Prelude.{◌≡◌, ◌≤◌, [], Some, length, IfOk, OnOk, OnErr};
-ghost use Rattle.rls_source.specs.Footprints.{IsInOrder};
+ghost use Rattle.std.specs.Prelude.{◌≡◌, ◌≤◌, ◌&&◌, [], true, not, Some, length, IfOk, OnOk, OnErr};
+ghost use Rattle.rls_value.specs.declared.object.Object.{Object as Read};
+ghost use Rattle.rls_source.specs.Footprints.{with_reads, is_among, IsInOrder};
 ghost use Rattle.rls_siread.specs.Locks.{noting};
+ghost use Rattle.rls_siread.specs.Promotion.{noted_with};
 
+use crate::promotion::{More, is_plain, missing, noted_more, stay_plain};
 use rls_source::Footprint;
 use std::alloc::{AllocError, Global};
 use std::marker::Model;
@@ -51,6 +54,55 @@ impl Noted {
         self.commit
     }
 
+    /// Whether there are no objects.
+    #[tactic(auto, using(std::proofs::lemmas::List::nil_from_length))]
+    pub(crate) fn is_empty(&self) -> bool
+        ensures { result ≡ true → (self.now.objects ≡ []) }
+    {
+        self.objects.len() == 0
+    }
+
+    /// What was read is noted too. Where more than `limit` keys of one table are noted, or all of its rows, these stand for its
+    /// keys. An `Err` leaves all as it was.
+    pub(crate) fn renew(
+        &mut self,
+        alloc: Global,
+        reads: &Footprint,
+        limit: usize,
+    ) -> Result<(), AllocError>
+        ensures ok { OnOk result (self.new ≡ record { commit = self.old.commit; objects = noted_with limit self.old.objects reads.now }) }
+        ensures err { OnErr result (self.new ≡ self.old) }
+    {
+        // Most statements are the first of their transaction, or read one object that those before it didn't, its key.
+        if self.is_first(reads, limit) {
+            return self.begin(alloc, reads);
+        }
+        let fresh = missing(alloc, reads, &self.objects)?;
+        if are_plain(&self.objects, reads, &fresh, limit) {
+            return self.add(alloc, &fresh);
+        }
+        self.objects = renoted(alloc, &self.objects, reads, limit)?;
+        Ok(())
+    }
+
+    /// Whether the reads are all that is noted then, for sure: there are no objects, and nothing is promoted.
+    #[tactic(auto, using(crate::proofs::PlainLaws::first_noted))]
+    fn is_first(&self, reads: &Footprint, limit: usize) -> bool
+        ensures { result ≡ true → (noted_with limit self.now.objects reads.now ≡ reads.now) }
+    {
+        let _in_order = reads.iter();
+        self.is_empty() && is_plain(reads, limit)
+    }
+
+    /// Has copies of these objects, of none before.
+    fn begin(&mut self, alloc: Global, reads: &Footprint) -> Result<(), AllocError>
+        ensures ok { OnOk result (self.new ≡ record { commit = self.old.commit; objects = reads.now }) }
+        ensures err { OnErr result (self.new ≡ self.old) }
+    {
+        self.objects = reads.copy(alloc)?;
+        Ok(())
+    }
+
     /// Has these objects, of none before.
     pub(crate) fn put(&mut self, objects: Footprint)
         requires { self.old.objects ≡ [] }
@@ -78,4 +130,34 @@ impl Noted {
     {
         self.commit = Some(commit);
     }
+}
+
+/// Whether what is fresh of the reads is one object at most, and all that comes to those noted, for sure: nothing is promoted.
+#[tactic(auto, using(crate::proofs::PlainLaws::fresh_noted))]
+fn are_plain(noted: &Footprint, reads: &Footprint, fresh: &Footprint, limit: usize) -> bool
+    requires { (object : Read) → is_among fresh.now object ≡ (is_among reads.now object && not (is_among noted.now object)) }
+    ensures few { result ≡ true → length fresh.now ≤ 1 }
+    ensures plain { result ≡ true → (noted_with limit noted.now reads.now ≡ with_reads noted.now fresh.now) }
+{
+    let _in_order = noted.iter();
+    stay_plain(noted, fresh, limit)
+}
+
+/// What is noted once more was read.
+fn renoted(
+    alloc: Global,
+    noted: &Footprint,
+    reads: &Footprint,
+    limit: usize,
+) -> Result<Footprint, AllocError>
+    ensures { IfOk result (λ objects. objects ≡ noted_with limit noted.now reads.now) }
+{
+    let More {
+        objects,
+        fresh,
+        dropped,
+    } = noted_more(alloc, noted, reads, limit)?;
+    drop(fresh);
+    drop(dropped);
+    Ok(objects)
 }

@@ -1,14 +1,16 @@
 //! Read locks.
 
-ghost use Rattle.std.specs.Prelude.{◌≡◌, ◌<◌, ◌≤◌, ℕ, [], true, false, ◌&&◌, not, if◌then◌else◌, length, is_some, Some, IfOk, OnOk, OnErr, MatchOption, nat_eq, min};
+ghost use Rattle.std.specs.Prelude.{◌≡◌, ◌<◌, ◌≤◌, ℕ, [], true, false, ◌&&◌, not, if◌then◌else◌, length, is_some, IfOk, OnOk, OnErr, MatchOption, nat_eq, min};
 ghost use Rattle.rls_value.specs.declared.object.Object.{Object as Read};
 ghost use Rattle.std.specs.Option.{option_map};
 ghost use Rattle.rls_source.specs.Footprints.{with_reads, is_among, IsInOrder};
-ghost use Rattle.rls_siread.specs.Index.{IsIndexed, held_at, locks_of, shown};
+ghost use Rattle.rls_siread.specs.Index.{IsIndexed, held_at, locks_of};
 ghost use Rattle.rls_siread.specs.Promotion.{noted_with};
-ghost use Rattle.rls_siread.specs.Locks.{no_locks, held_by, noted_by, notes_at, objects_in, commit_in, commit_of, marked, noting, arrived, without, is_number_in, is_reader, is_committed_by, is_left, holders_of, HasNoted, HasCommitted, HasForgotten, HasPromoted};
+ghost use Rattle.rls_siread.specs.Locks.{no_locks, held_by, noted_by, notes_at, objects_in, commit_in, commit_of, marked, noting, with_holders, without, is_number_in, is_reader, is_committed_by, is_left, holders_of, HasNoted, HasCommitted, HasForgotten, HasPromoted};
 
+use crate::alone::{copy_index, forget_old, forget_one, holders_at, note_reads};
 use crate::covering::covered_by_one;
+use crate::holders::Holders;
 use crate::index::Index;
 use crate::notes::Noted;
 use crate::promotion::{More, is_plain, missing, noted_more, stay_plain};
@@ -22,6 +24,8 @@ use std::marker::Model;
 /// Read locks: what each transaction noted as read, and who holds each object. They block nobody.
 #[derive(Drop)]
 pub struct Sireads {
+    // Where one transaction alone holds objects, it is this one: they are those that it noted, and the index isn't used.
+    alone: Option<u64>,
     index: Index,
     notes: BTreeMap<u64, Noted>,
     // No commit that isn't forgotten has a lower number.
@@ -30,17 +34,17 @@ pub struct Sireads {
 
 impl Model for Sireads {
     ghost use Rattle.rls_siread.specs.Locks.{Locks};
-    ghost use Rattle.rls_siread.specs.Index.{locks_of, IsKept};
+    ghost use Rattle.rls_siread.specs.Index.{holders_by, locks_by, IsKept};
     ghost use Rattle.rls_siread.specs.LocksCode.{locks_code};
 
     ghost Value = { Locks };
 
     ghost coded = { locks_code };
 
-    ghost view = { λ it. locks_of it.index.holders.entries it.notes.entries };
+    ghost view = { λ it. locks_by it.alone it.index.holders.entries it.notes.entries };
 
     // Who holds what is told by the notes.
-    ghost invariant = { λ it. IsKept it.index.holders.entries it.notes.entries it.least };
+    ghost invariant = { λ it. IsKept (holders_by it.alone it.index.holders.entries it.notes.entries) it.notes.entries it.least };
 }
 
 impl Sireads {
@@ -48,6 +52,7 @@ impl Sireads {
         ensures { result ≡ no_locks }
     {
         Sireads {
+            alone: None,
             index: Index::new(alloc),
             notes: BTreeMap::new(alloc),
             least: 0,
@@ -75,7 +80,7 @@ impl Sireads {
     pub fn held(&self, object: &Object) -> &[u64]
         ensures { result.now ≡ held_by self.now object.now }
     {
-        self.index.held(object)
+        holders_at(&self.alone, &self.index, &self.notes, object)
     }
 
     /// The number of the transaction's commit, if it committed and isn't forgotten.
@@ -94,9 +99,22 @@ impl Sireads {
         ensures holders { IfOk result (λ found. found.items ≡ holders_of self.now change.now) }
         ensures readers { IfOk result (λ found. (txn : ℕ) → is_number_in found.items txn ≡ is_reader self.now change.now txn) }
     {
+        self.stands();
         let objects = covered_by_one(alloc, change)?;
-        let found = self.index.find_all(alloc, &objects)?;
+        let found = self.find_all(alloc, &objects)?;
         Vec::from_slice(alloc, found.as_slice())
+    }
+
+    /// The holders of the objects, each once: by object in their order, and within one object in the order of their first
+    /// notes of it.
+    fn find_all(&self, alloc: Global, objects: &Footprint) -> Result<Holders, AllocError>
+        ensures { IfOk result (λ found. found.txns ≡ with_holders self.now.holders [] objects.now) }
+    {
+        let mut found = Holders::new();
+        for object in objects.iter() {
+            found.add_all(alloc, self.held(object))?;
+        }
+        Ok(found)
     }
 
     /// Notes that the transaction read the objects. Where more than `limit` keys of one table are noted, or all of its
@@ -111,8 +129,9 @@ impl Sireads {
         ensures ok { OnOk result (HasNoted txn (noted_with limit (noted_by self.old txn) footprint.now) self.old self.new) }
         ensures err { OnErr result (self.new ≡ self.old) }
     {
-        renew(
+        note_reads(
             alloc,
+            &mut self.alone,
             &mut self.index,
             &mut self.notes,
             txn,
@@ -127,9 +146,10 @@ impl Sireads {
         ensures ok { OnOk result (HasPromoted limit self.old self.new) }
         ensures err { OnErr result (self.new ≡ self.old) }
     {
-        let mut index = self.index.copy(alloc)?;
+        let mut index = copy_index(alloc, self.alone, &self.index, &self.notes)?;
         let mut notes = copy_notes(alloc, &self.notes)?;
         promote_all(alloc, &mut index, &mut notes, &self.notes, limit)?;
+        self.alone = None;
         self.index = index;
         self.notes = notes;
         Ok(())
@@ -147,7 +167,7 @@ impl Sireads {
     pub fn forget(&mut self, txn: u64)
         ensures { HasForgotten (nat_eq txn) self.old self.new }
     {
-        drop_notes(&mut self.index, &mut self.notes, txn);
+        forget_one(self.alone, &mut self.index, &mut self.notes, txn);
     }
 
     /// Drops the transactions that committed at that number or before, and their notes.
@@ -156,14 +176,14 @@ impl Sireads {
     {
         // Most calls find nothing to drop, and go through no notes.
         if self.least <= last {
-            drop_committed(&mut self.index, &mut self.notes, last);
+            forget_old(self.alone, &mut self.index, &mut self.notes, last);
             self.least = last.saturating_add(1);
         }
     }
 }
 
 /// Puts the notes of the transaction anew, once more was read. All memory is had before anything changes.
-fn renew(
+pub(crate) fn renew(
     alloc: Global,
     index: &mut Index,
     notes: &mut BTreeMap<u64, Noted>,
@@ -231,28 +251,9 @@ fn put_first(
 {
     let _in_order = footprint.iter();
     let objects = footprint.copy(alloc)?;
-    hold_first(alloc, index, txn, footprint)?;
+    index.make_room(alloc, txn, footprint)?;
+    index.hold_all(txn, footprint);
     put_at(notes, txn, objects);
-    Ok(())
-}
-
-/// The transaction holds the objects, of which it held none before.
-fn hold_first(
-    alloc: Global,
-    index: &mut Index,
-    txn: u64,
-    objects: &Footprint,
-) -> Result<(), AllocError>
-    ensures ok { OnOk result ((object : Read) → held_at index.new.holders.entries object ≡ (if is_among objects.now object then arrived (held_at index.old.holders.entries object) txn else held_at index.old.holders.entries object)) }
-    ensures err { OnErr result (shown index.new.holders.entries ≡ shown index.old.holders.entries) }
-{
-    // Mostly nobody else has noted anything.
-    if index.is_empty() {
-        *index = Index::alone(alloc, txn, objects)?;
-        return Ok(());
-    }
-    index.make_room(alloc, txn, objects)?;
-    index.hold_all(txn, objects);
     Ok(())
 }
 
@@ -469,7 +470,7 @@ fn lesser(one: u64, other: u64) -> u64
 }
 
 /// Drops the notes of the transaction. It holds nothing then.
-fn drop_notes(index: &mut Index, notes: &mut BTreeMap<u64, Noted>, txn: u64)
+pub(crate) fn drop_notes(index: &mut Index, notes: &mut BTreeMap<u64, Noted>, txn: u64)
     requires { IsIndexed index.old.holders.entries notes.old.entries }
     ensures indexed { IsIndexed index.new.holders.entries notes.new.entries }
     ensures gone { HasForgotten (nat_eq txn) (locks_of index.old.holders.entries notes.old.entries) (locks_of index.new.holders.entries notes.new.entries) }
@@ -495,7 +496,7 @@ fn give_back(index: &mut Index, txn: u64, objects: &Footprint, others: &BTreeMap
 }
 
 /// Drops the notes of those that committed at that number or before.
-fn drop_committed(index: &mut Index, notes: &mut BTreeMap<u64, Noted>, last: u64)
+pub(crate) fn drop_committed(index: &mut Index, notes: &mut BTreeMap<u64, Noted>, last: u64)
     requires { IsIndexed index.old.holders.entries notes.old.entries }
     ensures indexed { IsIndexed index.new.holders.entries notes.new.entries }
     ensures gone { HasForgotten (λ txn. is_committed_by last (commit_in (notes_at notes.old.entries txn))) (locks_of index.old.holders.entries notes.old.entries) (locks_of index.new.holders.entries notes.new.entries) }
@@ -511,7 +512,7 @@ fn drop_committed(index: &mut Index, notes: &mut BTreeMap<u64, Noted>, last: u64
 }
 
 /// The first transaction that stays once those are dropped that committed at that number or before.
-fn first_left(notes: &BTreeMap<u64, Noted>, last: u64) -> Option<u64>
+pub(crate) fn first_left(notes: &BTreeMap<u64, Noted>, last: u64) -> Option<u64>
     ensures { MatchOption result ((txn : ℕ) → is_left last (notes_at notes.now.entries txn) ≡ false) (λ txn. is_left last (notes_at notes.now.entries txn) ≡ true) }
 {
     for txn in notes.keys() {
@@ -544,7 +545,7 @@ fn drop_each(index: &mut Index, notes: &mut BTreeMap<u64, Noted>, last: u64)
 }
 
 /// The first transaction that committed at that number or before.
-fn first_committed(notes: &BTreeMap<u64, Noted>, last: u64) -> Option<u64>
+pub(crate) fn first_committed(notes: &BTreeMap<u64, Noted>, last: u64) -> Option<u64>
     ensures { MatchOption result ((txn : ℕ) → is_committed_by last (commit_in (notes_at notes.now.entries txn)) ≡ false) (λ txn. is_committed_by last (commit_in (notes_at notes.now.entries txn)) ≡ true) }
 {
     for txn in notes.keys() {

@@ -1,4 +1,4 @@
-use Rattle.std.specs.Prelude.{◌≡◌, refl, ℕ, nat_eq, if◌then◌else◌}
+use Rattle.std.specs.Prelude.{◌≡◌, ℕ, nat_eq, if◌then◌else◌}
 use Rattle.std.specs.Option.{option_map}
 use Rattle.std.proofs.Common.{List, ap, sym, subst, ◌∙◌}
 use Rattle.rls_value.specs.declared.object.Object.{Object}
@@ -18,15 +18,15 @@ puts c =
 
 pub returns-clause-indexed : goal.returns-clause-indexed
 returns-clause-indexed c =
-    (added c.args.index.now.holders.entries c.args.index.now.holders.entries c.hold_first.new.index.holders.entries c.args.notes.now.entries c.put_at.new.notes.entries c.args.txn c.args.footprint.now
-    c.requires.indexed c.requires.there (λ object _. ap (λ (list : List Object). is_among list object) c.requires.nothing) refl (puts c) c.in_ok-hold_first.ensures.ok).indexed
+    (added c.args.index.now.holders.entries c.make_room.new.self.holders.entries c.hold_all.new.self.holders.entries c.args.notes.now.entries c.put_at.new.notes.entries c.args.txn c.args.footprint.now
+    c.requires.indexed c.requires.there (λ object _. ap (λ (list : List Object). is_among list object) c.requires.nothing) c.in_ok-make_room.ensures.shown (puts c) c.hold_all.ensures).indexed
 
 pub returns-clause-ok : goal.returns-clause-ok
 returns-clause-ok c =
-    subst (λ (list : List Object). HasNoted c.args.txn list (locks_of c.args.index.now.holders.entries c.args.notes.now.entries) (locks_of c.hold_first.new.index.holders.entries c.put_at.new.notes.entries))
+    subst (λ (list : List Object). HasNoted c.args.txn list (locks_of c.args.index.now.holders.entries c.args.notes.now.entries) (locks_of c.hold_all.new.self.holders.entries c.put_at.new.notes.entries))
     (ap (λ (list : List Object). with_reads list c.args.footprint.now) c.requires.nothing ∙ footprint_ordered c.args.footprint.now c.iter-in_order.ensures.ordered)
-    (added c.args.index.now.holders.entries c.args.index.now.holders.entries c.hold_first.new.index.holders.entries c.args.notes.now.entries c.put_at.new.notes.entries c.args.txn c.args.footprint.now
-    c.requires.indexed c.requires.there (λ object _. ap (λ (list : List Object). is_among list object) c.requires.nothing) refl (puts c) c.in_ok-hold_first.ensures.ok).noted
+    (added c.args.index.now.holders.entries c.make_room.new.self.holders.entries c.hold_all.new.self.holders.entries c.args.notes.now.entries c.put_at.new.notes.entries c.args.txn c.args.footprint.now
+    c.requires.indexed c.requires.there (λ object _. ap (λ (list : List Object). is_among list object) c.requires.nothing) c.in_ok-make_room.ensures.shown (puts c) c.hold_all.ensures).noted
 
 pub returns-clause-commits : goal.returns-clause-commits
 returns-clause-commits c = commits_added c.args.notes.now.entries c.put_at.new.notes.entries c.args.txn c.args.footprint.now (puts c)
