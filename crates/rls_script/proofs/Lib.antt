@@ -6,3 +6,4 @@ pub mod NameLemmas
 pub mod PlanLemmas
 pub mod RenderingLemmas
 pub mod SpelledLaws
+pub mod WritingLemmas

@@ -81,13 +81,24 @@ told_text false it = refusal_text it
 abbrev pub refusal_line : Bool → List ℕ → Refusal → List ℕ
 refusal_line terse label it = line_of label (codes "ERROR " ++ (code_of it ++ (codes " " ++ told_text terse it)))
 
--- rows before their tag
-abbrev pub reply_text : List ℕ → Tag → Reply → List ℕ
-reply_text label tag (r.Rows rows) = row_lines label rows ++ line_of label (counted_tag tag (length rows))
-reply_text label tag (r.Count count) = line_of label (counted_tag tag count)
-reply_text label tag r.Done = line_of label (tag_text tag)
+-- the tag's line
+abbrev pub tag_line : List ℕ → Tag → Reply → List ℕ
+tag_line label tag (r.Rows rows) = line_of label (counted_tag tag (length rows))
+tag_line label tag (r.Count count) = line_of label (counted_tag tag count)
+tag_line label tag r.Done = line_of label (tag_text tag)
 
--- what is written for an answer, where refusals are told tersely or not
+-- the rows that an answer lists
+abbrev pub rows_in : Answer → List (List Value)
+rows_in (a.Replied tag (r.Rows rows)) = rows
+rows_in (a.Replied tag (r.Count count)) = []
+rows_in (a.Replied tag r.Done) = []
+rows_in (a.Refused it) = []
+
+-- the line behind the rows: the tag, or the refusal, which may be told tersely
+abbrev pub last_line : Bool → List ℕ → Answer → List ℕ
+last_line terse label (a.Replied tag reply) = tag_line label tag reply
+last_line terse label (a.Refused it) = refusal_line terse label it
+
+-- what is written for an answer: the rows before the last line
 abbrev pub answer_text : Bool → List ℕ → Answer → List ℕ
-answer_text terse label (a.Replied tag reply) = reply_text label tag reply
-answer_text terse label (a.Refused it) = refusal_line terse label it
+answer_text terse label answer = row_lines label (rows_in answer) ++ last_line terse label answer

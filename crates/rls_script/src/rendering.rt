@@ -2,7 +2,7 @@
 
 ghost use Rattle.std.specs.Prelude.{◌≡◌, ◌≤◌, ◌++◌, codes, length, take, drop, string_bytes, OnOk, IfOk};
 ghost use Rattle.std.specs.List.{prefix_len};
-ghost use Rattle.rls_script.specs.Rendering.{escaped_byte, escaped, is_plain, field_text, more_fields, row_line, row_lines, line_of, counted_tag, terse_text, told_text, refusal_line, reply_text, answer_text};
+ghost use Rattle.rls_script.specs.Rendering.{escaped_byte, escaped, is_plain, field_text, more_fields, row_line, row_lines, line_of, counted_tag, terse_text, told_text, refusal_line, tag_line, rows_in, last_line, answer_text};
 
 use crate::answer::Answer;
 use rls_guard::Reply;
@@ -19,11 +19,35 @@ pub fn render(
     ensures { IfOk result (λ bytes. bytes.items ≡ answer_text terse label.now answer.now) }
 {
     let mut out = Vec::new(alloc);
-    match answer {
-        Answer::Replied(tag, reply) => push_reply(alloc, &mut out, label, *tag, reply)?,
-        Answer::Refused(refusal) => push_refusal(alloc, &mut out, terse, label, refusal)?,
-    }
+    push_rows(alloc, &mut out, label, rows_of(answer))?;
+    push_last(alloc, &mut out, terse, label, answer)?;
     Ok(out)
+}
+
+/// The rows that an answer lists.
+pub(crate) fn rows_of(answer: &Answer) -> &[Row]
+    ensures { result.now ≡ rows_in answer.now }
+{
+    match answer {
+        Answer::Replied(_, Reply::Rows(rows)) => rows.get().as_slice(),
+        _ => &[],
+    }
+}
+
+/// The line behind the rows: the tag, or the refusal.
+pub(crate) fn push_last(
+    alloc: Global,
+    out: &mut Vec<u8>,
+    terse: bool,
+    label: &str,
+    answer: &Answer,
+) -> Result<(), AllocError>
+    ensures { OnOk result (out.new.items ≡ out.old.items ++ last_line terse label.now answer.now) }
+{
+    match answer {
+        Answer::Replied(tag, reply) => push_reply(alloc, out, label, *tag, reply),
+        Answer::Refused(refusal) => push_refusal(alloc, out, terse, label, refusal),
+    }
 }
 
 fn push_reply(
@@ -33,14 +57,10 @@ fn push_reply(
     tag: Tag,
     reply: &Reply,
 ) -> Result<(), AllocError>
-    ensures { OnOk result (out.new.items ≡ out.old.items ++ reply_text label.now tag reply.now) }
+    ensures { OnOk result (out.new.items ≡ out.old.items ++ tag_line label.now tag reply.now) }
 {
     match reply {
-        Reply::Rows(rows) => {
-            let rows = rows.get();
-            push_rows(alloc, out, label, rows.as_slice())?;
-            push_counted(alloc, out, label, tag, rows.len() as u64)
-        }
+        Reply::Rows(rows) => push_counted(alloc, out, label, tag, rows.get().len() as u64),
         Reply::Count(count) => push_counted(alloc, out, label, tag, *count),
         Reply::Done => push_line(out, label, tag.text()),
     }
@@ -93,7 +113,7 @@ fn push_more_fields(
     Ok(())
 }
 
-fn push_field(alloc: Global, out: &mut Vec<u8>, value: &Value) -> Result<(), AllocError>
+pub(crate) fn push_field(alloc: Global, out: &mut Vec<u8>, value: &Value) -> Result<(), AllocError>
     ensures { OnOk result (out.new.items ≡ out.old.items ++ field_text value.now) }
 {
     match value {
@@ -242,7 +262,7 @@ fn push_line(out: &mut Vec<u8>, label: &str, text: &str) -> Result<(), AllocErro
     Ok(())
 }
 
-fn push_label(out: &mut Vec<u8>, label: &str) -> Result<(), AllocError>
+pub(crate) fn push_label(out: &mut Vec<u8>, label: &str) -> Result<(), AllocError>
     ensures { OnOk result (out.new.items ≡ out.old.items ++ (label.now ++ codes ": ")) }
 {
     out.extend_from_slice(label.as_bytes())?;
