@@ -72,16 +72,24 @@ migrated_whole before after old middle new it empty same =
 pub audit_whole : (records : List Record) (old middle new : List ℕ) → WritesAudit records old middle → old ≡ [] → new ≡ middle → WritesAudit records [] new
 audit_whole records old middle new it empty same = subst (λ to. WritesAudit records [] to) (sym same) (subst (λ from. WritesAudit records from middle) empty it)
 
+-- a file took the audit that is wanted
+pub audit_taken : (wanted : Option (Bor (List ℕ))) (name : Bor (List ℕ)) (records : List Record) (taken : List ℕ) → wanted ≡ Some name → WritesAudit records [] taken → IsAudited wanted records (Some taken)
+audit_taken wanted name records taken is writes = subst (λ (it : Option (Bor (List ℕ))). IsAudited it records (Some taken)) (sym is) writes
+
+-- or none is wanted
+pub no_audit : (wanted : Option (Bor (List ℕ))) (records : List Record) → wanted ≡ None → IsAudited wanted records None
+no_audit wanted records is = subst (λ (it : Option (Bor (List ℕ))). IsAudited it records None) (sym is) refl
+
 -- a script was run, and its audit was taken
 pub audited : (threads terse : Bool) (history : List Record) (wanted : Option (Bor (List ℕ))) (name : Bor (List ℕ)) (taken old new : List ℕ) → wanted ≡ Some name → GrewBy old new (λ written. IsRunText threads terse written history) → WritesAudit history [] taken
     → GrewBy old new (λ written. (records : List Record) × IsRunText threads terse written records × IsAudited wanted records (Some taken))
 audited threads terse history wanted name taken old new is grew writes =
     grew_more old new (λ written. IsRunText threads terse written history) (λ written. (records : List Record) × IsRunText threads terse written records × IsAudited wanted records (Some taken))
-    (λ written text. (history, text, subst (λ (it : Option (Bor (List ℕ))). IsAudited it history (Some taken)) (sym is) writes)) grew
+    (λ written text. (history, text, audit_taken wanted name history taken is writes)) grew
 
 -- or none is wanted
 pub unaudited : (threads terse : Bool) (history : List Record) (wanted : Option (Bor (List ℕ))) (old new : List ℕ) → wanted ≡ None → GrewBy old new (λ written. IsRunText threads terse written history)
     → GrewBy old new (λ written. (records : List Record) × IsRunText threads terse written records × IsAudited wanted records None)
 unaudited threads terse history wanted old new is grew =
     grew_more old new (λ written. IsRunText threads terse written history) (λ written. (records : List Record) × IsRunText threads terse written records × IsAudited wanted records None)
-    (λ written text. (history, text, subst (λ (it : Option (Bor (List ℕ))). IsAudited it history None) (sym is) refl)) grew
+    (λ written text. (history, text, no_audit wanted history is)) grew

@@ -1,6 +1,7 @@
 -- What the words of a command line ask for, from what `clap` cuts them into.
-use Rattle.std.proofs.Common.{◌≡◌, refl, true, List, Option, Some, None, option_map, Result, Ok, Err, IfErr, IsErrAnd, sym, subst, ap, ap₂, ◌∙◌}
-use Rattle.clap.specs.Words.{App, Row, Text, is_simple, kind_of, subcommand_name_of, subcommand_of, subcommand_rows, takes}
+use Rattle.std.proofs.Common.{◌≡◌, refl, ℕ, true, List, Option, Some, None, map, option_map, Result, Ok, Err, IfErr, IsErrAnd, Bor, sym, subst, ap, ap₂, ◌∙◌}
+use Rattle.clap.proofs.WalkLemmas.{raw_values-rows}
+use Rattle.clap.specs.Words.{App, Row, Text, all_of, found_of, is_simple, kind_of, matched_of, raw_values, rows_of, subcommand_name_of, subcommand_of, subcommand_rows, takes}
 use Rattle.clap.specs.Simple.{HasMatchesOf, subcommand_rows_of}
 use Rattle.clap.specs.declared.error.Error.{Error}
 use Rattle.clap.specs.declared.error.kind.ErrorKind.TheVariants.{OutOfMemory}
@@ -29,6 +30,10 @@ found_is matches app words name rows is has is_name are_rows =
     sym (ap (λ (it : App). subcommand_of it words) is) ∙ (sym (has (ap is_simple is)).1
     ∙ pair_is (subcommand_rows_of matches) name rows (is_name ∙ named_is _ _ (out-ArgMatches matches).subcommand) are_rows)
 
+-- all of an argument's values, of which equal ones were kept
+pub all_given : (matches : ArgMatches) (id : Text) (names files : List (Bor (List ℕ))) → (((x y : Bor (List ℕ)) → y ≡ x → y ≡ x) → files ≡ names) → Some (map (λ v. v.now) names) ≡ option_map raw_values (matched_of (found_of matches) id) → all_of id (rows_of (found_of matches)) ≡ Some (map (λ name. name.now) files)
+all_given matches id names files law are = sym (raw_values-rows (found_of matches) id) ∙ (sym are ∙ ap (λ (them : List (Bor (List ℕ))). Some (map (λ v. v.now) them)) (sym (law (λ x y same. same))))
+
 -- what `clap` finds wrong
 pub unread : {A : Type 0} (r : Result A Mistake) (error : Error) (app : App) (words : List Text) → app ≡ command_line → (takes app words ≡ true → kind_of error ≡ OutOfMemory) → IsErrAnd r (λ mistake. mistake ≡ m.Words error)
     → IfErr r (IsMistaken words)
@@ -40,10 +45,12 @@ unread (Err mistake) error app words same passes is =
 pub of_memory : (words : List Text) (mistake : Mistake) → IsOfMemory mistake → IsMistaken words mistake
 of_memory words (m.Words error) is = λ taken. is
 of_memory words (m.Value argument value wanted) is = tt
+of_memory words (m.Together one other) is = tt
 of_memory words m.Nothing is = tt
 
 -- and one that `clap` didn't find
 pub own : (words : List Text) (mistake : Mistake) → IsOwn mistake → IsMistaken words mistake
-own words (m.Words error) is = absurd is
+own words (m.Words error) is = λ taken. is
 own words (m.Value argument value wanted) is = tt
+own words (m.Together one other) is = tt
 own words m.Nothing is = tt

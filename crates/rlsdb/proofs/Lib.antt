@@ -1,7 +1,9 @@
+pub mod AnsweringLemmas
 pub mod AnswerLemmas
 pub mod BookLemmas
 pub mod CommandLemmas
 pub mod CommandLineLemmas
 pub mod LineLemmas
 pub mod ParsingLemmas
+pub mod TestLemmas
 pub mod WordLemmas

@@ -18,6 +18,7 @@ use Rattle.rls_session.specs.Texts.{IsPhasesText, RunsInPhases}
 use Rattle.rlsdb.specs.declared.words.Request.{Request}
 use Rattle.rlsdb.specs.declared.words.Request.TheVariants as q
 use Rattle.rlsdb.specs.AuditLines.{WritesAudit, ended_lines}
+use Rattle.rlsdb.specs.Tests.{AreTested, IsStopText}
 
 -- What was taken grew by the text of the script that was given, run in phases or in the order of its lines. Told tersely, serialization
 -- failures name no objects and no transactions.
@@ -76,6 +77,8 @@ IsParsed written fine = fine ≡ true → written ≡ []
 abbrev pub Answers : Request → List ℕ → Bool → Type 0
 Answers (q.Run run) written done =
     (history : List Record) × (taken : Option (List ℕ)) × IsRunText run.threads run.terse written history × IsAudited run.audit history taken × (done ≡ true)
+Answers (q.RunStopping run) written done = (history : List Record) × (taken : Option (List ℕ)) × IsStopText run.terse written history done × IsAudited run.audit history taken
+Answers (q.Test tests) written done = AreTested (map (λ name. name.now) tests.files.items) written done
 Answers (q.Order name) written done = (texts : List (List ℕ)) × IsOrderOf texts written × (done ≡ true)
 Answers (q.Check name) written done = (texts : List (List ℕ)) × IsCheckOf texts written done
 Answers (q.Explain asked) written done = (texts : List (List ℕ)) × IsWhyOf asked.txn asked.statement asked.row texts written done

@@ -1,15 +1,16 @@
 -- The command line: what `clap` is told of it, and what words ask for.
-use Rattle.std.specs.Prelude.{◌≡◌, ◌^◌, ℕ, Bool, true, false, List, Option, Some, None, option_map, codes}
+use Rattle.std.specs.Prelude.{◌≡◌, ◌^◌, ℕ, Bool, true, false, List, Option, Some, None, map, option_map, codes}
 use Rattle.std.specs.Str.Parse.{digits_value}
 use Rattle.rls_value.specs.declared.row.RowId.{RowId}
-use Rattle.clap.specs.Words.{App, Row, Rule, Shape, Text, first_of, kind_of, new_app, new_rule, one_of, subcommand_of, takes, with_rule, with_subcommand}
+use Rattle.clap.specs.Words.{App, Row, Rule, Shape, Text, all_of, first_of, kind_of, new_app, new_rule, one_of, subcommand_of, takes, with_rule, with_subcommand}
 use Rattle.clap.specs.Simple.{on_top}
-use Rattle.clap.specs.declared.builder.action.ArgAction.TheVariants.{SetTrue}
+use Rattle.clap.specs.declared.builder.action.ArgAction.TheVariants.{Append, SetTrue}
 use Rattle.clap.specs.declared.error.kind.ErrorKind.TheVariants.{OutOfMemory}
 use Rattle.rlsdb.specs.declared.words.Request.{Request}
 use Rattle.rlsdb.specs.declared.words.Request.TheVariants as q
 use Rattle.rlsdb.specs.declared.words.ScriptFile.{ScriptFile}
 use Rattle.rlsdb.specs.declared.words.Explain.{Explain}
+use Rattle.rlsdb.specs.declared.words.Tests.{Tests}
 use Rattle.rlsdb.specs.declared.command_line.Mistake.{Mistake}
 use Rattle.rlsdb.specs.declared.command_line.Mistake.TheVariants as m
 use Rattle.rlsdb.specs.Words.{IsDecimal, IsRowText}
@@ -36,9 +37,24 @@ terse_flag = record (new_rule (codes "terse-conflicts")) { long = Some (codes "t
 abbrev pub hints_flag : Rule
 hints_flag = record (new_rule (codes "hints")) { long = Some (codes "hints"); action = Some SetTrue }
 
+-- --stop
+abbrev pub stop_flag : Rule
+stop_flag = record (new_rule (codes "stop")) { long = Some (codes "stop"); action = Some SetTrue }
+
+-- --write
+abbrev pub write_flag : Rule
+write_flag = record (new_rule (codes "write")) { long = Some (codes "write"); action = Some SetTrue }
+
+-- FILE, once or more
+abbrev pub transcripts_argument : Rule
+transcripts_argument = record (needed (codes "FILE")) { action = Some Append }
+
 -- the name, and its words
 abbrev pub run_line : App
-run_line = with_rule (with_rule (with_rule (with_rule (with_rule (new_app (codes "run")) (needed (codes "FILE"))) threads_flag) audit_option) terse_flag) hints_flag
+run_line = with_rule (with_rule (with_rule (with_rule (with_rule (with_rule (new_app (codes "run")) (needed (codes "FILE"))) threads_flag) audit_option) terse_flag) hints_flag) stop_flag
+
+abbrev pub test_line : App
+test_line = with_rule (with_rule (new_app (codes "test")) transcripts_argument) write_flag
 
 abbrev pub order_line : App
 order_line = with_rule (new_app (codes "order")) (needed (codes "AUDIT"))
@@ -60,7 +76,7 @@ abbrev pub program_line : App
 program_line = on_top (λ (s : Shape). record s { has_version = true; subcommand_required = true }) (new_app (codes "rlsdb"))
 
 abbrev pub command_line : App
-command_line = with_subcommand (with_subcommand (with_subcommand (with_subcommand (with_subcommand (with_subcommand program_line run_line.top) order_line.top) check_line.top) explain_line.top) migrate_line.top) parse_line.top
+command_line = with_subcommand (with_subcommand (with_subcommand (with_subcommand (with_subcommand (with_subcommand (with_subcommand program_line run_line.top) test_line.top) order_line.top) check_line.top) explain_line.top) migrate_line.top) parse_line.top
 
 -- ---- what words ask for
 
@@ -87,6 +103,11 @@ pub record IsRun (rows : List Row) (it : ScriptFile) : Type 0 where
   pub terse : IsFlag (codes "terse-conflicts") rows it.terse
   pub hints : IsFlag (codes "hints") rows it.hints
 
+-- transcripts, which are tested or also written again
+pub record IsTest (rows : List Row) (it : Tests) : Type 0 where
+  pub files : all_of (codes "FILE") rows ≡ Some (map (λ name. name.now) it.files.items)
+  pub write : IsFlag (codes "write") rows it.write
+
 -- a statement of an audit
 pub record IsExplain (rows : List Row) (it : Explain) : Type 0 where
   pub audit : first_of (codes "AUDIT") rows ≡ Some it.audit.now
@@ -96,7 +117,9 @@ pub record IsExplain (rows : List Row) (it : Explain) : Type 0 where
 
 -- the command of that name, with these words, asks for it
 abbrev pub AsksFor : Text → List Row → Request → Type 0
-AsksFor name rows (q.Run it) = (name ≡ codes "run") × IsRun rows it
+AsksFor name rows (q.Run it) = (name ≡ codes "run") × IsRun rows it × IsFlag (codes "stop") rows false
+AsksFor name rows (q.RunStopping it) = (name ≡ codes "run") × IsRun rows it × IsFlag (codes "stop") rows true
+AsksFor name rows (q.Test it) = (name ≡ codes "test") × IsTest rows it
 AsksFor name rows (q.Order audit) = (name ≡ codes "order") × (first_of (codes "AUDIT") rows ≡ Some audit.now)
 AsksFor name rows (q.Check audit) = (name ≡ codes "check") × (first_of (codes "AUDIT") rows ≡ Some audit.now)
 AsksFor name rows (q.Explain it) = (name ≡ codes "explain") × IsExplain rows it
@@ -107,9 +130,10 @@ AsksFor name rows (q.Migrate audit out) = (name ≡ codes "migrate") × (first_o
 abbrev pub Asks : List Text → Request → Type 0
 Asks words request = (name : Text) × (rows : List Row) × (subcommand_of command_line words ≡ Some (name, rows)) × AsksFor name rows request
 
--- what is wrong with the words isn't found by `clap`: a value isn't what is wanted
+-- what is wrong with the words isn't found by `clap`: a value isn't what is wanted, or two arguments don't go together; or memory
+-- doesn't suffice
 abbrev pub IsOwn : Mistake → Type 0
-IsOwn (m.Words error) = ⊥
+IsOwn (m.Words error) = kind_of error ≡ OutOfMemory
 IsOwn _ = Unit {0}
 
 -- memory doesn't suffice

@@ -22,10 +22,11 @@ abbrev pub IsToldOf : Fault → Bool → Fault → Type 0
 IsToldOf (fault.BadLine line) ended told = ((told ≡ fault.BadLine line) × (ended ≡ true)) ⊎ (told ≡ fault.Ended run.Read)
 IsToldOf other ended told = told ≡ other
 
--- the exit status: 3 for a bad line, or 1 where that can't be written; 2 where a file would be written over itself; else 1
+-- the exit status: 3 for a bad line, or 1 where that can't be written; 2 where a file would be written over itself, or a transcript has an answer without a command; else 1
 abbrev pub EndsWith : Fault → ℕ → Type 0
 EndsWith (fault.BadLine line) status = (status ≡ 3) ⊎ (status ≡ 1)
 EndsWith (fault.SameFile argument) status = status ≡ 2
+EndsWith (fault.Loose name line) status = status ≡ 2
 EndsWith other status = status ≡ 1
 
 -- the same by what a command came to: 0 where it is done or answers yes, 3 where it answers no

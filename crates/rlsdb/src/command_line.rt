@@ -4,9 +4,9 @@ ghost use Rattle.std.specs.Prelude.{◌≡◌, false, map, codes, Some, option_m
 ghost use Rattle.clap.specs.Words.{app_of, first_of, found_of, new_app, new_rule, rows_of, rule_of};
 ghost use Rattle.clap.specs.declared.builder.command.Command.TheViews.{out-Command};
 ghost use Rattle.rlsdb.specs.declared.command_line.Mistake.TheVariants.{Words};
-ghost use Rattle.rlsdb.specs.CommandLine.{Asks, AsksFor, IsFlag, IsMistaken, IsNumber, IsOfMemory, IsOwn, IsRow, audit_option, check_line, command_line, explain_line, migrate_line, needed, hints_flag, order_line, parse_line, program_line, run_line, terse_flag, threads_flag};
+ghost use Rattle.rlsdb.specs.CommandLine.{Asks, AsksFor, IsFlag, IsMistaken, IsNumber, IsOfMemory, IsOwn, IsRow, audit_option, check_line, command_line, explain_line, migrate_line, needed, hints_flag, order_line, parse_line, program_line, run_line, stop_flag, terse_flag, test_line, threads_flag, transcripts_argument, write_flag};
 
-use crate::words::{Explain, Request, ScriptFile, number_of, row_of};
+use crate::words::{Explain, Request, ScriptFile, Tests, number_of, row_of};
 use clap::{Arg, ArgAction, ArgMatches, Command};
 use rls_value::RowId;
 use std::alloc::{AllocError, Global};
@@ -25,7 +25,8 @@ Exit status:
     0  done, even if statements were refused
     1  a file cannot be read or written, or memory ran out
     2  usage
-    3  `check` says no, a line of an audit is bad, there is no such decision, or `parse` finds a line that is no statement";
+    3  `check` says no, a test fails, an ERROR ends `run --stop`, a line of an audit is bad, there is no such decision, or `parse`
+       finds a line that is no statement";
 
 const AFTER_RUN: &str = "\
 Each line of FILE is a command: `LABEL: \\connect ROLE` or `LABEL: STATEMENT`. The superuser `postgres` exists from the start:
@@ -39,6 +40,20 @@ Empty lines and lines that begin with `--` are skipped. Each answer is written a
 With --threads each label runs its lines on its own thread up to the next line `==`. Answers are then written label by label.
 
 Example: rlsdb run FILE --threads --audit AUDIT";
+
+const AFTER_TEST: &str = "\
+A FILE is a script whose answers are indented by four spaces more than their commands, without the label:
+
+    a: SELECT * FROM notes
+        ann|tea
+        SELECT 1
+
+A command without an answer below it passes if it isn't refused. Each command that is answered otherwise is written with the
+difference: `-` is expected, `+` was answered. If the first line with a label is indented, so is the whole FILE: lines that are
+indented less are skipped, and so is a line that begins with `$ `, with the lines below it.
+With --write the answers that came are put into each FILE; the status is that of the FILE before.
+
+Example: rlsdb test notes.transcript";
 
 const AFTER_ORDER: &str = "\
 Writes the numbers of the transactions of AUDIT in serial order, one for each line.
@@ -70,6 +85,8 @@ Example: rlsdb parse FILE";
 
 const NUMBER: &str = "a decimal number up to 18446744073709551615";
 
+const FILLED: &str = "with --write, a file";
+
 const ROW: &str = "T.N with decimal numbers up to 18446744073709551615 and 4294967295";
 
 /// Why the words ask for nothing.
@@ -79,6 +96,8 @@ pub enum Mistake<'a> {
     Words(clap::Error),
     /// The argument, its value, and what is wanted.
     Value(&'a str, &'a str, &'a str),
+    /// Both arguments are given, and only one of them may be.
+    Together(&'a str, &'a str),
     /// An argument is absent, which `clap` doesn't let through.
     Nothing,
 }
@@ -108,18 +127,23 @@ pub fn request_of<'a, T: AsStr>(alloc: Global, words: &'a [T]) -> Result<Request
     let command = command(alloc)?;
     let matches = command.try_get_matches_from(words)?;
     match matches.subcommand() {
-        Some((name, found)) => Ok(request_in(name, found)?),
+        Some((name, found)) => Ok(request_in(alloc, name, found)?),
         None => Err(Mistake::Nothing),
     }
 }
 
 /// What the command of that name asks for, with its words.
-fn request_in<'a>(name: &str, words: &ArgMatches<'a>) -> Result<Request<'a>, Mistake<'a>>
+fn request_in<'a>(
+    alloc: Global,
+    name: &str,
+    words: &ArgMatches<'a>,
+) -> Result<Request<'a>, Mistake<'a>>
     ensures ok { IfOk result (AsksFor name.now (rows_of (found_of words.now))) }
     ensures err { IfErr result IsOwn }
 {
     match name {
         "run" => run_of(words),
+        "test" => test_of(alloc, words),
         "order" => Ok(Request::Order(value(words, "AUDIT")?)),
         "check" => Ok(Request::Check(value(words, "AUDIT")?)),
         "explain" => explain_of(words),
@@ -133,13 +157,36 @@ fn run_of<'a>(words: &ArgMatches<'a>) -> Result<Request<'a>, Mistake<'a>>
     ensures ok { IfOk result (AsksFor (codes "run") (rows_of (found_of words.now))) }
     ensures err { IfErr result IsOwn }
 {
-    Ok(Request::Run(ScriptFile {
+    let run = ScriptFile {
         file: value(words, "FILE")?,
         threads: flag(words, "threads"),
         audit: given(words, "audit"),
         terse: flag(words, "terse-conflicts"),
         hints: flag(words, "hints"),
-    }))
+    };
+    match flag(words, "stop") {
+        false => Ok(Request::Run(run)),
+        true if run.threads => Err(Mistake::Together("--stop", "--threads")),
+        true => Ok(Request::RunStopping(run)),
+    }
+}
+
+#[tactic(auto, using(crate::proofs::CommandLineLemmas::all_given))]
+fn test_of<'a>(alloc: Global, words: &ArgMatches<'a>) -> Result<Request<'a>, Mistake<'a>>
+    ensures ok { IfOk result (AsksFor (codes "test") (rows_of (found_of words.now))) }
+    ensures err { IfErr result IsOwn }
+{
+    let Some(names) = words.get_strs("FILE") else {
+        return Err(Mistake::Nothing);
+    };
+    let write = flag(words, "write");
+    if write && names.iter().any(|name| *name == "-") {
+        return Err(Mistake::Value("<FILE>...", "-", FILLED));
+    }
+    match names.to_vec(alloc) {
+        Ok(files) => Ok(Request::Test(Tests { files, write })),
+        Err(error) => Err(Mistake::from(error)),
+    }
 }
 
 fn explain_of<'a>(words: &ArgMatches<'a>) -> Result<Request<'a>, Mistake<'a>>
@@ -214,6 +261,7 @@ fn command<'a>(alloc: Global) -> Result<Command<'a>, AllocError>
 {
     let program = program(alloc);
     let program = program.subcommand(run_command(alloc)?)?;
+    let program = program.subcommand(test_command(alloc)?)?;
     let program = program.subcommand(order_command(alloc)?)?;
     let program = program.subcommand(check_command(alloc)?)?;
     let program = program.subcommand(explain_command(alloc)?)?;
@@ -263,7 +311,51 @@ fn run_command<'a>(alloc: Global) -> Result<Command<'a>, AllocError>
     let command = command.arg(audit_out(alloc))?;
     let command = command.arg(terse_conflicts(alloc))?;
     let command = command.arg(hints(alloc))?;
+    let command = command.arg(stop(alloc))?;
     Ok(command)
+}
+
+fn stop<'a>(alloc: Global) -> Arg<'a>
+    ensures rule { rule_of result ≡ stop_flag }
+    ensures local { result.global ≡ false }
+{
+    Arg::new(alloc, "stop")
+        .long("stop")
+        .action(ArgAction::SetTrue)
+        .help("End the run at the first ERROR, with status 3")
+}
+
+fn test_command<'a>(alloc: Global) -> Result<Command<'a>, AllocError>
+    ensures app { IfOk result (λ made. app_of made ≡ test_line) }
+    ensures local { IfOk result (λ made. (out-Command made).has_globals ≡ false) }
+{
+    let about = "Runs scripts that say what they expect, and writes what differs";
+    let command = named(alloc, "test", about, AFTER_TEST);
+    let command = command.arg(transcripts(alloc))?;
+    let command = command.arg(write(alloc))?;
+    Ok(command)
+}
+
+fn transcripts<'a>(alloc: Global) -> Arg<'a>
+    ensures rule { rule_of result ≡ transcripts_argument }
+    ensures local { result.global ≡ false }
+{
+    file(
+        alloc,
+        "FILE",
+        "A script with its answers, or `-` for standard input",
+    )
+    .action(ArgAction::Append)
+}
+
+fn write<'a>(alloc: Global) -> Arg<'a>
+    ensures rule { rule_of result ≡ write_flag }
+    ensures local { result.global ≡ false }
+{
+    Arg::new(alloc, "write")
+        .long("write")
+        .action(ArgAction::SetTrue)
+        .help("Put the answers that came into each FILE")
 }
 
 fn script<'a>(alloc: Global, help: &'static str) -> Arg<'a>

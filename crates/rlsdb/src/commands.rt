@@ -12,7 +12,7 @@ use crate::command_line::Mistake;
 use crate::device::DeviceOut;
 use crate::fault::Fault;
 use crate::words::Request;
-use crate::{audits, command_line, hinting, running};
+use crate::{audits, command_line, hinting, running, stopping, testing};
 use clap::error::ErrorKind;
 use rls_session::rls_script::RunFault;
 use std::convert::AsStr;
@@ -29,7 +29,8 @@ const FAULT: u8 = 1;
 
 const USAGE: u8 = 2;
 
-// A check says no, a line of an audit is bad, there is no such decision, or a line of a script isn't taken.
+// A check or a test says no, a refusal stopped a run, a line of an audit is bad, there is no such decision, or a line of a script
+// isn't taken.
 const NO: u8 = 3;
 
 // What stands behind a mistake of usage.
@@ -115,7 +116,7 @@ fn serve<'a, W: Threads + Wait + Clock + Sync, D: Write + Drop>(
 }
 
 /// Does what is asked for.
-#[tactic(auto, using(crate::proofs::CommandLemmas::ran, crate::proofs::CommandLemmas::ordered, crate::proofs::CommandLemmas::checked, crate::proofs::CommandLemmas::explained, crate::proofs::CommandLemmas::migrated, crate::proofs::CommandLemmas::parsed))]
+#[tactic(auto, using(crate::proofs::CommandLemmas::ran, crate::proofs::CommandLemmas::ordered, crate::proofs::CommandLemmas::checked, crate::proofs::CommandLemmas::explained, crate::proofs::CommandLemmas::migrated, crate::proofs::CommandLemmas::parsed, crate::proofs::TestLemmas::tests_answered, crate::proofs::TestLemmas::stop_answered))]
 fn answer<'a, W: Threads + Wait + Clock + Sync, D: Write + Drop>(
     rt: &HostRuntime,
     waits: &W,
@@ -130,6 +131,8 @@ fn answer<'a, W: Threads + Wait + Clock + Sync, D: Write + Drop>(
             drop(audit);
             Ok(true)
         }
+        Request::RunStopping(run) => Ok(stopping::run_stopping(rt, waits, run, output)?),
+        Request::Test(tests) => Ok(testing::test(rt, waits, &tests, output)?),
         Request::Order(audit) => {
             audits::order(rt, audit, output)?;
             Ok(true)
@@ -153,6 +156,12 @@ fn explain(rt: &HostRuntime, mistake: Mistake<'_>) -> u8
         Mistake::Value(argument, value, wanted) => {
             let _ = eprintln!(rt;
                 "error: invalid value '{value}' for '{argument}': {wanted} is wanted\n{MORE}"
+            );
+            USAGE
+        }
+        Mistake::Together(one, other) => {
+            let _ = eprintln!(rt;
+                "error: the argument '{one}' cannot be used with '{other}'\n{MORE}"
             );
             USAGE
         }
@@ -186,6 +195,10 @@ fn report(rt: &HostRuntime, fault: Fault<'_>) -> u8
         }
         Fault::Unwritten(name, error) => {
             let _ = eprintln!(rt; "rlsdb: cannot write {name}: {error}");
+        }
+        Fault::Loose(name, line) => {
+            let _ = eprintln!(rt; "rlsdb: {name}:{line}: an answer without a command");
+            return USAGE;
         }
         Fault::SameFile(argument) => {
             let _ = eprintln!(rt; "error: {argument} and OUT are the same file\n{MORE}");

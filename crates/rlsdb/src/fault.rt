@@ -24,6 +24,8 @@ pub enum Fault<'a> {
     Unread(&'a str, io::Error),
     /// The file can't be opened to be written.
     Unwritten(&'a str, io::Error),
+    /// This line of a transcript is an answer without a command.
+    Loose(&'a str, u64),
     /// This line of an audit isn't one.
     BadLine(u64),
     /// OUT would be written over what is read, or over the answers: this says which.

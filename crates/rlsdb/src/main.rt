@@ -1,17 +1,21 @@
 //! The program: runs scripts of statements, and says what audits of runs hold.
 #![tactic(auto)]
 
+mod answering;
 mod audit_file;
 mod audits;
 mod command_line;
 mod commands;
 mod device;
 mod fault;
+mod held;
 mod hinting;
 mod out_file;
 mod passed;
 mod running;
 mod same_file;
+mod stopping;
+mod testing;
 mod words;
 
 use large_stack::{Stack, call_apart};

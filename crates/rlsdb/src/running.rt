@@ -42,16 +42,23 @@ where
     D: Write + Drop,
     ensures { IfOk result (λ audit. GrewBy output.old.taken.bytes output.new.taken.bytes (λ written. (history : List Record) × IsRunText run.entry.threads run.entry.terse written history × IsAudited run.entry.audit history (option_map (λ file. file.taken.bytes) audit))) }
 {
-    if let Some(out) = run.audit {
-        match run.file {
-            "-" => require_own(rt, STANDARD_INPUT, "standard input", out)?,
-            file => require_own(rt, file, "FILE", out)?,
-        }
-    }
+    require_own_audit(rt, run)?;
     let book = run_file(rt, waits, run, output)?;
     match run.audit {
         Some(name) => Ok(Some(write_audit(rt, name, &book)?)),
         None => Ok(None),
+    }
+}
+
+/// That the audit's file is its own.
+pub(crate) fn require_own_audit<'a>(
+    rt: &HostRuntime,
+    run: ScriptFile<'a>,
+) -> Result<(), Fault<'a>> {
+    match (run.audit, run.file) {
+        (None, _) => Ok(()),
+        (Some(out), "-") => require_own(rt, STANDARD_INPUT, "standard input", out),
+        (Some(out), file) => require_own(rt, file, "FILE", out),
     }
 }
 
@@ -178,7 +185,7 @@ where
 
 /// Writes the audit of the book. The file is opened once the order is found.
 #[tactic(auto, using(crate::proofs::AnswerLemmas::audit_whole))]
-fn write_audit<'a>(
+pub(crate) fn write_audit<'a>(
     rt: &HostRuntime,
     name: &'a str,
     book: &Book,

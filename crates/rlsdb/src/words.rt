@@ -32,10 +32,22 @@ pub struct Explain<'a> {
     pub row: Option<RowId>,
 }
 
+/// Transcripts to be tested.
+#[derive(Drop)]
+pub struct Tests<'a> {
+    /// Their files, or `-` for standard input.
+    pub files: Vec<&'a str>,
+    /// Whether the answers that come are written into them.
+    pub write: bool,
+}
+
 /// A command with what it is about.
-#[derive(Clone, Copy)]
+#[derive(Drop)]
 pub enum Request<'a> {
     Run(ScriptFile<'a>),
+    /// The same, up to the first refusal.
+    RunStopping(ScriptFile<'a>),
+    Test(Tests<'a>),
     Order(&'a str),
     Check(&'a str),
     Explain(Explain<'a>),

@@ -1,0 +1,4 @@
+pub mod DifferenceLemmas
+pub mod MarkLemmas
+pub mod ReportLemmas
+pub mod TranscriptLemmas

@@ -1,0 +1,5 @@
+pub mod Told
+pub mod Marks
+pub mod Transcripts
+pub mod Reports
+pub mod Memory
