@@ -1,8 +1,9 @@
 -- What commands write and answer, from what they do over devices.
-use Rattle.std.proofs.Common.{◌≡◌, refl, ◌++◌, ◌∷◌, [], ℕ, Bool, true, false, List, Option, Some, None, is_some, sym, ap, subst, ◌∙◌, append-nil}
+use Rattle.std.proofs.Common.{◌≡◌, refl, ◌++◌, ◌∷◌, [], ℕ, Bool, true, false, List, Option, Some, None, is_some, sym, ap, subst, ◌∙◌, append-nil, append_assoc}
 use Rattle.std.specs.Borrow.{Bor}
-use Rattle.rls_value.specs.declared.row.RowId.{RowId}
+use Rattle.rls_laws.specs.rls_check.specs.rls_meaning.specs.rls_guard.specs.rls_catalog.specs.rls_value.specs.declared.row.RowId.{RowId}
 use Rattle.rls_laws.specs.rls_check.specs.rls_audit.specs.rls_core.specs.Records.{Record}
+use Rattle.rls_laws.specs.rls_check.specs.rls_audit.specs.Printed.{texts_of}
 use Rattle.rls_laws.specs.rls_check.specs.declared.audit.Audit.{Audit}
 use Rattle.rls_laws.specs.rls_check.specs.declared.finding.Finding.{Finding}
 use Rattle.rls_laws.specs.rls_check.specs.declared.explaining.Why.{Why}
@@ -12,7 +13,7 @@ use Rattle.rls_laws.specs.rls_check.specs.Checking.{IsFirst}
 use Rattle.rls_laws.specs.rls_check.specs.Explaining.{IsExplained}
 use Rattle.rls_laws.specs.rls_check.specs.Findings.{finding_text}
 use Rattle.rls_session.specs.rls_script.specs.Streams.{GrewBy}
-use Rattle.rlsdb.specs.Answers.{IsAudited, IsCheckOf, IsMigrationOf, IsOrderOf, IsRunText, IsWhyOf, RunsGiven, is_yes, order_text, why_text}
+use Rattle.rlsdb.specs.Answers.{IsAudited, IsCheckOfOne, IsMigrationOf, IsOrderOf, IsRunText, IsWhyOf, IsWithAudit, RunsGiven, checked_text, is_yes, order_text, why_text}
 use Rattle.rlsdb.specs.AuditLines.{Reads, WritesAudit, ended_lines}
 
 -- the lines that were read, and what holds of them
@@ -29,10 +30,11 @@ ordered before after old new audit numbers reads same grew =
     reads_more before after (λ texts. IsAuditOf texts audit) (λ texts. GrewBy old new (IsOrderOf texts)) (λ texts is. record { more = order_text numbers; grew = grew; fact = (audit, is, ap order_text same) }) reads
 
 -- what is found first
-pub checked : (before after old new : List ℕ) (audit : Audit) (found : Finding) (holds : Bool) → Reads before after (λ texts. IsAuditOf texts audit) → IsFirst audit.transactions audit.order found → new ≡ old ++ (finding_text found ++ (10 ∷ [])) → holds ≡ is_yes found
-    → Reads before after (λ texts. GrewBy old new (λ written. IsCheckOf texts written holds))
-checked before after old new audit found holds reads first grew says =
-    reads_more before after (λ texts. IsAuditOf texts audit) (λ texts. GrewBy old new (λ written. IsCheckOf texts written holds)) (λ texts is. record { more = finding_text found ++ (10 ∷ []); grew = grew; fact = (audit, found, is, first, refl, says) }) reads
+pub checked : (named : Bool) (name before after old new : List ℕ) (audit : Audit) (found : Finding) (holds : Bool) → Reads before after (λ texts. IsAuditOf texts audit) → IsFirst audit.transactions audit.order found → new ≡ old ++ checked_text named name (finding_text found ++ (10 ∷ [])) → holds ≡ is_yes found
+    → Reads before after (λ texts. GrewBy old new (λ written. IsCheckOfOne named name texts written holds))
+checked named name before after old new audit found holds reads first grew says =
+    reads_more before after (λ texts. IsAuditOf texts audit) (λ texts. GrewBy old new (λ written. IsCheckOfOne named name texts written holds))
+    (λ texts is. record { more = checked_text named name (finding_text found ++ (10 ∷ [])); grew = grew; fact = (finding_text found ++ (10 ∷ []), (audit, found, is, first, refl, says), refl) }) reads
 
 -- why a statement did what it did
 pub explained : (before after old new : List ℕ) (audit : Audit) (txn statement : ℕ) (row : Option RowId) (why : Option Why) (said : Bool) → Reads before after (λ texts. IsAuditOf texts audit) → IsExplained audit.transactions audit.order txn statement row why → new ≡ old ++ why_text why → said ≡ is_some why
@@ -64,9 +66,10 @@ migration before after old new converter reads whole =
     reads_more before after (λ texts. (written : List (List ℕ)) × (new ≡ old ++ ended_lines written) × HasConverted texts written converter) (λ texts. GrewBy old new (IsMigrationOf texts))
     (λ texts it. record { more = ended_lines it.0; grew = it.1; fact = (it.0, whole texts it.0 it.2, refl) }) reads
 
-pub migrated_whole : (before after old middle new : List ℕ) → Reads before after (λ texts. GrewBy old middle (IsMigrationOf texts)) → old ≡ [] → new ≡ middle → (texts : List (List ℕ)) × IsMigrationOf texts new
-migrated_whole before after old middle new it empty same =
-    (it.lines, subst (IsMigrationOf it.lines) (sym same) (all_of middle (IsMigrationOf it.lines) (subst (λ from. GrewBy from middle (IsMigrationOf it.lines)) empty it.holds)))
+pub migrated_whole : (old middle new : List ℕ) → GrewBy old middle (λ written. (texts : List (List ℕ)) × IsMigrationOf texts written) → old ≡ [] → new ≡ middle → (texts : List (List ℕ)) × IsMigrationOf texts new
+migrated_whole old middle new it empty same =
+    subst (λ (to : List ℕ). (texts : List (List ℕ)) × IsMigrationOf texts to) (sym same) (all_of middle (λ written. (texts : List (List ℕ)) × IsMigrationOf texts written)
+    (subst (λ (from : List ℕ). GrewBy from middle (λ written. (texts : List (List ℕ)) × IsMigrationOf texts written)) empty it))
 
 -- the audit of a book, from no bytes on
 pub audit_whole : (records : List Record) (old middle new : List ℕ) → WritesAudit records old middle → old ≡ [] → new ≡ middle → WritesAudit records [] new
@@ -86,6 +89,26 @@ pub audited : (threads terse : Bool) (history : List Record) (wanted : Option (B
 audited threads terse history wanted name taken old new is grew writes =
     grew_more old new (λ written. IsRunText threads terse written history) (λ written. (records : List Record) × IsRunText threads terse written records × IsAudited wanted records (Some taken))
     (λ written text. (history, text, audit_taken wanted name history taken is writes)) grew
+
+-- a text, and behind it the audit of its records
+pub text_with_audit : (IsTextOf : List ℕ → List Record → Type 0) (history : List Record) (old middle new : List ℕ) → GrewBy old middle (λ written. IsTextOf written history) → WritesAudit history middle new → GrewBy old new (IsWithAudit IsTextOf)
+text_with_audit IsTextOf history old middle new ran shown =
+    let audit = ended_lines (texts_of history shown.order) in record {
+      more = ran.more ++ audit;
+      grew = shown.lines.grew ∙ (ap (λ (front : List ℕ). front ++ audit) ran.grew ∙ append_assoc old ran.more audit);
+      fact = record {
+        history = history;
+        text = ran.more;
+        audit = audit;
+        runs = ran.fact;
+        shows = record { order = shown.order; keeps = shown.keeps; lines = record { grew = refl; means = shown.lines.means } };
+        whole = refl;
+      };
+    }
+
+-- the text of a script
+pub with_audit : (threads terse : Bool) (history : List Record) (old middle new : List ℕ) → GrewBy old middle (λ written. IsRunText threads terse written history) → WritesAudit history middle new → GrewBy old new (IsWithAudit (IsRunText threads terse))
+with_audit threads terse = text_with_audit (IsRunText threads terse)
 
 -- or none is wanted
 pub unaudited : (threads terse : Bool) (history : List Record) (wanted : Option (Bor (List ℕ))) (old new : List ℕ) → wanted ≡ None → GrewBy old new (λ written. IsRunText threads terse written history)

@@ -1,5 +1,5 @@
 -- How the program ends, from what was done.
-use Rattle.std.proofs.Common.{◌≡◌, refl, ℕ, Bool, true, List, [], Option, Result, Ok, Err, IfOk, inl, inr, sym, subst}
+use Rattle.std.proofs.Common.{◌≡◌, refl, ℕ, Bool, true, false, List, [], Option, Result, Ok, Err, IfOk, inl, inr, sym, ap, subst, ◌∙◌}
 use Rattle.std.specs.Borrow.{Bor}
 use Rattle.rls_laws.specs.rls_check.specs.rls_audit.specs.rls_core.specs.Records.{Record}
 use Rattle.rls_session.specs.rls_script.specs.Streams.{GrewBy}
@@ -8,8 +8,10 @@ use Rattle.rlsdb.specs.declared.command_line.Mistake.{Mistake}
 use Rattle.rlsdb.specs.declared.words.Request.{Request}
 use Rattle.rlsdb.specs.declared.words.Request.TheVariants as q
 use Rattle.rlsdb.specs.declared.words.ScriptFile.{ScriptFile}
+use Rattle.rlsdb.specs.declared.words.Checks.{Checks}
 use Rattle.rlsdb.specs.declared.words.Explain.{Explain}
-use Rattle.rlsdb.specs.Answers.{Answers, IsAudited, IsCheckOf, IsMigrationOf, IsOrderOf, IsParsed, IsRunText, IsWhyOf}
+use Rattle.rlsdb.specs.Answers.{Answers, answered_part, IsAudited, IsMigrationOf, IsOrderOf, IsParsed, IsRunAnswer, IsRunText, IsWhyOf, IsWithAudit}
+use Rattle.rlsdb.specs.Words.{is_output, is_output_wanted}
 use Rattle.rlsdb.specs.Commands.{ComesTo, EndsWords}
 use Rattle.rlsdb.specs.CommandLine.{Asks, IsMistaken}
 use Rattle.rlsdb.specs.Faults.{EndsAnswer, EndsMistake}
@@ -35,25 +37,47 @@ answered request asked done old new P is step grew =
 
 -- ---- of each command
 
-pub ran : (request : Request) (run : ScriptFile) (taken : Option (List ℕ)) (old new : List ℕ) → request ≡ q.Run run → GrewBy old new (λ written. (history : List Record) × IsRunText run.threads run.terse written history × IsAudited run.audit history taken) → GrewBy old new (λ written. Answers request written true)
-ran request run taken old new is grew =
-    answered request (q.Run run) true old new (λ written. (history : List Record) × IsRunText run.threads run.terse written history × IsAudited run.audit history taken) is (λ written it. (it.0, taken, it.1, it.2, refl)) grew
+pub ran : (request : Request) (run : ScriptFile) (done : Bool) (old new : List ℕ) → request ≡ q.Run run → GrewBy old new (λ written. Answers (q.Run run) written done) → GrewBy old new (λ written. Answers request written done)
+ran request run done old new is grew =
+    answered request (q.Run run) done old new (λ written. Answers (q.Run run) written done) is (λ written it. it) grew
+
+-- with an audit in a file of its own, or none
+pub ran_apart : (run : ScriptFile) (wanted : Bool) (taken : Option (List ℕ)) (old new : List ℕ) → wanted ≡ is_output_wanted run.audit → wanted ≡ false → GrewBy old new (λ written. (history : List Record) × IsRunText run.threads run.terse written history × IsAudited run.audit history taken) → GrewBy old new (λ written. Answers (q.Run run) written true)
+ran_apart run wanted taken old new same is grew =
+    grew_more old new (λ written. (history : List Record) × IsRunText run.threads run.terse written history × IsAudited run.audit history taken) (λ written. Answers (q.Run run) written true)
+    (λ written it. (subst (λ (b : Bool). IsRunAnswer b run written) (sym is ∙ same) (it.0, taken, it.1, it.2), refl)) grew
+
+-- with its audit behind the answers
+pub ran_together : (run : ScriptFile) (wanted : Bool) (old new : List ℕ) → wanted ≡ is_output_wanted run.audit → wanted ≡ true → GrewBy old new (IsWithAudit (IsRunText run.threads run.terse)) → GrewBy old new (λ written. Answers (q.Run run) written true)
+ran_together run wanted old new same is grew =
+    grew_more old new (IsWithAudit (IsRunText run.threads run.terse)) (λ written. Answers (q.Run run) written true) (λ written it. (subst (λ (b : Bool). IsRunAnswer b run written) (sym is ∙ same) it, refl)) grew
 
 pub ordered : (request : Request) (name : Bor (List ℕ)) (old new : List ℕ) → request ≡ q.Order name → GrewBy old new (λ written. (texts : List (List ℕ)) × IsOrderOf texts written) → GrewBy old new (λ written. Answers request written true)
 ordered request name old new is grew =
     answered request (q.Order name) true old new (λ written. (texts : List (List ℕ)) × IsOrderOf texts written) is (λ written it. (it.0, it.1, refl)) grew
 
-pub checked : (request : Request) (name : Bor (List ℕ)) (holds : Bool) (old new : List ℕ) → request ≡ q.Check name → GrewBy old new (λ written. (texts : List (List ℕ)) × IsCheckOf texts written holds) → GrewBy old new (λ written. Answers request written holds)
-checked request name holds old new is grew =
-    answered request (q.Check name) holds old new (λ written. (texts : List (List ℕ)) × IsCheckOf texts written holds) is (λ written it. it) grew
+pub checked : (request : Request) (checks : Checks) (hold : Bool) (old new : List ℕ) → request ≡ q.Check checks → GrewBy old new (λ written. Answers (q.Check checks) written hold) → GrewBy old new (λ written. Answers request written hold)
+checked request checks hold old new is grew =
+    answered request (q.Check checks) hold old new (λ written. Answers (q.Check checks) written hold) is (λ written it. it) grew
 
 pub explained : (request : Request) (asked : Explain) (said : Bool) (old new : List ℕ) → request ≡ q.Explain asked → GrewBy old new (λ written. (texts : List (List ℕ)) × IsWhyOf asked.txn asked.statement asked.row texts written said) → GrewBy old new (λ written. Answers request written said)
 explained request asked said old new is grew =
     answered request (q.Explain asked) said old new (λ written. (texts : List (List ℕ)) × IsWhyOf asked.txn asked.statement asked.row texts written said) is (λ written it. it) grew
 
-pub migrated : (request : Request) (from to : Bor (List ℕ)) (bytes taken : List ℕ) → request ≡ q.Migrate from to → ((texts : List (List ℕ)) × IsMigrationOf texts taken) → GrewBy bytes bytes (λ written. Answers request written true)
-migrated request from to bytes taken is it =
-    nothing bytes (λ written. Answers request written true) (subst (λ (asked : Request). Answers asked [] true) (sym is) (it.0, taken, it.1, refl, refl))
+pub migrated : (request : Request) (from to : Bor (List ℕ)) (done : Bool) (old new : List ℕ) → request ≡ q.Migrate from to → GrewBy old new (λ written. Answers (q.Migrate from to) written done) → GrewBy old new (λ written. Answers request written done)
+migrated request from to done old new is grew =
+    answered request (q.Migrate from to) done old new (λ written. Answers (q.Migrate from to) written done) is (λ written it. it) grew
+
+-- into a file of its own
+pub migrated_apart : (from to : Bor (List ℕ)) (wanted : Bool) (bytes taken : List ℕ) → wanted ≡ is_output to.now → wanted ≡ false → ((texts : List (List ℕ)) × IsMigrationOf texts taken) → GrewBy bytes bytes (λ written. Answers (q.Migrate from to) written true)
+migrated_apart from to wanted bytes taken same is it =
+    nothing bytes (λ written. Answers (q.Migrate from to) written true) (it.0, taken, it.1, ap (λ (b : Bool). answered_part b taken) (sym is ∙ same), refl)
+
+-- as an answer
+pub migrated_together : (from to : Bor (List ℕ)) (wanted : Bool) (old new : List ℕ) → wanted ≡ is_output to.now → wanted ≡ true → GrewBy old new (λ written. (texts : List (List ℕ)) × IsMigrationOf texts written) → GrewBy old new (λ written. Answers (q.Migrate from to) written true)
+migrated_together from to wanted old new same is grew =
+    grew_more old new (λ written. (texts : List (List ℕ)) × IsMigrationOf texts written) (λ written. Answers (q.Migrate from to) written true)
+    (λ written it. (it.0, written, it.1, ap (λ (b : Bool). answered_part b written) (sym is ∙ same), refl)) grew
 
 pub parsed : (request : Request) (name : Bor (List ℕ)) (fine : Bool) (old new : List ℕ) → request ≡ q.Parse name → GrewBy old new (λ written. IsParsed written fine) → GrewBy old new (λ written. Answers request written fine)
 parsed request name fine old new is grew =

@@ -1,8 +1,10 @@
 pub mod AnsweringLemmas
 pub mod AnswerLemmas
 pub mod BookLemmas
+pub mod CheckLemmas
 pub mod CommandLemmas
 pub mod CommandLineLemmas
+pub mod FlawLemmas
 pub mod LineLemmas
 pub mod ParsingLemmas
 pub mod TestLemmas

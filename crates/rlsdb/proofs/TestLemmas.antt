@@ -16,7 +16,10 @@ use Rattle.rlsdb.specs.declared.words.Request.{Request}
 use Rattle.rlsdb.specs.declared.words.Request.TheVariants as q
 use Rattle.rlsdb.specs.declared.words.ScriptFile.{ScriptFile}
 use Rattle.rlsdb.specs.declared.words.Tests.{Tests}
-use Rattle.rlsdb.specs.Answers.{Answers, IsAudited}
+use Rattle.rlsdb.specs.Answers.{Answers, IsAudited, IsStopAnswer, IsWithAudit}
+use Rattle.rlsdb.specs.AuditLines.{WritesAudit}
+use Rattle.rlsdb.specs.Words.{is_output_wanted}
+use Rattle.rlsdb.proofs.AnswerLemmas.{grew_more, text_with_audit}
 use Rattle.rlsdb.proofs.CommandLemmas.{answered}
 
 -- what was written so far, and what the transcripts that are left will come to, make the whole
@@ -105,20 +108,43 @@ pub of_script : {E : Type 0} (r : Result (Answered × Bool) E) (terse : Bool) (a
 of_script (Ok it) terse asked script are answered = (script, subst (λ a. AreAnsweredUntil terse a it.0.tolds.items it.0.book.seen.committed it.1) are answered)
 of_script (Err e) terse asked script are answered = tt
 
--- what is written for a script that was run up to a refusal, and its audit
-pub stopped : (audit : Option (Bor (List ℕ))) (terse done : Bool) (tolds shown : List Told) (history : List Record) (taken : Option (List ℕ)) (old new : List ℕ) → ((script : List ℕ) × AreAnsweredUntil terse (lines script) tolds history done) → shown ≡ tolds → new ≡ old ++ flat_map (λ (told : Told). told.text) shown → IsAudited audit history taken
-    → GrewBy old new (λ written. (history : List Record) × (taken : Option (List ℕ)) × IsStopText terse written history done × IsAudited audit history taken)
-stopped audit terse done tolds shown history taken old new it same grew audited = record {
+-- the text of a script that was run up to a refusal
+stopped_text : (terse done : Bool) (tolds shown : List Told) (history : List Record) (old new : List ℕ) → ((script : List ℕ) × AreAnsweredUntil terse (lines script) tolds history done) → shown ≡ tolds → new ≡ old ++ flat_map (λ (told : Told). told.text) shown → GrewBy old new (λ written. IsStopText terse written history done)
+stopped_text terse done tolds shown history old new it same grew = record {
   more = flat_map (λ (told : Told). told.text) tolds;
   grew = grew ∙ ap (λ s. old ++ flat_map (λ (told : Told). told.text) s) same;
-  fact = (history, taken, record { script = it.0; tolds = tolds; answered = it.1; whole = refl }, audited);
+  fact = record { script = it.0; tolds = tolds; answered = it.1; whole = refl };
 }
+
+-- with its audit behind it
+pub stopped_with_audit : (terse done : Bool) (tolds shown : List Told) (history : List Record) (old middle new : List ℕ) → ((script : List ℕ) × AreAnsweredUntil terse (lines script) tolds history done) → shown ≡ tolds → middle ≡ old ++ flat_map (λ (told : Told). told.text) shown → WritesAudit history middle new
+    → GrewBy old new (IsWithAudit (λ text records. IsStopText terse text records done))
+stopped_with_audit terse done tolds shown history old middle new it same grew audit =
+    text_with_audit (λ text records. IsStopText terse text records done) history old middle new (stopped_text terse done tolds shown history old middle it same grew) audit
+
+-- what is written for such a script, and its audit
+pub stopped : (audit : Option (Bor (List ℕ))) (terse done : Bool) (tolds shown : List Told) (history : List Record) (taken : Option (List ℕ)) (old new : List ℕ) → ((script : List ℕ) × AreAnsweredUntil terse (lines script) tolds history done) → shown ≡ tolds → new ≡ old ++ flat_map (λ (told : Told). told.text) shown → IsAudited audit history taken
+    → GrewBy old new (λ written. (history : List Record) × (taken : Option (List ℕ)) × IsStopText terse written history done × IsAudited audit history taken)
+stopped audit terse done tolds shown history taken old new it same grew audited =
+    grew_more old new (λ written. IsStopText terse written history done) (λ written. (history : List Record) × (taken : Option (List ℕ)) × IsStopText terse written history done × IsAudited audit history taken)
+    (λ written text. (history, taken, text, audited)) (stopped_text terse done tolds shown history old new it same grew)
 
 -- ---- the answers of these commands
 
 pub tests_answered : (request : Request) (tests : Tests) (passed : Bool) (old new : List ℕ) → request ≡ q.Test tests → GrewBy old new (λ written. AreTested (map (λ name. name.now) tests.files.items) written passed) → GrewBy old new (λ written. Answers request written passed)
 tests_answered request tests passed old new is grew = answered request (q.Test tests) passed old new (λ written. AreTested (map (λ name. name.now) tests.files.items) written passed) is (λ written it. it) grew
 
-pub stop_answered : (request : Request) (run : ScriptFile) (done : Bool) (old new : List ℕ) → request ≡ q.RunStopping run → GrewBy old new (λ written. (history : List Record) × (taken : Option (List ℕ)) × IsStopText run.terse written history done × IsAudited run.audit history taken) → GrewBy old new (λ written. Answers request written done)
-stop_answered request run done old new is grew =
-    answered request (q.RunStopping run) done old new (λ written. (history : List Record) × (taken : Option (List ℕ)) × IsStopText run.terse written history done × IsAudited run.audit history taken) is (λ written it. it) grew
+pub stop_answered : (request : Request) (run : ScriptFile) (done : Bool) (old new : List ℕ) → request ≡ q.RunStopping run → GrewBy old new (λ written. Answers (q.RunStopping run) written done) → GrewBy old new (λ written. Answers request written done)
+stop_answered request run done old new is grew = answered request (q.RunStopping run) done old new (λ written. Answers (q.RunStopping run) written done) is (λ written it. it) grew
+
+-- with an audit in a file of its own, or none
+pub stopped_apart : (run : ScriptFile) (wanted done : Bool) (old new : List ℕ) → wanted ≡ is_output_wanted run.audit → wanted ≡ false → GrewBy old new (λ written. (history : List Record) × (taken : Option (List ℕ)) × IsStopText run.terse written history done × IsAudited run.audit history taken)
+    → GrewBy old new (λ written. Answers (q.RunStopping run) written done)
+stopped_apart run wanted done old new same is grew =
+    grew_more old new (λ written. (history : List Record) × (taken : Option (List ℕ)) × IsStopText run.terse written history done × IsAudited run.audit history taken) (λ written. Answers (q.RunStopping run) written done)
+    (λ written it. subst (λ (b : Bool). IsStopAnswer b run written done) (sym is ∙ same) it) grew
+
+-- with its audit behind the answers
+pub stopped_together : (run : ScriptFile) (wanted done : Bool) (old new : List ℕ) → wanted ≡ is_output_wanted run.audit → wanted ≡ true → GrewBy old new (IsWithAudit (λ text records. IsStopText run.terse text records done)) → GrewBy old new (λ written. Answers (q.RunStopping run) written done)
+stopped_together run wanted done old new same is grew =
+    grew_more old new (IsWithAudit (λ text records. IsStopText run.terse text records done)) (λ written. Answers (q.RunStopping run) written done) (λ written it. subst (λ (b : Bool). IsStopAnswer b run written done) (sym is ∙ same) it) grew

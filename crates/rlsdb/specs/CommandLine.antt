@@ -9,6 +9,7 @@ use Rattle.clap.specs.declared.error.kind.ErrorKind.TheVariants.{OutOfMemory}
 use Rattle.rlsdb.specs.declared.words.Request.{Request}
 use Rattle.rlsdb.specs.declared.words.Request.TheVariants as q
 use Rattle.rlsdb.specs.declared.words.ScriptFile.{ScriptFile}
+use Rattle.rlsdb.specs.declared.words.Checks.{Checks}
 use Rattle.rlsdb.specs.declared.words.Explain.{Explain}
 use Rattle.rlsdb.specs.declared.words.Tests.{Tests}
 use Rattle.rlsdb.specs.declared.command_line.Mistake.{Mistake}
@@ -49,6 +50,14 @@ write_flag = record (new_rule (codes "write")) { long = Some (codes "write"); ac
 abbrev pub transcripts_argument : Rule
 transcripts_argument = record (needed (codes "FILE")) { action = Some Append }
 
+-- AUDIT, once or more
+abbrev pub audits_argument : Rule
+audits_argument = record (needed (codes "AUDIT")) { action = Some Append }
+
+-- --quiet
+abbrev pub quiet_flag : Rule
+quiet_flag = record (new_rule (codes "quiet")) { long = Some (codes "quiet"); action = Some SetTrue }
+
 -- the name, and its words
 abbrev pub run_line : App
 run_line = with_rule (with_rule (with_rule (with_rule (with_rule (with_rule (new_app (codes "run")) (needed (codes "FILE"))) threads_flag) audit_option) terse_flag) hints_flag) stop_flag
@@ -60,7 +69,7 @@ abbrev pub order_line : App
 order_line = with_rule (new_app (codes "order")) (needed (codes "AUDIT"))
 
 abbrev pub check_line : App
-check_line = with_rule (new_app (codes "check")) (needed (codes "AUDIT"))
+check_line = with_rule (with_rule (new_app (codes "check")) audits_argument) quiet_flag
 
 abbrev pub explain_line : App
 explain_line = with_rule (with_rule (with_rule (with_rule (new_app (codes "explain")) (needed (codes "AUDIT"))) (needed (codes "TXN"))) (needed (codes "STATEMENT"))) (new_rule (codes "ROW"))
@@ -108,6 +117,11 @@ pub record IsTest (rows : List Row) (it : Tests) : Type 0 where
   pub files : all_of (codes "FILE") rows ≡ Some (map (λ name. name.now) it.files.items)
   pub write : IsFlag (codes "write") rows it.write
 
+-- audits, which are checked
+pub record IsChecks (rows : List Row) (it : Checks) : Type 0 where
+  pub audits : all_of (codes "AUDIT") rows ≡ Some (map (λ name. name.now) it.audits.items)
+  pub quiet : IsFlag (codes "quiet") rows it.quiet
+
 -- a statement of an audit
 pub record IsExplain (rows : List Row) (it : Explain) : Type 0 where
   pub audit : first_of (codes "AUDIT") rows ≡ Some it.audit.now
@@ -121,7 +135,7 @@ AsksFor name rows (q.Run it) = (name ≡ codes "run") × IsRun rows it × IsFlag
 AsksFor name rows (q.RunStopping it) = (name ≡ codes "run") × IsRun rows it × IsFlag (codes "stop") rows true
 AsksFor name rows (q.Test it) = (name ≡ codes "test") × IsTest rows it
 AsksFor name rows (q.Order audit) = (name ≡ codes "order") × (first_of (codes "AUDIT") rows ≡ Some audit.now)
-AsksFor name rows (q.Check audit) = (name ≡ codes "check") × (first_of (codes "AUDIT") rows ≡ Some audit.now)
+AsksFor name rows (q.Check it) = (name ≡ codes "check") × IsChecks rows it
 AsksFor name rows (q.Explain it) = (name ≡ codes "explain") × IsExplain rows it
 AsksFor name rows (q.Parse file) = (name ≡ codes "parse") × (first_of (codes "FILE") rows ≡ Some file.now)
 AsksFor name rows (q.Migrate audit out) = (name ≡ codes "migrate") × (first_of (codes "AUDIT") rows ≡ Some audit.now) × (first_of (codes "OUT") rows ≡ Some out.now)

@@ -3,5 +3,7 @@ pub mod CommandLine
 pub mod AuditLines
 pub mod Tests
 pub mod Answers
+pub mod Flaws
+pub mod Missing
 pub mod Faults
 pub mod Commands

@@ -1,7 +1,18 @@
 -- What words of the command line mean: decimal numbers, and numbers of rows.
-use Rattle.std.specs.Prelude.{◌≡◌, ◌<◌, ◌^◌, ◌++◌, ◌∷◌, ℕ, List, length}
+use Rattle.std.specs.Prelude.{◌≡◌, ◌<◌, ◌^◌, ◌++◌, ◌∷◌, ℕ, List, Bool, false, Option, Some, None, length, codes}
+use Rattle.std.specs.Borrow.{Bor}
+use Rattle.std.specs.Str.{bytes_eq}
 use Rattle.std.specs.Str.Parse.{AllDigits, digits_value}
-use Rattle.rls_value.specs.declared.row.RowId.{RowId}
+use Rattle.rls_laws.specs.rls_check.specs.rls_meaning.specs.rls_guard.specs.rls_catalog.specs.rls_value.specs.declared.row.RowId.{RowId}
+
+-- the name is that of the standard output
+abbrev pub is_output : List ℕ → Bool
+is_output name = bytes_eq name (codes "-")
+
+-- a file is wanted, and it is the standard output
+abbrev pub is_output_wanted : Option (Bor (List ℕ)) → Bool
+is_output_wanted None = false
+is_output_wanted (Some name) = is_output name.now
 
 -- decimal digits alone, at least one, whose number is below the limit
 pub record IsDecimal (limit : ℕ) (text : List ℕ) : Type 0 where

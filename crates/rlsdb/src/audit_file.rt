@@ -4,9 +4,12 @@ ghost use Rattle.std.specs.Prelude.{◌≡◌, ◌∷◌, [], ◌++◌, ◌⊎�
 ghost use Rattle.std.specs.Option.{option_to_list};
 ghost use Rattle.rlsdb.specs.AuditLines.{ReadsNext, WritesLine};
 
+use crate::device::DeviceIn;
 use rls_laws::rls_audit::{Line, write_line};
 use rls_session::rls_script::{Failed, RunFault, ScriptIn, ScriptOut, write_all};
 use std::alloc::Global;
+use std::io;
+use std::io::Read;
 
 /// The most bytes that an audit file has.
 pub const MAX_AUDIT: u64 = 4_294_967_296;
@@ -87,6 +90,15 @@ impl<I: ScriptIn + Drop> AuditIn<I> {
             Ok(None) => Ok(None),
             Ok(Some(_)) | Err(Failed) => Err(RunFault::Read),
         }
+    }
+}
+
+impl<R: Read + Drop> AuditIn<DeviceIn<R>> {
+    /// Why the file's last read that failed did, if one did.
+    pub fn error(&self) -> Option<io::Error>
+        ensures { result ≡ self.now.input.error }
+    {
+        self.input.error()
     }
 }
 

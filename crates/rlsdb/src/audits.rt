@@ -1,26 +1,28 @@
 //! The commands about audits.
 
-ghost use Rattle.std.specs.Prelude.{◌≡◌, ◌++◌, ◌∷◌, [], ℕ, true, List, is_some, IfOk, OnOk};
+ghost use Rattle.std.specs.Prelude.{◌≡◌, ◌++◌, ◌∷◌, [], ℕ, nat_lt, true, ◌&&◌, List, length, map, is_some, IfOk, OnOk};
 ghost use Rattle.std.specs.Io.Buffered.{writer_buffer};
 ghost use Rattle.rls_laws.specs.rls_check.specs.Findings.{finding_text};
 ghost use Rattle.rls_laws.specs.rls_check.specs.Wholes.{HasConverted, HasRead, IsAuditOf};
 ghost use Rattle.rls_laws.specs.rls_check.specs.WhyTexts.{explanation_text};
 ghost use Rattle.rls_session.specs.rls_script.specs.Streams.{GrewBy};
-ghost use Rattle.rlsdb.specs.Answers.{IsCheckOf, IsMigrationOf, IsOrderOf, IsWhyOf, order_text, why_text};
+ghost use Rattle.rlsdb.specs.Answers.{AreChecked, IsCheckOfOne, checked_text, IsMigrationOf, IsOrderOf, IsWhyOf, order_text, why_text};
 ghost use Rattle.rlsdb.specs.AuditLines.{Converted, Reads, ended_lines};
-ghost use Rattle.rlsdb.specs.Faults.{IsToldOf};
+ghost use Rattle.rlsdb.specs.Faults.{IsToldOf, ended_fault, named_fault};
 
 use crate::audit_file::{AuditIn, MAX_AUDIT, NextLine, write_text_line};
-use crate::device::{DeviceIn, DeviceOut, Nowhere};
+use crate::device::{DeviceIn, DeviceOut, Nowhere, Source};
 use crate::fault::Fault;
+use crate::missing::{Missing, missing_in};
 use crate::out_file::OutFile;
-use crate::same_file::require_own;
+use crate::same_file::{require_apart, require_own};
 use crate::words::Explain;
 use rls_laws::rls_check::{Audit, Converter, Finding, Reader, Why};
 use rls_session::rls_script::{Failed, RunFault, ScriptIn, ScriptOut, write_all};
 use std::alloc::Global;
 use std::fs;
 use std::fs::File;
+use std::io::Read;
 
 /// Writes the numbers of the serial order, one a line.
 #[tactic(auto, using(crate::proofs::AnswerLemmas::of_some))]
@@ -32,20 +34,23 @@ pub fn order<'a, O: ScriptOut>(
     ensures { OnOk result (GrewBy (O.taken output.old) (O.taken output.new) (λ written. (texts : List (List ℕ)) × IsOrderOf texts written)) }
 {
     let mut input = audit_in(rt, name)?;
-    write_order(rt.alloc(), &mut input, output)?;
-    Ok(())
+    match write_order(rt.alloc(), name, &mut input, output) {
+        Ok(()) => Ok(()),
+        Err(fault) => Err(told(fault, name, &input)),
+    }
 }
 
 /// The same of the audit that is read.
 #[tactic(auto, using(crate::proofs::AnswerLemmas::ordered))]
 fn write_order<'a, I: ScriptIn + Drop, O: ScriptOut>(
     alloc: Global,
+    name: &'a str,
     input: &mut AuditIn<I>,
     output: &mut O,
 ) -> Result<(), Fault<'a>>
     ensures { OnOk result (Reads (I.given input.old.input) (I.given input.new.input) (λ texts. GrewBy (O.taken output.old) (O.taken output.new) (IsOrderOf texts))) }
 {
-    let audit = read_audit(alloc, input)?;
+    let audit = read_audit(alloc, name, input)?;
     write_numbers(alloc, audit.order(), output)?;
     Ok(())
 }
@@ -66,45 +71,103 @@ fn write_numbers<O: ScriptOut>(
     Ok(())
 }
 
-/// Writes what is found first, and says whether the audit holds.
-#[tactic(auto, using(crate::proofs::AnswerLemmas::of_some))]
-pub fn check<'a, O: ScriptOut>(
+/// Writes what is found first in each of the audits, and says whether all of them hold. Of several each has its name in front.
+pub fn check_all<'a, O: ScriptOut>(
     rt: &HostRuntime,
-    name: &'a str,
+    names: &[&'a str],
     output: &mut O,
 ) -> Result<bool, Fault<'a>>
-    ensures { IfOk result (λ holds. GrewBy (O.taken output.old) (O.taken output.new) (λ written. (texts : List (List ℕ)) × IsCheckOf texts written holds)) }
+    ensures { IfOk result (λ hold. GrewBy (O.taken output.old) (O.taken output.new) (λ written. AreChecked (nat_lt 1 (length names.now)) (map (λ name. name.now) names.now) written hold)) }
+{
+    check_each(rt, names, names.len() > 1, output)
+}
+
+/// The same, with names or without.
+#[tactic(auto, using(crate::proofs::CheckLemmas::begins))]
+fn check_each<'a, O: ScriptOut>(
+    rt: &HostRuntime,
+    names: &[&'a str],
+    named: bool,
+    output: &mut O,
+) -> Result<bool, Fault<'a>>
+    ensures { IfOk result (λ hold. GrewBy (O.taken output.old) (O.taken output.new) (λ written. AreChecked named (map (λ name. name.now) names.now) written hold)) }
+{
+    let mut hold = true;
+    let mut rest = names;
+    while let [name, more @ ..] = rest {
+        let holds = check(rt, *name, named, output)?;
+        hold = both_hold(hold, holds);
+        rest = more;
+    }
+    Ok(hold)
+}
+
+fn both_hold(all: bool, one: bool) -> bool
+    ensures { result ≡ (all && one) }
+{
+    all && one
+}
+
+/// Writes what is found first, and says whether the audit holds.
+#[tactic(auto, using(crate::proofs::AnswerLemmas::of_some))]
+fn check<'a, O: ScriptOut>(
+    rt: &HostRuntime,
+    name: &'a str,
+    named: bool,
+    output: &mut O,
+) -> Result<bool, Fault<'a>>
+    ensures { IfOk result (λ holds. GrewBy (O.taken output.old) (O.taken output.new) (λ written. (texts : List (List ℕ)) × IsCheckOfOne named name.entry.now texts written holds)) }
 {
     let mut input = audit_in(rt, name)?;
-    Ok(write_check(rt.alloc(), &mut input, output)?)
+    match write_check(rt.alloc(), name, named, &mut input, output) {
+        Ok(holds) => Ok(holds),
+        Err(fault) => Err(told(fault, name, &input)),
+    }
 }
 
 /// The same of the audit that is read.
 #[tactic(auto, using(crate::proofs::AnswerLemmas::checked))]
 fn write_check<'a, I: ScriptIn + Drop, O: ScriptOut>(
     alloc: Global,
+    name: &'a str,
+    named: bool,
     input: &mut AuditIn<I>,
     output: &mut O,
 ) -> Result<bool, Fault<'a>>
-    ensures { IfOk result (λ holds. Reads (I.given input.old.input) (I.given input.new.input) (λ texts. GrewBy (O.taken output.old) (O.taken output.new) (λ written. IsCheckOf texts written holds))) }
+    ensures { IfOk result (λ holds. Reads (I.given input.old.input) (I.given input.new.input) (λ texts. GrewBy (O.taken output.old) (O.taken output.new) (λ written. IsCheckOfOne named name.entry.now texts written holds))) }
 {
-    let audit = read_audit(alloc, input)?;
+    let audit = read_audit(alloc, name, input)?;
     let finding = audit.check(alloc)?;
     drop(audit);
-    write_finding(alloc, finding, output)?;
+    write_finding(alloc, name, named, finding, output)?;
     Ok(is_yes(finding))
 }
 
 /// Writes what is found.
 fn write_finding<O: ScriptOut>(
     alloc: Global,
+    name: &str,
+    named: bool,
     finding: Finding,
     output: &mut O,
 ) -> Result<(), RunFault>
-    ensures { OnOk result (O.taken output.new ≡ O.taken output.old ++ (finding_text finding ++ (10 ∷ []))) }
+    ensures { OnOk result (O.taken output.new ≡ O.taken output.old ++ checked_text named name.now (finding_text finding ++ (10 ∷ []))) }
 {
+    if named {
+        write_part(name, output)?;
+        write_part(": ", output)?;
+    }
     let text = format!(in alloc; "{finding}")?;
     write_text_line(text.as_str(), output)
+}
+
+fn write_part<O: ScriptOut>(text: &str, output: &mut O) -> Result<(), RunFault>
+    ensures { OnOk result (O.taken output.new ≡ O.taken output.old ++ text.now) }
+{
+    match write_all(text.as_bytes(), output) {
+        Ok(()) => Ok(()),
+        Err(Failed) => Err(RunFault::Write),
+    }
 }
 
 fn is_yes(finding: Finding) -> bool
@@ -123,23 +186,58 @@ pub fn explain<'a, O: ScriptOut>(
     ensures { IfOk result (λ said. GrewBy (O.taken output.old) (O.taken output.new) (λ written. (texts : List (List ℕ)) × IsWhyOf asked.entry.txn asked.entry.statement asked.entry.row texts written said)) }
 {
     let mut input = audit_in(rt, asked.audit)?;
-    Ok(write_explained(rt.alloc(), &mut input, asked, output)?)
+    match write_explained(rt.alloc(), &mut input, asked, output) {
+        Ok((said, missing)) => {
+            report_missing(rt, asked, missing);
+            Ok(said)
+        }
+        Err(fault) => Err(told(fault, asked.audit, &input)),
+    }
 }
 
-/// The same of the audit that is read.
+/// The same of the audit that is read, and what is missing where there is nothing to say.
 #[tactic(auto, using(crate::proofs::AnswerLemmas::explained))]
 fn write_explained<'a, I: ScriptIn + Drop, O: ScriptOut>(
     alloc: Global,
     input: &mut AuditIn<I>,
     asked: Explain<'a>,
     output: &mut O,
-) -> Result<bool, Fault<'a>>
-    ensures { IfOk result (λ said. Reads (I.given input.old.input) (I.given input.new.input) (λ texts. GrewBy (O.taken output.old) (O.taken output.new) (λ written. IsWhyOf asked.entry.txn asked.entry.statement asked.entry.row texts written said))) }
+) -> Result<(bool, Option<Missing>), Fault<'a>>
+    ensures { IfOk result (λ it. Reads (I.given input.old.input) (I.given input.new.input) (λ texts. GrewBy (O.taken output.old) (O.taken output.new) (λ written. IsWhyOf asked.entry.txn asked.entry.statement asked.entry.row texts written it.0))) }
 {
-    let audit = read_audit(alloc, input)?;
+    let audit = read_audit(alloc, asked.audit, input)?;
     let why = audit.explain(alloc, asked.txn, asked.statement, asked.row)?;
+    let missing = match &why {
+        Some(_) => None,
+        None => Some(missing_in(alloc, &audit, asked.txn, asked.statement)),
+    };
     drop(audit);
-    Ok(write_why(alloc, why, output)?)
+    let said = write_why(alloc, why, output)?;
+    Ok((said, missing))
+}
+
+/// Tells standard error what is missing.
+fn report_missing(rt: &HostRuntime, asked: Explain<'_>, missing: Option<Missing>) {
+    let Explain {
+        audit,
+        txn,
+        statement,
+        row,
+    } = asked;
+    match (missing, row) {
+        (Some(Missing::Txn), _) => {
+            let _ = eprintln!(rt; "rlsdb: {audit}: no transaction {txn} in its order");
+        }
+        (Some(Missing::Statement), _) => {
+            let _ = eprintln!(rt;
+                "rlsdb: {audit}: transaction {txn} has no statement {statement}, or the order is none"
+            );
+        }
+        (Some(Missing::Row), Some(row)) => {
+            let _ = eprintln!(rt; "rlsdb: {audit}: no decision on row {row}");
+        }
+        _ => {}
+    }
 }
 
 /// Writes why, or that there is nothing to say, and says whether there is.
@@ -187,63 +285,122 @@ pub fn migrate<'a>(
     ensures emptied { IfOk result (λ file. writer_buffer file.writer ≡ []) }
 {
     require_own(rt, from, "AUDIT", to)?;
-    let metadata = fs::metadata(rt, from).map_err(|error| Fault::of_audit(&error))?;
-    if !metadata.is_file() {
-        return Err(Fault::Ended(RunFault::Read));
-    }
-    let mut first = audit_in(rt, from)?;
-    convert(rt.alloc(), &mut first, &mut Nowhere::new())?;
-    drop(first);
-    let mut again = audit_in(rt, from)?;
+    require_file(rt, from)?;
+    convert_file(rt, from, &mut Nowhere::new())?;
     let mut file = OutFile::open(rt, to)?;
-    match convert(rt.alloc(), &mut again, &mut file.output) {
+    match convert_file(rt, from, &mut file.output) {
         Ok(()) => file.put(rt),
         Err(fault) => {
+            let error = file.output.error();
             file.discard(rt);
-            Err(fault)
+            Err(fault.unwritten(to, error))
         }
     }
 }
 
-/// The audit file of that name.
-// A file that is too long is not read for it: its first line may be as long.
-fn audit_in<'a>(rt: &HostRuntime, name: &'a str) -> Result<AuditIn<DeviceIn<File>>, Fault<'a>> {
-    let file = File::open(rt, name).map_err(|error| Fault::of_audit(&error))?;
-    let metadata = file.metadata().map_err(|error| Fault::of_audit(&error))?;
-    if metadata.len() > MAX_AUDIT {
-        return Err(Fault::Ended(RunFault::Read));
+/// Writes the audit again in the second format, as an answer.
+pub fn migrate_out<'a, O: ScriptOut>(
+    rt: &HostRuntime,
+    from: &'a str,
+    output: &mut O,
+) -> Result<(), Fault<'a>>
+    ensures { OnOk result (GrewBy (O.taken output.old) (O.taken output.new) (λ written. (texts : List (List ℕ)) × IsMigrationOf texts written)) }
+{
+    require_apart(rt, from, "AUDIT")?;
+    require_file(rt, from)?;
+    convert_file(rt, from, &mut Nowhere::new())?;
+    convert_file(rt, from, output)
+}
+
+/// That the audit is a regular file, which can be read twice.
+fn require_file<'a>(rt: &HostRuntime, name: &'a str) -> Result<(), Fault<'a>> {
+    let metadata = fs::metadata(rt, name).map_err(|error| Fault::of_script(name, error))?;
+    if metadata.is_file() {
+        Ok(())
+    } else {
+        Err(Fault::NoFile(name))
     }
-    match DeviceIn::new(rt.alloc(), file) {
+}
+
+/// Writes the audit of that name in the second format.
+#[tactic(auto, using(crate::proofs::AnswerLemmas::of_some))]
+fn convert_file<'a, O: ScriptOut>(
+    rt: &HostRuntime,
+    name: &'a str,
+    output: &mut O,
+) -> Result<(), Fault<'a>>
+    ensures { OnOk result (GrewBy (O.taken output.old) (O.taken output.new) (λ written. (texts : List (List ℕ)) × IsMigrationOf texts written)) }
+{
+    let mut input = audit_in(rt, name)?;
+    match convert(rt.alloc(), name, &mut input, output) {
+        Ok(()) => Ok(()),
+        Err(fault) => Err(told(fault, name, &input)),
+    }
+}
+
+/// The audit in the file of that name, or on the standard input.
+fn audit_in<'a>(rt: &HostRuntime, name: &'a str) -> Result<AuditIn<DeviceIn<Source>>, Fault<'a>> {
+    let source = match name {
+        "-" => Source::Typed(rt.reader()),
+        name => Source::File(audit_file(rt, name)?),
+    };
+    match DeviceIn::new(rt.alloc(), source) {
         Ok(input) => Ok(AuditIn::new(input)),
         Err(_) => Err(Fault::Ended(RunFault::NoMemory)),
     }
 }
 
+/// The audit file of that name.
+// A file that is too long is not read for it: its first line may be as long.
+fn audit_file<'a>(rt: &HostRuntime, name: &'a str) -> Result<File, Fault<'a>> {
+    let file = File::open(rt, name).map_err(|error| Fault::of_script(name, error))?;
+    let metadata = file
+        .metadata()
+        .map_err(|error| Fault::of_script(name, error))?;
+    if metadata.len() > MAX_AUDIT {
+        return Err(Fault::TooLong(name, MAX_AUDIT));
+    }
+    Ok(file)
+}
+
+/// The fault, and of an audit that can't be read, or has no last line, which it is.
+fn told<'a, R: Read + Drop>(
+    fault: Fault<'a>,
+    name: &'a str,
+    input: &AuditIn<DeviceIn<R>>,
+) -> Fault<'a>
+    ensures { result ≡ named_fault name.entry MAX_AUDIT input.now.input.error (ended_fault name.entry fault.entry) }
+{
+    fault.of_end(name).named(name, MAX_AUDIT, input.error())
+}
+
 /// The audit that is read. Where a line is bad the rest is read too: that it can't be read would come first.
 fn read_audit<'a, I: ScriptIn + Drop>(
     alloc: Global,
+    name: &'a str,
     input: &mut AuditIn<I>,
 ) -> Result<Audit, Fault<'a>>
     ensures { IfOk result (λ audit. Reads (I.given input.old.input) (I.given input.new.input) (λ texts. IsAuditOf texts audit)) }
 {
-    match read_lines(alloc, input) {
+    let mut line = Vec::new(alloc);
+    match read_lines(alloc, input, &mut line) {
         Ok(reader) => Ok(reader.finish()?),
-        Err(fault) => Err(first_of(input, fault)),
+        Err(fault) => Err(first_of(input, fault).of_line(alloc, name, line.as_slice())),
     }
 }
 
-/// Reads the lines to the end.
+/// Reads the lines to the end. The last one that was read stays in `line`.
 fn read_lines<'a, I: ScriptIn + Drop>(
     alloc: Global,
     input: &mut AuditIn<I>,
+    line: &mut Vec<u8>,
 ) -> Result<Reader, Fault<'a>>
     ensures lines { IfOk result (λ reader. Reads (I.given input.old.input) (I.given input.new.input) (λ texts. HasRead texts reader)) }
     ensures ended { OnOk result (I.ended input.new.input ≡ true) }
 {
     let mut reader = Reader::new(alloc);
-    let mut line = Vec::new(alloc);
     for _ in 0..=MAX_AUDIT {
-        match input.next_line(&mut line)? {
+        match input.next_line(line)? {
             NextLine::Whole => reader = reader.line(alloc, line.as_slice())?,
             NextLine::Last => return Ok(reader.line(alloc, line.as_slice())?),
             NextLine::End => return Ok(reader),
@@ -256,30 +413,32 @@ fn read_lines<'a, I: ScriptIn + Drop>(
 #[tactic(auto, using(crate::proofs::AnswerLemmas::migration))]
 fn convert<'a, I: ScriptIn + Drop, O: ScriptOut>(
     alloc: Global,
+    name: &'a str,
     input: &mut AuditIn<I>,
     output: &mut O,
 ) -> Result<(), Fault<'a>>
     ensures { OnOk result (Reads (I.given input.old.input) (I.given input.new.input) (λ texts. GrewBy (O.taken output.old) (O.taken output.new) (IsMigrationOf texts))) }
 {
-    match convert_lines(alloc, input, output) {
+    let mut line = Vec::new(alloc);
+    match convert_lines(alloc, input, &mut line, output) {
         Ok(converter) => Ok(converter.finish()?),
-        Err(fault) => Err(first_of(input, fault)),
+        Err(fault) => Err(first_of(input, fault).of_line(alloc, name, line.as_slice())),
     }
 }
 
-/// Writes the lines that are read, to the end.
+/// Writes the lines that are read, to the end. The last one that was read stays in `line`.
 fn convert_lines<'a, I: ScriptIn + Drop, O: ScriptOut>(
     alloc: Global,
     input: &mut AuditIn<I>,
+    line: &mut Vec<u8>,
     output: &mut O,
 ) -> Result<Converter, Fault<'a>>
     ensures lines { IfOk result (λ converter. Reads (I.given input.old.input) (I.given input.new.input) (λ texts. (written : List (List ℕ)) × (O.taken output.new ≡ O.taken output.old ++ ended_lines written) × HasConverted texts written converter)) }
     ensures ended { OnOk result (I.ended input.new.input ≡ true) }
 {
     let mut converter = Converter::new(alloc);
-    let mut line = Vec::new(alloc);
     for _ in 0..=MAX_AUDIT {
-        match input.next_line(&mut line)? {
+        match input.next_line(line)? {
             NextLine::Whole => {
                 converter = convert_line(alloc, converter, line.as_slice(), output)?;
             }

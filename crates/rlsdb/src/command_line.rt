@@ -4,9 +4,9 @@ ghost use Rattle.std.specs.Prelude.{◌≡◌, false, map, codes, Some, option_m
 ghost use Rattle.clap.specs.Words.{app_of, first_of, found_of, new_app, new_rule, rows_of, rule_of};
 ghost use Rattle.clap.specs.declared.builder.command.Command.TheViews.{out-Command};
 ghost use Rattle.rlsdb.specs.declared.command_line.Mistake.TheVariants.{Words};
-ghost use Rattle.rlsdb.specs.CommandLine.{Asks, AsksFor, IsFlag, IsMistaken, IsNumber, IsOfMemory, IsOwn, IsRow, audit_option, check_line, command_line, explain_line, migrate_line, needed, hints_flag, order_line, parse_line, program_line, run_line, stop_flag, terse_flag, test_line, threads_flag, transcripts_argument, write_flag};
+ghost use Rattle.rlsdb.specs.CommandLine.{Asks, AsksFor, IsFlag, IsMistaken, IsNumber, IsOfMemory, IsOwn, IsRow, audit_option, audits_argument, check_line, command_line, explain_line, migrate_line, needed, hints_flag, order_line, parse_line, program_line, quiet_flag, run_line, stop_flag, terse_flag, test_line, threads_flag, transcripts_argument, write_flag};
 
-use crate::words::{Explain, Request, ScriptFile, Tests, number_of, row_of};
+use crate::words::{Checks, Explain, Request, ScriptFile, Tests, number_of, row_of};
 use clap::{Arg, ArgAction, ArgMatches, Command};
 use rls_value::RowId;
 use std::alloc::{AllocError, Global};
@@ -62,7 +62,7 @@ Example: rlsdb order AUDIT";
 
 const AFTER_CHECK: &str = "\
 Writes `yes`, or the first fault that it finds: `no: order`, `no: reply T.S` (transaction T, statement S), `no: changes T` or
-`no: state`.
+`no: state`. Of several AUDITs each has a line, with the AUDIT and a colon in front.
 
 Example: rlsdb check AUDIT";
 
@@ -84,6 +84,8 @@ stand there.
 Example: rlsdb parse FILE";
 
 const NUMBER: &str = "a decimal number up to 18446744073709551615";
+
+const TWICE: &str = "a file that can be read twice";
 
 const FILLED: &str = "with --write, a file";
 
@@ -145,7 +147,7 @@ fn request_in<'a>(
         "run" => run_of(words),
         "test" => test_of(alloc, words),
         "order" => Ok(Request::Order(value(words, "AUDIT")?)),
-        "check" => Ok(Request::Check(value(words, "AUDIT")?)),
+        "check" => check_of(alloc, words),
         "explain" => explain_of(words),
         "migrate" => migrate_of(words),
         "parse" => Ok(Request::Parse(value(words, "FILE")?)),
@@ -189,6 +191,21 @@ fn test_of<'a>(alloc: Global, words: &ArgMatches<'a>) -> Result<Request<'a>, Mis
     }
 }
 
+#[tactic(auto, using(crate::proofs::CommandLineLemmas::all_given))]
+fn check_of<'a>(alloc: Global, words: &ArgMatches<'a>) -> Result<Request<'a>, Mistake<'a>>
+    ensures ok { IfOk result (AsksFor (codes "check") (rows_of (found_of words.now))) }
+    ensures err { IfErr result IsOwn }
+{
+    let Some(names) = words.get_strs("AUDIT") else {
+        return Err(Mistake::Nothing);
+    };
+    let quiet = flag(words, "quiet");
+    match names.to_vec(alloc) {
+        Ok(audits) => Ok(Request::Check(Checks { audits, quiet })),
+        Err(error) => Err(Mistake::from(error)),
+    }
+}
+
 fn explain_of<'a>(words: &ArgMatches<'a>) -> Result<Request<'a>, Mistake<'a>>
     ensures ok { IfOk result (AsksFor (codes "explain") (rows_of (found_of words.now))) }
     ensures err { IfErr result IsOwn }
@@ -205,7 +222,11 @@ fn migrate_of<'a>(words: &ArgMatches<'a>) -> Result<Request<'a>, Mistake<'a>>
     ensures ok { IfOk result (AsksFor (codes "migrate") (rows_of (found_of words.now))) }
     ensures err { IfErr result IsOwn }
 {
-    Ok(Request::Migrate(value(words, "AUDIT")?, value(words, "OUT")?))
+    let audit = value(words, "AUDIT")?;
+    if audit == "-" {
+        return Err(Mistake::Value("<AUDIT>", "-", TWICE));
+    }
+    Ok(Request::Migrate(audit, value(words, "OUT")?))
 }
 
 /// Whether the flag is given.
@@ -382,7 +403,7 @@ fn audit_out<'a>(alloc: Global) -> Arg<'a>
     Arg::new(alloc, "audit")
         .long("audit")
         .value_name("OUT")
-        .help("Write an audit of the run to the file OUT")
+        .help("Write an audit of the run to the file OUT, or `-` for standard output")
 }
 
 fn terse_conflicts<'a>(alloc: Global) -> Arg<'a>
@@ -424,8 +445,31 @@ fn check_command<'a>(alloc: Global) -> Result<Command<'a>, AllocError>
     let about =
         "Runs the transactions of an audit again in its order, and compares every answer and change";
     let command = named(alloc, "check", about, AFTER_CHECK);
-    let command = command.arg(audit(alloc))?;
+    let command = command.arg(checked(alloc))?;
+    let command = command.arg(quiet(alloc))?;
     Ok(command)
+}
+
+fn checked<'a>(alloc: Global) -> Arg<'a>
+    ensures rule { rule_of result ≡ audits_argument }
+    ensures local { result.global ≡ false }
+{
+    file(
+        alloc,
+        "AUDIT",
+        "An audit, as `rlsdb run --audit` writes it, or `-` for standard input",
+    )
+    .action(ArgAction::Append)
+}
+
+fn quiet<'a>(alloc: Global) -> Arg<'a>
+    ensures rule { rule_of result ≡ quiet_flag }
+    ensures local { result.global ≡ false }
+{
+    Arg::new(alloc, "quiet")
+        .long("quiet")
+        .action(ArgAction::SetTrue)
+        .help("Write no findings; the exit status says whether all audits hold")
 }
 
 fn explain_command<'a>(alloc: Global) -> Result<Command<'a>, AllocError>
@@ -458,14 +502,23 @@ fn migrate_command<'a>(alloc: Global) -> Result<Command<'a>, AllocError>
     ensures app { IfOk result (λ made. app_of made ≡ migrate_line) }
     ensures local { IfOk result (λ made. (out-Command made).has_globals ≡ false) }
 {
-    let out = file(alloc, "OUT", "The file that it is written to");
+    let old = file(
+        alloc,
+        "AUDIT",
+        "The audit, as `rlsdb run --audit` writes it",
+    );
+    let out = file(
+        alloc,
+        "OUT",
+        "The file that it is written to, or `-` for standard output",
+    );
     let command = named(
         alloc,
         "migrate",
         "Writes an audit again in the newest format",
         AFTER_MIGRATE,
     );
-    let command = command.arg(audit(alloc))?;
+    let command = command.arg(old)?;
     let command = command.arg(out)?;
     Ok(command)
 }
@@ -488,7 +541,7 @@ fn audit<'a>(alloc: Global) -> Arg<'a>
     file(
         alloc,
         "AUDIT",
-        "The audit, as `rlsdb run --audit` writes it",
+        "The audit, as `rlsdb run --audit` writes it, or `-` for standard input",
     )
 }
 

@@ -1,6 +1,6 @@
 //! The commands, and how the program ends.
 
-ghost use Rattle.std.specs.Prelude.{◌≡◌, ◌≤◌, ℕ, List, map, IfOk};
+ghost use Rattle.std.specs.Prelude.{◌≡◌, ◌⊎◌, ◌≤◌, ℕ, List, map, IfOk};
 ghost use Rattle.std.specs.IoError.{error_kind};
 ghost use Rattle.std.specs.declared.io.ErrorKind.TheVariants.{OutOfMemory};
 ghost use Rattle.rls_session.specs.rls_script.specs.Streams.{GrewBy};
@@ -9,9 +9,9 @@ ghost use Rattle.rlsdb.specs.Commands.{EndsWords};
 ghost use Rattle.rlsdb.specs.Faults.{EndsAnswer, EndsWith, EndsMistake};
 
 use crate::command_line::Mistake;
-use crate::device::DeviceOut;
+use crate::device::{DeviceOut, Nowhere};
 use crate::fault::Fault;
-use crate::words::Request;
+use crate::words::{Checks, Request, ScriptFile, is_output, is_output_wanted};
 use crate::{audits, command_line, hinting, running, stopping, testing};
 use clap::error::ErrorKind;
 use rls_session::rls_script::RunFault;
@@ -32,6 +32,9 @@ const USAGE: u8 = 2;
 // A check or a test says no, a refusal stopped a run, a line of an audit is bad, there is no such decision, or a line of a script
 // isn't taken.
 const NO: u8 = 3;
+
+// What stands for the name of the answers' file.
+const STANDARD_OUTPUT: &str = "standard output";
 
 // What stands behind a mistake of usage.
 const MORE: &str = "\nFor more information, try '--help'.";
@@ -110,9 +113,13 @@ fn serve<'a, W: Threads + Wait + Clock + Sync, D: Write + Drop>(
 {
     let came = answer(rt, waits, request, output);
     let finished = output.finish();
-    let done = came?;
-    finished?;
-    Ok(done)
+    match came {
+        Ok(done) => match finished {
+            Ok(()) => Ok(done),
+            Err(error) => Err(Fault::from(error).of_answers(STANDARD_OUTPUT, output.error())),
+        },
+        Err(fault) => Err(fault.of_answers(STANDARD_OUTPUT, output.error())),
+    }
 }
 
 /// Does what is asked for.
@@ -126,26 +133,89 @@ fn answer<'a, W: Threads + Wait + Clock + Sync, D: Write + Drop>(
     ensures { IfOk result (λ done. GrewBy output.old.taken.bytes output.new.taken.bytes (λ written. Answers request.entry written done)) }
 {
     match request {
-        Request::Run(run) => {
-            let audit = running::run(rt, waits, run, output)?;
-            drop(audit);
-            Ok(true)
-        }
-        Request::RunStopping(run) => Ok(stopping::run_stopping(rt, waits, run, output)?),
+        Request::Run(run) => Ok(run_script(rt, waits, run, output)?),
+        Request::RunStopping(run) => Ok(run_stopping(rt, waits, run, output)?),
         Request::Test(tests) => Ok(testing::test(rt, waits, &tests, output)?),
         Request::Order(audit) => {
             audits::order(rt, audit, output)?;
             Ok(true)
         }
-        Request::Check(audit) => Ok(audits::check(rt, audit, output)?),
+        Request::Check(checks) => Ok(check(rt, &checks, output)?),
         Request::Explain(asked) => Ok(audits::explain(rt, asked, output)?),
-        Request::Migrate(from, to) => {
-            let file = audits::migrate(rt, from, to)?;
-            drop(file);
-            Ok(true)
-        }
+        Request::Migrate(from, to) => Ok(migrate(rt, from, to, output)?),
         Request::Parse(file) => Ok(hinting::parse(rt, file, output)?),
     }
+}
+
+/// Runs the script, and writes its audit where one is wanted.
+#[tactic(auto, using(crate::proofs::CommandLemmas::ran_apart, crate::proofs::CommandLemmas::ran_together))]
+fn run_script<'a, W: Threads + Wait + Clock + Sync, D: Write + Drop>(
+    rt: &HostRuntime,
+    waits: &W,
+    run: ScriptFile<'a>,
+    output: &mut DeviceOut<D>,
+) -> Result<bool, Fault<'a>>
+    ensures { IfOk result (λ done. GrewBy output.old.taken.bytes output.new.taken.bytes (λ written. Answers (Request.Run run.entry) written done)) }
+{
+    if is_output_wanted(run.audit) {
+        running::run_with_audit(rt, waits, run, output)?;
+        return Ok(true);
+    }
+    let audit = running::run(rt, waits, run, output)?;
+    drop(audit);
+    Ok(true)
+}
+
+/// The same, up to the first refusal. False where there is one.
+#[tactic(auto, using(crate::proofs::TestLemmas::stopped_apart, crate::proofs::TestLemmas::stopped_together))]
+fn run_stopping<'a, W: Threads + Wait + Clock + Sync, D: Write + Drop>(
+    rt: &HostRuntime,
+    waits: &W,
+    run: ScriptFile<'a>,
+    output: &mut DeviceOut<D>,
+) -> Result<bool, Fault<'a>>
+    ensures { IfOk result (λ done. GrewBy output.old.taken.bytes output.new.taken.bytes (λ written. Answers (Request.RunStopping run.entry) written done)) }
+{
+    if is_output_wanted(run.audit) {
+        stopping::run_stopping_with_audit(rt, waits, run, output)
+    } else {
+        stopping::run_stopping(rt, waits, run, output)
+    }
+}
+
+/// Checks the audits, and writes what is found unless the status alone is to say it.
+#[tactic(auto, using(crate::proofs::CheckLemmas::told, crate::proofs::CheckLemmas::untold))]
+fn check<'a, D: Write + Drop>(
+    rt: &HostRuntime,
+    checks: &Checks<'a>,
+    output: &mut DeviceOut<D>,
+) -> Result<bool, Fault<'a>>
+    ensures { IfOk result (λ done. GrewBy output.old.taken.bytes output.new.taken.bytes (λ written. Answers (Request.Check checks.now) written done)) }
+{
+    if checks.quiet {
+        audits::check_all(rt, checks.audits.as_slice(), &mut Nowhere::new())
+    } else {
+        audits::check_all(rt, checks.audits.as_slice(), output)
+    }
+}
+
+/// Writes the audit again in the second format.
+#[tactic(auto, using(crate::proofs::CommandLemmas::migrated_together))]
+fn migrate<'a, D: Write + Drop>(
+    rt: &HostRuntime,
+    from: &'a str,
+    to: &'a str,
+    output: &mut DeviceOut<D>,
+) -> Result<bool, Fault<'a>>
+    ensures { IfOk result (λ done. GrewBy output.old.taken.bytes output.new.taken.bytes (λ written. Answers (Request.Migrate from.entry to.entry) written done)) }
+{
+    if is_output(to) {
+        audits::migrate_out(rt, from, output)?;
+        return Ok(true);
+    }
+    let file = audits::migrate(rt, from, to)?;
+    drop(file);
+    Ok(true)
 }
 
 // Help goes to standard output, all else to standard error.
@@ -170,7 +240,7 @@ fn explain(rt: &HostRuntime, mistake: Mistake<'_>) -> u8
                 return report(rt, Fault::Ended(RunFault::NoMemory));
             }
             match error.print(rt) {
-                Err(_) if !error.use_stderr() => report(rt, Fault::Ended(RunFault::Write)),
+                Err(failed) if !error.use_stderr() => report_unwritten(rt, &failed),
                 _ if error.use_stderr() => USAGE,
                 _ => DONE,
             }
@@ -184,18 +254,29 @@ fn report(rt: &HostRuntime, fault: Fault<'_>) -> u8
     ensures { EndsWith fault.entry result }
 {
     match fault {
-        Fault::BadLine(line) => {
-            return match println!(rt; "bad audit line {line}") {
-                Ok(()) => NO,
-                Err(_) => report_run(rt, RunFault::Write),
-            };
+        Fault::BadLine(line) => return report_bad(rt, line),
+        Fault::BadAudit(name, line, flaw) => {
+            if let Some(text) = flaw.text() {
+                let _ = eprintln!(rt; "rlsdb: {name}: line {line}: {text}");
+            }
+            return report_bad(rt, line);
         }
         Fault::Unread(name, error) => {
-            let _ = eprintln!(rt; "rlsdb: cannot read {name}: {error}");
+            let _ = eprintln!(rt; "rlsdb: cannot read\nrlsdb: {name}: {error}");
+        }
+        Fault::TooLong(name, most) => {
+            let _ = eprintln!(rt; "rlsdb: cannot read\nrlsdb: {name}: more than {most} bytes");
+        }
+        Fault::NoFile(name) => {
+            let _ = eprintln!(rt;
+                "rlsdb: cannot read\nrlsdb: {name}: not a regular file, and AUDIT is read twice"
+            );
         }
         Fault::Unwritten(name, error) => {
-            let _ = eprintln!(rt; "rlsdb: cannot write {name}: {error}");
+            let _ = eprintln!(rt; "rlsdb: cannot write\nrlsdb: {name}: {error}");
         }
+        // Who closes a pipe has read enough.
+        Fault::Closed => {}
         Fault::Loose(name, line) => {
             let _ = eprintln!(rt; "rlsdb: {name}:{line}: an answer without a command");
             return USAGE;
@@ -205,6 +286,26 @@ fn report(rt: &HostRuntime, fault: Fault<'_>) -> u8
             return USAGE;
         }
         Fault::Ended(fault) => return report_run(rt, fault),
+    }
+    FAULT
+}
+
+/// Tells which line of an audit is bad.
+fn report_bad(rt: &HostRuntime, line: u64) -> u8
+    ensures { (result ≡ 3) ⊎ (result ≡ 1) }
+{
+    match println!(rt; "bad audit line {line}") {
+        Ok(()) => NO,
+        Err(error) => report_unwritten(rt, &error),
+    }
+}
+
+/// Tells that the standard output can't be written, unless nobody reads it any more.
+fn report_unwritten(rt: &HostRuntime, error: &io::Error) -> u8
+    ensures { result ≡ 1 }
+{
+    if error.kind() != io::ErrorKind::BrokenPipe {
+        let _ = eprintln!(rt; "rlsdb: cannot write\nrlsdb: standard output: {error}");
     }
     FAULT
 }

@@ -1,8 +1,9 @@
 //! A file to read a script from, and a standard output to write to, both through buffers.
 
-ghost use Rattle.std.specs.Prelude.{◌≡◌, ◌⊎◌, [], ◌∷◌, ◌+◌, ◌++◌, ◌<◌, ◌≤◌, length, take, true, false, None, Ok, IsNone, IfSome, IfOk, OnOk, OnErr};
+ghost use Rattle.std.specs.Prelude.{◌≡◌, ◌⊎◌, [], ◌∷◌, ◌+◌, ◌++◌, ◌<◌, ◌≤◌, length, take, true, false, Some, None, Ok, IsNone, IsSome, IfSome, IfOk, IfErr, OnOk, OnErr};
 ghost use Rattle.std.specs.Option.{option_to_list};
-ghost use Rattle.std.specs.Io.Buffered.{reader_remaining, writer_buffer, writer_contents};
+ghost use Rattle.rlsdb.specs.Flaws as spec;
+ghost use Rattle.std.specs.Io.Buffered.{reader_buffer, reader_remaining, writer_buffer, writer_contents};
 ghost use Rattle.std.specs.Io.KnownBytes.{Consumes, Appends, Keeps};
 
 use crate::passed::Passed;
@@ -10,7 +11,30 @@ use rls_session::rls_script::{Failed, ScriptIn, ScriptOut};
 use std::alloc::Global;
 use std::fs::File;
 use std::io;
-use std::io::{BufRead, BufReader, BufWriter, ErrorKind, Read, Write};
+use std::io::{BufRead, BufReader, BufWriter, ErrorKind, Read, StdinLock, Write};
+
+/// Whether the bytes begin with a byte order mark.
+pub fn begins_with_mark(bytes: &[u8]) -> bool
+    ensures { result ≡ spec.begins_with_mark bytes.now }
+{
+    bytes.starts_with(b"\xEF\xBB\xBF")
+}
+
+/// A file that is read, or the standard input.
+#[derive(Drop)]
+pub enum Source {
+    File(File),
+    Typed(StdinLock<'static>),
+}
+
+impl Read for Source {
+    fn read(&mut self, buf: &mut [u8]) -> io::Result<usize> {
+        match self {
+            Source::File(file) => file.read(buf),
+            Source::Typed(typed) => typed.read(buf),
+        }
+    }
+}
 
 /// A reader that notes, for proofs, what its calls gave.
 #[derive(Drop)]
@@ -20,6 +44,8 @@ pub struct DeviceIn<R: Read + Drop> {
     ended: bool,
     // A byte for each call that failed.
     failed: Passed,
+    // Why the last of them did.
+    error: Option<io::Error>,
 }
 
 impl<R: Read + Drop> DeviceIn<R> {
@@ -33,7 +59,31 @@ impl<R: Read + Drop> DeviceIn<R> {
             given: Passed::new(),
             ended: false,
             failed: Passed::new(),
+            error: None,
         })
+    }
+
+    /// Why the last call that failed did, if one did.
+    pub fn error(&self) -> Option<io::Error>
+        ensures { result ≡ self.now.error }
+    {
+        self.error
+    }
+
+    /// Whether a byte order mark stands in front, as far as the first read tells. Nothing is taken.
+    pub fn is_marked(&mut self) -> io::Result<bool>
+        ensures mark { IfOk result (λ marked. marked ≡ spec.begins_with_mark (reader_buffer self.new.reader)) }
+        ensures given { self.new.given ≡ self.old.given }
+        ensures ended { self.new.ended ≡ self.old.ended }
+        ensures failed { self.new.failed ≡ self.old.failed }
+    {
+        if let Err(error) = self.reader.fill_buf() {
+            // The read that takes a byte tries again.
+            if error.kind() != ErrorKind::Interrupted {
+                return Err(error);
+            }
+        }
+        Ok(begins_with_mark(self.reader.buffer()))
     }
 
     // The next byte, by a read that fills the buffer.
@@ -45,6 +95,7 @@ impl<R: Read + Drop> DeviceIn<R> {
         ensures err { OnErr result (length self.new.failed.bytes ≡ length self.old.failed.bytes + 1) }
         ensures none_given { OnErr result (self.new.given.bytes ≡ self.old.given.bytes) }
         ensures known { IfOk result (λ byte. IfSome byte (λ first. Consumes (reader_remaining R.remaining self.old.reader) (reader_remaining R.remaining self.new.reader) (first ∷ []))) }
+        ensures why { OnErr result (IsSome self.new.error) }
     {
         let mut byte = [0u8; 1];
         match self.reader.read_exact(&mut byte) {
@@ -56,8 +107,9 @@ impl<R: Read + Drop> DeviceIn<R> {
                 self.ended = true;
                 Ok(None)
             }
-            Err(_) => {
+            Err(error) => {
                 self.failed.add(&[0]);
+                self.error = Some(error);
                 Err(Failed)
             }
         }
@@ -100,6 +152,8 @@ pub struct DeviceOut<W: Write + Drop> {
     taken: Passed,
     // A byte for each call that failed.
     failed: Passed,
+    // Why the last call that failed did, also one that gives on what is in the buffer.
+    error: Option<io::Error>,
 }
 
 impl<W: Write + Drop> DeviceOut<W> {
@@ -111,7 +165,15 @@ impl<W: Write + Drop> DeviceOut<W> {
             writer: BufWriter::new(alloc, writer)?,
             taken: Passed::new(),
             failed: Passed::new(),
+            error: None,
         })
+    }
+
+    /// Why the last call that failed did, if one did.
+    pub fn error(&self) -> Option<io::Error>
+        ensures { result ≡ self.now.error }
+    {
+        self.error
     }
 
     /// Writes what is still in the buffer.
@@ -119,8 +181,15 @@ impl<W: Write + Drop> DeviceOut<W> {
         ensures emptied { OnOk result (writer_buffer self.new.writer ≡ []) }
         ensures known { Keeps (writer_contents W.contents self.old.writer) (writer_contents W.contents self.new.writer) }
         ensures taken { self.new.taken.bytes ≡ self.old.taken.bytes }
+        ensures why { IfErr result (λ error. self.new.error ≡ Some error) }
     {
-        self.writer.flush()
+        match self.writer.flush() {
+            Ok(()) => Ok(()),
+            Err(error) => {
+                self.error = Some(error);
+                Err(error)
+            }
+        }
     }
 }
 
@@ -151,8 +220,9 @@ impl<W: Write + Drop> ScriptOut for DeviceOut<W> {
                 self.taken.add(bytes);
                 Ok(bytes.len())
             }
-            Err(_) => {
+            Err(error) => {
                 self.failed.add(&[0]);
+                self.error = Some(error);
                 Err(Failed)
             }
         }

@@ -1,17 +1,18 @@
 //! What ends a command before its end.
 
-ghost use Rattle.std.specs.Prelude.{◌≡◌};
+ghost use Rattle.std.specs.Prelude.{◌≡◌, true, false, None, IfSome};
 ghost use Rattle.std.specs.IoError.{error_kind};
 ghost use Rattle.std.specs.declared.io.ErrorKind.TheVariants.{OutOfMemory};
 ghost use Rattle.rls_session.specs.rls_script.specs.declared.fault.RunFault.TheVariants.{NoMemory, Foreign, Write};
 ghost use Rattle.rls_laws.specs.rls_check.specs.rls_audit.specs.declared.showing.Unshown.TheVariants.{Never};
 ghost use Rattle.rlsdb.specs.declared.fault.Fault.TheVariants.{Ended};
-ghost use Rattle.rlsdb.specs.Faults.{line_fault};
+ghost use Rattle.rlsdb.specs.Faults.{IsFlawed, ended_fault, line_fault, named_fault, unread_fault, unwritten_fault};
 
+use crate::flaw::{Flaw, flaw_of};
 use rls_laws::rls_audit::Unshown;
+use rls_laws::rls_check::rls_guard::rls_catalog::rls_value::Refusal;
 use rls_session::rls_script::RunFault;
-use rls_value::Refusal;
-use std::alloc::{AllocError, AllocFailed};
+use std::alloc::{AllocError, AllocFailed, Global};
 use std::io;
 use std::io::ErrorKind;
 
@@ -20,14 +21,20 @@ use std::io::ErrorKind;
 pub enum Fault<'a> {
     /// As a run ends.
     Ended(RunFault),
-    /// The script can't be opened to be read.
+    /// The file can't be read.
     Unread(&'a str, io::Error),
-    /// The file can't be opened to be written.
+    /// The audit is read twice, and isn't a regular file.
+    NoFile(&'a str),
+    /// The file can't be written.
     Unwritten(&'a str, io::Error),
+    /// Nobody reads the answers any more: the other end of the pipe is closed.
+    Closed,
     /// This line of a transcript is an answer without a command.
     Loose(&'a str, u64),
     /// This line of an audit isn't one.
     BadLine(u64),
+    /// The same, of which audit, and what is wrong with the line.
+    BadAudit(&'a str, u64, Flaw),
     /// OUT would be written over what is read, or over the answers: this says which.
     SameFile(&'static str),
 }
@@ -96,7 +103,80 @@ impl<'a> From<Refusal> for Fault<'a> {
 }
 
 impl<'a> Fault<'a> {
-    /// That of a script that can't be opened.
+    /// The same. Of a file that can't be read it says which, and why, where the system said why: not where it has too many bytes.
+    pub fn named(self, name: &'a str, error: Option<io::Error>) -> Fault<'a>
+        ensures { result ≡ named_fault name.entry error self.entry }
+    {
+        match self {
+            Fault::Ended(run) => match (run, error) {
+                (RunFault::Read, Some(error)) => Fault::Unread(name, error),
+                (run, _) => Fault::Ended(run),
+            },
+            fault => fault,
+        }
+    }
+
+    /// The same. Of a file that can't be written it says which, and why, where that is known.
+    pub fn unwritten(self, name: &'a str, error: Option<io::Error>) -> Fault<'a>
+        ensures { result ≡ unwritten_fault name.entry error self.entry }
+    {
+        match self {
+            Fault::Ended(run) => match (run, error) {
+                (RunFault::Write, Some(error)) => Fault::Unwritten(name, error),
+                (run, _) => Fault::Ended(run),
+            },
+            fault => fault,
+        }
+    }
+
+    /// The same of the answers. That nobody reads them any more is a fault of its own.
+    pub fn of_answers(self, name: &'a str, error: Option<io::Error>) -> Fault<'a>
+        ensures closed { IfSome error (λ it. error_kind it ≡ ErrorKind.BrokenPipe → result ≡ unread_fault self.entry) }
+        ensures other { IfSome error (λ it. ¬ (error_kind it ≡ ErrorKind.BrokenPipe) → result ≡ unwritten_fault name.entry error self.entry) }
+        ensures none { error ≡ None → result ≡ self.entry }
+    {
+        match error {
+            Some(it) => match it.kind() {
+                ErrorKind::BrokenPipe => self.unread(),
+                _ => self.unwritten(name, error),
+            },
+            None => self,
+        }
+    }
+
+    fn unread(self) -> Fault<'a>
+        ensures { result ≡ unread_fault self.entry }
+    {
+        match self {
+            Fault::Ended(run) => match run {
+                RunFault::Write => Fault::Closed,
+                run => Fault::Ended(run),
+            },
+            fault => fault,
+        }
+    }
+
+    /// The same. Of a bad line, which is this, it says of which audit it is, and what is wrong with it.
+    pub fn of_line(self, alloc: Global, name: &'a str, line: &[u8]) -> Fault<'a>
+        ensures { IsFlawed name.entry line.now self.entry result }
+    {
+        match self {
+            Fault::BadLine(number) => Fault::BadAudit(name, number, flaw_of(alloc, number, line)),
+            fault => fault,
+        }
+    }
+
+    /// The same where the last line is missing.
+    pub fn of_end(self, name: &'a str) -> Fault<'a>
+        ensures { result ≡ ended_fault name.entry self.entry }
+    {
+        match self {
+            Fault::BadLine(number) => Fault::BadAudit(name, number, Flaw::NoEnd),
+            fault => fault,
+        }
+    }
+
+    /// That of a file that can't be opened to be read.
     pub fn of_script(name: &'a str, error: io::Error) -> Fault<'a>
         ensures memory { error_kind error ≡ ErrorKind.OutOfMemory → result ≡ Fault.Ended RunFault.NoMemory }
         ensures other { ¬ (error_kind error ≡ ErrorKind.OutOfMemory) → result ≡ Fault.Unread name.entry error }
@@ -107,18 +187,25 @@ impl<'a> Fault<'a> {
         }
     }
 
-    /// That of an audit that can't be opened.
-    pub fn of_audit(error: &io::Error) -> Fault<'a>
-        ensures memory { error_kind error.now ≡ ErrorKind.OutOfMemory → result ≡ Fault.Ended RunFault.NoMemory }
-        ensures other { ¬ (error_kind error.now ≡ ErrorKind.OutOfMemory) → result ≡ Fault.Ended RunFault.Read }
+    /// That of an audit that can't be opened. Which one, and why, is said where it is one of several.
+    pub fn of_audit(name: &'a str, of_several: bool, error: io::Error) -> Fault<'a>
+        ensures memory { error_kind error ≡ ErrorKind.OutOfMemory → result ≡ Fault.Ended RunFault.NoMemory }
+        ensures one { ¬ (error_kind error ≡ ErrorKind.OutOfMemory) → of_several ≡ false → result ≡ Fault.Ended RunFault.Read }
+        ensures several { ¬ (error_kind error ≡ ErrorKind.OutOfMemory) → of_several ≡ true → result ≡ Fault.Unread name.entry error }
     {
         match error.kind() {
             ErrorKind::OutOfMemory => Fault::Ended(RunFault::NoMemory),
-            _ => Fault::Ended(RunFault::Read),
+            _ => {
+                if of_several {
+                    Fault::Unread(name, error)
+                } else {
+                    Fault::Ended(RunFault::Read)
+                }
+            }
         }
     }
 
-    /// That of a file that can't be opened to be written.
+    /// That of a file that can't be written.
     pub fn of_create(name: &'a str, error: io::Error) -> Fault<'a>
         ensures memory { error_kind error ≡ ErrorKind.OutOfMemory → result ≡ Fault.Ended RunFault.NoMemory }
         ensures other { ¬ (error_kind error ≡ ErrorKind.OutOfMemory) → result ≡ Fault.Unwritten name.entry error }

@@ -5,16 +5,16 @@ ghost use Rattle.std.specs.Option.{option_to_list};
 ghost use Rattle.rls_session.specs.rls_script.specs.Streams.{GrewBy};
 ghost use Rattle.rlsdb.specs.Answers.{IsParsed};
 
-use crate::device::{DeviceIn, DeviceOut};
+use crate::device::DeviceIn;
 use crate::fault::Fault;
+use crate::script_file::read_file;
 use rls_hints::{Place, hint_of, label_hint};
 use rls_session::rls_script::{
-    Failed, Line, RunFault, ScriptIn, ScriptOut, first_line, read_line, read_script, write_all,
+    Failed, Line, RunFault, ScriptIn, ScriptOut, first_line, read_line, write_all,
 };
 use std::alloc::{AllocError, Global};
-use std::fs::File;
-use std::io::{Read, Write};
-use std::str;
+use std::io::Read;
+use std::{io, str};
 
 /// Writes what isn't taken of the script that is in the file, or on the standard input. True where all of it is.
 pub fn parse<'a, O: ScriptOut>(
@@ -24,27 +24,7 @@ pub fn parse<'a, O: ScriptOut>(
 ) -> Result<bool, Fault<'a>>
     ensures { IfOk result (λ fine. GrewBy (O.taken output.old) (O.taken output.new) (λ written. IsParsed written fine)) }
 {
-    match name {
-        "-" => parse_from(rt, name, rt.reader(), output),
-        name => match File::open(rt, name) {
-            Ok(file) => parse_from(rt, name, file, output),
-            Err(error) => Err(Fault::of_script(name, error)),
-        },
-    }
-}
-
-/// The same of the script that the reader gives.
-fn parse_from<'a, R: Read + Drop, O: ScriptOut>(
-    rt: &HostRuntime,
-    name: &'a str,
-    reader: R,
-    output: &mut O,
-) -> Result<bool, Fault<'a>>
-    ensures { IfOk result (λ fine. GrewBy (O.taken output.old) (O.taken output.new) (λ written. IsParsed written fine)) }
-{
-    let mut input = DeviceIn::new(rt.alloc(), reader)?;
-    let script = read_script(rt.alloc(), &mut input)?;
-    drop(input);
+    let script = read_file(rt, name)?;
     let fine = parse_lines(rt.alloc(), name, script.as_slice(), output);
     drop(script);
     Ok(fine?)
@@ -144,6 +124,13 @@ impl<'r, R: Read + Drop> Hinted<'r, R> {
             line: Vec::new(rt.alloc()),
             is_whole: true,
         }
+    }
+
+    /// Why the last read that failed did, if one did.
+    pub fn error(&self) -> Option<io::Error>
+        ensures { result ≡ self.now.device.error }
+    {
+        self.device.error()
     }
 
     // As in a script: a line ends before LF or CR LF, or at the end.

@@ -97,11 +97,15 @@ fn finish<'a>(
     ensures taken { output.new.taken.bytes ≡ output.old.taken.bytes }
     ensures emptied { OnOk result (writer_buffer output.new.writer ≡ []) }
 {
-    output.finish()?;
+    if let Err(error) = output.finish() {
+        return Err(Fault::of_create(name, error));
+    }
     match draft {
         None => Ok(()),
         Some(draft) => {
-            output.store()?;
+            if let Err(error) = output.store() {
+                return Err(Fault::of_create(name, error));
+            }
             match fs::rename(rt, draft.under.as_str(), draft.place.as_str()) {
                 Ok(()) => Ok(()),
                 Err(error) => Err(Fault::of_create(name, error)),

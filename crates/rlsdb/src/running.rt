@@ -7,7 +7,7 @@ ghost use Rattle.rls_laws.specs.rls_check.specs.rls_audit.specs.Showing.{AreText
 ghost use Rattle.rls_laws.specs.rls_check.specs.rls_audit.specs.rls_core.specs.Calls.{IsOrderBy};
 ghost use Rattle.rls_laws.specs.rls_check.specs.rls_audit.specs.rls_core.specs.Records.{Record};
 ghost use Rattle.rls_session.specs.rls_script.specs.Streams.{GrewBy};
-ghost use Rattle.rlsdb.specs.Answers.{IsAudited, IsRunText, RunsGiven};
+ghost use Rattle.rlsdb.specs.Answers.{IsAudited, IsRunText, IsWithAudit, RunsGiven};
 ghost use Rattle.rlsdb.specs.AuditLines.{WritesAudit, WritesRecords};
 
 use crate::audit_file::write_audit_line;
@@ -16,12 +16,13 @@ use crate::fault::Fault;
 use crate::hinting::Hinted;
 use crate::out_file::OutFile;
 use crate::same_file::{STANDARD_INPUT, require_own};
+use crate::script_file::input_of;
 use crate::words::ScriptFile;
 use rls_laws::records_are_texts;
 use rls_laws::rls_audit::{Line, line_of_record, written_lines_mean};
+use rls_laws::rls_check::rls_guard::rls_catalog::rls_value::Items;
 use rls_session::rls_script::{MAX_SCRIPT, RunFault, ScriptIn, ScriptOut};
 use rls_session::{Book, NoGate, run_script_telling, run_threads_telling};
-use rls_value::Items;
 use std::alloc::Global;
 use std::fs::File;
 use std::io::{Read, Write};
@@ -48,6 +49,24 @@ where
         Some(name) => Ok(Some(write_audit(rt, name, &book)?)),
         None => Ok(None),
     }
+}
+
+/// Runs the script, and writes its audit behind the answers.
+pub fn run_with_audit<'a, W, D>(
+    rt: &HostRuntime,
+    waits: &W,
+    run: ScriptFile<'a>,
+    output: &mut DeviceOut<D>,
+) -> Result<(), Fault<'a>>
+where
+    W: Threads + Wait + Clock + Sync,
+    D: Write + Drop,
+    ensures { OnOk result (GrewBy output.old.taken.bytes output.new.taken.bytes (IsWithAudit (IsRunText run.entry.threads run.entry.terse))) }
+{
+    let book = run_file(rt, waits, run, output)?;
+    let order = book.order(rt.alloc())?;
+    write_book(rt.alloc(), &book, order, output)?;
+    Ok(())
 }
 
 /// That the audit's file is its own.
@@ -100,11 +119,14 @@ where
     ensures texts { IfOk result (λ book. All AreTexts book.seen.committed) }
     ensures emptied { OnOk result (writer_buffer output.new.writer ≡ []) }
 {
-    let mut input = DeviceIn::new(rt.alloc(), reader)?;
+    let mut input = input_of(rt, run.file, reader)?;
     if run.hints {
         run_hinted(rt, waits, run, input, output)
     } else {
-        run_input(rt.alloc(), waits, run, &mut input, output)
+        match run_input(rt.alloc(), waits, run, &mut input, output) {
+            Ok(book) => Ok(book),
+            Err(fault) => Err(fault.named(run.file, input.error())),
+        }
     }
 }
 
@@ -126,8 +148,14 @@ where
 {
     let mut hinted = Hinted::new(rt, run.file, input);
     let ran = run_on(rt.alloc(), waits, run, &mut hinted, output);
+    let error = hinted.error();
     let finished = output.finish();
-    let book = ran?;
+    let book = match ran {
+        Ok(book) => book,
+        Err(fault) => {
+            return Err(Fault::Ended(fault).named(run.file, error));
+        }
+    };
     finished?;
     Ok(book)
 }
@@ -199,15 +227,16 @@ pub(crate) fn write_audit<'a>(
     match write_book(rt.alloc(), book, order, &mut file.output) {
         Ok(()) => file.put(rt),
         Err(fault) => {
+            let error = file.output.error();
             file.discard(rt);
-            Err(fault)
+            Err(fault.unwritten(name, error))
         }
     }
 }
 
 /// Writes the head, the records in the order of their commits, and the end with the numbers of the book's order: byte by byte the
 /// texts of these lines (`texts_of` of `rls_audit`). They mean just the records and the order, since texts spell the records.
-fn write_book<'a, O: ScriptOut>(
+pub(crate) fn write_book<'a, O: ScriptOut>(
     alloc: Global,
     book: &Book,
     order: Vec<u64>,

@@ -25,6 +25,18 @@ pub fn require_own<'a>(
     Ok(())
 }
 
+/// That the argument's file, which is read, isn't the one that answers go to.
+pub fn require_apart<'a>(
+    rt: &HostRuntime,
+    read: &str,
+    argument: &'static str,
+) -> Result<(), Fault<'a>> {
+    if is_one_file(rt, STANDARD_OUTPUT, read) {
+        return Err(Fault::SameFile(argument));
+    }
+    Ok(())
+}
+
 /// Whether both names lead to one file. What isn't a file can be read and written at a time.
 fn is_one_file(rt: &HostRuntime, left: &str, right: &str) -> bool {
     match (fs::metadata(rt, left), fs::metadata(rt, right)) {

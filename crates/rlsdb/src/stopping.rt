@@ -6,14 +6,15 @@ ghost use Rattle.std.specs.Str.Lines.{lines};
 ghost use Rattle.rls_laws.specs.rls_check.specs.rls_audit.specs.Showing.{AreTexts};
 ghost use Rattle.rls_laws.specs.rls_check.specs.rls_audit.specs.rls_core.specs.Records.{Record};
 ghost use Rattle.rls_session.specs.rls_script.specs.Streams.{GrewBy};
-ghost use Rattle.rlsdb.specs.Answers.{IsAudited};
+ghost use Rattle.rlsdb.specs.Answers.{IsAudited, IsWithAudit};
 ghost use Rattle.rlsdb.specs.Tests.{AreAnsweredUntil, IsStopText};
 
 use crate::answering::{Answered, answer_until_refused};
 use crate::device::{DeviceIn, DeviceOut};
 use crate::fault::Fault;
 use crate::hinting::Hinted;
-use crate::running::{require_own_audit, write_audit};
+use crate::running::{require_own_audit, write_audit, write_book};
+use crate::script_file::input_of;
 use crate::words::ScriptFile;
 use rls_session::Book;
 use rls_session::rls_script::{Failed, RunFault, ScriptIn, ScriptOut, read_script, write_all};
@@ -43,6 +44,25 @@ where
     write_answers(answered.tolds.as_slice(), output)?;
     let audit = write_wanted(rt, run.audit, &answered.book)?;
     drop(audit);
+    Ok(done)
+}
+
+/// The same, with the audit behind the answers.
+pub fn run_stopping_with_audit<'a, W, D>(
+    rt: &HostRuntime,
+    waits: &W,
+    run: ScriptFile<'a>,
+    output: &mut DeviceOut<D>,
+) -> Result<bool, Fault<'a>>
+where
+    W: Wait + Clock,
+    D: Write + Drop,
+    ensures { IfOk result (λ done. GrewBy output.old.taken.bytes output.new.taken.bytes (IsWithAudit (λ text history. IsStopText run.entry.terse text history done))) }
+{
+    let (answered, done) = run_file(rt, waits, run)?;
+    write_answers(answered.tolds.as_slice(), output)?;
+    let order = answered.book.order(rt.alloc())?;
+    write_book(rt.alloc(), &answered.book, order, output)?;
     Ok(done)
 }
 
@@ -107,12 +127,34 @@ where
     ensures answered { IfOk result (λ it. (script : List ℕ) × AreAnsweredUntil run.entry.terse (lines script) it.0.tolds.items it.0.book.seen.committed it.1) }
     ensures texts { IfOk result (λ it. All AreTexts it.0.book.seen.committed) }
 {
-    let mut input = DeviceIn::new(rt.alloc(), reader)?;
+    let mut input = input_of(rt, run.file, reader)?;
     if run.hints {
-        let mut hinted = Hinted::new(rt, run.file, input);
-        Ok(run_input(rt.alloc(), waits, run.terse, &mut hinted)?)
+        run_hinted(rt, waits, run, input)
     } else {
-        Ok(run_input(rt.alloc(), waits, run.terse, &mut input)?)
+        match run_input(rt.alloc(), waits, run.terse, &mut input) {
+            Ok(answered) => Ok(answered),
+            Err(fault) => Err(Fault::Ended(fault).named(run.file, input.error())),
+        }
+    }
+}
+
+/// The same of the script that the device gives, and standard error is told of its lines that aren't taken.
+fn run_hinted<'a, W, R>(
+    rt: &HostRuntime,
+    waits: &W,
+    run: ScriptFile<'a>,
+    input: DeviceIn<R>,
+) -> Result<(Answered, bool), Fault<'a>>
+where
+    W: Wait + Clock,
+    R: Read + Drop,
+    ensures answered { IfOk result (λ it. (script : List ℕ) × AreAnsweredUntil run.entry.terse (lines script) it.0.tolds.items it.0.book.seen.committed it.1) }
+    ensures texts { IfOk result (λ it. All AreTexts it.0.book.seen.committed) }
+{
+    let mut hinted = Hinted::new(rt, run.file, input);
+    match run_input(rt.alloc(), waits, run.terse, &mut hinted) {
+        Ok(answered) => Ok(answered),
+        Err(fault) => Err(Fault::Ended(fault).named(run.file, hinted.error())),
     }
 }
 

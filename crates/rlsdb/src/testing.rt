@@ -5,15 +5,16 @@ ghost use Rattle.rls_session.specs.rls_script.specs.Streams.{GrewBy};
 ghost use Rattle.rlsdb.specs.Tests.{AreTested, IsFilledBy, IsTested, IsTestedSo, IsTextTested};
 
 use crate::answering::{Answered, answer_lines};
-use crate::device::{DeviceIn, DeviceOut};
+use crate::device::DeviceOut;
 use crate::fault::Fault;
 use crate::out_file::OutFile;
+use crate::script_file::read_file;
 use crate::words::Tests;
-use rls_session::rls_script::{Failed, RunFault, ScriptOut, read_script, write_all};
+use rls_session::rls_script::{Failed, RunFault, ScriptOut, write_all};
 use rls_transcript::{Told, filled, loose_in, script_of, split_lines, write_report};
 use std::alloc::Global;
 use std::fs::File;
-use std::io::{Read, Write};
+use std::io::Write;
 use std::sync::Wait;
 use std::time::Clock;
 
@@ -139,25 +140,9 @@ fn write_filled<'a>(
     match write_all(again.as_slice(), &mut file.output) {
         Ok(()) => Ok(Some(file.put(rt)?)),
         Err(Failed) => {
+            let error = file.output.error();
             file.discard(rt);
-            Err(Fault::Ended(RunFault::Write))
+            Err(Fault::Ended(RunFault::Write).unwritten(name, error))
         }
     }
-}
-
-/// The bytes of the file, or of the standard input.
-fn read_file<'a>(rt: &HostRuntime, name: &'a str) -> Result<Vec<u8>, Fault<'a>> {
-    match name {
-        "-" => Ok(read_from(rt, rt.reader())?),
-        name => match File::open(rt, name) {
-            Ok(file) => Ok(read_from(rt, file)?),
-            Err(error) => Err(Fault::of_script(name, error)),
-        },
-    }
-}
-
-/// All that the reader gives, at most as much as a script has.
-fn read_from<'a, R: Read + Drop>(rt: &HostRuntime, reader: R) -> Result<Vec<u8>, Fault<'a>> {
-    let mut input = DeviceIn::new(rt.alloc(), reader)?;
-    Ok(read_script(rt.alloc(), &mut input)?)
 }

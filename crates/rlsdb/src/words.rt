@@ -3,6 +3,7 @@
 ghost use Rattle.std.specs.Prelude.{◌≡◌, ◌^◌, SomeIff, MatchOption};
 ghost use Rattle.std.specs.Str.Parse.{digits_value};
 ghost use Rattle.rls_value.specs.declared.row.RowId.{RowId};
+ghost use Rattle.rlsdb.specs.Words as spec;
 ghost use Rattle.rlsdb.specs.Words.{IsDecimal, IsRowText};
 
 use rls_value::RowId;
@@ -14,7 +15,7 @@ pub struct ScriptFile<'a> {
     pub file: &'a str,
     /// Whether each label has a thread.
     pub threads: bool,
-    /// The file that its audit is written to.
+    /// The file that its audit is written to, or `-` for standard output.
     pub audit: Option<&'a str>,
     /// Whether serialization failures are told without the objects and the transactions.
     pub terse: bool,
@@ -41,6 +42,15 @@ pub struct Tests<'a> {
     pub write: bool,
 }
 
+/// Audits to be checked.
+#[derive(Drop)]
+pub struct Checks<'a> {
+    /// Their files, or `-` for standard input.
+    pub audits: Vec<&'a str>,
+    /// Whether the exit status alone says what is found.
+    pub quiet: bool,
+}
+
 /// A command with what it is about.
 #[derive(Drop)]
 pub enum Request<'a> {
@@ -49,12 +59,29 @@ pub enum Request<'a> {
     RunStopping(ScriptFile<'a>),
     Test(Tests<'a>),
     Order(&'a str),
-    Check(&'a str),
+    Check(Checks<'a>),
     Explain(Explain<'a>),
-    /// From the first file into the second.
+    /// From the first file into the second, or, where that is `-`, to standard output.
     Migrate(&'a str, &'a str),
     /// What of this script isn't taken.
     Parse(&'a str),
+}
+
+/// Whether the file that a command writes is the standard output.
+pub fn is_output(name: &str) -> bool
+    ensures { result ≡ spec.is_output name.now }
+{
+    name == "-"
+}
+
+/// The same of a file that may not be wanted.
+pub fn is_output_wanted(name: Option<&str>) -> bool
+    ensures { result ≡ spec.is_output_wanted name.entry }
+{
+    match name {
+        Some(name) => is_output(name),
+        None => false,
+    }
 }
 
 /// The number below 2^64 that the text is: decimal digits alone.
