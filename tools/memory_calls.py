@@ -27,7 +27,7 @@ FUNCTION = re.compile(r"^( *)(pub )?fn (\w+)")
 # Calls whose errors could say so, and which take no memory: what they give is shared, or made of what they are given.
 FREE = set("""Name::copy Row::copy Object::copy Why::copy GrantFault::copy Cause::copy Refusal::copy Grant::copy Verdict::copy combine
     Catalog::copy State::copy Record::copy""".split())
-NEVER = set("""SharedList::copy SharedMap::copy Text::copy Core::rollback Engine::close Reader::finish Converter::finish""".split())
+NEVER = set("""Grants::copy SharedList::copy SharedMap::copy Text::copy Core::rollback Engine::close Reader::finish Converter::finish""".split())
 
 # Calls that have scenarios, and the public functions that are parts of them: what these ask for is asked for there.
 PARTS = {
@@ -50,7 +50,8 @@ PARTS = {
     "revoke_member": "SharedList::remove",
     "has": "effective_roles_of",
     "option": "options",
-    "grant": "own_grants put_grants",
+    "grant": "Grants::put own_grants put_grants",
+    "revoke": "Grants::remove",
     "missing": "is_granted missing_in",
     "applying": "chosen",
     "run_statement": """Delta::from_slice Delta::with_capacity Reads::copy Reads::with_capacity SelectedTable::copy note_effective_roles

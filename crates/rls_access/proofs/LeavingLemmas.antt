@@ -113,6 +113,7 @@ each_sound none rows ctx (statement.Insert asked) = rows.insert ctx asked
 each_sound none rows ctx (statement.Update asked) = rows.update ctx asked
 each_sound none rows ctx (statement.Delete asked) = rows.delete ctx asked
 each_sound none rows ctx (statement.Select asked) = (none.select ctx asked).sound
+each_sound none rows ctx (statement.Transaction asked) = λ s sound. tt
 
 -- a statement leaves sound rows sound
 pub step_sound : WriteNoRows → KeepRows → (s : State) (ctx : Ctx) (asked : Statement) → RowsAreSound s → RowsAreSound (changed_all s (changes_of (effect_in s ctx asked)))
@@ -138,6 +139,7 @@ each_tables none rows ctx (statement.Insert asked) = rows.insert ctx asked
 each_tables none rows ctx (statement.Update asked) = rows.update ctx asked
 each_tables none rows ctx (statement.Delete asked) = rows.delete ctx asked
 each_tables none rows ctx (statement.Select asked) = (none.select ctx asked).tables
+each_tables none rows ctx (statement.Transaction asked) = λ s sound. tt
 
 -- a statement leaves the tables
 pub step_tables : WriteNoRows → KeepEachTable → (s : State) (ctx : Ctx) (asked : Statement) → RowsAreSound s → TablesStay s (changes_of (effect_in s ctx asked))
@@ -162,6 +164,7 @@ each_goes_on none rows s ctx (statement.Insert asked) sound free = rows.insert s
 each_goes_on none rows s ctx (statement.Update asked) sound free = rows.update s ctx asked sound
 each_goes_on none rows s ctx (statement.Delete asked) sound free = rows.delete s ctx asked sound
 each_goes_on none rows s ctx (statement.Select asked) sound free = none_goes_on s ctx ((select ctx asked).in_state s).gives ((none.select ctx asked).writes_none s)
+each_goes_on none rows s ctx (statement.Transaction asked) sound free = tt
 
 -- the changes of a statement go on
 pub step_goes_on : WriteNoRows → RowsGoOn → (s : State) (ctx : Ctx) (asked : Statement) → RowsAreSound s → AllFree s ctx.txn ctx.next → GoOn s ctx (changes_of (effect_in s ctx asked))

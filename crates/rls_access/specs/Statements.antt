@@ -1,7 +1,7 @@
 -- What a statement comes to in a state, with what it reads: whether its transaction may run it, and then what its own
 -- definition says.
 use Rattle.std.specs.Prelude.{ℕ, List, Some, None, Result, Ok, Err}
-use Rattle.rls_value.specs.{declared.refusal.Refusal.Refusal, declared.refusal.Refusal.TheVariants.TxnState, declared.refusal.TxnState.TheVariants.ReadOnly, declared.tag.Tag.Tag}
+use Rattle.rls_value.specs.{declared.refusal.Refusal.Refusal, declared.refusal.Refusal.TheVariants.TxnState, declared.refusal.TxnState.TheVariants.AlreadyInProgress, declared.refusal.TxnState.TheVariants.ReadOnly, declared.tag.Tag.Tag}
 use Rattle.rls_value.specs.declared.tag.Tag.TheVariants as tag
 use Rattle.rls_guard.specs.rls_catalog.specs.State.{State}
 use Rattle.rls_statement.specs.{declared.statement.Statement.Statement, Tags.tag_of}
@@ -13,13 +13,20 @@ use Rattle.rls_ddl.specs.{CreatingRoles.create_role, AlteringRoles.alter_role, S
 use Rattle.rls_ddl.specs.Granting.{grant, grant_roles, revoke, revoke_roles}
 use Rattle.rls_dml.specs.{Inserting.insert, Updating.update, Deleting.delete, Selecting.select}
 
--- a transaction that only reads takes SELECT, SET ROLE and RESET ROLE alone
+-- a transaction that only reads takes SELECT, SET ROLE and RESET ROLE alone; of what begins or ends a block it isn't the mode that says no
 abbrev pub mode_or_refused : Mode → Tag → Result (Unit {0}) Refusal
 mode_or_refused Write tag = Ok tt
 mode_or_refused Read tag.Select = Ok tt
 mode_or_refused Read tag.Set = Ok tt
 mode_or_refused Read tag.Reset = Ok tt
+mode_or_refused Read tag.Begin = Ok tt
+mode_or_refused Read tag.Commit = Ok tt
+mode_or_refused Read tag.Rollback = Ok tt
 mode_or_refused Read tag = Err (TxnState (ReadOnly tag))
+
+-- what begins or ends a block is refused, whatever it is: a transaction is in progress
+abbrev pub in_progress : Result Effect Refusal
+in_progress = Err (TxnState AlreadyInProgress)
 
 -- what each statement comes to
 abbrev pub done_by : Ctx → Statement → Asking Effect
@@ -39,6 +46,7 @@ done_by ctx (statement.Insert asked) = insert ctx asked
 done_by ctx (statement.Update asked) = update ctx asked
 done_by ctx (statement.Delete asked) = delete ctx asked
 done_by ctx (statement.Select asked) = select ctx asked
+done_by ctx (statement.Transaction asked) = known in_progress
 
 -- the mode comes first
 abbrev pub step : Ctx → Statement → Asking Effect

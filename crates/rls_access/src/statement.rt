@@ -159,6 +159,7 @@ fn done_by<'c, S: RowSource<'c>>(
         Statement::Update(update) => run_update(alloc, source, read_set, ctx, update),
         Statement::Delete(delete) => run_delete(alloc, source, read_set, ctx, delete),
         Statement::Select(select) => run_select(alloc, source, read_set, ctx, select),
+        Statement::Transaction(_) => Err(Refusal::TxnState(TxnState::AlreadyInProgress)),
     }
 }
 
@@ -168,6 +169,7 @@ fn require_mode(mode: Mode, tag: Tag) -> Result<(), Refusal>
 {
     match (mode, tag) {
         (Mode::Write, _) | (Mode::Read, Tag::Select | Tag::Set | Tag::Reset) => Ok(()),
+        (Mode::Read, Tag::Begin | Tag::Commit | Tag::Rollback) => Ok(()),
         (Mode::Read, tag) => Err(Refusal::TxnState(TxnState::ReadOnly(tag))),
     }
 }

@@ -1,4 +1,5 @@
 pub mod AllLemmas
+pub mod AskedLemmas
 pub mod CuttingLemmas
 pub mod ExampleLemmas
 pub mod MeaningLemmas

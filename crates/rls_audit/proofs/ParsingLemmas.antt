@@ -10,7 +10,7 @@ use Rattle.rls_statement.specs.declared.statement.Statement.{Statement}
 use Rattle.rls_statement.specs.declared.statement.CreatePolicy.{CreatePolicy}
 use Rattle.rls_statement.specs.declared.statement.Statement.TheVariants as st
 use Rattle.rls_text.specs.{ParseResults.IsParseResult, ParseResults.IsSpelled, Words.words_of, declared.token.Token.Token}
-use Rattle.rls_audit.specs.Reading.{TellsWhether, IsStatementText, IsPolicyText, creates_on}
+use Rattle.rls_audit.specs.Reading.{TellsWhether, IsPolicyText, creates_on}
 
 -- a statement that is spelled within the limits is answered
 answered_with : (words : List Token) (r : Result Statement Refusal) (x : Statement) → IsParseResult words r → IsSpelled words x → r ≡ Ok x
@@ -29,9 +29,6 @@ refused text refusal a other = a (λ h. other (err_same refusal NoMemory h))
 -- so is a statement
 pub answered : (text : List ℕ) (x : Statement) → (¬ (◌≡◌ {A = Result Statement Refusal} (Ok x) (Err NoMemory)) → IsParseResult (words_of text) (Ok x)) → IsParseResult (words_of text) (Ok x)
 answered text x a = a (λ h. clash NoMemory x (sym h))
-
-pub no_statement : (text : List ℕ) (refusal : Refusal) → IsParseResult (words_of text) (Err refusal) → IsStatementText text → ⊥
-no_statement text refusal a h = clash refusal h.0 (answered_with (words_of text) (Err refusal) h.0 a h.1)
 
 same_bytes : (t : List ℕ) → bytes_eq t t ≡ true
 same_bytes t = (bytes_eq-Decides t t).1 refl
@@ -63,6 +60,7 @@ own_policy table text (Ok (st.Insert x)) h e = absurd (no_true e)
 own_policy table text (Ok (st.Update x)) h e = absurd (no_true e)
 own_policy table text (Ok (st.Delete x)) h e = absurd (no_true e)
 own_policy table text (Ok (st.Select x)) h e = absurd (no_true e)
+own_policy table text (Ok (st.Transaction x)) h e = absurd (no_true e)
 
 pub policy_told : (table text : List ℕ) (r : Result Statement Refusal) → IsParseResult (words_of text) r → IfOk r (λ x. IsSpelled (words_of text) x) → TellsWhether (creates_on table r) (IsPolicyText table text)
 policy_told table text r a h = go (creates_on table r) refl

@@ -10,6 +10,7 @@ pub mod AnswerCodecs
 pub mod ContentCodecs
 pub mod ChangeCodecs
 pub mod LineCodecs
+pub mod Asked
 pub mod Reading
 pub mod Lines
 pub mod Ordered

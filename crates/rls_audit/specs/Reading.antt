@@ -15,6 +15,7 @@ use Rattle.rls_audit.specs.declared.changes.Changed.TheVariants as c
 use Rattle.rls_audit.specs.declared.lines.Answered.{Answered}
 use Rattle.rls_audit.specs.declared.lines.Line.{Line}
 use Rattle.rls_audit.specs.declared.lines.Line.TheVariants.{Head, Txn, End}
+use Rattle.rls_audit.specs.Asked.{IsAsked}
 use Rattle.rls_audit.specs.LineCodecs.{line}
 
 -- the line as it is written: in the second format, as JSON without blanks, the keys of objects in byte order
@@ -30,9 +31,9 @@ abbrev pub TellsWhether : Bool → Type 0 → Type 0
 TellsWhether true P = P
 TellsWhether false P = ¬ P
 
--- the text spells a statement within the limits
+-- the text spells a statement, or what begins or ends a block, within the limits
 abbrev pub IsStatementText : List ℕ → Type 0
-IsStatementText text = (x : Statement) × IsSpelled (words_of text) x
+IsStatementText text = (x : Statement) × IsAsked (words_of text) x
 
 -- the text spells the statement that creates a policy of the table
 abbrev pub IsPolicyText : List ℕ → List ℕ → Type 0

@@ -11,6 +11,7 @@ use Rattle.rls_audit.specs.declared.lines.Answered.{Answered}
 use Rattle.rls_audit.specs.declared.lines.Shown.{Shown}
 use Rattle.rls_audit.specs.declared.lines.Line.{Line}
 use Rattle.rls_audit.specs.declared.lines.Line.TheVariants.{Head, Txn, End}
+use Rattle.rls_audit.specs.Asked.{IsAsked}
 use Rattle.rls_audit.specs.ChangeCodecs.{object_of}
 use Rattle.rls_audit.specs.Lines as shown
 use Rattle.rls_audit.specs.Reading.{MeansLine}
@@ -48,7 +49,7 @@ pub record ShowsChanged (changed : Changed) (it : shown.Written) : Type 0 where
 
 -- the statement was answered so
 pub record ShowsAnswered (answered : Answered) (it : shown.Answered) : Type 0 where
-  pub statement : IsSpelled (words_of answered.text) it.statement
+  pub statement : IsAsked (words_of answered.text) it.statement
   pub reply : answered.reply ≡ it.reply
   pub decisions : answered.decisions ≡ it.decisions
 

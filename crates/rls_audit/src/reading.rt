@@ -10,7 +10,7 @@ use crate::format::{Audit, Format, Second};
 use crate::lines::{Answered, Line};
 use rls_codec::Unread;
 use rls_statement::Statement;
-use rls_text::parse;
+use rls_text::{parse, parse_command};
 use rls_value::{Name, Refusal, Text};
 use std::alloc::{AllocError, Global};
 
@@ -99,13 +99,13 @@ fn are_policies(alloc: Global, table: &Name, texts: &[Text]) -> Result<bool, All
     Ok(true)
 }
 
-/// Whether the text is a statement's.
+/// Whether the text is a statement's, or what begins or ends a block.
 fn is_statement(alloc: Global, text: &Text) -> Result<bool, AllocError>
     ensures { IfOk result (λ is. TellsWhether is (IsStatementText text.now)) }
 {
-    match parse(alloc, text.as_str()) {
-        Ok(statement) => {
-            drop(statement);
+    match parse_command(alloc, text.as_str()) {
+        Ok(command) => {
+            drop(command);
             Ok(true)
         }
         Err(Refusal::NoMemory) => Err(AllocError),

@@ -170,7 +170,7 @@ fn statement_text(alloc: Global, statement: &Statement) -> Result<Text, AllocErr
     ensures spelled { IfOk result (λ text. IsSpellable statement.now → IsSpelled (words_of text) statement.now) }
 {
     let text = printed(alloc, statement)?;
-    Ok(Text::from_string(text))
+    Text::from_string(text)
 }
 
 /// The statement in its one written form. Where some text spells it, this one does.
@@ -374,5 +374,5 @@ fn policy_text(alloc: Global, table: &Name, policy: &Policy) -> Result<Text, All
     ensures { IfOk result (λ text. ShowsPolicy table.now text policy.now) }
 {
     let text = print_policy(alloc, table, policy)?;
-    Ok(Text::from_string(text))
+    Text::from_string(text)
 }

@@ -11,7 +11,7 @@ use Rattle.rls_catalog.specs.declared.grant.Grant.{Grant}
 use Rattle.rls_catalog.specs.Privileges.{is_same_privilege, roles_in, is_option_by, optioned_by, Options, Owner, Granted, AreOptions}
 use Rattle.rls_catalog.proofs.Walks.{one_of-append, bytes_same}
 use Rattle.rls_catalog.proofs.Inheriting.{or_either}
-use Rattle.rls_catalog.specs.GrantOptions.{MayStay, LeftBy, End, Kept, Removed, LeftAfterRevoke, HasDependents, may_stay, left_by, has_dependents}
+use Rattle.rls_catalog.specs.GrantOptions.{HaveGrantors, MayStay, LeftBy, End, Kept, Removed, LeftAfterRevoke, HasDependents, may_stay, left_by, has_dependents}
 
 -- a fact of the owner that each grant with option hands on is one of all that hold the grant option
 pub options_only : (owner : List ℕ) (grants : List Grant) (privilege : Privilege) (fact : List ℕ → Type 0)
@@ -162,3 +162,7 @@ still_may owner grants privilege left by grant (inr holds) = inr (left_options o
 -- what is left needs no further removal: each grantor in it holds the grant option by it
 pub left_is_settled : (owner : List ℕ) (grants : List Grant) (privilege : Privilege) (left : List Grant) → LeftAfterRevoke owner grants privilege left → LeftAfterRevoke owner left privilege left
 left_is_settled owner grants privilege left by = settled (MayStay owner grants privilege) (MayStay owner left privilege) (still_may owner grants privilege left by) grants left by
+
+-- grantors that hold the grant option by an owner hold it by one of the same name
+pub have_grantors_by : (known owner : List ℕ) (grants : List Grant) → HaveGrantors known grants → bytes_eq known owner ≡ true → HaveGrantors owner grants
+have_grantors_by known owner grants have is = subst (λ name. HaveGrantors name grants) (bytes_same known owner is) have

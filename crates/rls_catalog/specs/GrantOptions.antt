@@ -1,7 +1,7 @@
 -- What becomes of grants by REVOKE, and who may grant (PostgreSQL manual, GRANT and REVOKE): each grant that is left has
 -- a grantor who holds the grant option.
 use Rattle.std.specs.Prelude.{◌≡◌, ℕ, List, [], ◌∷◌, Option, Some, None, Bool, true, false, ◌&&◌, ◌||◌, not, if◌then◌else◌, map, filter}
-use Rattle.std.specs.List.{list_any, Any}
+use Rattle.std.specs.List.{AllByRecursion, list_any, Any}
 use Rattle.std.specs.Str.{bytes_eq}
 use Rattle.std.proofs.Common.{◌⊎◌}
 use Rattle.rls_expr.specs.rls_value.specs.{Names.one_of, declared.verb.Privilege.Privilege}
@@ -40,6 +40,14 @@ without_option privilege grantee grantor grants = map (λ grant. if is_grant_of 
 -- a grant may stay: it is of another privilege, or its grantor holds the grant option
 abbrev pub MayStay : List ℕ → List Grant → Privilege → Grant → Type 0
 MayStay owner grants privilege grant = (is_same_privilege grant.privilege privilege ≡ false) ⊎ Options owner grants privilege grant.grantor
+
+-- by the grants, each grantor of these holds the grant option for what it granted
+abbrev pub GrantorsHold : List ℕ → List Grant → List Grant → Type 0
+GrantorsHold owner grants these = AllByRecursion (λ grant. Options owner grants grant.privilege grant.grantor) these
+
+-- so does each of their own, as where GRANT and REVOKE made them
+abbrev pub HaveGrantors : List ℕ → List Grant → Type 0
+HaveGrantors owner grants = GrantorsHold owner grants grants
 
 -- of the grants those that may stay, in their order
 pub data LeftBy (stays : Grant → Type 0) : List Grant → List Grant → Type 0 where

@@ -6,7 +6,8 @@ ghost use Rattle.rls_catalog.specs.{State.role_of, State.members_of, State.table
 
 use crate::borrowed::BorrowedRow;
 use crate::change::{Change, Delta};
-use crate::lists::{Grants, Memberships, NoItems, Policies};
+use crate::grants::Grants;
+use crate::lists::{Memberships, NoItems, Policies};
 use crate::role::RoleDef;
 use crate::table_rows::Rows;
 use rls_expr::TableDef;

@@ -2,7 +2,8 @@
 
 ghost use Rattle.std.specs.Prelude.{◌≡◌, [], ◌∷◌, ◌++◌, IfOk, OnOk, OnErr};
 
-use crate::lists::{Grants, Memberships, Policies};
+use crate::grants::Grants;
+use crate::lists::{Memberships, Policies};
 use crate::role::RoleDef;
 use crate::stored::Keyed;
 use rls_expr::TableDef;

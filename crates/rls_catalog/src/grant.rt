@@ -149,11 +149,11 @@ fn role_of(grantee: &Grantee) -> Result<Option<Name>, AllocError>
     }
 }
 
-fn copy_name(column: &Option<Name>) -> Result<Option<Name>, AllocError>
-    ensures { IfOk result (λ copied. copied ≡ column.now) }
+pub(crate) fn copy_name(name: &Option<Name>) -> Result<Option<Name>, AllocError>
+    ensures { IfOk result (λ copied. copied ≡ name.now) }
 {
-    match column {
-        Some(column) => Ok(Some(column.copy()?)),
+    match name {
+        Some(name) => Ok(Some(name.copy()?)),
         None => Ok(None),
     }
 }

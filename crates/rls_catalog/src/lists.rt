@@ -2,15 +2,12 @@
 
 ghost use Rattle.std.specs.Prelude.{◌≡◌, []};
 
-use crate::grant::{Grant, GrantKey};
+use crate::grants::Grants;
 use crate::role::Membership;
 use rls_expr::Policy;
 use rls_expr::rls_value::Name;
 use shared_map::{Share, SharedList};
 use std::marker::Model;
-
-/// The grants on a table: by privilege, then by grantee, PUBLIC first, then by grantor.
-pub type Grants = SharedList<GrantKey, Grant>;
 
 /// The memberships that a role has, in byte order of the roles' names.
 pub type Memberships = SharedList<Name, Membership>;
@@ -40,7 +37,7 @@ impl NoItems {
     pub(crate) fn new() -> NoItems {
         NoItems {
             members: SharedList::new(),
-            grants: SharedList::new(),
+            grants: Grants::new(),
             policies: SharedList::new(),
         }
     }

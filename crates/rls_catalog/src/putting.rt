@@ -7,7 +7,8 @@ ghost use Rattle.rls_catalog.specs.State.{State, name_order};
 
 use crate::catalog::Catalog;
 use crate::change::{Change, RowChange};
-use crate::lists::{Grants, Memberships, Policies};
+use crate::grants::Grants;
+use crate::lists::{Memberships, Policies};
 use crate::role::RoleDef;
 use crate::table_rows::Rows;
 use rls_expr::TableDef;

@@ -15,9 +15,10 @@ use Rattle.rls_expr.specs.declared.table.Column.{Column}
 use Rattle.rls_expr.specs.declared.table.TableDef.{TableDef}
 use Rattle.rls_catalog.specs.declared.change.Change.{Change}
 use Rattle.rls_catalog.specs.declared.change.Change.TheVariants as c
-use Rattle.rls_statement.specs.declared.statement.Statement.{Statement}
+use Rattle.rls_statement.specs.{declared.command.Command.Command, declared.statement.Statement.Statement}
 use Rattle.rls_statement.specs.declared.statement.Statement.TheVariants as st
 use Rattle.rls_audit.specs.rls_text.specs.{ParseResults.IsParseResult, ParseResults.IsSpelled, Words.words_of, declared.token.Token.Token}
+use Rattle.rls_audit.specs.rls_text.specs.Commands.{AnswersCommand}
 use Rattle.rls_audit.specs.Reading.{IsStatementText, IsPolicyText}
 use Rattle.rls_audit.specs.Shows.{NamesColumn, SpellsPolicy, ShowsChanged}
 use Rattle.rls_audit.specs.Showing.{HasKey, CanTell}
@@ -29,7 +30,7 @@ use Rattle.rls_audit.specs.declared.changes.Changed.TheVariants as changed
 use Rattle.rls_check.specs.declared.transaction.Put.{Put}
 use Rattle.rls_check.specs.declared.transaction.Put.TheVariants as put
 use Rattle.rls_check.specs.Audited.{written_of}
-use Rattle.rls_check.specs.Keeping.{IsMade, KeepsPut, NamesKey, NamesKeys, place_of, policy_in, table_of}
+use Rattle.rls_check.specs.Keeping.{IsMade, IsSpelledText, KeepsPut, NamesKey, NamesKeys, place_of, policy_in, table_of}
 
 -- ---- lists that belong together
 
@@ -72,7 +73,7 @@ is_memory : (refusal : Refusal) → (refusal ≡ NoMemory) ⊎ (refusal ≡ NoMe
 is_memory NoMemory = inl refl
 is_memory other = inr (λ h. cc)
 
-pub statement_made : (text : List ℕ) (r : Result Statement Refusal) → IsStatementText text → IfOk r (IsSpelled (words_of text)) → (¬ (r ≡ Err NoMemory) → IsParseResult (words_of text) r) → IsMade (IsSpelled (words_of text)) r
+pub statement_made : (text : List ℕ) (r : Result Statement Refusal) → IsSpelledText text → IfOk r (IsSpelled (words_of text)) → (¬ (r ≡ Err NoMemory) → IsParseResult (words_of text) r) → IsMade (IsSpelled (words_of text)) r
 statement_made text (Ok x) has ok answer = ok
 statement_made text (Err refusal) has ok answer =
     elim (is_memory refusal) [
@@ -80,6 +81,23 @@ statement_made text (Err refusal) has ok answer =
       | inr other ↦
           (let a : IsParseResult (words_of text) (Err refusal) = answer (λ h. other (err_same refusal NoMemory h)) in
           absurd (clash refusal has.0 (a.spelled has.0 has.1.words has.1.spelled ∙ has.1.within)))
+    ]
+
+command_err : (x y : Refusal) → ◌≡◌ {A = Result Command Refusal} (Err x) (Err y) → x ≡ y
+command_err x y h = cc
+
+command_clash : (refusal : Refusal) (x : Command) → ◌≡◌ {A = Result Command Refusal} (Err refusal) (Ok x) → ⊥
+command_clash refusal x h = cc
+
+-- a text of a command is answered with it, unless memory ran out
+pub command_made : (text : List ℕ) (refusal : Refusal) → IsStatementText text → (¬ (◌≡◌ {A = Result Command Refusal} (Err refusal) (Err NoMemory)) → AnswersCommand (words_of text) (Err refusal)) → refusal ≡ NoMemory
+command_made text refusal has answer =
+    elim (is_memory refusal) [
+      | inl memory ↦ memory
+      | inr other ↦
+          (let it = has.1 in
+          let a : AnswersCommand (words_of text) (Err refusal) = answer (λ h. other (command_err refusal NoMemory h)) in
+          absurd (command_clash refusal it.command (a.spelled it.command it.spelled.words it.spelled.spelled ∙ it.spelled.within)))
     ]
 
 ok_same : (x y : Statement) → ◌≡◌ {A = Result Statement Refusal} (Ok x) (Ok y) → x ≡ y

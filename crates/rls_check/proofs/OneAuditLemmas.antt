@@ -30,7 +30,7 @@ use Rattle.rls_check.specs.declared.transaction.Transaction.{Transaction}
 use Rattle.rls_check.specs.declared.audit.Audit.{Audit}
 use Rattle.rls_check.specs.Audited.{answered_of, written_of, shown_of, lines_between, lines_of}
 use Rattle.rls_check.specs.Keeping.{KeepsAnswer, KeepsPut, Keeps, AreKept, IsFirstNamed, KeyIsFirst, KeysAreFirst, lines_read, place_of, table_of}
-use Rattle.rls_check.specs.KeepingLaws.{spelled_one, policies_one, same_begin}
+use Rattle.rls_check.specs.KeepingLaws.{asked_one, policies_one, same_begin}
 use Rattle.rls_check.specs.Wholes.{StandsBehind, StandInTurn, IsTextOf, AreSomeAudit, IsAuditOf}
 use Rattle.rls_check.proofs.FormLemmas.{one_line}
 use Rattle.rls_check.proofs.HeadLemmas.{one_format}
@@ -44,7 +44,7 @@ answer_by statement reply decisions = record { statement = statement; reply = re
 
 answer_same : (x : Answered) (y : Answer) (z : lines.Answered) → KeepsAnswer x y → ShowsAnswered x z → answered_of y ≡ z
 answer_same x y z h k =
-    ap (λ (s : Statement). answer_by s y.reply y.decisions) (spelled_one x.text y.statement z.statement h.statement k.statement)
+    ap (λ (s : Statement). answer_by s y.reply y.decisions) (asked_one x.text y.statement z.statement h.statement k.statement)
     ∙ (ap (λ (r : Result Reply Refusal). answer_by z.statement r y.decisions) (sym h.reply ∙ k.reply) ∙ ap (answer_by z.statement z.reply) (sym h.decisions ∙ k.decisions))
 
 answers_same : (xs : List Answered) (ys : List Answer) (zs : List lines.Answered) → AllZip KeepsAnswer xs ys → AllZip ShowsAnswered xs zs → map answered_of ys ≡ zs

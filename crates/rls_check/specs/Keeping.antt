@@ -11,6 +11,7 @@ use Rattle.rls_explain.specs.rls_meaning.specs.rls_guard.specs.Effects.{changes_
 use Rattle.rls_audit.specs.rls_core.specs.Records.{Record}
 use Rattle.rls_audit.specs.Lines.{Content, content_of}
 use Rattle.rls_audit.specs.Lines as lines
+use Rattle.rls_audit.specs.rls_text.specs.{ParseResults.IsSpelled, Words.words_of}
 use Rattle.rls_audit.specs.declared.contents.TableShape.{TableShape}
 use Rattle.rls_audit.specs.declared.changes.Changed.{Changed}
 use Rattle.rls_audit.specs.declared.changes.Changed.TheVariants as c
@@ -24,6 +25,10 @@ use Rattle.rls_check.specs.declared.transaction.Put.{Put}
 use Rattle.rls_check.specs.declared.transaction.Put.TheVariants as put
 use Rattle.rls_check.specs.declared.transaction.Transaction.{Transaction}
 use Rattle.rls_check.specs.Audited.{answered_of}
+
+-- the text spells a statement of the grammar within the limits
+abbrev pub IsSpelledText : List ℕ → Type 0
+IsSpelledText text = (x : Statement) × IsSpelled (words_of text) x
 
 -- the policy that the statement creates
 abbrev pub policy_in : Statement → Option Policy

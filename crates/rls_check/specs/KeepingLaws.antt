@@ -5,13 +5,13 @@ use Rattle.std.proofs.Common.{ap, sym, ◌∙◌, subst}
 use Rattle.std.proofs.lemmas.List.Elements.{recursion_from_All}
 use Rattle.rls_value.specs.declared.refusal.Refusal.{Refusal}
 use Rattle.rls_expr.specs.declared.policy.Policy.{Policy}
-use Rattle.rls_statement.specs.declared.statement.Statement.{Statement}
+use Rattle.rls_statement.specs.{Commands.statement_of, declared.statement.Statement.Statement}
 use Rattle.rls_statement.specs.declared.statement.Statement.TheVariants as st
 use Rattle.rls_audit.specs.rls_access.specs.Transactions.{Begin}
 use Rattle.rls_explain.specs.rls_meaning.specs.rls_guard.specs.{declared.context.Mode.Mode, declared.reply.Reply.Reply, declared.reply.Decision.Decision}
 use Rattle.rls_audit.specs.rls_text.specs.{ParseResults.IsSpelled, Words.words_of}
-use Rattle.rls_audit.specs.rls_text.proofs.Laws.{one_statement}
-use Rattle.rls_audit.specs.Reading.{HasStatement, HasPolicies, IsPolicyText}
+use Rattle.rls_audit.specs.rls_text.proofs.{CommandLaws.one_command, Laws.one_statement}
+use Rattle.rls_audit.specs.{Asked.IsAsked, Reading.HasStatement, Reading.HasPolicies, Reading.IsPolicyText}
 use Rattle.rls_audit.specs.Shows.{SpellsPolicy}
 use Rattle.rls_audit.specs.declared.changes.Changed.{Changed}
 use Rattle.rls_audit.specs.declared.changes.Changed.TheVariants as c
@@ -24,6 +24,10 @@ use Rattle.rls_check.specs.declared.transaction.Transaction.{Transaction}
 use Rattle.rls_check.specs.Keeping.{Keeps, KeepsAnswer, KeepsPut, AreKept, policy_in, table_of}
 
 -- ---- one
+
+-- a text is one statement
+pub asked_one : (text : List ℕ) (x y : Statement) → IsAsked (words_of text) x → IsAsked (words_of text) y → x ≡ y
+asked_one text x y h k = sym h.same ∙ ap statement_of (one_command (words_of text) h.command k.command h.spelled.spelled k.spelled.spelled) ∙ k.same
 
 pub spelled_one : (text : List ℕ) (x y : Statement) → IsSpelled (words_of text) x → IsSpelled (words_of text) y → x ≡ y
 spelled_one text x y h k = one_statement (words_of text) x y h.spelled k.spelled
@@ -42,7 +46,7 @@ answers_one [] (y ∷ ys) zs h k = absurd h
 answers_one (x ∷ xs) [] zs h k = absurd h
 answers_one (x ∷ xs) (y ∷ ys) [] h k = absurd k
 answers_one (x ∷ xs) (y ∷ ys) (z ∷ zs) h k =
-    let one : y ≡ z = same_answer y z (spelled_one x.text y.statement z.statement h.0.statement k.0.statement) (sym h.0.reply ∙ k.0.reply) (sym h.0.decisions ∙ k.0.decisions) in
+    let one : y ≡ z = same_answer y z (asked_one x.text y.statement z.statement h.0.statement k.0.statement) (sym h.0.reply ∙ k.0.reply) (sym h.0.decisions ∙ k.0.decisions) in
     ap (λ (a : Answer). a ∷ ys) one ∙ ap (λ (rest : List Answer). z ∷ rest) (answers_one xs ys zs h.1 k.1)
 
 policy_one : (table text : List ℕ) (x y : Policy) → SpellsPolicy table text x → SpellsPolicy table text y → x ≡ y

@@ -4,14 +4,14 @@ ghost use Rattle.std.specs.Prelude.{◌≡◌, map, IfOk};
 ghost use Rattle.std.specs.List.{All, AllZip};
 ghost use Rattle.rls_statement.specs.declared.statement.Statement.{Statement};
 ghost use Rattle.rls_audit.specs.rls_text.specs.{ParseResults.IsSpelled, Words.words_of};
-ghost use Rattle.rls_audit.specs.Reading.{HasStatement, HasPolicies, IsStatementText, IsPolicyText};
+ghost use Rattle.rls_audit.specs.{Asked.IsAsked, Reading.HasStatement, Reading.HasPolicies, Reading.IsStatementText, Reading.IsPolicyText};
 ghost use Rattle.rls_audit.specs.Shows.{SpellsPolicy};
 ghost use Rattle.rls_check.specs.Keeping as spec;
-ghost use Rattle.rls_check.specs.Keeping.{IsMade, Keeps, KeepsAnswer, KeepsPut, table_of};
+ghost use Rattle.rls_check.specs.Keeping.{IsMade, IsSpelledText, Keeps, KeepsAnswer, KeepsPut, table_of};
 
 use crate::transaction::{Answer, Put, Transaction};
 use rls_audit::rls_core::Begin;
-use rls_audit::rls_text::parse;
+use rls_audit::rls_text::{parse, parse_command};
 use rls_audit::{Answered, Changed, Shown, TableShape};
 use rls_expr::{Column, Policy, TableDef};
 use rls_statement::Statement;
@@ -68,7 +68,7 @@ fn answer_of(alloc: Global, answered: Answered) -> Result<Answer, Refusal>
         reply,
         text,
     } = answered;
-    let statement = statement_of(alloc, &text)?;
+    let statement = asked_of(alloc, &text)?;
     let statement = Share::new(alloc, statement)?;
     Ok(Answer {
         statement,
@@ -77,10 +77,21 @@ fn answer_of(alloc: Global, answered: Answered) -> Result<Answer, Refusal>
     })
 }
 
+/// The statement that the text is, or what begins or ends a block.
+fn asked_of(alloc: Global, text: &Text) -> Result<Statement, Refusal>
+    requires { IsStatementText text.now }
+    ensures { IsMade (IsAsked (words_of text.now)) result }
+{
+    match parse_command(alloc, text.as_str()) {
+        Ok(command) => Ok(command.into_statement()),
+        Err(refusal) => Err(refusal),
+    }
+}
+
 /// The statement that the text spells.
 #[tactic(auto, using(crate::proofs::KeepingLemmas::statement_made, crate::proofs::KeepingLemmas::statement_one))]
 fn statement_of(alloc: Global, text: &Text) -> Result<Statement, Refusal>
-    requires { IsStatementText text.now }
+    requires { IsSpelledText text.now }
     ensures made { IsMade (IsSpelled (words_of text.now)) result }
     ensures alone { IfOk result (λ statement. (other : Statement) → IsSpelled (words_of text.now) other → other ≡ statement) }
 {

@@ -25,8 +25,10 @@ use Rattle.rls_statement.proofs.statement.GrantRoles.TheSendSync as GrantRoles
 use Rattle.rls_statement.proofs.statement.RevokePrivileges.TheSendSync as RevokePrivileges
 use Rattle.rls_statement.proofs.statement.RevokeRoles.TheSendSync as RevokeRoles
 use Rattle.rls_statement.proofs.statement.SetRole.TheSendSync as SetRole
+use Rattle.rls_statement.proofs.command.TransactionCommand.TheSendSync as TransactionCommand
 use Rattle.rls_core.specs.rls_guard.specs.rls_catalog.proofs.change.RowChange.TheSendSync as RowChange
 use Rattle.rls_core.specs.rls_guard.specs.rls_catalog.proofs.grant.Grant.TheSendSync as Grant
+use Rattle.rls_core.specs.rls_guard.specs.rls_catalog.proofs.grants.Grants.TheSendSync as Grants
 use Rattle.rls_core.specs.rls_guard.specs.rls_catalog.proofs.role.Membership.TheSendSync as Membership
 use Rattle.rls_core.specs.rls_guard.specs.rls_catalog.proofs.role.RoleDef.TheSendSync as RoleDef
 use Rattle.rls_core.specs.rls_guard.specs.rls_catalog.proofs.table_rows.Rows.TheSendSync as Rows
@@ -117,14 +119,14 @@ pub alter_policy_sync : IsSync AlterPolicy_.the_row
 alter_policy_sync = search (kept, Name.the_sync, Items.the_sync, Grantee.the_field_sync, Share.the_sync, expr_send, expr_sync) depth 14 fits 20000
 
 pub statement_send : IsSend Statement_.the_row
-statement_send = search (variants_send, as_row_send, AlterRole.the_field_send, AlterTable.the_field_send, CreateRole.the_field_send, CreateTable.the_field_send, DropPolicy.the_field_send, GrantPrivileges.the_field_send, GrantRoles.the_field_send, RevokePrivileges.the_field_send, RevokeRoles.the_field_send, SetRole.the_field_send, create_policy_send, alter_policy_send, insert_send, select_send, update_send, delete_send) depth 30 fits 20000
+statement_send = search (variants_send, as_row_send, AlterRole.the_field_send, AlterTable.the_field_send, CreateRole.the_field_send, CreateTable.the_field_send, DropPolicy.the_field_send, GrantPrivileges.the_field_send, GrantRoles.the_field_send, RevokePrivileges.the_field_send, RevokeRoles.the_field_send, SetRole.the_field_send, TransactionCommand.the_field_send, create_policy_send, alter_policy_send, insert_send, select_send, update_send, delete_send) depth 30 fits 20000
 
 pub statement_sync : IsSync Statement_.the_row
-statement_sync = search (variants_sync, as_row_sync, AlterRole.the_field_sync, AlterTable.the_field_sync, CreateRole.the_field_sync, CreateTable.the_field_sync, DropPolicy.the_field_sync, GrantPrivileges.the_field_sync, GrantRoles.the_field_sync, RevokePrivileges.the_field_sync, RevokeRoles.the_field_sync, SetRole.the_field_sync, create_policy_sync, alter_policy_sync, insert_sync, select_sync, update_sync, delete_sync) depth 30 fits 20000
+statement_sync = search (variants_sync, as_row_sync, AlterRole.the_field_sync, AlterTable.the_field_sync, CreateRole.the_field_sync, CreateTable.the_field_sync, DropPolicy.the_field_sync, GrantPrivileges.the_field_sync, GrantRoles.the_field_sync, RevokePrivileges.the_field_sync, RevokeRoles.the_field_sync, SetRole.the_field_sync, TransactionCommand.the_field_sync, create_policy_sync, alter_policy_sync, insert_sync, select_sync, update_sync, delete_sync) depth 30 fits 20000
 
 -- ---- changes and states
 -- what lists hold, which their versions share
-ruleset listed = (kept, Name.the_send, Name.the_sync, Membership.the_field_send, Membership.the_field_sync, Grant.the_field_send, Grant.the_field_sync, Share.the_send, Share.the_sync, SharedList.the_send, SharedList.the_sync, policy_send, policy_sync)
+ruleset listed = (kept, Name.the_send, Name.the_sync, Membership.the_field_send, Membership.the_field_sync, Grant.the_field_send, Grant.the_field_sync, Share.the_send, Share.the_sync, SharedList.the_send, SharedList.the_sync, Grants.the_send, Grants.the_sync, policy_send, policy_sync)
 
 -- what is lent where a name has no list: no memberships, grants and policies
 no_lists_send : FieldsHave IsSend NoItems_Inside.the_type.parts

@@ -3,6 +3,7 @@
 ghost use Rattle.std.specs.Prelude.{◌≡◌, true, ◌↔◌};
 ghost use Rattle.std.specs.Option.{option_copied};
 
+use rls_catalog::Grants;
 use rls_catalog::rls_value::Items;
 use rls_catalog::shared_map::{HasKey, Share, Shared, SharedList, Values};
 
@@ -27,6 +28,12 @@ impl<T: Same + Drop> Same for Share<T> {
 
 impl<K: Ord + Shared, T: HasKey<K> + Shared + Same> Same for SharedList<K, T> {
     fn is_same(&self, other: &SharedList<K, T>) -> bool {
+        are_left_same(self.iter(), other.iter())
+    }
+}
+
+impl Same for Grants {
+    fn is_same(&self, other: &Grants) -> bool {
         are_left_same(self.iter(), other.iter())
     }
 }

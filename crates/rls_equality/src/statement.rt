@@ -26,6 +26,7 @@ impl Same for Statement {
             (Statement::Update(left), Statement::Update(right)) => left.is_same(right),
             (Statement::Delete(left), Statement::Delete(right)) => left.is_same(right),
             (Statement::Select(left), Statement::Select(right)) => left.is_same(right),
+            (Statement::Transaction(left), Statement::Transaction(right)) => left == right,
             (_, _) => false,
         }
     }

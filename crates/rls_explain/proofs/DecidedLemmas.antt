@@ -151,6 +151,7 @@ meant_decided s ctx (statement.GrantRoles asked) = written_decides (grant_roles_
 meant_decided s ctx (statement.Revoke asked) = written_decides (revoke_in s ctx.role asked)
 meant_decided s ctx (statement.RevokeRoles asked) = written_decides (revoke_roles_in s ctx.role asked)
 meant_decided s ctx (statement.SetRole asked) = set_role_decides s ctx asked
+meant_decided s ctx (statement.Transaction asked) = refl
 meant_decided s ctx (statement.Select asked) =
     then_decided (table_in s asked.table) _ _ (λ table. then_decided (select_parts s asked table) _ _ (λ parts. select_decided s parts (select_command ctx.role asked table parts)))
 meant_decided s ctx (statement.Insert asked) =

@@ -79,6 +79,7 @@ decided_of_truths s ctx (statement.GrantRoles asked) = All-nil IsOfTruths
 decided_of_truths s ctx (statement.Revoke asked) = All-nil IsOfTruths
 decided_of_truths s ctx (statement.RevokeRoles asked) = All-nil IsOfTruths
 decided_of_truths s ctx (statement.SetRole asked) = All-nil IsOfTruths
+decided_of_truths s ctx (statement.Transaction asked) = All-nil IsOfTruths
 
 pub truths_decide : (s : State) (ctx : Ctx) (asked : Statement) → All IsOfTruths (explained_all s ctx asked)
 truths_decide s ctx asked = then_gives (mode_or_refused ctx.mode (tag_of asked)) (λ _. decided_in s ctx asked) (λ _. decided_of_truths s ctx asked)

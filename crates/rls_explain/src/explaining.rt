@@ -189,6 +189,7 @@ fn explain_decided<'c, S: RowSource<'c>>(
         | Statement::GrantRoles(_)
         | Statement::Revoke(_)
         | Statement::RevokeRoles(_)
-        | Statement::SetRole(_) => Ok(Items::new(alloc)),
+        | Statement::SetRole(_)
+        | Statement::Transaction(_) => Ok(Items::new(alloc)),
     }
 }

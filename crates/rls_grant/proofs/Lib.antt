@@ -3,6 +3,7 @@ pub mod SeenNames
 pub mod GrantOptions
 pub mod HandedLemmas
 pub mod HolderLemmas
+pub mod KnownLemmas
 pub mod GrantLaws
 pub mod GrantPlaces
 pub mod GrantorLaws
@@ -12,4 +13,5 @@ pub mod HolderLaws
 pub mod MissingLaws
 pub mod OptionedLaws
 pub mod OriginLaws
+pub mod RevokedLemmas
 mod PassedOn

@@ -139,6 +139,16 @@ module _ (privilege : Privilege) (grantee : Grantee) where
       (λ i. no_more test (to grant) isnt (test grant) i || list_any (λ grant. test grant && to grant) grants)
       ∙ none_behind test key grants before less.1
 
+  none_to : (key : GrantKey) (grants : List Grant) → place_order first key ≡ Less → AllByRecursion (λ other. key_order key other ≡ Less) (map key_of grants) → AllByRecursion (λ grant. to grant ≡ false) grants
+  none_to key [] before less = tt
+  none_to key (grant ∷ grants) before less =
+      (to_tied grant ∙ is_less (place_order first (key_of grant)) (past key (key_of grant) before less.0), none_to key grants before less.1)
+
+  -- behind a grant from the first key on that isn't of the privilege and the grantee, none is
+  pub none_further : (grant : Grant) (grants : List Grant) → InKeyOrder key_order key_of (grant ∷ grants) → reached grant ≡ true → to grant ≡ false → AllByRecursion (λ grant. to grant ≡ false) (grant ∷ grants)
+  unfolding IsStrictlySortedBy
+  none_further grant grants order is isnt = (isnt, none_to (key_of grant) grants (passed grant is isnt) order.0)
+
   -- behind a key that is reached, each is
   next_reached : (key other : GrantKey) → is_le (key_order first key) ≡ true → key_order key other ≡ Less → is_le (key_order first other) ≡ true
   next_reached key other is less =
@@ -148,7 +158,7 @@ module _ (privilege : Privilege) (grantee : Grantee) where
         | Greater ↦ λ o is. cc
       ]) refl is
 
-  all_reached : (grant : Grant) (grants : List Grant) → reached grant ≡ true → AllByRecursion (λ other. key_order (key_of grant) other ≡ Less) (map key_of grants) → AllByRecursion (λ grant. reached grant ≡ true) grants
+  pub all_reached : (grant : Grant) (grants : List Grant) → reached grant ≡ true → AllByRecursion (λ other. key_order (key_of grant) other ≡ Less) (map key_of grants) → AllByRecursion (λ grant. reached grant ≡ true) grants
   all_reached grant [] is less = tt
   all_reached grant (next ∷ grants) is less = (next_reached (key_of grant) (key_of next) is less.0, all_reached grant grants is less.1)
 
@@ -181,7 +191,7 @@ module _ (privilege : Privilege) (grantee : Grantee) where
             (none_behind test (key_of grant) grants (passed grant is.0 b) order.0)
       ]) refl
 
-  not_reached : (grant : Grant) → reached grant ≡ false → to grant ≡ false
+  pub not_reached : (grant : Grant) → reached grant ≡ false → to grant ≡ false
   not_reached grant isnt = (elim (to grant) as (λ b. to grant ≡ b → b ≡ false) [ true ↦ λ b. sym (to_reached grant b) ∙ isnt | false ↦ λ b. refl ]) refl
 
   -- what passes among the first from the first key on is what passes at all

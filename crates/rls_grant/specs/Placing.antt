@@ -1,5 +1,5 @@
 -- A grant that is put into a list in key order, or taken from it.
-use Rattle.std.specs.Prelude.{List, Option, Some, None, Bool, ◌||◌}
+use Rattle.std.specs.Prelude.{List, [], ◌∷◌, Option, Some, None, Bool, ◌||◌, if◌then◌else◌}
 use Rattle.std.specs.BTreeMap.{is_at}
 use Rattle.rls_role.specs.shared_map.specs.Lists.{item_at, with_item, without_item}
 use Rattle.rls_verdict.specs.rls_catalog.specs.{declared.grant.Grant.Grant, GrantKeys.key_of, GrantKeys.key_order}
@@ -28,3 +28,8 @@ with_put grants grant = with_item key_order key_of grants grant
 -- the grants but for this one
 abbrev pub without_grant : List Grant → Grant → List Grant
 without_grant grants grant = without_item (is_at (key_order (key_of grant))) key_of grants
+
+-- the grants but for those of the others that don't stay
+abbrev pub without_each : (Grant → Bool) → List Grant → List Grant → List Grant
+without_each keep grants [] = grants
+without_each keep grants (grant ∷ others) = without_each keep (if keep grant then grants else without_grant grants grant) others

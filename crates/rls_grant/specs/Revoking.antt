@@ -3,7 +3,7 @@
 use Rattle.std.specs.Prelude.{ℕ, List, [], ◌∷◌, Bool, ◌&&◌, ◌||◌, not, Result, Ok, Err, if◌then◌else◌, map, filter}
 use Rattle.std.specs.List.{list_any}
 use Rattle.rls_value.specs.{Giving.and_then, Names.one_of, declared.verb.Privilege.Privilege, declared.refusal.Refusal.Refusal, declared.refusal.Refusal.TheVariants.Dependent}
-use Rattle.rls_verdict.specs.rls_expr.specs.declared.table.TableDef.{TableDef}
+use Rattle.rls_verdict.specs.rls_expr.specs.{declared.policy.Grantee.Grantee, declared.table.TableDef.TableDef}
 use Rattle.rls_verdict.specs.rls_catalog.specs.{declared.change.Change.Change, declared.grant.Grant.Grant, Privileges.is_same_privilege}
 use Rattle.rls_verdict.specs.rls_catalog.specs.GrantOptions.{is_grant_of, not_grantable}
 use Rattle.rls_role.specs.rls_source.specs.Asked.{asked_grants}
@@ -11,7 +11,7 @@ use Rattle.rls_role.specs.rls_source.specs.Askings.{Asking, known, followed_by}
 use Rattle.rls_role.specs.rls_source.specs.Named.{table_or_undefined, grantees_or_undefined}
 use Rattle.rls_role.specs.rls_statement.specs.{declared.statement.RevokePrivileges.RevokePrivileges, Extents.extent_of, Extents.takes_from}
 use Rattle.rls_role.specs.{Reaching.effective_roles_of, declared.effective_roles.EffectiveRoles.EffectiveRoles}
-use Rattle.rls_grant.specs.{declared.grantors.Grantor.Grantor, Columns.columns_or_undefined, Columns.option_or_unsupported, Granting.grants_written, Grantors.grantors, Holders.holders_of}
+use Rattle.rls_grant.specs.{declared.grantors.Grantor.Grantor, Columns.columns_or_undefined, Columns.option_or_unsupported, GrantedTo.is_to, Granting.grants_written, Grantors.grantors, Holders.holders_of}
 
 -- ---- what is taken
 
@@ -22,6 +22,32 @@ is_by asked grant grantor = takes_from (extent_of asked.privileges grantor.privi
 -- by one of the grantors
 abbrev pub is_taken : RevokePrivileges → List Grantor → Grant → Bool
 is_taken asked by grant = list_any (is_by asked grant) by
+
+-- by the grantor and to the grantee
+abbrev pub is_one : RevokePrivileges → Grantor → Grantee → Grant → Bool
+is_one asked grantor grantee grant = takes_from (extent_of asked.privileges grantor.privilege) grant.column && is_grant_of grantor.privilege grantee grantor.name grant
+
+-- the grants without those of each grantee, one after another
+abbrev pub without_from : RevokePrivileges → Grantor → List Grantee → List Grant → List Grant
+without_from asked grantor [] grants = grants
+without_from asked grantor (grantee ∷ from) grants = without_from asked grantor from (filter (λ grant. not (is_one asked grantor grantee grant)) grants)
+
+-- and without those of each grantor
+abbrev pub without_by : RevokePrivileges → List Grantor → List Grant → List Grant
+without_by asked [] grants = grants
+without_by asked (grantor ∷ by) grants = without_by asked by (filter (λ grant. not (is_by asked grant grantor)) grants)
+
+-- some such grant has its grant option
+abbrev pub takes_option_of : RevokePrivileges → List Grant → Grantor → Grantee → Bool
+takes_option_of asked grants grantor grantee = list_any (λ grant. (grant.option && is_one asked grantor grantee grant) && is_to grantor.privilege grantee grant) grants
+
+-- of some grantee
+abbrev pub takes_option_by : RevokePrivileges → List Grant → Grantor → Bool
+takes_option_by asked grants grantor = list_any (takes_option_of asked grants grantor) asked.from
+
+-- by some grantor
+abbrev pub takes_option : RevokePrivileges → List Grantor → List Grant → Bool
+takes_option asked by grants = list_any (takes_option_by asked grants) by
 
 -- it goes, or its grant option does
 abbrev pub without_grant_option : RevokePrivileges → List Grantor → Grant → Grant

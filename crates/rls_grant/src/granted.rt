@@ -2,12 +2,12 @@
 
 ghost use Rattle.std.specs.Prelude.{◌≡◌, IfOk};
 ghost use Rattle.rls_grant.specs.GrantedTo as spec;
-ghost use Rattle.rls_grant.specs.GrantedTo.{is_among_first};
+ghost use Rattle.rls_grant.specs.GrantedTo.{is_among_first, is_grantable};
 ghost use Rattle.rls_verdict.specs.rls_catalog.specs.GrantOptions as given;
 ghost use Rattle.rls_verdict.specs.rls_catalog.specs.Privileges as same;
 ghost use Rattle.rls_verdict.specs.rls_catalog.specs.Privileges.{is_whole};
 
-use rls_value::Privilege;
+use rls_value::{Name, Privilege};
 use rls_verdict::rls_catalog::shared_map::Values;
 use rls_verdict::rls_catalog::{Grant, GrantKey, Grants};
 use rls_verdict::rls_expr::Grantee;
@@ -40,6 +40,52 @@ fn is_whole_among_first(
             return false;
         }
         if grant.is_whole() {
+            return true;
+        }
+    }
+    false
+}
+
+/// Whether the role has a grant of the privilege with its grant option. No grants to others are looked at.
+pub(crate) fn has_option(
+    grants: &Grants,
+    privilege: Privilege,
+    role: &Name,
+) -> Result<bool, AllocError>
+    ensures { IfOk result (λ has. has ≡ spec.has_option privilege (Grantee.Role role.now) grants.now) }
+{
+    let grantee = Grantee::Role(role.copy()?);
+    let has = has_grantable(grants, privilege, &grantee);
+    drop(grantee);
+    has
+}
+
+fn has_grantable(
+    grants: &Grants,
+    privilege: Privilege,
+    grantee: &Grantee,
+) -> Result<bool, AllocError>
+    ensures { IfOk result (λ has. has ≡ spec.has_option privilege grantee.now grants.now) }
+{
+    let first = GrantKey::first(privilege, grantee)?;
+    let given = grants.iter_from(&first);
+    drop(first);
+    Ok(is_grantable_among_first(given, privilege, grantee))
+}
+
+/// Whether one has its grant option among the first that are of the privilege and to the grantee.
+fn is_grantable_among_first(
+    left: Values<'_, GrantKey, Grant>,
+    privilege: Privilege,
+    grantee: &Grantee,
+) -> bool
+    ensures { result ≡ is_among_first is_grantable privilege grantee.now left.entry }
+{
+    for grant in left {
+        if !is_to(grant, privilege, grantee) {
+            return false;
+        }
+        if grant.option {
             return true;
         }
     }

@@ -3,13 +3,14 @@
 ghost use Rattle.std.specs.Prelude.{◌≡◌, [], ◌∷◌, ◌++◌, ◌↔◌, ℕ, List, map, true, IfOk, OnOk};
 ghost use Rattle.std.specs.List.{flat_map};
 ghost use Rattle.rls_value.specs.{Giving.Gives, declared.verb.Privilege.Privilege as Kind};
-ghost use Rattle.rls_verdict.specs.rls_catalog.specs.{GrantOptions.GoesBack, declared.grant.Grant.Grant as Given};
+ghost use Rattle.rls_verdict.specs.rls_catalog.specs.{GrantOptions.GoesBack, GrantOptions.HaveGrantors, declared.grant.Grant.Grant as Given};
 ghost use Rattle.rls_role.specs.rls_source.specs.{Answering.Answers, Sequences.each_or_refused};
 ghost use Rattle.rls_grant.specs.Granting as spec;
 ghost use Rattle.rls_grant.specs.Granting.{goes_back, grant_on, grant_to, granted, grants_by, grants_made, grants_on, grants_with};
 
 use crate::columns::{column_place, granted_on, require_columns, require_whole};
 use crate::grantors::{Grantor, grantors_of};
+use crate::known::{are_known, known, looked_over};
 use crate::placing::put_grants;
 use crate::tracing::holds_option_without;
 use rls_role::rls_source::{Reads, RowSource, noted_grants, require_grantees, table_named};
@@ -217,11 +218,46 @@ fn written(
     ensures { IfOk result (λ delta. delta ≡ grants_with table.now.columns grants.now grantors.now grant.now) }
 {
     let new = new_grants(alloc, table.columns.as_slice(), grantors, grant)?;
-    let all = with_new(alloc, grants, new)?;
+    let all = with_new(alloc, &table.owner, grants, new)?;
     write_grants(alloc, &grant.table, all)
 }
 
-fn with_new(alloc: Global, grants: &Grants, new: Items<Grant>) -> Result<Grants, AllocError>
+/// The grants with the new ones. That each grantor holds the grant option is known of them too, where it is so.
+fn with_new(
+    alloc: Global,
+    owner: &Name,
+    grants: &Grants,
+    new: Items<Grant>,
+) -> Result<Grants, AllocError>
+    ensures { IfOk result (λ all. all ≡ spec.with_grants grants.now new) }
+{
+    match are_known(owner, grants, new.as_slice()) {
+        Ok(true) => put_known(alloc, owner, grants, new),
+        Ok(false) => {
+            let all = put_on(alloc, grants, new)?;
+            looked_over(alloc, owner, all)
+        }
+        Err(refused) => {
+            drop(new);
+            Err(refused)
+        }
+    }
+}
+
+fn put_known(
+    alloc: Global,
+    owner: &Name,
+    grants: &Grants,
+    new: Items<Grant>,
+) -> Result<Grants, AllocError>
+    requires { HaveGrantors owner.now (spec.with_grants grants.now new) }
+    ensures { IfOk result (λ all. all ≡ spec.with_grants grants.now new) }
+{
+    let all = put_on(alloc, grants, new)?;
+    known(owner, all)
+}
+
+fn put_on(alloc: Global, grants: &Grants, new: Items<Grant>) -> Result<Grants, AllocError>
     ensures { IfOk result (λ all. all ≡ spec.with_grants grants.now new) }
 {
     match grants.copy() {

@@ -3,12 +3,13 @@
 ghost use Rattle.std.specs.Prelude.{◌≡◌, None, filter, IfOk};
 ghost use Rattle.std.specs.{BTreeSet.contains, Option.option_copied};
 ghost use Rattle.rls_value.specs.{Giving.Gives, Names.one_of};
-ghost use Rattle.rls_verdict.specs.rls_catalog.specs.{State.name_order, Verdict.least};
+ghost use Rattle.rls_verdict.specs.rls_catalog.specs.{GrantOptions.HaveGrantors, State.name_order, Verdict.least};
 ghost use Rattle.rls_role.specs.rls_source.specs.Sequences.{each_of};
 ghost use Rattle.rls_role.specs.rls_statement.specs.Extents.{is_named};
 ghost use Rattle.rls_grant.specs.Grantors as spec;
 ghost use Rattle.rls_grant.specs.{Grantors.grantor_by, Holders.holders_of};
 
+use crate::known::holds_known;
 use crate::optioning::options;
 use crate::tracing::holds_option;
 use rls_role::EffectiveRoles;
@@ -128,7 +129,44 @@ fn grantor_name(
     if holds_option(alloc, owner, grants, privilege, role)? {
         return Ok(Some(role.copy()?));
     }
+    if grants.have_grantors(owner) {
+        return known_grantor(effective_roles.names.as_slice(), owner, grants, privilege);
+    }
     holding_grantor(alloc, effective_roles, role, owner, grants, privilege)
+}
+
+/// The byte-least of the roles that hold it, where each grantor does.
+fn known_grantor(
+    roles: &[Name],
+    owner: &Name,
+    grants: &Grants,
+    privilege: Privilege,
+) -> Result<Option<Name>, AllocError>
+    requires { HaveGrantors owner.now grants.now }
+    ensures { IfOk result (λ name. name ≡ least None (filter (one_of (holders_of owner.now grants.now privilege)) roles.now)) }
+{
+    match least_known(roles, owner, grants, privilege)? {
+        Some(name) => Ok(Some(name.copy()?)),
+        None => Ok(None),
+    }
+}
+
+fn least_known<'a>(
+    roles: &'a [Name],
+    owner: &Name,
+    grants: &Grants,
+    privilege: Privilege,
+) -> Result<Option<&'a Name>, AllocError>
+    requires { HaveGrantors owner.now grants.now }
+    ensures { IfOk result (λ name. option_copied name ≡ least None (filter (one_of (holders_of owner.now grants.now privilege)) roles.now)) }
+{
+    let mut found = None;
+    for role in roles {
+        if holds_known(owner, grants, privilege, role)? {
+            found = Some(lesser_name(found, role));
+        }
+    }
+    Ok(found)
 }
 
 /// The same, from who holds the grant option.

@@ -6,6 +6,7 @@ mod granted;
 mod granting;
 mod grantors;
 mod holding;
+mod known;
 mod lacking;
 mod laws;
 mod optioning;

@@ -7,7 +7,8 @@ ghost use Rattle.rls_verdict.specs.rls_catalog.specs.{GrantOptions.without_optio
 ghost use Rattle.rls_grant.specs.Considered as seen;
 ghost use Rattle.rls_grant.specs.{Considered.considered, Holders.holders_of, Origins.grants_from, Origins.origin_in, Origins.origins, Origins.origins_first, Seen.IsSetOf};
 
-use crate::granted::is_to;
+use crate::granted::{has_option, is_to};
+use crate::known::holds_known;
 use crate::optioning::{add_unseen, holder_at};
 use rls_value::{Name, Privilege};
 use rls_verdict::rls_catalog::shared_map::Values;
@@ -16,7 +17,7 @@ use rls_verdict::rls_expr::Grantee;
 use std::alloc::{AllocError, Global};
 use std::collections::BTreeSet;
 
-/// Whether the role holds it by these grants.
+/// Whether the role holds it by these grants. Nobody is followed back to the owner where each grantor is known to hold it.
 #[tactic(auto, using(crate::proofs::ConsideredLaws::considered_all))]
 pub(crate) fn holds_option(
     alloc: Global,
@@ -27,12 +28,15 @@ pub(crate) fn holds_option(
 ) -> Result<bool, AllocError>
     ensures { IfOk result (λ holds. holds ≡ one_of (holders_of owner.now grants.now privilege) role.now) }
 {
+    if grants.have_grantors(owner) {
+        return holds_known(owner, grants, privilege, role);
+    }
     let holds = is_traced(alloc, owner, grants, privilege, None, role)?;
     Ok(holds)
 }
 
 /// Whether the role would hold it without the grantee's own grant options.
-#[tactic(auto, using(crate::proofs::ConsideredLaws::considered_without))]
+#[tactic(auto, using(crate::proofs::ConsideredLaws::considered_without, crate::proofs::KnownLemmas::held_without))]
 pub(crate) fn holds_option_without(
     alloc: Global,
     owner: &Name,
@@ -43,6 +47,9 @@ pub(crate) fn holds_option_without(
 ) -> Result<bool, AllocError>
     ensures { IfOk result (λ holds. holds ≡ one_of (holders_of owner.now (without_options_of grantee.now grants.now) privilege) role.now) }
 {
+    if !has_option(grants, privilege, grantee)? {
+        return holds_option(alloc, owner, grants, privilege, role);
+    }
     let holds = is_traced(alloc, owner, grants, privilege, Some(grantee), role)?;
     Ok(holds)
 }

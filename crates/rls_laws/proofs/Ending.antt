@@ -27,6 +27,9 @@ mode_gives mode.Write t = record { is = tt }
 mode_gives mode.Read tag.Select = record { is = tt }
 mode_gives mode.Read tag.Set = record { is = tt }
 mode_gives mode.Read tag.Reset = record { is = tt }
+mode_gives mode.Read tag.Begin = record { is = tt }
+mode_gives mode.Read tag.Commit = record { is = tt }
+mode_gives mode.Read tag.Rollback = record { is = tt }
 mode_gives mode.Read t = record { is = tt }
 
 each_gives : (s : State) (ctx : Ctx) (asked : Statement) → Gives (Ends (Fits s (IsSpellable asked))) (meant_in s ctx asked)
@@ -46,6 +49,7 @@ each_gives s ctx (statement.Insert asked) = insert_gives _ s ctx asked
 each_gives s ctx (statement.Update asked) = update_gives _ s ctx asked
 each_gives s ctx (statement.Delete asked) = delete_gives _ s ctx asked
 each_gives s ctx (statement.Select asked) = select_gives _ s ctx asked
+each_gives s ctx (statement.Transaction asked) = record { is = tt }
 
 -- each change that a statement means fits the state that it is run in, or the refusal is one that an audit has
 pub meaning_ends : (s : State) (ctx : Ctx) (asked : Statement) → Ends (Fits s (IsSpellable asked)) (effect_of s ctx asked)

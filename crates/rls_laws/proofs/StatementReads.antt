@@ -27,6 +27,7 @@ done_reads expanded s ctx (statement.Insert asked) = insert_reads expanded s ctx
 done_reads expanded s ctx (statement.Update asked) = update_reads expanded s ctx asked
 done_reads expanded s ctx (statement.Delete asked) = delete_reads expanded s ctx asked
 done_reads expanded s ctx (statement.Select asked) = select_reads expanded s ctx asked
+done_reads expanded s ctx (statement.Transaction asked) = tt
 
 -- the mode comes first
 step_reads : AreExpanded → (s : State) (ctx : Ctx) (asked : Statement) → AllByRecursion (MayRead s ctx asked) ((step ctx asked).in_state s).reads

@@ -55,6 +55,7 @@ looked_up ctx (statement.Insert asked) = o.Table asked.table ∷ tables_among (f
 looked_up ctx (statement.Update asked) = o.Table asked.table ∷ tables_among (map (λ assignment. assignment.value) asked.assignments ++ (option_to_list asked.condition ++ items_of asked.returning))
 looked_up ctx (statement.Delete asked) = o.Table asked.table ∷ tables_among (option_to_list asked.condition ++ items_of asked.returning)
 looked_up ctx (statement.Select asked) = o.Table asked.table ∷ tables_among (items_of (Some asked.items) ++ option_to_list asked.condition)
+looked_up ctx (statement.Transaction asked) = []
 
 -- from which role its walk goes, and over which memberships: SET ROLE from the login over those with SET, others from the current
 -- role over those with INHERIT; there is none where nothing is asked of whose privileges the role has
@@ -64,6 +65,7 @@ walk_of ctx (statement.AlterRole asked) = None
 walk_of ctx (statement.CreateTable asked) = None
 walk_of ctx (statement.SetRole (set.To role)) = Some (ctx.login, has_set)
 walk_of ctx (statement.SetRole _) = None
+walk_of ctx (statement.Transaction asked) = None
 walk_of ctx _ = Some (ctx.role, λ m. m.inherit)
 
 -- ---- a command on rows

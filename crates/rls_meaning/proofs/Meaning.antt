@@ -1,5 +1,5 @@
 -- Each statement comes to what it means.
-use Rattle.std.specs.Prelude.{◌≡◌}
+use Rattle.std.specs.Prelude.{◌≡◌, refl}
 use Rattle.std.proofs.Common.{ap}
 use Rattle.rls_value.specs.{Giving.and_then}
 use Rattle.rls_catalog.specs.State.{State}
@@ -40,3 +40,4 @@ statement_told laws s ctx (statement.Insert asked) = laws.insert s ctx asked
 statement_told laws s ctx (statement.Update asked) = laws.update s ctx asked
 statement_told laws s ctx (statement.Delete asked) = laws.delete s ctx asked
 statement_told laws s ctx (statement.Select asked) = laws.select s ctx asked
+statement_told laws s ctx (statement.Transaction asked) = behind_mode s ctx (statement.Transaction asked) refl

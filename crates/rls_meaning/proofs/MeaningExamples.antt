@@ -1,6 +1,6 @@
 -- Worked examples: what statements mean in a small state. Each is a theorem that computes.
 use Rattle.std.specs.Prelude.{◌≡◌, refl, ℕ, pos, List, [], ◌∷◌, true, false, Some, None, codes}
-use Rattle.rls_value.specs.{declared.refusal.GrantFault.TheVariants.Cycle, declared.refusal.Refusal.TheVariants.Denied, declared.refusal.Refusal.TheVariants.GrantOp, declared.refusal.Refusal.TheVariants.Recursion, declared.refusal.Refusal.TheVariants.TxnState, declared.refusal.TxnState.TheVariants.ReadOnly, declared.tag.Tag.Tag, declared.value.ColType.ColType, declared.value.Value.TheVariants.Int, declared.value.Value.TheVariants.Text, declared.verb.Kind.Kind, declared.verb.PolicyKind.PolicyKind, declared.verb.Privilege.Privilege}
+use Rattle.rls_value.specs.{declared.refusal.GrantFault.TheVariants.Cycle, declared.refusal.Refusal.TheVariants.Denied, declared.refusal.Refusal.TheVariants.GrantOp, declared.refusal.Refusal.TheVariants.Recursion, declared.refusal.Refusal.TheVariants.TxnState, declared.refusal.TxnState.TheVariants.AlreadyInProgress, declared.refusal.TxnState.TheVariants.ReadOnly, declared.tag.Tag.Tag, declared.value.ColType.ColType, declared.value.Value.TheVariants.Int, declared.value.Value.TheVariants.Text, declared.verb.Kind.Kind, declared.verb.PolicyKind.PolicyKind, declared.verb.Privilege.Privilege}
 use Rattle.rls_value.specs.declared.refusal.Why.TheVariants as why
 use Rattle.rls_expr.specs.{declared.expr.Comparison.TheVariants.Equal, declared.expr.Selects.Selects, declared.policy.Policy.Policy, declared.table.TableDef.TableDef, Terms.Column, Terms.Compare, Terms.CurrentUser, Terms.End, Terms.Exists, Terms.More, Terms.Select, Terms.Term, Terms.InSubquery}
 use Rattle.rls_expr.specs.declared.policy.Grantee.TheVariants as g
@@ -12,6 +12,7 @@ use Rattle.rls_guard.specs.rls_source.specs.Asked.{rows_at}
 use Rattle.rls_statement.specs.declared.privileges.Extent.{Extent}
 use Rattle.rls_statement.specs.declared.statement.Selected.TheVariants as selected
 use Rattle.rls_statement.specs.declared.statement.SetRole.TheVariants as set
+use Rattle.rls_statement.specs.declared.command.TransactionCommand.TheVariants as transaction
 use Rattle.rls_statement.specs.declared.statement.Statement.{Statement}
 use Rattle.rls_statement.specs.declared.statement.Statement.TheVariants as statement
 use Rattle.rls_guard.specs.declared.context.Ctx.{Ctx}
@@ -212,3 +213,7 @@ no_owner = refl
 reads_only : effect_of now (record { txn = 2; login = codes "olga"; role = codes "olga"; mode = Read; next = 0 }) (statement.DropPolicy (record { name = codes "of_team"; table = codes "papers" }))
     ≡ effect.Refused (TxnState (ReadOnly Tag.DropPolicy)) []
 reads_only = refl
+
+-- COMMIT, handed in as a statement of such a transaction: it is in progress
+no_commit : effect_of now (record { txn = 2; login = codes "olga"; role = codes "olga"; mode = Read; next = 0 }) (statement.Transaction transaction.Commit) ≡ effect.Refused (TxnState AlreadyInProgress) []
+no_commit = refl

@@ -5,7 +5,7 @@ use Rattle.rls_catalog.specs.{declared.change.Change.Change, State.State}
 use Rattle.rls_statement.specs.{declared.statement.Statement.Statement, Tags.tag_of}
 use Rattle.rls_statement.specs.declared.statement.Statement.TheVariants as statement
 use Rattle.rls_guard.specs.{declared.context.Ctx.Ctx, declared.effect.Effect.Effect, Effects.shown, Effects.writes}
-use Rattle.rls_access.specs.Statements.{effect_in, mode_or_refused}
+use Rattle.rls_access.specs.Statements.{effect_in, in_progress, mode_or_refused}
 use Rattle.rls_meaning.specs.{Deleting.delete_in, Inserting.insert_in, Memberships.grant_roles_in, Memberships.revoke_roles_in, Policies.alter_policy_in, Policies.create_policy_in, Policies.drop_policy_in, Privileges.grant_in, Privileges.revoke_in, Roles.alter_role_in, Roles.create_role_in, Roles.set_role_in, Selecting.select_in, Tables.alter_table_in, Tables.create_table_in, Updating.update_in}
 
 -- the changes are written
@@ -30,6 +30,7 @@ meant_in s ctx (statement.Insert asked) = insert_in s ctx asked
 meant_in s ctx (statement.Update asked) = update_in s ctx asked
 meant_in s ctx (statement.Delete asked) = delete_in s ctx asked
 meant_in s ctx (statement.Select asked) = select_in s ctx asked
+meant_in s ctx (statement.Transaction asked) = in_progress
 
 -- what a statement means
 abbrev pub effect_of : State → Ctx → Statement → Effect

@@ -5,6 +5,9 @@ use Rattle.std.specs.Char.{to_ascii_lowercase}
 use Rattle.rls_value.specs.{Names.folded, Names.is_name_text, Names.is_word, declared.refusal.Limit.Limit, declared.refusal.Refusal.Refusal, declared.value.ColType.ColType, declared.value.Value.Value, declared.verb.PolicyKind.PolicyKind, declared.verb.Privilege.Privilege, declared.verb.Kind.Kind}
 use Rattle.rls_expr.specs.{Terms.Term, Terms.Terms, Terms.Query, Terms.Literal, Terms.Column, Terms.Var, Terms.CurrentUser, Terms.Compare, Terms.And, Terms.Or, Terms.Not, Terms.IsNull, Terms.IsNotNull, Terms.InList, Terms.NotInList, Terms.Exists, Terms.InSubquery, Terms.NotInSubquery, Terms.Scalar, Terms.Sum, Terms.End, Terms.More, Terms.Select, Terms.terms_of, Terms.maybe_term, declared.expr.Comparison.Comparison, declared.expr.Selects.Selects, declared.expr.Sign.Sign, declared.policy.Grantee.Grantee, declared.policy.Policy.Policy}
 use Rattle.rls_statement.specs.{declared.changing.Assignment.Assignment, declared.statement.Attributes.Attributes, declared.statement.MarkedColumn.MarkedColumn, declared.statement.MembershipOption.MembershipOption, declared.statement.MembershipOptions.MembershipOptions, declared.privileges.Privileges.Privileges, declared.statement.RowSecurity.RowSecurity, declared.statement.Selected.Selected, declared.statement.SetRole.SetRole, declared.statement.Statement.Statement}
+use Rattle.rls_statement.specs.declared.command.AccessMode.TheVariants as mode
+use Rattle.rls_statement.specs.declared.command.TransactionCommand.{TransactionCommand}
+use Rattle.rls_statement.specs.declared.command.TransactionCommand.TheVariants as tc
 use Rattle.rls_text.specs.{Values.NamedPrivilege, WaysBack.are_all, WaysBack.named_of, declared.token.Symbol.Symbol, declared.token.Token.Token, Grammar.Spells, Nested.subqueries_of, Writes.joined, Writes.some_is, ParseResults.limit_from, ParseResults.first_limit, ParseResults.or_next, ParseResults.limited, ParseResults.columns_of, Heights.height, Heights.heights, Heights.query_height, Heights.height_if, Heights.highest, Heights.set_values, Heights.height_of}
 use Rattle.rls_printing.specs.{declared.buffer.Mark.Mark, Outputs.is_fit, Outputs.are_fit, OutputTokens.OutputToken, OutputTokens.Word, OutputTokens.Qualified, OutputTokens.Number, OutputTokens.Text, OutputTokens.Marked, OutputTokens.Count, OutputTokens.tokens_read_of, OutputTokens.tokens_of, OutputTokens.word_token}
 use Rattle.rls_printing.specs.ExprForms as expr_form
@@ -549,6 +552,13 @@ set_role_low room (SetRole.To x) = behind_word room (codes "SET") (Word (codes "
 set_role_low room SetRole.None = behind_word room (codes "SET") (Word (codes "ROLE") ∷ Word (codes "NONE") ∷ []) (behind_word room (codes "ROLE") (Word (codes "NONE") ∷ []) (word_low room (codes "NONE")))
 set_role_low room SetRole.Reset = behind_word room (codes "RESET") (Word (codes "ROLE") ∷ []) (word_low room (codes "ROLE"))
 
+transaction_low : (room : ℕ) (x : TransactionCommand) → StaysLow room (form.transaction x)
+transaction_low room (tc.Begin mode.ReadWrite) = word_low room (codes "BEGIN")
+transaction_low room (tc.Begin mode.ReadOnly) =
+    behind_word room (codes "BEGIN") (Word (codes "READ") ∷ Word (codes "ONLY") ∷ []) (behind_word room (codes "READ") (Word (codes "ONLY") ∷ []) (word_low room (codes "ONLY")))
+transaction_low room tc.Commit = word_low room (codes "COMMIT")
+transaction_low room tc.Rollback = word_low room (codes "ROLLBACK")
+
 -- ---- statements
 
 -- two words before others
@@ -616,6 +626,7 @@ statement_low (Statement.RevokeRoles x) room le flat =
     (both_low room (form.listed form.name x.roles) (Word (codes "FROM") ∷ (form.listed form.name x.from ++ form.cascade x.cascade)) (names_low room x.roles)
     (behind_word room (codes "FROM") (form.listed form.name x.from ++ form.cascade x.cascade) (both_low room (form.listed form.name x.from) (form.cascade x.cascade) (names_low room x.from) (cascade_low room x.cascade)))))
 statement_low (Statement.SetRole x) room le flat = set_role_low room x
+statement_low (Statement.Transaction x) room le flat = transaction_low room x
 
 -- a statement within the limits is no higher than 64
 height_within : (x : Statement) → limited x ≡ Ok x → height_of x ≤ 64

@@ -3,6 +3,7 @@ use Rattle.std.{proofs.Common.◌≡◌, proofs.Common.ℕ, proofs.Common.Bool, 
 use Rattle.rls_value.specs.{declared.value.ColType.ColType, declared.verb.PolicyKind.PolicyKind, declared.verb.Privilege.Privilege, declared.verb.Kind.Kind}
 use Rattle.rls_expr.specs.{Terms.Term, Terms.terms_of, Terms.maybe_term, declared.policy.Grantee.Grantee}
 use Rattle.rls_statement.specs.{declared.changing.Assignment.Assignment, declared.statement.AlterPolicy.AlterPolicy, declared.statement.AlterRole.AlterRole, declared.statement.AlterTable.AlterTable, declared.statement.CreatePolicy.CreatePolicy, declared.statement.CreateRole.CreateRole, declared.statement.CreateTable.CreateTable, declared.statement.DropPolicy.DropPolicy, declared.statement.GrantPrivileges.GrantPrivileges, declared.statement.GrantRoles.GrantRoles, declared.statement.Insert.Insert, declared.changing.Update.Update, declared.changing.Delete.Delete, declared.statement.MarkedColumn.MarkedColumn, declared.statement.MembershipOption.MembershipOption, declared.privileges.Privileges.Privileges, declared.statement.RevokePrivileges.RevokePrivileges, declared.statement.RevokeRoles.RevokeRoles, declared.statement.RowSecurity.RowSecurity, declared.statement.Select.Select, declared.statement.Selected.Selected, declared.statement.SetRole.SetRole, declared.statement.Statement.Statement}
+use Rattle.rls_statement.specs.declared.command.TransactionCommand.{TransactionCommand}
 use Rattle.rls_text.specs.{Values.NamedPrivilege, declared.token.Symbol.Symbol, declared.token.Token.Token, Cut.Cut, Cutting.tree_of, Elements.key_if, Printing.IsWritten, Rule.with_comma, Rule.given_if, Rule.word, Rule.word_for, Rule.after, Rule.after_as, Rule.perhaps, FirstSets.expr_heads, FirstSets.expr_more, Writes.Writer, Writes.joined, Writes.or_else, Writes.many_writes, Writes.written_if, declared.tables.TableElement.TableElement, WaysBack.list_of as way_back_of_list}
 use Rattle.rls_text.specs.Cut as cut
 use Rattle.rls_text.specs.Grammar as g
@@ -720,6 +721,10 @@ module _ (inner : Cut tree_of expr_heads expr_more false) (ih : (x : Term) → H
   unfolding g.body g.select g.insert g.update g.delete g.create g.alter g.flat_body g.role g.table g.policy g.altered_role g.altered_table g.altered_policy g.dropped_policy g.grant g.granted_privileges g.granted_roles g.revoke g.revoked_privileges g.revoked_memberships g.revoked_option g.revoked_roles
   body_set x = set_tells x
 
+  body_transaction : (x : TransactionCommand) → HasTokens ((g.body inner).rule.prints.writes (Statement.Transaction x)) (form.statement (Statement.Transaction x))
+  unfolding g.body g.select g.insert g.update g.delete g.create g.alter g.flat_body g.role g.table g.policy g.altered_role g.altered_table g.altered_policy g.dropped_policy g.grant g.granted_privileges g.granted_roles g.revoke g.revoked_privileges g.revoked_memberships g.revoked_option g.revoked_roles g.set_role
+  body_transaction x ts e = cc
+
   body_tells : (x : Statement) → HasTokens ((g.body inner).rule.prints.writes x) (form.statement x)
   body_tells (Statement.Select x) = body_select x
   body_tells (Statement.Insert x) = body_insert x
@@ -737,6 +742,7 @@ module _ (inner : Cut tree_of expr_heads expr_more false) (ih : (x : Term) → H
   body_tells (Statement.Revoke x) = body_revoke x
   body_tells (Statement.RevokeRoles x) = body_revoke_roles x
   body_tells (Statement.SetRole x) = body_set x
+  body_tells (Statement.Transaction x) = body_transaction x
 
 -- What is written for a statement are the tokens of its words.
 pub statement_tells : (depth : ℕ) (x : Statement) → HasTokens ((g.statement depth).rule.prints.writes x) (form.statement x)

@@ -8,6 +8,9 @@ use Rattle.rls_statement.specs.declared.statement.MembershipOption.TheVariants a
 use Rattle.rls_statement.specs.declared.statement.RowSecurity.TheVariants as change
 use Rattle.rls_statement.specs.declared.statement.Selected.TheVariants as selected
 use Rattle.rls_statement.specs.declared.statement.SetRole.TheVariants as sr
+use Rattle.rls_statement.specs.declared.command.AccessMode.TheVariants as mode
+use Rattle.rls_statement.specs.declared.command.TransactionCommand.{TransactionCommand}
+use Rattle.rls_statement.specs.declared.command.TransactionCommand.TheVariants as tc
 use Rattle.rls_statement.specs.declared.statement.Statement.TheVariants as st
 use Rattle.rls_text.specs.{Values.NamedPrivilege, WaysBack.are_all, WaysBack.named_of}
 use Rattle.rls_printing.specs.declared.buffer.Mark.TheVariants as m
@@ -223,6 +226,13 @@ set_role (sr.To x) = Word (codes "SET") ∷ Word (codes "ROLE") ∷ Word x ∷ [
 set_role sr.None = Word (codes "SET") ∷ Word (codes "ROLE") ∷ Word (codes "NONE") ∷ []
 set_role sr.Reset = Word (codes "RESET") ∷ Word (codes "ROLE") ∷ []
 
+-- BEGIN, COMMIT, ROLLBACK; READ WRITE isn't printed
+abbrev pub transaction : TransactionCommand → List OutputToken
+transaction (tc.Begin mode.ReadWrite) = Word (codes "BEGIN") ∷ []
+transaction (tc.Begin mode.ReadOnly) = Word (codes "BEGIN") ∷ Word (codes "READ") ∷ Word (codes "ONLY") ∷ []
+transaction tc.Commit = Word (codes "COMMIT") ∷ []
+transaction tc.Rollback = Word (codes "ROLLBACK") ∷ []
+
 -- a statement
 abbrev pub statement : Statement → List OutputToken
 statement (st.Select x) = Word (codes "SELECT") ∷ (selected_items x.items ++ (from_ x.table x.alias ++ where_ (maybe_term x.condition)))
@@ -244,3 +254,4 @@ statement (st.Revoke x) =
 statement (st.GrantRoles x) = Word (codes "GRANT") ∷ (listed name x.roles ++ Word (codes "TO") ∷ (listed name x.to ++ options x.options))
 statement (st.RevokeRoles x) = Word (codes "REVOKE") ∷ (option_for x.option ++ (listed name x.roles ++ Word (codes "FROM") ∷ (listed name x.from ++ cascade x.cascade)))
 statement (st.SetRole x) = set_role x
+statement (st.Transaction x) = transaction x

@@ -4,7 +4,6 @@ ghost use Rattle.std.specs.Prelude.{◌≡◌, List, Result, Ok, Some, true, IfO
 ghost use Rattle.std.specs.{Str.chars, String.string_bytes};
 ghost use Rattle.rls_value.specs.declared.refusal.Refusal.{Refusal};
 ghost use Rattle.rls_statement.specs.declared.command.Command.{Command};
-ghost use Rattle.rls_statement.specs.declared.command.Command.TheVariants as c;
 ghost use Rattle.rls_text.specs.{Words.words_of, declared.token.Token.Token};
 ghost use Rattle.rls_text.specs.Commands.{AnswersCommand, IsCommandSpelled, IsCommandWritten, SpellsCommand};
 ghost use Rattle.rls_printing.specs.{OutputTokens.tokens_of, Outputs.output_tokens_text, Outputs.put_all, Outputs.output_of};
@@ -13,7 +12,8 @@ ghost use Rattle.rls_printing.specs.CommandForms as form;
 
 use crate::buffer::OutputBuffer;
 use crate::printing::put_statement;
-use rls_statement::{AccessMode, Command};
+use crate::statements::put_transaction;
+use rls_statement::{Command, TransactionCommand};
 use std::alloc::{AllocError, Global};
 
 /// The text of the command: BEGIN, BEGIN READ ONLY, COMMIT, ROLLBACK, or that of its statement, as `print` gives it.
@@ -44,22 +44,9 @@ fn put_command(buffer: &mut OutputBuffer, command: &Command) -> Result<(), Alloc
     ensures { OnOk result (put_all (Some (output_of buffer.old)) (form.command command.now) ≡ Some (output_of buffer.new)) }
 {
     match command {
-        Command::Begin(mode) => put_begin(buffer, *mode),
-        Command::Commit => buffer.word("COMMIT"),
-        Command::Rollback => buffer.word("ROLLBACK"),
+        Command::Begin(mode) => put_transaction(buffer, TransactionCommand::Begin(*mode)),
+        Command::Commit => put_transaction(buffer, TransactionCommand::Commit),
+        Command::Rollback => put_transaction(buffer, TransactionCommand::Rollback),
         Command::Run(statement) => put_statement(buffer, statement),
-    }
-}
-
-fn put_begin(buffer: &mut OutputBuffer, mode: AccessMode) -> Result<(), AllocError>
-    ensures { OnOk result (put_all (Some (output_of buffer.old)) (form.command (c.Begin mode)) ≡ Some (output_of buffer.new)) }
-{
-    buffer.word("BEGIN")?;
-    match mode {
-        AccessMode::ReadWrite => Ok(()),
-        AccessMode::ReadOnly => {
-            buffer.word("READ")?;
-            buffer.word("ONLY")
-        }
     }
 }

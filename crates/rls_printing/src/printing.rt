@@ -19,7 +19,7 @@ use crate::policies::{
 };
 use crate::statements::{
     put_alter_role, put_alter_table, put_create_role, put_create_table, put_delete, put_insert,
-    put_select, put_set_role, put_update,
+    put_select, put_set_role, put_transaction, put_update,
 };
 use rls_expr::{Expr, Policy};
 use rls_statement::Statement;
@@ -113,5 +113,6 @@ pub fn put_statement(buffer: &mut OutputBuffer, statement: &Statement) -> Result
         Statement::Update(update) => put_update(buffer, update),
         Statement::Delete(delete) => put_delete(buffer, delete),
         Statement::Select(select) => put_select(buffer, select),
+        Statement::Transaction(command) => put_transaction(buffer, *command),
     }
 }

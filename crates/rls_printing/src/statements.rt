@@ -12,8 +12,8 @@ use crate::expression::{put_list, put_table, put_where};
 use crate::lists::{put_enclosed_names, put_listed};
 use crate::words::{put_attributes, put_row_change};
 use rls_statement::{
-    AlterRole, AlterTable, CreateRole, CreateTable, Delete, Insert, MarkedColumn, Select, Selected,
-    SetRole, Update,
+    AccessMode, AlterRole, AlterTable, CreateRole, CreateTable, Delete, Insert, MarkedColumn,
+    Select, Selected, SetRole, TransactionCommand, Update,
 };
 use rls_value::{Items, Name};
 use std::alloc::AllocError;
@@ -176,6 +176,29 @@ pub fn put_set_role(buffer: &mut OutputBuffer, statement: &SetRole) -> Result<()
         SetRole::None => put_role(buffer, "NONE"),
         SetRole::Reset => put_reset(buffer),
     }
+}
+
+/// What begins or ends a block; READ WRITE isn't printed.
+pub fn put_transaction(
+    buffer: &mut OutputBuffer,
+    command: TransactionCommand,
+) -> Result<(), AllocError>
+    ensures { OnOk result (put_all (Some (output_of buffer.old)) (form.transaction command) ≡ Some (output_of buffer.new)) }
+{
+    match command {
+        TransactionCommand::Begin(AccessMode::ReadWrite) => buffer.word("BEGIN"),
+        TransactionCommand::Begin(AccessMode::ReadOnly) => put_read_only(buffer),
+        TransactionCommand::Commit => buffer.word("COMMIT"),
+        TransactionCommand::Rollback => buffer.word("ROLLBACK"),
+    }
+}
+
+fn put_read_only(buffer: &mut OutputBuffer) -> Result<(), AllocError>
+    ensures { OnOk result (put_all (Some (output_of buffer.old)) (Word (codes "BEGIN") ∷ Word (codes "READ") ∷ Word (codes "ONLY") ∷ []) ≡ Some (output_of buffer.new)) }
+{
+    buffer.word("BEGIN")?;
+    buffer.word("READ")?;
+    buffer.word("ONLY")
 }
 
 fn put_role(buffer: &mut OutputBuffer, role: &str) -> Result<(), AllocError>

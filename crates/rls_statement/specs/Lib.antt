@@ -1,2 +1,3 @@
 pub mod Tags
 pub mod Extents
+pub mod Commands

@@ -4,6 +4,7 @@ use Rattle.rls_expr.specs.rls_value.specs.declared.tag.Tag.TheVariants as t
 use Rattle.rls_statement.specs.declared.statement.Statement.{Statement}
 use Rattle.rls_statement.specs.declared.statement.Statement.TheVariants as s
 use Rattle.rls_statement.specs.declared.statement.SetRole.TheVariants as sr
+use Rattle.rls_statement.specs.declared.command.TransactionCommand.TheVariants as tc
 
 -- by the kind of statement
 abbrev pub tag_of : Statement → Tag
@@ -25,3 +26,6 @@ tag_of (s.Insert _) = t.Insert
 tag_of (s.Update _) = t.Update
 tag_of (s.Delete _) = t.Delete
 tag_of (s.Select _) = t.Select
+tag_of (s.Transaction (tc.Begin _)) = t.Begin
+tag_of (s.Transaction tc.Commit) = t.Commit
+tag_of (s.Transaction tc.Rollback) = t.Rollback

@@ -7,7 +7,7 @@ mod privileges;
 mod statement;
 
 pub use changing::{Assignment, Delete, Update};
-pub use command::{AccessMode, Command};
+pub use command::{AccessMode, Command, TransactionCommand};
 pub use privileges::{Extent, Privileges};
 pub use rls_expr;
 pub use statement::{

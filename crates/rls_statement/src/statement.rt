@@ -4,6 +4,7 @@ ghost use Rattle.std.specs.Prelude.{◌≡◌};
 ghost use Rattle.rls_statement.specs.Tags.{tag_of};
 
 use crate::changing::{Delete, Update};
+use crate::command::TransactionCommand;
 use crate::privileges::Privileges;
 use rls_expr::rls_value::shared::Share;
 use rls_expr::rls_value::{Items, Name, Tag};
@@ -28,6 +29,8 @@ pub enum Statement {
     Update(Update),
     Delete(Delete),
     Select(Select),
+    /// `BEGIN`, `COMMIT` or `ROLLBACK`, which no transaction runs: it is in progress. The grammar's statements have none of them.
+    Transaction(TransactionCommand),
 }
 
 /// `CREATE ROLE`, or `CREATE USER`, which is the same with `LOGIN` unless `NOLOGIN` is written.
@@ -226,6 +229,9 @@ impl Statement {
             Statement::Update(_) => Tag::Update,
             Statement::Delete(_) => Tag::Delete,
             Statement::Select(_) => Tag::Select,
+            Statement::Transaction(TransactionCommand::Begin(_)) => Tag::Begin,
+            Statement::Transaction(TransactionCommand::Commit) => Tag::Commit,
+            Statement::Transaction(TransactionCommand::Rollback) => Tag::Rollback,
         }
     }
 }

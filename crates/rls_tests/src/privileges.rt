@@ -4,7 +4,6 @@ use rls_catalog::{Grant, Grants};
 use rls_expr::Grantee;
 use rls_grant::options;
 use rls_value::{Name, Privilege, Refusal};
-use shared_map::SharedList;
 use std::alloc::Global;
 
 /// A grant of SELECT with its option.
@@ -60,7 +59,7 @@ fn count_of(grants: &mut Grants, alloc: Global, pairs: &[(&str, &str)]) -> Resul
 
 /// How many hold the option on a table of `o`, by grantor and grantee of each grant.
 fn holders(alloc: Global, pairs: &[(&str, &str)]) -> Result<usize, Refusal> {
-    let mut grants = SharedList::new();
+    let mut grants = Grants::new();
     let held = count_of(&mut grants, alloc, pairs);
     drop(grants);
     held

@@ -52,7 +52,7 @@ fn select_for_b(alloc: Global) -> Result<Grant, Refusal> {
 }
 
 fn put_grant(catalog: &mut Catalog, alloc: Global) -> Result<(), Refusal> {
-    let mut grants: Grants = SharedList::new();
+    let mut grants = Grants::new();
     grants.put(alloc, select_for_b(alloc)?)?;
     match Name::new(alloc, "t") {
         Ok(name) => put(catalog, alloc, Change::Grants(name, grants)),

@@ -73,6 +73,7 @@ tree_with_depth_low (st.GrantRoles x) h = (refl, refl)
 tree_with_depth_low (st.Revoke x) h = (refl, refl)
 tree_with_depth_low (st.RevokeRoles x) h = (refl, refl)
 tree_with_depth_low (st.SetRole x) h = (refl, refl)
+tree_with_depth_low (st.Transaction x) h = (refl, refl)
 
 either_high : (using check : Option Term) → 64 < deeper (conditions_kept (using, check)) → 64 < max (height_if using) (height_if check)
 either_high using check h = go (nat_lt 64 (parted (of_some tree_of using)).1) refl
@@ -109,3 +110,4 @@ tree_with_depth_high (st.GrantRoles x) h = absurd (omega (arith, h))
 tree_with_depth_high (st.Revoke x) h = absurd (omega (arith, h))
 tree_with_depth_high (st.RevokeRoles x) h = absurd (omega (arith, h))
 tree_with_depth_high (st.SetRole x) h = absurd (omega (arith, h))
+tree_with_depth_high (st.Transaction x) h = absurd (omega (arith, h))

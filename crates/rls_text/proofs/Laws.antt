@@ -303,6 +303,7 @@ columns_kept (st.GrantRoles x) = refl
 columns_kept (st.Revoke x) = refl
 columns_kept (st.RevokeRoles x) = refl
 columns_kept (st.SetRole x) = refl
+columns_kept (st.Transaction x) = refl
 
 -- A tree with its depth is over the limits exactly where its statement is.
 pub limits_kept : (x : Statement) → within_limits (tree_with_depth_of x) ≡ limited x

@@ -96,6 +96,7 @@ statement_is n (st.GrantRoles x) = none_is_over n
 statement_is n (st.Revoke x) = none_is_over n
 statement_is n (st.RevokeRoles x) = none_is_over n
 statement_is n (st.SetRole x) = none_is_over n
+statement_is n (st.Transaction x) = none_is_over n
 
 -- Where there is no room there are more.
 pub no_room_is : (n : ℕ) (x : Statement) → not (statement_room n x) ≡ nat_lt n (subqueries_of x)

@@ -1,4 +1,4 @@
-//! A text, seen as its bytes in UTF-8.
+//! A text that its copies share, seen as its bytes in UTF-8.
 
 ghost use Rattle.std.specs.Prelude.{◌≡◌, ℕ, List, IfOk};
 ghost use Rattle.std.specs.String.{string_bytes};
@@ -9,20 +9,22 @@ ghost use Rattle.std.specs.Ordering.{nat_cmp};
 use std::alloc::{AllocError, Global};
 use std::cmp::Ordering;
 use std::marker::Model;
+use std::sync::ArcStr;
 
 /// A text value; texts are compared by their bytes.
 #[derive(Drop)]
 pub struct Text {
-    content: String,
+    // Shared by the copies, so that a copy takes no memory.
+    content: ArcStr,
 }
 
 impl Model for Text {
     ghost use Rattle.std.specs.Prelude.{List, ℕ};
-    ghost use Rattle.std.specs.String.{string_bytes};
+    ghost use Rattle.std.specs.Arc.{arc_str_bytes};
 
     ghost Value = { List ℕ };
 
-    ghost view = { λ text. string_bytes text.content };
+    ghost view = { λ text. arc_str_bytes text.content };
 }
 
 impl Text {
@@ -30,15 +32,17 @@ impl Text {
         ensures { IfOk result (λ text. text ≡ content.now) }
     {
         Ok(Text {
-            content: String::from_str(alloc, content)?,
+            content: ArcStr::from_str(alloc, content)?,
         })
     }
 
-    /// Takes the string over; no memory is needed.
-    pub fn from_string(content: String) -> Text
-        ensures { result ≡ string_bytes content }
+    /// Takes the string's bytes.
+    pub fn from_string(content: String) -> Result<Text, AllocError>
+        ensures { IfOk result (λ text. text ≡ string_bytes content) }
     {
-        Text { content }
+        Ok(Text {
+            content: ArcStr::from_string(content)?,
+        })
     }
 
     pub fn as_str(&self) -> &str

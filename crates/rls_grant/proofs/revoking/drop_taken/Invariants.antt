@@ -1,10 +1,7 @@
-use Rattle.std.proofs.Common.{◌≡◌, filter}
-use Rattle.std.specs.List.{fold}
-use Rattle.std.specs.Prelude.{not}
-use Rattle.rls_grant.specs.Revoking.{is_taken}
-use Rattle.rls_grant.proofs.GrantPlaces.{left_at}
+use Rattle.std.proofs.Common.{◌≡◌, drop}
+use Rattle.rls_grant.specs.Revoking.{without_by}
 use Rattle.rls_grant.proofs.revoking.drop_taken.Given as goal
 
 -- what is left leads to the whole
-abbrev pub invariant-loop-grant : goal.invariant-loop-grant
-invariant-loop-grant l = fold (left_at (λ grant. not (is_taken l.revoke l.grantors grant))) l.rest l.grant-iterator ≡ filter (λ grant. not (is_taken l.revoke l.grantors grant)) l.grants
+abbrev pub invariant-loop-grantor : goal.invariant-loop-grantor
+invariant-loop-grantor l = without_by l.revoke (drop l.grantor-index l.grantors) l.rest ≡ without_by l.revoke l.grantors l.grants
