@@ -25,7 +25,7 @@ OWNER = re.compile(r"^(?:impl(?:<.*?>)? (\w+)(?:<.*>)?(?: for (\w+))?|pub trait 
 FUNCTION = re.compile(r"^( *)(pub )?fn (\w+)")
 
 # Calls whose errors could say so, and which take no memory: what they give is shared, or made of what they are given.
-FREE = set("""Name::copy Row::copy Object::copy Why::copy GrantFault::copy Cause::copy Refusal::copy Grant::copy Verdict::copy combine
+FREE = set("""Name::copy Value::copy Row::copy Object::copy Why::copy GrantFault::copy Cause::copy Refusal::copy Grant::copy Verdict::copy combine
     Catalog::copy State::copy Record::copy""".split())
 NEVER = set("""Grants::copy SharedList::copy SharedMap::copy Text::copy Core::rollback Engine::close Reader::finish Converter::finish""".split())
 
@@ -61,19 +61,18 @@ PARTS = {
     "Core::order": "Conflicts::order",
     "run": "Begin::copy Core::happen",
     "Session::execute": "Session::execute_at ask_of request_for",
-    "line_of_record": "Audited::copy_of Decisions::copy_all printed",
 }
 
-# Calls that only runs of the program make, and their parts: they read a script and write answers, or a command makes each.
+# Calls that only runs of the program make, and their parts: they read a script and write answers, write and read the lines of audits,
+# or a command makes each.
 WHOLE = {
     "run_script": "read_script run_script_telling write_answer",
     "run_threads": "Notes::join Plan::into_parts read_plan run_threads_telling",
     "write_report": "Told::lines Told::of filled lines_told marked script_of split_lines tolds_of",
+    "line_of_record": "Audited::copy_of Decisions::copy_all in_order printed", "write_line": "", "read_line": "",
     "Reader::line": "", "Audit::check": "", "Audit::explain": "explain_row", "Why::lines": "", "Converter::line": "",
+    "Audit::walk": "", "Walk::next": "", "Turn::shown": "outcomes",
 }
-
-# Calls that no program makes. Contracts say what a refused one leaves; that one is answered if there is memory is not tried.
-UNTRIED = set("Audit::walk Walk::next".split())
 
 
 def callers():

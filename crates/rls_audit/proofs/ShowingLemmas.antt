@@ -306,3 +306,8 @@ line_printed commit it posts statements changes asked effects h k =
     let written : changes ≡ map printed_change (flat_map ordered_changes it.effects) =
     changes_printed changes (flat_map ordered_changes (map effect_of posts)) k ∙ ap (λ (es : List Effect). map printed_change (flat_map ordered_changes es)) effects in
     ap (λ (xs : List Answered). line_of commit it xs changes) answers ∙ ap (line_of commit it (printed_answers it.statements it.effects)) written
+
+-- what a text is made of holds of the text
+pub taken : {E : Type 0} (r : Result (List ℕ) E) (bytes : List ℕ) (Q : List ℕ → Type 0) → Q bytes → IfOk r (λ text. text ≡ bytes) → IfOk r Q
+taken (Ok text) bytes Q it h = subst Q (sym h) it
+taken (Err fault) bytes Q it h = tt

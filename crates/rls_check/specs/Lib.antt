@@ -7,6 +7,12 @@ pub mod Walking
 pub mod WalkLaws
 pub mod Findings
 pub mod WhyTexts
+pub mod Escaped
+pub mod ShownFilters
+pub mod ShownRows
+pub mod ShownObjects
+pub mod ShownTexts
+pub mod ShownAudits
 pub mod Forms
 pub mod Keeping
 pub mod KeepingLaws

@@ -67,6 +67,10 @@ abbrev pub IsNext : List Standing → Turn → List Standing → Type 0
 IsNext [] turn more = ⊥
 IsNext (standing ∷ others) turn more = IsTurn standing turn × (more ≡ others)
 
+-- it tells what its statement means
+abbrev pub IsMeant : Turn → Type 0
+IsMeant turn = turn.outcome.effect ≡ effect_of turn.before turn.ctx turn.statement
+
 -- ---- a walk
 
 -- what is still to come of the transaction that runs, and the state that it will leave

@@ -1,10 +1,12 @@
 //! An audit, and how it is read.
 
-ghost use Rattle.std.specs.Prelude.{◌≡◌, ◌⊎◌, ◌+◌, ◌++◌, ◌∷◌, [], ℕ, List, length, IsUtf8, IfOk, IfErr};
+ghost use Rattle.std.specs.Prelude.{◌≡◌, ◌⊎◌, ◌+◌, ◌++◌, ◌∷◌, [], ℕ, List, length, nat_eq, IsUtf8, IfOk, IfErr};
+ghost use Rattle.std.specs.List.{list_any};
 ghost use Rattle.rls_value.specs.declared.refusal.Refusal.TheVariants as r;
 ghost use Rattle.rls_audit.specs.Reading.{MeansLine};
 ghost use Rattle.rls_check.specs.Forms.{IsNext, IsBehind, IsUnread, IsTakenAmong, IsEnded};
 ghost use Rattle.rls_check.specs.Keeping.{IsMade};
+ghost use Rattle.rls_check.specs.ShownAudits.{missing_txn};
 ghost use Rattle.rls_check.specs.Wholes.{AreNoAudit, BeginNoAudit, HasRead, IsAuditOf, Takes};
 
 use crate::form::Form;
@@ -26,6 +28,27 @@ impl Audit {
         ensures { result.now ≡ self.now.order }
     {
         self.order.as_slice()
+    }
+
+    /// The first of the numbers that no transaction has.
+    pub fn missing(&self, txns: &[u64]) -> Option<u64>
+        ensures { result ≡ missing_txn self.now.transactions txns.now }
+    {
+        for txn in txns {
+            if !self.has(*txn) {
+                return Some(*txn);
+            }
+        }
+        None
+    }
+
+    fn has(&self, txn: u64) -> bool
+        ensures { result ≡ list_any (λ it. nat_eq it.txn txn) self.now.transactions }
+    {
+        self.transactions
+            .as_slice()
+            .iter()
+            .any(|stored| stored.txn() == txn)
     }
 }
 

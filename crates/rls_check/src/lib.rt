@@ -7,7 +7,9 @@ mod audit;
 mod checking;
 mod committing;
 mod converting;
+mod escaping;
 mod explaining;
+mod filtering;
 mod finding;
 mod form;
 mod keeping;
@@ -15,6 +17,9 @@ mod laws;
 mod matching;
 mod ordering;
 mod running;
+mod shown_objects;
+mod shown_rows;
+mod shown_texts;
 mod stored;
 mod texts;
 mod transaction;
@@ -24,6 +29,7 @@ mod walking;
 pub use audit::{Audit, Reader};
 pub use converting::Converter;
 pub use explaining::Why;
+pub use filtering::ShownFilter;
 pub use finding::Finding;
 pub use laws::{
     conversions_are_same, lines_are_shown, meant_lines_are_read, read_texts_begin_audits,
@@ -31,6 +37,7 @@ pub use laws::{
 pub use rls_agreement;
 pub use rls_audit;
 pub use rls_explain::{rls_guard, rls_meaning};
+pub use shown_texts::Ending;
 pub use transaction::{Answer, Put, Transaction};
 pub use walked::walks_tell_the_run;
 pub use walking::{Turn, Walk};

@@ -74,7 +74,7 @@ fn push_reply(
     lines.push_str(line.as_str())
 }
 
-fn came_text(alloc: Global, tag: Tag, effect: &Effect) -> Result<String, AllocError>
+pub(crate) fn came_text(alloc: Global, tag: Tag, effect: &Effect) -> Result<String, AllocError>
     ensures { IfOk result (λ text. string_bytes text ≡ Rattle.rls_check.specs.WhyTexts.came_text tag effect.now) }
 {
     match effect {

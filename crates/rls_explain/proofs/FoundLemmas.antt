@@ -7,12 +7,12 @@ use Rattle.rls_value.specs.declared.refusal.Limit.TheVariants as limit
 use Rattle.rls_value.specs.declared.refusal.NameKind.TheVariants as kind
 use Rattle.rls_value.specs.declared.verb.Kind.TheVariants as k
 use Rattle.rls_expr.specs.{declared.table.Column.Column, declared.table.TableDef.TableDef, Scopes.InScope, Selecting.selected_of, Tables.column_named, Terms.Column as Named, Terms.Term}
-use Rattle.rls_evaluation.specs.rls_catalog.specs.{declared.stored.Stored.Stored, declared.verdict.Side.Side, Membership.Within, State.State, State.table_of, Verdict.is_same_kind}
-use Rattle.rls_evaluation.specs.rls_catalog.specs.declared.verdict.Side.TheVariants as side
-use Rattle.rls_evaluation.specs.rls_source.specs.{Named.found_or, Sequences.each_of}
+use Rattle.rls_meaning.specs.rls_guard.specs.rls_catalog.specs.{declared.stored.Stored.Stored, declared.verdict.Side.Side, Membership.Within, State.State, State.table_of, Verdict.is_same_kind}
+use Rattle.rls_meaning.specs.rls_guard.specs.rls_catalog.specs.declared.verdict.Side.TheVariants as side
+use Rattle.rls_meaning.specs.rls_guard.specs.rls_source.specs.{Named.found_or, Sequences.each_of}
 use Rattle.rls_statement.specs.{declared.changing.Assignment.Assignment, declared.changing.Delete.Delete, declared.changing.Update.Update, declared.statement.Insert.Insert, declared.statement.Select.Select, declared.statement.Selected.Selected, declared.statement.Statement.Statement}
 use Rattle.rls_statement.specs.declared.statement.Statement.TheVariants as statement
-use Rattle.rls_evaluation.specs.Showing.{shows}
+use Rattle.rls_meaning.specs.rls_guard.specs.rls_evaluation.specs.Showing.{shows}
 use Rattle.rls_meaning.specs.rls_guard.specs.declared.context.Ctx.{Ctx}
 use Rattle.rls_judging.specs.ScannedRows.{pinned_key}
 use Rattle.rls_meaning.specs.rls_depth.proofs.{Tables.within_first, Tables.within_last, Walking.and_then_ok, Walking.ok_same}
@@ -28,11 +28,11 @@ use Rattle.rls_explain.proofs.{CheckLemmas.Laws, DecidedLemmas.decided_so_far, D
 
 -- ---- under the policy expansion, which there is where what is asked for is permitted
 
-permitted_told : (s : State) (c : Command) (t : List ℕ) → closing_in s c ≡ Some t → permitted_in s c ≡ Err (Recursion t)
+pub permitted_told : (s : State) (c : Command) (t : List ℕ) → closing_in s c ≡ Some t → permitted_in s c ≡ Err (Recursion t)
 permitted_told s c t closed = ap (λ found. option_map_or (λ table. Err (Recursion table)) found (permitted s c.role (required s c))) closed
 
 -- whatever is found under it is what is meant, where it is
-under_expansion : {A : Type 0} (s : State) (c : Command) (found : Option PolicyExpansion → A) (meant : A) → IsExpanded s c → permitted_in s c ≡ Ok tt → ((p : PolicyExpansion) → IsExpansionIn s c p → found (Some p) ≡ meant)
+pub under_expansion : {A : Type 0} (s : State) (c : Command) (found : Option PolicyExpansion → A) (meant : A) → IsExpanded s c → permitted_in s c ≡ Ok tt → ((p : PolicyExpansion) → IsExpansionIn s c p → found (Some p) ≡ meant)
     → found (unless_closing (expansion_in s c)) ≡ meant
 under_expansion s c found meant (Refused t gives closed) passes told = absurd (true≢false (sym (ap is_ok (sym (permitted_told s c t closed) ∙ passes))))
 under_expansion s c found meant (Made p gives never expands) passes told = ap (λ given. found (unless_closing given)) gives ∙ told p expands
@@ -84,7 +84,7 @@ some_either false b true other first second is = refl
 some_either false b false other first second is = second is
 
 -- the flag that is taken from the decisions tells it
-reads_told : (s : State) (ctx : Ctx) (asked : Statement) (id : RowId) (c : Command) (old new : List Stored) (read : Bool) → is_same_kind c.kind k.Select ≡ false → Decides s ctx asked id → are_read (decisions_of (effect_of s ctx asked)) ≡ read
+pub reads_told : (s : State) (ctx : Ctx) (asked : Statement) (id : RowId) (c : Command) (old new : List Stored) (read : Bool) → is_same_kind c.kind k.Select ≡ false → Decides s ctx asked id → are_read (decisions_of (effect_of s ctx asked)) ≡ read
     → explained_rows s c side.Old old ++ explained_rows s c side.New new ≡ explained_all s ctx asked → read ≡ reads c
 reads_told s ctx asked id c old new read other decides are same =
     let before : List Explained = explained_rows s c side.Old old in
@@ -102,15 +102,15 @@ reads_told s ctx asked id c old new read other decides are same =
 -- ---- the table, and what comes of the parts
 
 -- what comes behind the table
-abbrev with_table : List ℕ → Option TableDef → (TableDef → Result (List Explained) Refusal) → Result (List Explained) Refusal
+abbrev pub with_table : List ℕ → Option TableDef → (TableDef → Result (List Explained) Refusal) → Result (List Explained) Refusal
 with_table name found next = and_then (found_or (Undefined kind.Relation name) found) next
 
 -- what comes behind the parts, of a table that is there
-behind_table : (name : List ℕ) (found : Option TableDef) (table : TableDef) (next : TableDef → Result (List Explained) Refusal) (all : List Explained) → found ≡ Some table → with_table name found next ≡ Ok all → next table ≡ Ok all
+pub behind_table : (name : List ℕ) (found : Option TableDef) (table : TableDef) (next : TableDef → Result (List Explained) Refusal) (all : List Explained) → found ≡ Some table → with_table name found next ≡ Ok all → next table ≡ Ok all
 behind_table name found table next all there is = sym (ap (λ found. with_table name found next) there) ∙ is
 
 -- a scan that is permitted
-scan_done : (s : State) (c : Command) (condition : Option Term) (all : List Explained) → scan_explained s c condition ≡ Ok all → (permitted_in s c ≡ Ok tt) × (explained_rows s c side.Old (scanned s c condition) ≡ all)
+pub scan_done : (s : State) (c : Command) (condition : Option Term) (all : List Explained) → scan_explained s c condition ≡ Ok all → (permitted_in s c ≡ Ok tt) × (explained_rows s c side.Old (scanned s c condition) ≡ all)
 scan_done s c condition all is =
     let done = and_then_ok (permitted_in s c) (λ _. Ok (explained_rows s c side.Old (scanned s c condition))) all is in
     (done.1.0, ok_same (explained_rows s c side.Old (scanned s c condition)) all done.1.1)
@@ -129,7 +129,7 @@ scan_meant laws s c id condition all judges is =
 -- ---- SELECT
 
 -- its condition is resolved
-select_parts_of : (s : State) (asked : Select) (table : TableDef) (parts : AnalysedSelect) → select_parts s asked table ≡ Ok parts → option_map (resolved s ((unwrap_or asked.alias asked.table, table) ∷ [])) asked.condition ≡ parts.condition
+pub select_parts_of : (s : State) (asked : Select) (table : TableDef) (parts : AnalysedSelect) → select_parts s asked table ≡ Ok parts → option_map (resolved s ((unwrap_or asked.alias asked.table, table) ∷ [])) asked.condition ≡ parts.condition
 select_parts_of s asked table parts is =
     let from : List InScope = (unwrap_or asked.alias asked.table, table) ∷ [] in
     let resolved_parts : AnalysedSelect = record { items = items_resolved s from asked.items; condition = option_map (resolved s from) asked.condition; found = found_in s (items_of (Some asked.items) ++ option_to_list asked.condition) } in
@@ -138,7 +138,7 @@ select_parts_of s asked table parts is =
     ap (λ (it : AnalysedSelect). it.condition) (ok_same resolved_parts parts checks.1.1)
 
 -- the tables of its subqueries
-scan_queries : (found : List InScope) (condition : Option Term) → tables_if condition ≡ tables (flat_map (selected_of found) (option_to_list condition))
+pub scan_queries : (found : List InScope) (condition : Option Term) → tables_if condition ≡ tables (flat_map (selected_of found) (option_to_list condition))
 scan_queries found condition = sym (where_named found condition) ∙ ap tables (where_queries found condition)
 
 pub select_found : Laws → SelectIsFound
@@ -154,7 +154,7 @@ select_found laws s ctx asked id table condition there decides is =
 
 -- ---- DELETE
 
-delete_parts_of : (s : State) (asked : Delete) (table : TableDef) (parts : AnalysedDelete) → delete_parts s asked table ≡ Ok parts → option_map (resolved s ((asked.table, table) ∷ [])) asked.condition ≡ parts.condition
+pub delete_parts_of : (s : State) (asked : Delete) (table : TableDef) (parts : AnalysedDelete) → delete_parts s asked table ≡ Ok parts → option_map (resolved s ((asked.table, table) ∷ [])) asked.condition ≡ parts.condition
 delete_parts_of s asked table parts is =
     let from : List InScope = (asked.table, table) ∷ [] in
     let resolved_parts : AnalysedDelete = record { condition = option_map (resolved s from) asked.condition; returning = option_map (items_resolved s from) asked.returning; found = found_in s (option_to_list asked.condition ++ items_of asked.returning) } in
@@ -199,20 +199,20 @@ set_is s from columns (assignment ∷ assignments) given is =
     ∷ set_is s from columns assignments further.0 further.1.0 i)
     ∙ ok_same (first.0 ∷ further.0) given further.1.1
 
-set_values : (s : State) (from : List InScope) (columns : List Column) (assignments : List Assignment) → map (λ assignment. assignment.1) (map (set_at s from columns) assignments) ≡ map (resolved s from) (map (λ assignment. assignment.value) assignments)
+pub set_values : (s : State) (from : List InScope) (columns : List Column) (assignments : List Assignment) → map (λ assignment. assignment.1) (map (set_at s from columns) assignments) ≡ map (resolved s from) (map (λ assignment. assignment.value) assignments)
 set_values s from columns [] = refl
 set_values s from columns (assignment ∷ assignments) = ap (λ rest. resolved s from assignment.value ∷ rest) (set_values s from columns assignments)
 
-set_places : (s : State) (from : List InScope) (columns : List Column) (assignments : List Assignment) → places_of_update (map (set_at s from columns) assignments) ≡ places_set columns assignments
+pub set_places : (s : State) (from : List InScope) (columns : List Column) (assignments : List Assignment) → places_of_update (map (set_at s from columns) assignments) ≡ places_set columns assignments
 set_places s from columns [] = refl
 set_places s from columns (assignment ∷ assignments) = ap (λ rest. place_of columns assignment.column ∷ rest) (set_places s from columns assignments)
 
 -- what the parts are
-record AreUpdateParts (s : State) (asked : Update) (table : TableDef) (parts : AnalysedUpdate) : Type 0 where
-  assignments : map (set_at s ((asked.table, table) ∷ []) table.columns) asked.assignments ≡ parts.assignments
-  condition : option_map (resolved s ((asked.table, table) ∷ [])) asked.condition ≡ parts.condition
+pub record AreUpdateParts (s : State) (asked : Update) (table : TableDef) (parts : AnalysedUpdate) : Type 0 where
+  pub assignments : map (set_at s ((asked.table, table) ∷ []) table.columns) asked.assignments ≡ parts.assignments
+  pub condition : option_map (resolved s ((asked.table, table) ∷ [])) asked.condition ≡ parts.condition
 
-update_parts_of : (s : State) (asked : Update) (table : TableDef) (parts : AnalysedUpdate) → update_parts s asked table ≡ Ok parts → AreUpdateParts s asked table parts
+pub update_parts_of : (s : State) (asked : Update) (table : TableDef) (parts : AnalysedUpdate) → update_parts s asked table ≡ Ok parts → AreUpdateParts s asked table parts
 update_parts_of s asked table parts is =
     let from : List InScope = (asked.table, table) ∷ [] in
     let set : List Term = flat_map (λ assignment. Named (record { qualifier = None; name = assignment.column }) ∷ assignment.value ∷ []) asked.assignments in
@@ -229,17 +229,17 @@ update_parts_of s asked table parts is =
     }
 
 -- the tables of its subqueries
-update_queried : (role : List ℕ) (asked : Update) (table : TableDef) (parts : AnalysedUpdate) → all_tables (map (λ assignment. assignment.1) parts.assignments) ++ tables_if parts.condition ≡ query_tables (update_command role asked table parts)
+pub update_queried : (role : List ℕ) (asked : Update) (table : TableDef) (parts : AnalysedUpdate) → all_tables (map (λ assignment. assignment.1) parts.assignments) ++ tables_if parts.condition ≡ query_tables (update_command role asked table parts)
 update_queried role asked table parts = sym (update_named parts) ∙ ap tables (update_queries parts)
 
 -- what an UPDATE comes so far with that it decides on new rows
-record UpdateDone (s : State) (parts : AnalysedUpdate) (c : Command) (all : List Explained) : Type 0 where
-  permitted : permitted_in s c ≡ Ok tt
-  new : List Stored
-  made : each_of (new_version s c parts.assignments) (qualifying s c parts.condition) ≡ Ok new
-  same : explained_rows s c side.Old (scanned s c parts.condition) ++ explained_rows s c side.New new ≡ all
+pub record UpdateDone (s : State) (parts : AnalysedUpdate) (c : Command) (all : List Explained) : Type 0 where
+  pub permitted : permitted_in s c ≡ Ok tt
+  pub new : List Stored
+  pub made : each_of (new_version s c parts.assignments) (qualifying s c parts.condition) ≡ Ok new
+  pub same : explained_rows s c side.Old (scanned s c parts.condition) ++ explained_rows s c side.New new ≡ all
 
-update_done : (s : State) (parts : AnalysedUpdate) (c : Command) (all : List Explained) → update_explained s parts c ≡ Ok all → UpdateDone s parts c all
+pub update_done : (s : State) (parts : AnalysedUpdate) (c : Command) (all : List Explained) → update_explained s parts c ≡ Ok all → UpdateDone s parts c all
 update_done s parts c all is =
     let old : List Explained = explained_rows s c side.Old (scanned s c parts.condition) in
     let first = and_then_ok (permitted_in s c) (λ _. and_then (each_of (new_version s c parts.assignments) (qualifying s c parts.condition)) (λ new. Ok (old ++ explained_rows s c side.New new))) all is in
@@ -301,12 +301,12 @@ provided_holds true refusal u is = refl
 provided_holds false refusal u is = absurd (true≢false (sym (ap is_ok is)))
 
 -- what the parts are
-record AreInsertParts (s : State) (ctx : Ctx) (asked : Insert) (table : TableDef) (parts : AnalysedInsert) : Type 0 where
-  places : places_given table.columns asked.columns ≡ parts.places
-  tuples : map (map (resolved s [])) asked.tuples ≡ parts.tuples
-  room : ctx.next + length (map (map (resolved s [])) asked.tuples) ≤ 4294967295
+pub record AreInsertParts (s : State) (ctx : Ctx) (asked : Insert) (table : TableDef) (parts : AnalysedInsert) : Type 0 where
+  pub places : places_given table.columns asked.columns ≡ parts.places
+  pub tuples : map (map (resolved s [])) asked.tuples ≡ parts.tuples
+  pub room : ctx.next + length (map (map (resolved s [])) asked.tuples) ≤ 4294967295
 
-insert_parts_of : (s : State) (ctx : Ctx) (asked : Insert) (table : TableDef) (parts : AnalysedInsert) → insert_parts s ctx asked table ≡ Ok parts → AreInsertParts s ctx asked table parts
+pub insert_parts_of : (s : State) (ctx : Ctx) (asked : Insert) (table : TableDef) (parts : AnalysedInsert) → insert_parts s ctx asked table ≡ Ok parts → AreInsertParts s ctx asked table parts
 insert_parts_of s ctx asked table parts is =
     let from : List InScope = (asked.table, table) ∷ [] in
     let terms : List Term = flat_map (λ tuple. tuple) asked.tuples in
@@ -329,15 +329,16 @@ insert_parts_of s ctx asked table parts is =
     }
 
 -- what an INSERT that decides on a row comes so far with
-record InsertDone (s : State) (ctx : Ctx) (asked : Insert) (table : TableDef) (all : List Explained) : Type 0 where
-  parts : AnalysedInsert
-  are_parts : AreInsertParts s ctx asked table parts
-  permitted : permitted_in s (insert_command ctx.role asked table parts) ≡ Ok tt
-  rows : List (List Value)
-  made : each_of (row_of_tuple s (insert_command ctx.role asked table parts) parts.places) parts.tuples ≡ Ok rows
-  same : explained_rows s (insert_command ctx.role asked table parts) side.New (numbered table.key ctx.txn ctx.next rows) ≡ all
+pub record InsertDone (s : State) (ctx : Ctx) (asked : Insert) (table : TableDef) (all : List Explained) : Type 0 where
+  pub parts : AnalysedInsert
+  pub parts_are : insert_parts s ctx asked table ≡ Ok parts
+  pub are_parts : AreInsertParts s ctx asked table parts
+  pub permitted : permitted_in s (insert_command ctx.role asked table parts) ≡ Ok tt
+  pub rows : List (List Value)
+  pub made : each_of (row_of_tuple s (insert_command ctx.role asked table parts) parts.places) parts.tuples ≡ Ok rows
+  pub same : explained_rows s (insert_command ctx.role asked table parts) side.New (numbered table.key ctx.txn ctx.next rows) ≡ all
 
-insert_done : (s : State) (ctx : Ctx) (asked : Insert) (id : RowId) (table : TableDef) → table_of s asked.table ≡ Some table → Decides s ctx (statement.Insert asked) id → InsertDone s ctx asked table (explained_all s ctx (statement.Insert asked))
+pub insert_done : (s : State) (ctx : Ctx) (asked : Insert) (id : RowId) (table : TableDef) → table_of s asked.table ≡ Some table → Decides s ctx (statement.Insert asked) id → InsertDone s ctx asked table (explained_all s ctx (statement.Insert asked))
 insert_done s ctx asked id table there decides =
     let all : List Explained = explained_all s ctx (statement.Insert asked) in
     let given = and_then_ok (insert_parts s ctx asked table) (λ parts. insert_explained s ctx parts (insert_command ctx.role asked table parts)) all
@@ -349,6 +350,7 @@ insert_done s ctx asked id table there decides =
     let second = and_then_ok (each_of (row_of_tuple s c parts.places) parts.tuples) end all first.1.1 in
     record {
       parts = parts;
+      parts_are = given.1.0;
       are_parts = insert_parts_of s ctx asked table parts given.1.0;
       permitted = first.1.0;
       rows = second.0;
@@ -357,7 +359,7 @@ insert_done s ctx asked id table there decides =
     }
 
 -- the tables of its subqueries
-insert_queried : (role : List ℕ) (asked : Insert) (table : TableDef) (parts : AnalysedInsert) → tuples_tables parts.tuples ≡ query_tables (insert_command role asked table parts)
+pub insert_queried : (role : List ℕ) (asked : Insert) (table : TableDef) (parts : AnalysedInsert) → tuples_tables parts.tuples ≡ query_tables (insert_command role asked table parts)
 insert_queried role asked table parts = sym (insert_named parts.found parts.tuples) ∙ ap tables (insert_queries parts.found parts.tuples)
 
 pub insert_found_meant : Laws → InsertIsFound

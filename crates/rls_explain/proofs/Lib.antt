@@ -6,3 +6,8 @@ pub mod ResolvingLemmas
 pub mod CheckLemmas
 pub mod RowLemmas
 pub mod FoundLemmas
+pub mod FateLemmas
+pub mod SeenLemmas
+pub mod OutcomeLemmas
+pub mod OutcomeLawLemmas
+pub mod OutcomeChangeLemmas

@@ -1,7 +1,7 @@
 -- Lists of decisions and of rows, cut down to those of one number; and what calls give.
 use Rattle.std.specs.Prelude.{◌≡◌, refl, List, [], ◌∷◌, ◌++◌, Bool, true, false, ◌||◌, cond, Result, Ok, Err, filter, map, if◌then◌else◌}
 use Rattle.std.specs.List.{flat_map, list_any}
-use Rattle.std.proofs.{Common.ap, Common.sym, Common.◌∙◌, lemmas.Bool.or_parts, lemmas.Bool.true≢false, lemmas.List.Elements.filter-append}
+use Rattle.std.proofs.{Common.ap, Common.append_assoc, Common.sym, Common.◌∙◌, lemmas.Bool.or_parts, lemmas.Bool.true≢false, lemmas.List.Elements.filter-append}
 use Rattle.rls_value.specs.{declared.refusal.Refusal.Refusal, Giving.and_then}
 use Rattle.rls_explain.specs.Explaining.{unless_refused}
 
@@ -49,6 +49,10 @@ kept_by test is f same ys xs =
 pub mapped : {A B C : Type 0} (g : B → C) (f : A → B) (xs : List A) → map g (map f xs) ≡ map (λ x. g (f x)) xs
 mapped g f [] = refl
 mapped g f (x ∷ xs) = ap (λ rest. g (f x) ∷ rest) (mapped g f xs)
+
+-- where what is put, and what those that are left give, make the whole, they do so once the next one is put
+pub put_on : {A B : Type 0} (f : A → List B) (x : A) (before rest : List A) (old new whole : List B) → before ≡ x ∷ rest → new ≡ old ++ f x → old ++ flat_map f before ≡ whole → new ++ flat_map f rest ≡ whole
+put_on f x before rest old new whole is put so_far = ap (λ all. all ++ flat_map f rest) put ∙ append_assoc old (f x) (flat_map f rest) ∙ ap (λ left. old ++ flat_map f left) (sym is) ∙ so_far
 
 -- ---- what calls give
 

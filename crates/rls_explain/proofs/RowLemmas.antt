@@ -4,10 +4,10 @@ use Rattle.std.specs.List.{flat_map}
 use Rattle.std.proofs.Common.{ap, sym, ◌∙◌}
 use Rattle.rls_value.specs.{declared.refusal.Refusal.Refusal, declared.row.RowId.RowId, declared.value.Value.Value, Giving.and_then}
 use Rattle.rls_expr.specs.{declared.table.Column.Column, Terms.Term}
-use Rattle.rls_evaluation.specs.rls_catalog.specs.{declared.stored.Stored.Stored, declared.verdict.Side.Side, Membership.Within, State.State, State.is_same_id}
-use Rattle.rls_evaluation.specs.rls_catalog.specs.declared.verdict.Side.TheVariants as side
-use Rattle.rls_evaluation.specs.rls_source.specs.Sequences.{each_of}
-use Rattle.rls_evaluation.specs.{Environments.Environment, Environments.alone, Environments.over, Eval.Shows, Showing.shows, Tableless.value_given}
+use Rattle.rls_meaning.specs.rls_guard.specs.rls_catalog.specs.{declared.stored.Stored.Stored, declared.verdict.Side.Side, Membership.Within, State.State, State.is_same_id}
+use Rattle.rls_meaning.specs.rls_guard.specs.rls_catalog.specs.declared.verdict.Side.TheVariants as side
+use Rattle.rls_meaning.specs.rls_guard.specs.rls_source.specs.Sequences.{each_of}
+use Rattle.rls_meaning.specs.rls_guard.specs.rls_evaluation.specs.{Environments.Environment, Environments.alone, Environments.over, Eval.Shows, Showing.shows, Tableless.value_given}
 use Rattle.rls_judging.specs.{Judging.judged_all, ScannedRows.pinned_key}
 use Rattle.rls_meaning.specs.rls_depth.proofs.{Tables.within_first, Tables.within_last, Walking.and_then_ok, Walking.ok_same}
 use Rattle.rls_meaning.specs.rls_dml.specs.{Inserting.nulls, Inserting.numbered, Inserting.tuples_tables, Updating.places_set, Writing.assigned, Writing.key_at}
@@ -45,14 +45,14 @@ qualifying_meant s c p condition expands judges within =
 
 -- ---- values
 
-values_meant : (s : State) (c : Command) (p : PolicyExpansion) → IsExpansionIn s c p → (env : Environment) (terms : List Term) → Within (all_tables terms) p.tables → map (value_found s (shows p.relations c.role) env) terms ≡ map (λ t. value t (shown_to s c) env) terms
+pub values_meant : (s : State) (c : Command) (p : PolicyExpansion) → IsExpansionIn s c p → (env : Environment) (terms : List Term) → Within (all_tables terms) p.tables → map (value_found s (shows p.relations c.role) env) terms ≡ map (λ t. value t (shown_to s c) env) terms
 values_meant s c p expands env [] within = refl
 values_meant s c p expands env (t ∷ terms) within =
     λ i. (ap (λ reading. value_given reading.gives) (expands.value t env (within_first (tables_of t) (all_tables terms) p.tables within)) ∙ value_meant s (sees s c) (shown_to s c) (sees_told s c) env t) i
     ∷ values_meant s c p expands env terms (within_last (tables_of t) (all_tables terms) p.tables within) i
 
 -- the row with them
-written_meant : (s : State) (c : Command) (p : PolicyExpansion) → IsExpansionIn s c p → (env : Environment) (columns : List Column) (places : List ℕ) (terms : List Term) (row : List Value) → Within (all_tables terms) p.tables
+pub written_meant : (s : State) (c : Command) (p : PolicyExpansion) → IsExpansionIn s c p → (env : Environment) (columns : List Column) (places : List ℕ) (terms : List Term) (row : List Value) → Within (all_tables terms) p.tables
     → row_written s (shows p.relations c.role) env columns places terms row ≡ assigned columns places (map (λ t. value t (shown_to s c) env) terms) row
 written_meant s c p expands env columns places terms row within = ap (λ values. assigned columns places values row) (values_meant s c p expands env terms within)
 
@@ -81,7 +81,7 @@ made_kept make id f g alike (old ∷ olds) news is =
     ∙ ap (λ own. flat_map g (cond (is_same_id id own) (first.0 ∷ filter (is_row id) further.0) (filter (is_row id) further.0))) (sym made.0)
     ∙ ap (λ rows. flat_map g (filter (is_row id) rows)) (ok_same (first.0 ∷ further.0) news further.1.1)
 
-values_set : (s : State) (c : Command) (env : Environment) (assignments : List (ℕ × Term)) → map (λ t. value t (shown_to s c) env) (map (λ assignment. assignment.1) assignments) ≡ map (λ assignment. value assignment.1 (shown_to s c) env) assignments
+pub values_set : (s : State) (c : Command) (env : Environment) (assignments : List (ℕ × Term)) → map (λ t. value t (shown_to s c) env) (map (λ assignment. assignment.1) assignments) ≡ map (λ assignment. value assignment.1 (shown_to s c) env) assignments
 values_set s c env [] = refl
 values_set s c env (assignment ∷ assignments) = ap (λ rest. value assignment.1 (shown_to s c) env ∷ rest) (values_set s c env assignments)
 

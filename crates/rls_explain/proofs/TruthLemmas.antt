@@ -4,10 +4,10 @@ use Rattle.std.specs.List.{All}
 use Rattle.std.proofs.{Common.inl, Common.inr, lemmas.List.Elements.All-append, lemmas.List.Elements.All-cons, lemmas.List.Elements.All-map, lemmas.List.Elements.All-nil}
 use Rattle.rls_value.specs.{declared.refusal.Refusal.Refusal, declared.row.RowId.RowId, declared.truth.Truth.Truth, declared.verb.Kind.Kind, Giving.and_then}
 use Rattle.rls_expr.specs.{declared.policy.Policy.Policy, Terms.Term}
-use Rattle.rls_evaluation.specs.rls_catalog.specs.{declared.stored.Stored.Stored, declared.verdict.Side.Side, State.State, Verdict.is_exempt, Verdict.verdict_of}
-use Rattle.rls_evaluation.specs.rls_catalog.specs.declared.verdict.Side.TheVariants as side
-use Rattle.rls_evaluation.specs.rls_catalog.specs.declared.verdict.Verdict.TheVariants as v
-use Rattle.rls_evaluation.specs.rls_source.specs.Sequences.{each_of}
+use Rattle.rls_meaning.specs.rls_guard.specs.rls_catalog.specs.{declared.stored.Stored.Stored, declared.verdict.Side.Side, State.State, Verdict.is_exempt, Verdict.verdict_of}
+use Rattle.rls_meaning.specs.rls_guard.specs.rls_catalog.specs.declared.verdict.Side.TheVariants as side
+use Rattle.rls_meaning.specs.rls_guard.specs.rls_catalog.specs.declared.verdict.Verdict.TheVariants as v
+use Rattle.rls_meaning.specs.rls_guard.specs.rls_source.specs.Sequences.{each_of}
 use Rattle.rls_statement.specs.{declared.statement.Statement.Statement, Tags.tag_of}
 use Rattle.rls_statement.specs.declared.statement.Statement.TheVariants as statement
 use Rattle.rls_meaning.specs.rls_guard.specs.declared.context.Ctx.{Ctx}

@@ -9,11 +9,11 @@ ghost use Rattle.rls_meaning.specs.Showing.{rows_at_key};
 ghost use Rattle.rls_meaning.specs.rls_expansion.specs.Expanding as expanding;
 ghost use Rattle.rls_explain.specs.Found as spec;
 
-use rls_evaluation::rls_catalog::BorrowedRow;
-use rls_evaluation::rls_source::{Reads, RowSource};
 use rls_expr::{Expr, FromTable};
 use rls_judging::{CheckContext, qualifying_rows_of, scanned_rows};
 use rls_meaning::rls_expansion::{PolicyExpansion, expansion_of};
+use rls_meaning::rls_guard::rls_catalog::BorrowedRow;
+use rls_meaning::rls_guard::rls_source::{Reads, RowSource};
 use rls_meaning::rls_guard::role_privileges_of;
 use rls_value::{Items, Kind, Name, Refusal};
 use std::alloc::{AllocError, Global};

@@ -1,7 +1,7 @@
 //! Explains a statement.
 
 ghost use Rattle.std.specs.Prelude.{◌≡◌, Some, true, IfOk};
-ghost use Rattle.rls_evaluation.specs.rls_catalog.specs.Verdict.{is_same_kind};
+ghost use Rattle.rls_meaning.specs.rls_guard.specs.rls_catalog.specs.Verdict.{is_same_kind};
 ghost use Rattle.rls_meaning.specs.Meaning.{effect_of};
 ghost use Rattle.rls_explain.specs.Explaining as spec;
 ghost use Rattle.rls_explain.specs.Found as found;
@@ -11,8 +11,8 @@ use crate::inserting::explain_insert;
 use crate::judging::is_same_id;
 use crate::scanning::{explain_delete, explain_select};
 use crate::updating::explain_update;
-use rls_evaluation::rls_source::{RowSource, StatementSource};
 use rls_meaning::rls_access::{Ctx, Decision, Effect, Outcome, run_statement};
+use rls_meaning::rls_guard::rls_source::{RowSource, StatementSource};
 use rls_meaning::statement_means;
 use rls_statement::Statement;
 use rls_value::{Items, Kind, Name, RowId};
@@ -105,7 +105,7 @@ fn explained_in<'c, S: RowSource<'c>>(
     }
 }
 
-fn decisions_of(effect: &Effect) -> &[Decision]
+pub fn decisions_of(effect: &Effect) -> &[Decision]
     ensures { result.now ≡ spec.decisions_of effect.now }
 {
     match effect {
@@ -143,7 +143,7 @@ fn is_decided(decisions: &[Decision], id: RowId) -> bool
 }
 
 /// Whether one of them is for SELECT: the command reads its table.
-fn are_read(decisions: &[Decision]) -> bool
+pub fn are_read(decisions: &[Decision]) -> bool
     ensures { result ≡ found.are_read decisions.now }
 {
     decisions.iter().any(|decision| is_select(decision.kind))

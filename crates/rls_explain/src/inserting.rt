@@ -2,10 +2,10 @@
 
 ghost use Rattle.std.specs.Prelude.{◌≡◌, ◌++◌, ◌+◌, ◌≤◌, Some, true, length, IfOk, OnOk};
 ghost use Rattle.rls_value.specs.Giving.{Gives};
-ghost use Rattle.rls_evaluation.specs.rls_catalog.specs.State.{table_of};
+ghost use Rattle.rls_meaning.specs.rls_guard.specs.rls_catalog.specs.State.{table_of};
 ghost use Rattle.rls_expr.specs.Scopes.{in_scope};
 ghost use Rattle.rls_statement.specs.declared.statement.Statement.TheVariants as asked;
-ghost use Rattle.rls_evaluation.specs.{Environments.alone, Showing.shows};
+ghost use Rattle.rls_meaning.specs.rls_guard.specs.rls_evaluation.specs.{Environments.alone, Showing.shows};
 ghost use Rattle.rls_meaning.specs.Meaning.{effect_of};
 ghost use Rattle.rls_meaning.specs.rls_dml.specs.Inserting.{nulls as spec_nulls, tuples_tables};
 ghost use Rattle.rls_explain.specs.Explaining.{decisions_of, explained_in};
@@ -17,12 +17,12 @@ use crate::judging::{is_same_id, put_row};
 use crate::laws::decisions_found;
 use crate::resolving::{InsertParts, insert_parts};
 use crate::writing::row_written;
-use rls_evaluation::rls_source::RowSource;
-use rls_evaluation::{Env, Scoped};
 use rls_expr::{Column, Expr, FromTable, TableDef};
 use rls_judging::CheckContext;
 use rls_meaning::rls_access::Ctx;
 use rls_meaning::rls_expansion::PolicyExpansion;
+use rls_meaning::rls_guard::rls_evaluation::{Env, Scoped};
+use rls_meaning::rls_guard::rls_source::RowSource;
 use rls_statement::Insert;
 use rls_value::{Items, Kind, Refusal, Row, RowId, Value};
 use std::alloc::{AllocError, Global};
@@ -206,7 +206,7 @@ fn put_new<'a, 'c, S: RowSource<'c>>(
 }
 
 /// The row of the tuple; columns without a value are null.
-fn new_row<'a, 'c, S: RowSource<'c>>(
+pub fn new_row<'a, 'c, S: RowSource<'c>>(
     alloc: Global,
     source: &S,
     context: CheckContext<'a, 'c>,

@@ -2,21 +2,21 @@
 
 ghost use Rattle.std.specs.Prelude.{◌≡◌, ◌++◌, map, IfOk, OnOk};
 ghost use Rattle.rls_value.specs.Values.{truth_in};
-ghost use Rattle.rls_evaluation.specs.rls_catalog.specs.State as state;
-ghost use Rattle.rls_evaluation.specs.{Environments.over, Holding.Holds, Showing.shows};
+ghost use Rattle.rls_meaning.specs.rls_guard.specs.rls_catalog.specs.State as state;
+ghost use Rattle.rls_meaning.specs.rls_guard.specs.rls_evaluation.specs.{Environments.over, Holding.Holds, Showing.shows};
 ghost use Rattle.rls_explain.specs.Explaining as meant;
 ghost use Rattle.rls_explain.specs.Found as spec;
 
 use crate::explanation::{Explained, Said};
-use rls_evaluation::rls_catalog::{BorrowedRow, Side, Verdict};
-use rls_evaluation::rls_source::RowSource;
-use rls_evaluation::{
+use rls_expr::{Expr, Policy};
+use rls_judging::CheckContext;
+use rls_meaning::rls_guard::rls_catalog::{BorrowedRow, Side, Verdict};
+use rls_meaning::rls_guard::rls_evaluation::{
     Env, ExecutionState, Looked, Scoped, SecuredRelation, SecurityQuals, Tables, VisibleRelations,
     eval,
 };
-use rls_expr::{Expr, Policy};
-use rls_judging::CheckContext;
 use rls_meaning::rls_guard::rls_policy::combine;
+use rls_meaning::rls_guard::rls_source::RowSource;
 use rls_meaning::rls_guard::{Decision, Judgement, RowCheck};
 use rls_value::{Items, Kind, Name, Reference, Row, RowId, Truth};
 use std::alloc::{AllocError, Global};
@@ -187,7 +187,7 @@ fn judgement_on<'c, S: RowSource<'c>>(
 }
 
 /// What the condition says of the row, which alone is in scope.
-fn truth_on<'s, 'a, 'c, S: RowSource<'c>>(
+pub fn truth_on<'s, 'a, 'c, S: RowSource<'c>>(
     alloc: Global,
     source: &'s S,
     relations: &'a [SecuredRelation<'c>],

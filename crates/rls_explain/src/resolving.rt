@@ -9,10 +9,10 @@ ghost use Rattle.rls_meaning.specs.rls_dml.specs.{Checking.names_over_none, Inse
 ghost use Rattle.rls_meaning.specs.rls_expansion.specs.Used.{all_tables, tables_if};
 ghost use Rattle.rls_explain.specs.Found as spec;
 
-use rls_evaluation::rls_source::RowSource;
 use rls_expr::{Column, Expr, FromTable, NamedTable, Scope, TableDef, resolve_columns};
 use rls_meaning::rls_expansion::{put_all_tables, put_tables, put_tables_if};
 use rls_meaning::rls_guard::Found;
+use rls_meaning::rls_guard::rls_source::RowSource;
 use rls_statement::{Assignment, Insert, Update};
 use rls_value::{Items, Name};
 use std::alloc::{AllocError, Global};

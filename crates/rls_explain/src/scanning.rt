@@ -1,7 +1,7 @@
 //! SELECT and DELETE: decisions on the rows that they scan.
 
 ghost use Rattle.std.specs.Prelude.{◌≡◌, Some, true, unwrap_or, IfOk};
-ghost use Rattle.rls_evaluation.specs.rls_catalog.specs.State.{table_of};
+ghost use Rattle.rls_meaning.specs.rls_guard.specs.rls_catalog.specs.State.{table_of};
 ghost use Rattle.rls_expr.specs.Scopes.{in_scope};
 ghost use Rattle.rls_statement.specs.declared.statement.Statement.TheVariants as asked;
 ghost use Rattle.rls_judging.specs.ScannedRows.{pinned_key};
@@ -15,10 +15,10 @@ use crate::explanation::Explained;
 use crate::judging::put_rows;
 use crate::laws::decisions_found;
 use crate::resolving::{condition_in, tables_of};
-use rls_evaluation::rls_source::RowSource;
 use rls_expr::{Expr, FromTable, TableDef};
 use rls_meaning::rls_access::Ctx;
 use rls_meaning::rls_expansion::PolicyExpansion;
+use rls_meaning::rls_guard::rls_source::RowSource;
 use rls_statement::{Delete, Select};
 use rls_value::{Items, Kind, Name, RowId};
 use std::alloc::{AllocError, Global};
@@ -73,7 +73,7 @@ fn explain_selected<'c, S: RowSource<'c>>(
 }
 
 /// What qualifies the table's columns: the alias or, without one, the table's name.
-fn qualifier_of(select: &Select) -> &Name
+pub fn qualifier_of(select: &Select) -> &Name
     ensures { result.now ≡ unwrap_or select.now.alias select.now.table }
 {
     match &select.alias {

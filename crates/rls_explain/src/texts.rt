@@ -5,8 +5,8 @@ ghost use Rattle.std.specs.Fmt.{WritesOnOk};
 ghost use Rattle.rls_explain.specs.Texts as spec;
 
 use crate::explanation::Said;
-use rls_evaluation::rls_catalog::{Side, Verdict};
 use rls_meaning::rls_access::Decision;
+use rls_meaning::rls_guard::rls_catalog::{Side, Verdict};
 use rls_value::{Kind, PolicyKind, Truth};
 use std::fmt;
 

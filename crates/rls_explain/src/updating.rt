@@ -2,10 +2,10 @@
 
 ghost use Rattle.std.specs.Prelude.{◌≡◌, ◌++◌, Some, true, map, IfOk, OnOk};
 ghost use Rattle.rls_value.specs.Giving.{Gives};
-ghost use Rattle.rls_evaluation.specs.rls_catalog.specs.State.{table_of};
+ghost use Rattle.rls_meaning.specs.rls_guard.specs.rls_catalog.specs.State.{table_of};
 ghost use Rattle.rls_expr.specs.Scopes.{in_scope};
 ghost use Rattle.rls_statement.specs.declared.statement.Statement.TheVariants as asked;
-ghost use Rattle.rls_evaluation.specs.{Environments.over, Showing.shows};
+ghost use Rattle.rls_meaning.specs.rls_guard.specs.rls_evaluation.specs.{Environments.over, Showing.shows};
 ghost use Rattle.rls_judging.specs.ScannedRows.{pinned_key};
 ghost use Rattle.rls_meaning.specs.{Meaning.effect_of, Showing.rows_at_key};
 ghost use Rattle.rls_meaning.specs.rls_expansion.specs.Used.{all_tables, tables_if};
@@ -18,13 +18,13 @@ use crate::judging::{is_same_id, put_row, put_rows};
 use crate::laws::decisions_found;
 use crate::resolving::{UpdateParts, update_parts};
 use crate::writing::row_written;
-use rls_evaluation::rls_catalog::BorrowedRow;
-use rls_evaluation::rls_source::RowSource;
-use rls_evaluation::{Env, Scoped, SecuredRelation};
 use rls_expr::{Column, Expr, FromTable, TableDef};
 use rls_judging::CheckContext;
 use rls_meaning::rls_access::Ctx;
 use rls_meaning::rls_expansion::PolicyExpansion;
+use rls_meaning::rls_guard::rls_catalog::BorrowedRow;
+use rls_meaning::rls_guard::rls_evaluation::{Env, Scoped, SecuredRelation};
+use rls_meaning::rls_guard::rls_source::RowSource;
 use rls_statement::Update;
 use rls_value::{Items, Kind, Name, Refusal, Row, RowId};
 use std::alloc::{AllocError, Global};
@@ -205,7 +205,7 @@ fn put_version<'a, 'c, S: RowSource<'c>>(
 }
 
 /// The row with its new values, over itself as it stands.
-fn new_version<'a, 'c, S: RowSource<'c>>(
+pub fn new_version<'a, 'c, S: RowSource<'c>>(
     alloc: Global,
     source: &S,
     relations: &'a [SecuredRelation<'c>],

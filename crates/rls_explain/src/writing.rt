@@ -2,15 +2,15 @@
 
 ghost use Rattle.std.specs.Prelude.{◌≡◌, slice_get, slice_set};
 ghost use Rattle.rls_value.specs.Giving.{Gives};
-ghost use Rattle.rls_evaluation.specs.{Holding.Holds, Scoping.datum_value, Scoping.env_of, Showing.shows};
+ghost use Rattle.rls_meaning.specs.rls_guard.specs.rls_evaluation.specs.{Holding.Holds, Scoping.datum_value, Scoping.env_of, Showing.shows};
 ghost use Rattle.rls_meaning.specs.rls_dml.specs.Writing.{given_to as spec_given_to};
 ghost use Rattle.rls_explain.specs.Found as spec;
 
-use rls_evaluation::rls_source::RowSource;
-use rls_evaluation::{
+use rls_expr::{Column, Expr};
+use rls_meaning::rls_guard::rls_evaluation::{
     Datum, Env, ExecutionState, Looked, SecuredRelation, Tables, VisibleRelations, eval,
 };
-use rls_expr::{Column, Expr};
+use rls_meaning::rls_guard::rls_source::RowSource;
 use rls_value::{Refusal, Row, Value};
 use std::alloc::Global;
 

@@ -6,9 +6,9 @@ use Rattle.std.proofs.Common.{ap, sym, subst, ◌∙◌}
 use Rattle.rls_value.specs.{declared.object.Object.Object, declared.value.Value.Value, declared.verb.Privilege.Privilege, Giving.and_then, Names.one_of}
 use Rattle.rls_value.specs.declared.verb.Kind.TheVariants as k
 use Rattle.rls_expr.specs.{declared.table.TableDef.TableDef, Terms.Term}
-use Rattle.rls_catalog.specs.{declared.stored.Stored.Stored, Membership.Within, State.State}
-use Rattle.rls_catalog.specs.declared.verdict.Side.TheVariants as side
-use Rattle.rls_source.specs.{Askings.followed_by, Askings.known, Named.table_or_undefined, Readings.read_then, Readings.unread, Sequences.each_of}
+use Rattle.rls_check.specs.rls_meaning.specs.rls_guard.specs.rls_catalog.specs.{declared.stored.Stored.Stored, Membership.Within, State.State}
+use Rattle.rls_check.specs.rls_meaning.specs.rls_guard.specs.rls_catalog.specs.declared.verdict.Side.TheVariants as side
+use Rattle.rls_check.specs.rls_meaning.specs.rls_guard.specs.rls_source.specs.{Askings.followed_by, Askings.known, Named.table_or_undefined, Readings.read_then, Readings.unread, Sequences.each_of}
 use Rattle.rls_statement.specs.{declared.changing.Delete.Delete, declared.changing.Update.Update, declared.statement.Insert.Insert, declared.statement.Select.Select, declared.statement.Statement.Statement}
 use Rattle.rls_statement.specs.declared.statement.Statement.TheVariants as statement
 use Rattle.rls_check.specs.rls_meaning.specs.rls_guard.specs.rls_evaluation.specs.{Environments.alone, Environments.over, Gathering.gathered, Showing.shows}

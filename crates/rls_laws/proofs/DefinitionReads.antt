@@ -6,9 +6,9 @@ use Rattle.rls_value.specs.{declared.object.Object.Object, declared.refusal.Refu
 use Rattle.rls_value.specs.declared.object.Object.TheVariants as o
 use Rattle.rls_value.specs.declared.refusal.DefinedKind.TheVariants as kind
 use Rattle.rls_expr.specs.{declared.policy.Grantee.Grantee, declared.policy.Grantee.TheVariants.Public, declared.policy.Grantee.TheVariants.Role, declared.policy.Policy.Policy, declared.table.TableDef.TableDef, Scopes.InScope, Terms.Term, Terms.maybe_term, Naming.names_all}
-use Rattle.rls_catalog.specs.declared.change.Change.TheVariants as change
-use Rattle.rls_catalog.specs.{Membership.effective_roles_reads, Paths.can_set_reads, Paths.has_set, PolicyLists.with_policy, PolicyLists.without_policy, State.State}
-use Rattle.rls_source.specs.{Asked.asked_grants, Asked.asked_policies, Asked.asked_role, Asked.asked_table, Askings.asked_if, Askings.followed_by, Askings.known, Named.grantees_or_undefined, Named.role_or_undefined, Named.table_or_undefined}
+use Rattle.rls_check.specs.rls_meaning.specs.rls_guard.specs.rls_catalog.specs.declared.change.Change.TheVariants as change
+use Rattle.rls_check.specs.rls_meaning.specs.rls_guard.specs.rls_catalog.specs.{Membership.effective_roles_reads, Paths.can_set_reads, Paths.has_set, PolicyLists.with_policy, PolicyLists.without_policy, State.State}
+use Rattle.rls_check.specs.rls_meaning.specs.rls_guard.specs.rls_source.specs.{Asked.asked_grants, Asked.asked_policies, Asked.asked_role, Asked.asked_table, Askings.asked_if, Askings.followed_by, Askings.known, Named.grantees_or_undefined, Named.role_or_undefined, Named.table_or_undefined}
 use Rattle.rls_statement.specs.{declared.statement.AlterPolicy.AlterPolicy, declared.statement.AlterRole.AlterRole, declared.statement.AlterTable.AlterTable, declared.statement.CreatePolicy.CreatePolicy, declared.statement.CreateRole.CreateRole, declared.statement.CreateTable.CreateTable, declared.statement.DropPolicy.DropPolicy, declared.statement.GrantPrivileges.GrantPrivileges, declared.statement.RevokePrivileges.RevokePrivileges, declared.statement.SetRole.SetRole, declared.statement.Statement.Statement}
 use Rattle.rls_statement.specs.declared.statement.SetRole.TheVariants as set
 use Rattle.rls_statement.specs.declared.statement.Statement.TheVariants as statement

@@ -9,9 +9,9 @@ use Rattle.std.proofs.lemmas.Bool.{true≢false, or_right}
 use Rattle.rls_value.specs.{declared.object.Object.Object, declared.refusal.Refusal.Refusal, declared.refusal.Refusal.TheVariants.Unsupported, declared.verb.Privilege.Privilege, Giving.and_then, Names.one_of}
 use Rattle.rls_value.specs.declared.object.Object.TheVariants as o
 use Rattle.rls_expr.specs.{declared.columns.SelectedTable.SelectedTable, declared.policy.Policy.Policy, declared.table.TableDef.TableDef}
-use Rattle.rls_catalog.specs.{Membership.Within, Membership.attributes_of, Membership.fresh, Membership.walked_by, State.State, State.table_of, Verdict.exempts, Verdict.is_exempt}
-use Rattle.rls_catalog.proofs.{Inheriting.among_got, Inheriting.fresh_within, Walks.bytes_own, Walks.one_of-append}
-use Rattle.rls_source.specs.{Asked.asked_grants, Asked.asked_policies, Asked.asked_table, Asked.table_at, Askings.Asking, Askings.followed_by, Askings.known, Sequences.each_or_refused}
+use Rattle.rls_check.specs.rls_meaning.specs.rls_guard.specs.rls_catalog.specs.{Membership.Within, Membership.attributes_of, Membership.fresh, Membership.walked_by, State.State, State.table_of, Verdict.exempts, Verdict.is_exempt}
+use Rattle.rls_check.specs.rls_meaning.specs.rls_guard.specs.rls_catalog.proofs.{Inheriting.among_got, Inheriting.fresh_within, Walks.bytes_own, Walks.one_of-append}
+use Rattle.rls_check.specs.rls_meaning.specs.rls_guard.specs.rls_source.specs.{Asked.asked_grants, Asked.asked_policies, Asked.asked_table, Asked.table_at, Askings.Asking, Askings.followed_by, Askings.known, Sequences.each_or_refused}
 use Rattle.rls_check.specs.rls_meaning.specs.rls_guard.specs.rls_grant.specs.Missing.{missing_in}
 use Rattle.rls_check.specs.rls_meaning.specs.rls_guard.specs.{declared.effect.Effect.Effect, declared.permission_check.PermissionCheck.PermissionCheck, declared.role_privileges.RolePrivileges.RolePrivileges, RolePrivileges.has_owner, RolePrivileges.permission_or_denied, RolePrivileges.refused_for, RolePrivileges.role_privileges_in}
 use Rattle.rls_recursion.specs.declared.dependency.PolicyDependency.{PolicyDependency}

@@ -5,7 +5,7 @@ use Rattle.std.proofs.Common.{subst, sym, eqb-true, inl, inr}
 use Rattle.std.proofs.lemmas.Bool.{or_cases, true≢false}
 use Rattle.std.proofs.lemmas.List.{length-map}
 use Rattle.std.proofs.lemmas.List.Elements.{All-from_get_or, All-from_recursion}
-use Rattle.rls_catalog.specs.{Changed.changed_all, Changed.opening, State.State}
+use Rattle.rls_check.specs.rls_meaning.specs.rls_guard.specs.rls_catalog.specs.{Changed.changed_all, Changed.opening, State.State}
 use Rattle.rls_statement.specs.declared.statement.Statement.{Statement}
 use Rattle.rls_check.specs.rls_meaning.specs.rls_guard.specs.{Effects.changes_of, declared.context.Ctx.Ctx, declared.effect.Effect.Effect}
 use Rattle.rls_check.specs.rls_access.specs.Transactions.{ctx_after, first_ctx}

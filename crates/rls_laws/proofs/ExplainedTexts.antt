@@ -2,7 +2,7 @@
 use Rattle.std.specs.Prelude.{◌≡◌, ℕ, zero, suc, ◌==◌, ◌<◌, Bool, true, false, List, [], ◌∷◌}
 use Rattle.std.specs.List.{All, AllByRecursion}
 use Rattle.std.proofs.{Common.subst, Common.sym, Common.eqb-true, Common.inl, Common.inr, lemmas.Bool.or_cases, lemmas.Bool.true≢false, lemmas.List.length-map, lemmas.List.Elements.All-from_get_or, lemmas.List.Elements.All-from_recursion, lemmas.List.Elements.All-nil, lemmas.List.Elements.recursion_from_All}
-use Rattle.rls_catalog.specs.{Changed.changed_all, Changed.opening, State.State}
+use Rattle.rls_check.specs.rls_meaning.specs.rls_guard.specs.rls_catalog.specs.{Changed.changed_all, Changed.opening, State.State}
 use Rattle.rls_statement.specs.declared.statement.Statement.{Statement}
 use Rattle.rls_check.specs.rls_meaning.specs.rls_guard.specs.{Effects.changes_of, declared.context.Ctx.Ctx, declared.effect.Effect.Effect}
 use Rattle.rls_history.specs.Orders.{IsOrder, none_placed, placed_by, with_placed}

@@ -9,10 +9,10 @@ use Rattle.rls_value.specs.declared.verb.Kind.{Kind}
 use Rattle.rls_value.specs.declared.verb.Kind.TheVariants as k
 use Rattle.rls_expr.specs.{Scopes.InScope, Selecting.selected_of, Terms.Term, declared.table.Column.Column, declared.table.TableDef.TableDef}
 use Rattle.rls_expr.specs.Terms as term
-use Rattle.rls_catalog.specs.{Privileges.missing, State.State, declared.change.Change.Change, declared.stored.Stored.Stored, declared.verdict.Verdict.Verdict}
-use Rattle.rls_catalog.specs.declared.verdict.Side.TheVariants as side
-use Rattle.rls_catalog.specs.declared.verdict.Verdict.TheVariants as verdict
-use Rattle.rls_source.specs.Sequences.{each_or_refused}
+use Rattle.rls_check.specs.rls_meaning.specs.rls_guard.specs.rls_catalog.specs.{Privileges.missing, State.State, declared.change.Change.Change, declared.stored.Stored.Stored, declared.verdict.Verdict.Verdict}
+use Rattle.rls_check.specs.rls_meaning.specs.rls_guard.specs.rls_catalog.specs.declared.verdict.Side.TheVariants as side
+use Rattle.rls_check.specs.rls_meaning.specs.rls_guard.specs.rls_catalog.specs.declared.verdict.Verdict.TheVariants as verdict
+use Rattle.rls_check.specs.rls_meaning.specs.rls_guard.specs.rls_source.specs.Sequences.{each_or_refused}
 use Rattle.rls_statement.specs.{declared.changing.Delete.Delete, declared.changing.Assignment.Assignment, declared.changing.Update.Update, declared.statement.Insert.Insert, declared.statement.Select.Select, declared.statement.Selected.Selected}
 use Rattle.rls_check.specs.rls_meaning.specs.rls_guard.specs.rls_evaluation.specs.Environments.{alone, over}
 use Rattle.rls_check.specs.rls_meaning.specs.rls_guard.specs.{declared.context.Ctx.Ctx, declared.permission_check.PermissionCheck.PermissionCheck, declared.reply.Decision.Decision, declared.reply.Reply.Reply, RolePrivileges.refused_for}

@@ -11,11 +11,11 @@ use Rattle.std.proofs.lemmas.Bool.{true≢false, or_left, or_right}
 use Rattle.std.proofs.lemmas.List.{take-append-drop, map-append}
 use Rattle.rls_value.specs.{declared.object.Object.Object, Names.one_of}
 use Rattle.rls_value.specs.declared.object.Object.TheVariants as o
-use Rattle.rls_catalog.specs.{declared.role.Membership.Membership, declared.role.RoleDef.RoleDef, Membership.effective_roles_reads, Membership.fresh, Membership.visit_reads, Membership.walk_reads, Paths.Reaches, Paths.granted_where, Paths.held_if, Paths.is_any, Paths.reached_where, State.State, State.members_of, State.name_order, State.role_of}
-use Rattle.rls_catalog.specs.Paths as paths
-use Rattle.rls_catalog.proofs.{Inheriting.fresh_within, Reaching.reached_where_reaches, Walks.bytes_same, Walks.one_of-append}
+use Rattle.rls_check.specs.rls_meaning.specs.rls_guard.specs.rls_catalog.specs.{declared.role.Membership.Membership, declared.role.RoleDef.RoleDef, Membership.effective_roles_reads, Membership.fresh, Membership.visit_reads, Membership.walk_reads, Paths.Reaches, Paths.granted_where, Paths.held_if, Paths.is_any, Paths.reached_where, State.State, State.members_of, State.name_order, State.role_of}
+use Rattle.rls_check.specs.rls_meaning.specs.rls_guard.specs.rls_catalog.specs.Paths as paths
+use Rattle.rls_check.specs.rls_meaning.specs.rls_guard.specs.rls_catalog.proofs.{Inheriting.fresh_within, Reaching.reached_where_reaches, Walks.bytes_same, Walks.one_of-append}
 use Rattle.rls_recursion.proofs.Closing.{one_first, one_further}
-use Rattle.rls_source.specs.{Askings.Asking, Askings.followed_by, Askings.known, Named.role_or_undefined, Named.roles_or_undefined, Sequences.each_or_refused, Sequences.put_before}
+use Rattle.rls_check.specs.rls_meaning.specs.rls_guard.specs.rls_source.specs.{Askings.Asking, Askings.followed_by, Askings.known, Named.role_or_undefined, Named.roles_or_undefined, Sequences.each_or_refused, Sequences.put_before}
 use Rattle.rls_statement.specs.{declared.statement.GrantRoles.GrantRoles, declared.statement.MembershipOptions.MembershipOptions, declared.statement.RevokeRoles.RevokeRoles}
 use Rattle.rls_statement.specs.declared.statement.Statement.TheVariants as statement
 use Rattle.rls_check.specs.rls_meaning.specs.rls_guard.specs.rls_role.specs.{declared.holding.HeldMembership.HeldMembership, Reaching.effective_roles_in, Reaching.effective_roles_of, Reaching.effective_roles_reads_in, Holdings.held_as, Holdings.listed, Holdings.members_held, Holdings.with_held, Revoking.memberships_revoked, Revoking.revoke_member, Revoking.roles_revoked, Revoking.taken_in}

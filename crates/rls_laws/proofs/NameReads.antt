@@ -6,8 +6,8 @@ use Rattle.std.proofs.Common.{ap, sym, subst, ◌∙◌}
 use Rattle.rls_value.specs.declared.object.Object.{Object}
 use Rattle.rls_value.specs.declared.object.Object.TheVariants as o
 use Rattle.rls_expr.specs.{Naming.Step, Naming.Look, Naming.Enter, Naming.Leave, Naming.entered, Naming.names_of, Naming.names_all, Scopes.InScope, Scopes.var_in, Terms.Term, Terms.qualifier_of, Terms.terms_of}
-use Rattle.rls_catalog.specs.State.{State}
-use Rattle.rls_source.specs.{Askings.known, Named.table_or_undefined}
+use Rattle.rls_check.specs.rls_meaning.specs.rls_guard.specs.rls_catalog.specs.State.{State}
+use Rattle.rls_check.specs.rls_meaning.specs.rls_guard.specs.rls_source.specs.{Askings.known, Named.table_or_undefined}
 use Rattle.rls_statement.specs.{declared.changing.Assignment.Assignment, declared.statement.Selected.Selected}
 use Rattle.rls_statement.specs.declared.statement.Selected.TheVariants as selected
 use Rattle.rls_check.specs.rls_meaning.specs.rls_guard.specs.Naming.{named, there_or_undefined}

@@ -5,7 +5,7 @@ use Rattle.std.specs.List.{All, AllByRecursion}
 use Rattle.std.proofs.Common.{subst}
 use Rattle.std.proofs.lemmas.List.Elements.{All-from_recursion}
 use Rattle.std.proofs.lemmas.Option.{same_Some}
-use Rattle.rls_catalog.specs.{State.State, declared.change.Change.Change}
+use Rattle.rls_check.specs.rls_meaning.specs.rls_guard.specs.rls_catalog.specs.{State.State, declared.change.Change.Change}
 use Rattle.rls_statement.specs.declared.statement.Statement.{Statement}
 use Rattle.rls_check.specs.rls_meaning.specs.rls_guard.specs.{Effects.changes_of}
 use Rattle.rls_check.specs.rls_access.specs.{Statements.effect_in, Transactions.Begin, Transactions.first_ctx, Transactions.may_begin}

@@ -7,9 +7,9 @@ use Rattle.rls_value.specs.{declared.object.Object.Object, declared.row.RowId.Ro
 use Rattle.rls_value.specs.declared.object.Object.TheVariants as o
 use Rattle.rls_value.specs.declared.verb.Kind.TheVariants as k
 use Rattle.rls_expr.specs.{Terms.Term, Terms.maybe_term}
-use Rattle.rls_catalog.specs.{declared.stored.Stored.Stored, declared.verdict.Side.Side, Membership.Within, State.State}
-use Rattle.rls_catalog.specs.declared.verdict.Side.TheVariants as side
-use Rattle.rls_source.specs.{Asked.asked_key, Askings.asked_if, Askings.followed_by, Askings.known}
+use Rattle.rls_check.specs.rls_meaning.specs.rls_guard.specs.rls_catalog.specs.{declared.stored.Stored.Stored, declared.verdict.Side.Side, Membership.Within, State.State}
+use Rattle.rls_check.specs.rls_meaning.specs.rls_guard.specs.rls_catalog.specs.declared.verdict.Side.TheVariants as side
+use Rattle.rls_check.specs.rls_meaning.specs.rls_guard.specs.rls_source.specs.{Asked.asked_key, Askings.asked_if, Askings.followed_by, Askings.known}
 use Rattle.rls_check.specs.rls_meaning.specs.rls_guard.specs.rls_evaluation.specs.{Environments.Environment, Environments.over, Eval.meets, Eval.value_of, Showing.shows, Showing.verdict_on}
 use Rattle.rls_check.specs.rls_meaning.specs.rls_guard.specs.{declared.quals.RowCheck.RowCheck}
 use Rattle.rls_check.specs.rls_meaning.specs.rls_depth.specs.rls_expansion.specs.{declared.expansion.PolicyExpansion.PolicyExpansion, Expanding.judges_new, Expanding.judges_old, Used.all_tables, Used.tables_if, Used.tables_of}

@@ -1,8 +1,8 @@
 -- Each statement reads what it may read.
 use Rattle.std.specs.List.{All, AllByRecursion}
 use Rattle.std.proofs.lemmas.List.Elements.{All-from_recursion}
-use Rattle.rls_catalog.specs.State.{State}
-use Rattle.rls_source.specs.{Askings.known, Footprints.footprint_of}
+use Rattle.rls_check.specs.rls_meaning.specs.rls_guard.specs.rls_catalog.specs.State.{State}
+use Rattle.rls_check.specs.rls_meaning.specs.rls_guard.specs.rls_source.specs.{Askings.known, Footprints.footprint_of}
 use Rattle.rls_statement.specs.{declared.statement.Statement.Statement, Tags.tag_of}
 use Rattle.rls_statement.specs.declared.statement.Statement.TheVariants as statement
 use Rattle.rls_check.specs.rls_meaning.specs.rls_guard.specs.declared.context.Ctx.{Ctx}

@@ -6,8 +6,8 @@ use Rattle.std.specs.Option.{option_to_list}
 use Rattle.rls_value.specs.{declared.object.Object.Object, declared.refusal.Refusal.Refusal, declared.value.Value.Value, Giving.and_then, Names.one_of}
 use Rattle.rls_value.specs.declared.object.Object.TheVariants as o
 use Rattle.rls_expr.specs.{declared.policy.Grantee.Grantee, declared.policy.Grantee.TheVariants.Public, declared.policy.Grantee.TheVariants.Role, declared.table.TableDef.TableDef, Terms.Query, Terms.Term}
-use Rattle.rls_catalog.specs.{declared.role.Membership.Membership, declared.stored.Stored.Stored, Membership.attributes_of, Membership.visit_reads, Paths.has_set, State.State, State.table_of, Verdict.is_exempt}
-use Rattle.rls_source.specs.{Sequences.each_of}
+use Rattle.rls_check.specs.rls_meaning.specs.rls_guard.specs.rls_catalog.specs.{declared.role.Membership.Membership, declared.stored.Stored.Stored, Membership.attributes_of, Membership.visit_reads, Paths.has_set, State.State, State.table_of, Verdict.is_exempt}
+use Rattle.rls_check.specs.rls_meaning.specs.rls_guard.specs.rls_source.specs.{Sequences.each_of}
 use Rattle.rls_statement.specs.{declared.changing.Delete.Delete, declared.changing.Update.Update, declared.statement.GrantRoles.GrantRoles, declared.statement.Insert.Insert, declared.statement.Select.Select, declared.statement.Statement.Statement}
 use Rattle.rls_statement.specs.declared.statement.SetRole.TheVariants as set
 use Rattle.rls_statement.specs.declared.statement.Statement.TheVariants as statement

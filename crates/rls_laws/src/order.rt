@@ -1,7 +1,7 @@
 //! What a state lists is in order, in every state that transactions lead to.
 
 ghost use Rattle.std.specs.Prelude.{List};
-ghost use Rattle.rls_catalog.specs.{Changed.changed_all, Changed.opening, State.State};
+ghost use Rattle.rls_check.specs.rls_meaning.specs.rls_guard.specs.rls_catalog.specs.{Changed.changed_all, Changed.opening, State.State};
 ghost use Rattle.rls_statement.specs.declared.statement.Statement.{Statement};
 ghost use Rattle.rls_check.specs.rls_meaning.specs.rls_guard.specs.{declared.context.Ctx.Ctx, Effects.changes_of};
 ghost use Rattle.rls_check.specs.rls_access.specs.Statements.{effect_in};

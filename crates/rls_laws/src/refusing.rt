@@ -3,7 +3,7 @@
 ghost use Rattle.std.specs.Prelude.{◌≡◌, List};
 ghost use Rattle.std.specs.List.{All};
 ghost use Rattle.rls_value.specs.declared.refusal.Refusal.{Refusal};
-ghost use Rattle.rls_catalog.specs.State.{State};
+ghost use Rattle.rls_check.specs.rls_meaning.specs.rls_guard.specs.rls_catalog.specs.State.{State};
 ghost use Rattle.rls_statement.specs.declared.statement.Statement.{Statement};
 ghost use Rattle.rls_check.specs.rls_meaning.specs.rls_guard.specs.{declared.context.Ctx.Ctx, declared.reply.Decision.Decision};
 ghost use Rattle.rls_check.specs.rls_meaning.specs.rls_guard.specs.declared.effect.Effect.TheVariants as effect;

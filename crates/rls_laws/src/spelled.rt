@@ -3,7 +3,7 @@
 ghost use Rattle.std.specs.Prelude.{◌≡◌, List, false};
 ghost use Rattle.std.specs.List.{All};
 ghost use Rattle.rls_expr.specs.declared.policy.Policy.{Policy};
-ghost use Rattle.rls_catalog.specs.State.{State};
+ghost use Rattle.rls_check.specs.rls_meaning.specs.rls_guard.specs.rls_catalog.specs.State.{State};
 ghost use Rattle.rls_statement.specs.declared.statement.{AlterPolicy.AlterPolicy, Statement.Statement};
 ghost use Rattle.rls_statement.specs.declared.statement.Statement.TheVariants as statement;
 ghost use Rattle.rls_check.specs.rls_meaning.specs.rls_guard.specs.{declared.context.Ctx.Ctx, Effects.changes_of};

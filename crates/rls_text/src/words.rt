@@ -131,12 +131,12 @@ fn word(alloc: Global, first: char, behind: &[char]) -> Result<(Token, &[char]),
     let mut rest = behind;
     while let [next, behind @ ..] = rest {
         if !is_letter_or_digit(*next) {
-            return Ok((Token::Word(Text::from_string(word)), rest));
+            return Ok((Token::Word(Text::from_string(word)?), rest));
         }
         word.push(next.to_ascii_lowercase())?;
         rest = behind;
     }
-    Ok((Token::Word(Text::from_string(word)), rest))
+    Ok((Token::Word(Text::from_string(word)?), rest))
 }
 
 fn is_letter(letter: char) -> bool
@@ -200,7 +200,7 @@ fn quoted(alloc: Global, chars: &[char]) -> Result<(Token, &[char]), AllocError>
             return Ok((Token::Bad, chars));
         };
         let Some(letter) = part else {
-            return Ok((Token::Text(Text::from_string(content)), behind));
+            return Ok((Token::Text(Text::from_string(content)?), behind));
         };
         content.push(letter)?;
         rest = behind;

@@ -7,5 +7,7 @@ pub mod CommandLineLemmas
 pub mod FlawLemmas
 pub mod LineLemmas
 pub mod ParsingLemmas
+pub mod ShownLemmas
+pub mod ShownLineLemmas
 pub mod TestLemmas
 pub mod WordLemmas

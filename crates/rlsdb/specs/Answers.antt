@@ -1,8 +1,8 @@
 -- What each command writes, and whether it is done or answers yes.
-use Rattle.std.specs.Prelude.{◌≡◌, ◌++◌, ◌∷◌, [], ℕ, nat_lt, List, length, Bool, true, false, not, ◌&&◌, Option, Some, None, is_some, map, codes}
+use Rattle.std.specs.Prelude.{◌≡◌, ◌++◌, ◌∷◌, [], ℕ, nat_lt, List, length, Bool, true, false, not, ◌&&◌, Option, Some, None, is_some, map, codes, if◌then◌else◌}
 use Rattle.std.specs.Borrow.{Bor}
 use Rattle.std.specs.Fmt.{decimal}
-use Rattle.rls_value.specs.declared.row.RowId.{RowId}
+use Rattle.rls_laws.specs.rls_check.specs.rls_meaning.specs.rls_guard.specs.rls_catalog.specs.rls_value.specs.declared.row.RowId.{RowId}
 use Rattle.rls_laws.specs.rls_check.specs.rls_audit.specs.rls_core.specs.Records.{Record}
 use Rattle.rls_laws.specs.rls_check.specs.declared.audit.Audit.{Audit}
 use Rattle.rls_laws.specs.rls_check.specs.declared.finding.Finding.{Finding}
@@ -12,6 +12,11 @@ use Rattle.rls_laws.specs.rls_check.specs.Wholes.{AreConverted, IsAuditOf}
 use Rattle.rls_laws.specs.rls_check.specs.Checking.{IsFirst}
 use Rattle.rls_laws.specs.rls_check.specs.Explaining.{IsExplained}
 use Rattle.rls_laws.specs.rls_check.specs.Findings.{finding_text}
+use Rattle.rls_laws.specs.rls_check.specs.declared.filtering.ShownFilter.{ShownFilter}
+use Rattle.rls_laws.specs.rls_check.specs.declared.shown_texts.Ending.{Ending}
+use Rattle.rls_laws.specs.rls_check.specs.declared.shown_texts.Ending.TheVariants as e
+use Rattle.rls_laws.specs.rls_check.specs.declared.walking.Turn.{Turn}
+use Rattle.rls_laws.specs.rls_check.specs.ShownAudits.{IsShown}
 use Rattle.rls_laws.specs.rls_check.specs.WhyTexts.{explanation_text}
 use Rattle.rls_session.specs.Scripts.{IsScriptText, RunsScript}
 use Rattle.rls_session.specs.Texts.{IsPhasesText, RunsInPhases}
@@ -94,6 +99,20 @@ abbrev pub IsWhyOf : ℕ → ℕ → Option RowId → List (List ℕ) → List �
 IsWhyOf txn statement row texts written said =
     (audit : Audit) × (why : Option Why) × IsAuditOf texts audit × IsExplained audit.transactions audit.order txn statement row why × (written ≡ why_text why) × (said ≡ is_some why)
 
+-- what the statements of the audit whose lines these are did with rows, as far as it is asked for, and how it ended
+abbrev pub IsShownOf : ShownFilter → List (List ℕ) → List ℕ → Ending → Type 0
+IsShownOf it texts written ending = (audit : Audit) × IsAuditOf texts audit × IsShown it audit.transactions audit.order written ending
+
+-- all statements came to what the audit shows
+abbrev pub is_whole : Ending → Bool
+is_whole (e.Walked None) = true
+is_whole ending = false
+
+-- what was found before, or that this statement comes to another answer
+abbrev pub found_first : Option Finding → Turn → Option Finding
+found_first (Some found) turn = Some found
+found_first None turn = if turn.agrees then None else Some (f.Reply turn.ctx.txn turn.number)
+
 -- what isn't taken of a script; where all is, nothing is written
 abbrev pub IsParsed : List ℕ → Bool → Type 0
 IsParsed written fine = fine ≡ true → written ≡ []
@@ -122,6 +141,7 @@ Answers (q.Order name) written done = (texts : List (List ℕ)) × IsOrderOf tex
 Answers (q.Check it) written done =
     (made : List ℕ) × AreChecked (nat_lt 1 (length it.audits.items)) (map (λ name. name.now) it.audits.items) made done × (written ≡ answered_part (not it.quiet) made)
 Answers (q.Explain asked) written done = (texts : List (List ℕ)) × IsWhyOf asked.txn asked.statement asked.row texts written done
+Answers (q.Shown asked) written done = (texts : List (List ℕ)) × (ending : Ending) × IsShownOf asked.wanted texts written ending × (done ≡ is_whole ending)
 Answers (q.Parse name) written done = IsParsed written done
 Answers (q.Migrate from to) written done =
     (texts : List (List ℕ)) × (taken : List ℕ) × IsMigrationOf texts taken × (written ≡ answered_part (is_output to.now) taken) × (done ≡ true)

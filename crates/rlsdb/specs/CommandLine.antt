@@ -1,7 +1,9 @@
 -- The command line: what `clap` is told of it, and what words ask for.
-use Rattle.std.specs.Prelude.{◌≡◌, ◌^◌, ℕ, Bool, true, false, List, Option, Some, None, map, option_map, codes}
+use Rattle.std.specs.Prelude.{◌≡◌, ◌^◌, ℕ, Bool, true, false, List, [], Option, Some, None, map, option_map, unwrap_or, codes}
+use Rattle.std.specs.List.{AllZip}
 use Rattle.std.specs.Str.Parse.{digits_value}
-use Rattle.rls_value.specs.declared.row.RowId.{RowId}
+use Rattle.rls_laws.specs.rls_check.specs.rls_meaning.specs.rls_guard.specs.rls_catalog.specs.rls_value.specs.{declared.row.RowId.RowId, Names.folded, Names.spells_name}
+use Rattle.rls_laws.specs.rls_check.specs.declared.filtering.ShownFilter.{ShownFilter}
 use Rattle.clap.specs.Words.{App, Row, Rule, Shape, Text, all_of, first_of, kind_of, new_app, new_rule, one_of, subcommand_of, takes, with_rule, with_subcommand}
 use Rattle.clap.specs.Simple.{on_top}
 use Rattle.clap.specs.declared.builder.action.ArgAction.TheVariants.{Append, SetTrue}
@@ -11,6 +13,7 @@ use Rattle.rlsdb.specs.declared.words.Request.TheVariants as q
 use Rattle.rlsdb.specs.declared.words.ScriptFile.{ScriptFile}
 use Rattle.rlsdb.specs.declared.words.Checks.{Checks}
 use Rattle.rlsdb.specs.declared.words.Explain.{Explain}
+use Rattle.rlsdb.specs.declared.words.Shown.{Shown}
 use Rattle.rlsdb.specs.declared.words.Tests.{Tests}
 use Rattle.rlsdb.specs.declared.command_line.Mistake.{Mistake}
 use Rattle.rlsdb.specs.declared.command_line.Mistake.TheVariants as m
@@ -74,6 +77,25 @@ check_line = with_rule (with_rule (new_app (codes "check")) audits_argument) qui
 abbrev pub explain_line : App
 explain_line = with_rule (with_rule (with_rule (with_rule (new_app (codes "explain")) (needed (codes "AUDIT"))) (needed (codes "TXN"))) (needed (codes "STATEMENT"))) (new_rule (codes "ROW"))
 
+-- an option with a value, which may be repeated
+abbrev pub many_option : Text → Rule
+many_option id = record (new_rule id) { long = Some id; value_names = 1; action = Some Append }
+
+-- --denied
+abbrev pub denied_flag : Rule
+denied_flag = record (new_rule (codes "denied")) { long = Some (codes "denied"); action = Some SetTrue }
+
+-- --all
+abbrev pub all_flag : Rule
+all_flag = record (new_rule (codes "all")) { long = Some (codes "all"); action = Some SetTrue }
+
+-- --json
+abbrev pub json_flag : Rule
+json_flag = record (new_rule (codes "json")) { long = Some (codes "json"); action = Some SetTrue }
+
+abbrev pub shown_line : App
+shown_line = with_rule (with_rule (with_rule (with_rule (with_rule (with_rule (with_rule (with_rule (with_rule (new_app (codes "shown")) (needed (codes "AUDIT"))) (many_option (codes "role"))) (many_option (codes "login"))) (many_option (codes "txn"))) (many_option (codes "table"))) (many_option (codes "row"))) denied_flag) all_flag) json_flag
+
 abbrev pub migrate_line : App
 migrate_line = with_rule (with_rule (new_app (codes "migrate")) (needed (codes "AUDIT"))) (needed (codes "OUT"))
 
@@ -85,7 +107,7 @@ abbrev pub program_line : App
 program_line = on_top (λ (s : Shape). record s { has_version = true; subcommand_required = true }) (new_app (codes "rlsdb"))
 
 abbrev pub command_line : App
-command_line = with_subcommand (with_subcommand (with_subcommand (with_subcommand (with_subcommand (with_subcommand (with_subcommand program_line run_line.top) test_line.top) order_line.top) check_line.top) explain_line.top) migrate_line.top) parse_line.top
+command_line = with_subcommand (with_subcommand (with_subcommand (with_subcommand (with_subcommand (with_subcommand (with_subcommand (with_subcommand program_line run_line.top) test_line.top) order_line.top) check_line.top) explain_line.top) shown_line.top) migrate_line.top) parse_line.top
 
 -- ---- what words ask for
 
@@ -129,6 +151,34 @@ pub record IsExplain (rows : List Row) (it : Explain) : Type 0 where
   pub statement : IsNumber (codes "STATEMENT") rows it.statement
   pub row : IsRow rows it.row
 
+-- the text is a name, letters of either case, and no reserved word; this is the name
+abbrev pub IsNameOf : Text → List ℕ → Type 0
+IsNameOf text name = (spells_name text ≡ true) × (name ≡ folded text)
+
+-- the text is a number below 2^64, and this is the number
+abbrev pub IsNumberOf : Text → ℕ → Type 0
+IsNumberOf text number = IsDecimal (2 ^ 64) text × (number ≡ digits_value 10 text)
+
+-- the values of an option, in the order of the words; none where it isn't given
+abbrev pub values_in : Text → List Row → List Text
+values_in id rows = unwrap_or (all_of id rows) []
+
+-- which statements and rows are asked for
+pub record IsWanted (words : List Row) (it : ShownFilter) : Type 0 where
+  pub roles : AllZip IsNameOf (values_in (codes "role") words) it.roles
+  pub logins : AllZip IsNameOf (values_in (codes "login") words) it.logins
+  pub txns : AllZip IsNumberOf (values_in (codes "txn") words) it.txns
+  pub tables : AllZip IsNameOf (values_in (codes "table") words) it.tables
+  pub rows : AllZip IsRowText (values_in (codes "row") words) it.rows
+  pub denied : IsFlag (codes "denied") words it.denied
+  pub all : IsFlag (codes "all") words it.all
+  pub json : IsFlag (codes "json") words it.json
+
+-- an audit, and these
+pub record IsShownLine (rows : List Row) (it : Shown) : Type 0 where
+  pub audit : first_of (codes "AUDIT") rows ≡ Some it.audit.now
+  pub wanted : IsWanted rows it.wanted
+
 -- the command of that name, with these words, asks for it
 abbrev pub AsksFor : Text → List Row → Request → Type 0
 AsksFor name rows (q.Run it) = (name ≡ codes "run") × IsRun rows it × IsFlag (codes "stop") rows false
@@ -137,6 +187,7 @@ AsksFor name rows (q.Test it) = (name ≡ codes "test") × IsTest rows it
 AsksFor name rows (q.Order audit) = (name ≡ codes "order") × (first_of (codes "AUDIT") rows ≡ Some audit.now)
 AsksFor name rows (q.Check it) = (name ≡ codes "check") × IsChecks rows it
 AsksFor name rows (q.Explain it) = (name ≡ codes "explain") × IsExplain rows it
+AsksFor name rows (q.Shown it) = (name ≡ codes "shown") × IsShownLine rows it
 AsksFor name rows (q.Parse file) = (name ≡ codes "parse") × (first_of (codes "FILE") rows ≡ Some file.now)
 AsksFor name rows (q.Migrate audit out) = (name ≡ codes "migrate") × (first_of (codes "AUDIT") rows ≡ Some audit.now) × (first_of (codes "OUT") rows ≡ Some out.now)
 

@@ -118,7 +118,7 @@ fn check<'a, O: ScriptOut>(
 ) -> Result<bool, Fault<'a>>
     ensures { IfOk result (λ holds. GrewBy (O.taken output.old) (O.taken output.new) (λ written. (texts : List (List ℕ)) × IsCheckOfOne named name.entry.now texts written holds)) }
 {
-    let mut input = audit_in(rt, name)?;
+    let mut input = one_audit_in(rt, name, named)?;
     match write_check(rt.alloc(), name, named, &mut input, output) {
         Ok(holds) => Ok(holds),
         Err(fault) => Err(told(fault, name, &input)),
@@ -314,7 +314,7 @@ pub fn migrate_out<'a, O: ScriptOut>(
 
 /// That the audit is a regular file, which can be read twice.
 fn require_file<'a>(rt: &HostRuntime, name: &'a str) -> Result<(), Fault<'a>> {
-    let metadata = fs::metadata(rt, name).map_err(|error| Fault::of_script(name, error))?;
+    let metadata = fs::metadata(rt, name).map_err(|error| Fault::of_audit(name, false, error))?;
     if metadata.is_file() {
         Ok(())
     } else {
@@ -339,10 +339,22 @@ fn convert_file<'a, O: ScriptOut>(
 }
 
 /// The audit in the file of that name, or on the standard input.
-fn audit_in<'a>(rt: &HostRuntime, name: &'a str) -> Result<AuditIn<DeviceIn<Source>>, Fault<'a>> {
+pub fn audit_in<'a>(
+    rt: &HostRuntime,
+    name: &'a str,
+) -> Result<AuditIn<DeviceIn<Source>>, Fault<'a>> {
+    one_audit_in(rt, name, false)
+}
+
+/// The same of an audit alone, or of one of several.
+fn one_audit_in<'a>(
+    rt: &HostRuntime,
+    name: &'a str,
+    of_several: bool,
+) -> Result<AuditIn<DeviceIn<Source>>, Fault<'a>> {
     let source = match name {
         "-" => Source::Typed(rt.reader()),
-        name => Source::File(audit_file(rt, name)?),
+        name => Source::File(audit_file(rt, name, of_several)?),
     };
     match DeviceIn::new(rt.alloc(), source) {
         Ok(input) => Ok(AuditIn::new(input)),
@@ -352,30 +364,30 @@ fn audit_in<'a>(rt: &HostRuntime, name: &'a str) -> Result<AuditIn<DeviceIn<Sour
 
 /// The audit file of that name.
 // A file that is too long is not read for it: its first line may be as long.
-fn audit_file<'a>(rt: &HostRuntime, name: &'a str) -> Result<File, Fault<'a>> {
-    let file = File::open(rt, name).map_err(|error| Fault::of_script(name, error))?;
+fn audit_file<'a>(rt: &HostRuntime, name: &'a str, of_several: bool) -> Result<File, Fault<'a>> {
+    let file = File::open(rt, name).map_err(|error| Fault::of_audit(name, of_several, error))?;
     let metadata = file
         .metadata()
         .map_err(|error| Fault::of_script(name, error))?;
     if metadata.len() > MAX_AUDIT {
-        return Err(Fault::TooLong(name, MAX_AUDIT));
+        return Err(Fault::Ended(RunFault::Read));
     }
     Ok(file)
 }
 
 /// The fault, and of an audit that can't be read, or has no last line, which it is.
-fn told<'a, R: Read + Drop>(
+pub fn told<'a, R: Read + Drop>(
     fault: Fault<'a>,
     name: &'a str,
     input: &AuditIn<DeviceIn<R>>,
 ) -> Fault<'a>
-    ensures { result ≡ named_fault name.entry MAX_AUDIT input.now.input.error (ended_fault name.entry fault.entry) }
+    ensures { result ≡ named_fault name.entry input.now.input.error (ended_fault name.entry fault.entry) }
 {
-    fault.of_end(name).named(name, MAX_AUDIT, input.error())
+    fault.of_end(name).named(name, input.error())
 }
 
 /// The audit that is read. Where a line is bad the rest is read too: that it can't be read would come first.
-fn read_audit<'a, I: ScriptIn + Drop>(
+pub fn read_audit<'a, I: ScriptIn + Drop>(
     alloc: Global,
     name: &'a str,
     input: &mut AuditIn<I>,

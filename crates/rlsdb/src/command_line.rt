@@ -6,9 +6,10 @@ ghost use Rattle.clap.specs.declared.builder.command.Command.TheViews.{out-Comma
 ghost use Rattle.rlsdb.specs.declared.command_line.Mistake.TheVariants.{Words};
 ghost use Rattle.rlsdb.specs.CommandLine.{Asks, AsksFor, IsFlag, IsMistaken, IsNumber, IsOfMemory, IsOwn, IsRow, audit_option, audits_argument, check_line, command_line, explain_line, migrate_line, needed, hints_flag, order_line, parse_line, program_line, quiet_flag, run_line, stop_flag, terse_flag, test_line, threads_flag, transcripts_argument, write_flag};
 
+use crate::shown_line::{shown_command, shown_of};
 use crate::words::{Checks, Explain, Request, ScriptFile, Tests, number_of, row_of};
 use clap::{Arg, ArgAction, ArgMatches, Command};
-use rls_value::RowId;
+use rls_laws::rls_check::rls_guard::rls_catalog::rls_value::RowId;
 use std::alloc::{AllocError, Global};
 use std::convert::AsStr;
 
@@ -20,13 +21,14 @@ Examples:
     rlsdb run FILE --audit AUDIT
     rlsdb check AUDIT
     rlsdb explain AUDIT 16 1 10.2
+    rlsdb shown AUDIT --role ann
 
 Exit status:
     0  done, even if statements were refused
     1  a file cannot be read or written, or memory ran out
     2  usage
-    3  `check` says no, a test fails, an ERROR ends `run --stop`, a line of an audit is bad, there is no such decision, or `parse`
-       finds a line that is no statement";
+    3  `check` says no, a test fails, an ERROR ends `run --stop`, a line of an audit is bad, there is no such decision, `shown`
+       finds a fault, or `parse` finds a line that is no statement";
 
 const AFTER_RUN: &str = "\
 Each line of FILE is a command: `LABEL: \\connect ROLE` or `LABEL: STATEMENT`. The superuser `postgres` exists from the start:
@@ -83,13 +85,13 @@ stand there.
 
 Example: rlsdb parse FILE";
 
-const NUMBER: &str = "a decimal number up to 18446744073709551615";
+pub const NUMBER: &str = "a decimal number up to 18446744073709551615";
 
 const TWICE: &str = "a file that can be read twice";
 
 const FILLED: &str = "with --write, a file";
 
-const ROW: &str = "T.N with decimal numbers up to 18446744073709551615 and 4294967295";
+pub const ROW: &str = "T.N with decimal numbers up to 18446744073709551615 and 4294967295";
 
 /// Why the words ask for nothing.
 #[derive(Drop)]
@@ -149,6 +151,7 @@ fn request_in<'a>(
         "order" => Ok(Request::Order(value(words, "AUDIT")?)),
         "check" => check_of(alloc, words),
         "explain" => explain_of(words),
+        "shown" => shown_of(alloc, words),
         "migrate" => migrate_of(words),
         "parse" => Ok(Request::Parse(value(words, "FILE")?)),
         _ => Err(Mistake::Nothing),
@@ -230,7 +233,7 @@ fn migrate_of<'a>(words: &ArgMatches<'a>) -> Result<Request<'a>, Mistake<'a>>
 }
 
 /// Whether the flag is given.
-fn flag(words: &ArgMatches<'_>, name: &str) -> bool
+pub fn flag(words: &ArgMatches<'_>, name: &str) -> bool
     ensures { IsFlag name.now (rows_of (found_of words.now)) result }
 {
     words.get_flag(name)
@@ -244,7 +247,7 @@ fn given<'a>(words: &ArgMatches<'a>, name: &str) -> Option<&'a str>
 }
 
 /// The argument's value.
-fn value<'a>(words: &ArgMatches<'a>, name: &str) -> Result<&'a str, Mistake<'a>>
+pub fn value<'a>(words: &ArgMatches<'a>, name: &str) -> Result<&'a str, Mistake<'a>>
     ensures ok { IfOk result (λ text. first_of name.now (rows_of (found_of words.now)) ≡ Some text.now) }
     ensures err { IfErr result IsOwn }
 {
@@ -286,6 +289,7 @@ fn command<'a>(alloc: Global) -> Result<Command<'a>, AllocError>
     let program = program.subcommand(order_command(alloc)?)?;
     let program = program.subcommand(check_command(alloc)?)?;
     let program = program.subcommand(explain_command(alloc)?)?;
+    let program = program.subcommand(shown_command(alloc)?)?;
     let program = program.subcommand(migrate_command(alloc)?)?;
     let program = program.subcommand(parse_command(alloc)?)?;
     Ok(program)
@@ -306,7 +310,7 @@ fn program<'a>(alloc: Global) -> Command<'a>
 }
 
 /// A command of that name, with its help, before any argument.
-fn named<'a>(
+pub fn named<'a>(
     alloc: Global,
     name: &'static str,
     about: &'static str,
@@ -534,7 +538,7 @@ fn parse_command<'a>(alloc: Global) -> Result<Command<'a>, AllocError>
     Ok(command)
 }
 
-fn audit<'a>(alloc: Global) -> Arg<'a>
+pub fn audit<'a>(alloc: Global) -> Arg<'a>
     ensures rule { rule_of result ≡ needed (codes "AUDIT") }
     ensures local { result.global ≡ false }
 {

@@ -17,6 +17,8 @@ mod passed;
 mod running;
 mod same_file;
 mod script_file;
+mod shown;
+mod shown_line;
 mod stopping;
 mod testing;
 mod words;

@@ -2,11 +2,12 @@
 
 ghost use Rattle.std.specs.Prelude.{◌≡◌, ◌^◌, SomeIff, MatchOption};
 ghost use Rattle.std.specs.Str.Parse.{digits_value};
-ghost use Rattle.rls_value.specs.declared.row.RowId.{RowId};
+ghost use Rattle.rls_laws.specs.rls_check.specs.rls_meaning.specs.rls_guard.specs.rls_catalog.specs.rls_value.specs.declared.row.RowId.{RowId};
 ghost use Rattle.rlsdb.specs.Words as spec;
 ghost use Rattle.rlsdb.specs.Words.{IsDecimal, IsRowText};
 
-use rls_value::RowId;
+use rls_laws::rls_check::ShownFilter;
+use rls_laws::rls_check::rls_guard::rls_catalog::rls_value::RowId;
 
 /// A script to run.
 #[derive(Clone, Copy)]
@@ -31,6 +32,14 @@ pub struct Explain<'a> {
     /// Counted from 1.
     pub statement: u64,
     pub row: Option<RowId>,
+}
+
+/// An audit, and which of its statements and rows are asked for.
+#[derive(Drop)]
+pub struct Shown<'a> {
+    /// Its file, or `-` for standard input.
+    pub audit: &'a str,
+    pub wanted: ShownFilter,
 }
 
 /// Transcripts to be tested.
@@ -61,6 +70,7 @@ pub enum Request<'a> {
     Order(&'a str),
     Check(Checks<'a>),
     Explain(Explain<'a>),
+    Shown(Shown<'a>),
     /// From the first file into the second, or, where that is `-`, to standard output.
     Migrate(&'a str, &'a str),
     /// What of this script isn't taken.

@@ -1,5 +1,5 @@
 use Rattle.std.proofs.Common.{◌≡◌, ◌≤◌, ◌+◌, ◌++◌, drop, length}
-use Rattle.rls_evaluation.specs.Showing.{shows}
+use Rattle.rls_meaning.specs.rls_guard.specs.rls_evaluation.specs.Showing.{shows}
 use Rattle.rls_explain.specs.Found.{tuples_found}
 use Rattle.rls_explain.proofs.inserting.explain_tuples.Given as goal
 

@@ -1,5 +1,5 @@
 use Rattle.std.proofs.Common.{◌≡◌, ◌++◌, drop, map}
-use Rattle.rls_evaluation.specs.Showing.{shows}
+use Rattle.rls_meaning.specs.rls_guard.specs.rls_evaluation.specs.Showing.{shows}
 use Rattle.rls_explain.specs.Found.{explained_check}
 use Rattle.rls_explain.proofs.judging.put_row.Given as goal
 

@@ -1,5 +1,5 @@
 use Rattle.std.proofs.Common.{◌≡◌, ◌++◌, drop, map}
-use Rattle.rls_evaluation.specs.Showing.{shows}
+use Rattle.rls_meaning.specs.rls_guard.specs.rls_evaluation.specs.Showing.{shows}
 use Rattle.rls_explain.specs.Found.{versions_found}
 use Rattle.rls_explain.proofs.updating.put_versions.Given as goal
 

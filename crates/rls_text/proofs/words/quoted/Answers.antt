@@ -17,7 +17,7 @@ unfolding quoted
 returns-in_default-part c = ap (text_from c.args.chars.now) (c.loop-turn.invariant
     ∙ quoted_ends (string_bytes c.loop-turn.content) c.loop-turn._turn (length c.args.chars.now) c.loop-turn.rest.now c.in-Some.behind.now c.loop-turn-test.true
     (c.in-Some.ensures ∙ ap (λ part. Some (part, c.in-Some.behind.now)) c.in_default-part.is))
-    ∙ ap (λ content. (t.Text content, c.in-Some.behind.now)) (sym c.from_string.ensures)
+    ∙ ap (λ content. (t.Text content, c.in-Some.behind.now)) (sym c.in_ok-from_string.ensures)
 
 pub loop-turn-preserved : goal.loop-turn-preserved
 loop-turn-preserved c = rw c.in_ok-push.ensures.bytes (c.loop-turn.invariant
