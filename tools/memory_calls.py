@@ -10,7 +10,7 @@ from crates import TOP, libraries, read, root_of
 
 # The crates whose calls are promised, from the lowest up.
 CRATES = """shared_map rls_value rls_expr rls_text rls_hints rls_printing rls_catalog rls_source rls_overlay rls_agreement rls_role rls_grant
-    rls_verdict rls_policy rls_access rls_explain rls_rows rls_siread rls_conflict rls_core rls_engine rls_script rls_transcript rls_session
+    rls_verdict rls_policy rls_access rls_explain rls_lint rls_rows rls_siread rls_conflict rls_core rls_engine rls_script rls_transcript rls_session
     rls_audit rls_check""".split()
 # The crates whose calls are parts of one of these: what they ask for is asked for there.
 INNER = {
@@ -70,6 +70,7 @@ WHOLE = {
     "run_threads": "Notes::join Plan::into_parts read_plan run_threads_telling",
     "write_report": "Told::lines Told::of filled lines_told marked script_of split_lines tolds_of",
     "line_of_record": "Audited::copy_of Decisions::copy_all in_order printed", "write_line": "", "read_line": "",
+    "findings": "Finding::line Named::follow Named::opening",
     "Reader::line": "", "Audit::check": "", "Audit::explain": "explain_row", "Why::lines": "", "Converter::line": "",
     "Audit::walk": "", "Walk::next": "", "Turn::shown": "outcomes",
 }

@@ -6,6 +6,7 @@ pub mod CommandLemmas
 pub mod CommandLineLemmas
 pub mod FlawLemmas
 pub mod LineLemmas
+pub mod LintLemmas
 pub mod ParsingLemmas
 pub mod ShownLemmas
 pub mod ShownLineLemmas

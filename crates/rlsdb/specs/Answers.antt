@@ -23,6 +23,8 @@ use Rattle.rls_session.specs.Texts.{IsPhasesText, RunsInPhases}
 use Rattle.rlsdb.specs.declared.words.Request.{Request}
 use Rattle.rlsdb.specs.declared.words.Request.TheVariants as q
 use Rattle.rlsdb.specs.AuditLines.{WritesAudit, ended_lines}
+use Rattle.rlsdb.specs.declared.linting.LintEnd.{LintEnd}
+use Rattle.rlsdb.specs.Linting.{IsLintOf, is_all_right}
 use Rattle.rlsdb.specs.Tests.{AreTested, IsStopText}
 use Rattle.rlsdb.specs.Words.{is_output, is_output_wanted}
 use Rattle.rlsdb.specs.declared.words.ScriptFile.{ScriptFile}
@@ -142,6 +144,7 @@ Answers (q.Check it) written done =
     (made : List ℕ) × AreChecked (nat_lt 1 (length it.audits.items)) (map (λ name. name.now) it.audits.items) made done × (written ≡ answered_part (not it.quiet) made)
 Answers (q.Explain asked) written done = (texts : List (List ℕ)) × IsWhyOf asked.txn asked.statement asked.row texts written done
 Answers (q.Shown asked) written done = (texts : List (List ℕ)) × (ending : Ending) × IsShownOf asked.wanted texts written ending × (done ≡ is_whole ending)
+Answers (q.Lint asked) written done = (texts : List (List ℕ)) × (ending : LintEnd) × IsLintOf asked.after texts written ending × (done ≡ is_all_right ending)
 Answers (q.Parse name) written done = IsParsed written done
 Answers (q.Migrate from to) written done =
     (texts : List (List ℕ)) × (taken : List ℕ) × IsMigrationOf texts taken × (written ≡ answered_part (is_output to.now) taken) × (done ≡ true)

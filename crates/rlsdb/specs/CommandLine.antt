@@ -14,6 +14,7 @@ use Rattle.rlsdb.specs.declared.words.ScriptFile.{ScriptFile}
 use Rattle.rlsdb.specs.declared.words.Checks.{Checks}
 use Rattle.rlsdb.specs.declared.words.Explain.{Explain}
 use Rattle.rlsdb.specs.declared.words.Shown.{Shown}
+use Rattle.rlsdb.specs.declared.words.Lint.{Lint}
 use Rattle.rlsdb.specs.declared.words.Tests.{Tests}
 use Rattle.rlsdb.specs.declared.command_line.Mistake.{Mistake}
 use Rattle.rlsdb.specs.declared.command_line.Mistake.TheVariants as m
@@ -44,6 +45,10 @@ hints_flag = record (new_rule (codes "hints")) { long = Some (codes "hints"); ac
 -- --stop
 abbrev pub stop_flag : Rule
 stop_flag = record (new_rule (codes "stop")) { long = Some (codes "stop"); action = Some SetTrue }
+
+-- --after TXN
+abbrev pub after_option : Rule
+after_option = record (new_rule (codes "after")) { long = Some (codes "after"); value_names = 1 }
 
 -- --write
 abbrev pub write_flag : Rule
@@ -96,6 +101,9 @@ json_flag = record (new_rule (codes "json")) { long = Some (codes "json"); actio
 abbrev pub shown_line : App
 shown_line = with_rule (with_rule (with_rule (with_rule (with_rule (with_rule (with_rule (with_rule (with_rule (new_app (codes "shown")) (needed (codes "AUDIT"))) (many_option (codes "role"))) (many_option (codes "login"))) (many_option (codes "txn"))) (many_option (codes "table"))) (many_option (codes "row"))) denied_flag) all_flag) json_flag
 
+abbrev pub lint_line : App
+lint_line = with_rule (with_rule (new_app (codes "lint")) (needed (codes "AUDIT"))) after_option
+
 abbrev pub migrate_line : App
 migrate_line = with_rule (with_rule (new_app (codes "migrate")) (needed (codes "AUDIT"))) (needed (codes "OUT"))
 
@@ -107,7 +115,7 @@ abbrev pub program_line : App
 program_line = on_top (λ (s : Shape). record s { has_version = true; subcommand_required = true }) (new_app (codes "rlsdb"))
 
 abbrev pub command_line : App
-command_line = with_subcommand (with_subcommand (with_subcommand (with_subcommand (with_subcommand (with_subcommand (with_subcommand (with_subcommand program_line run_line.top) test_line.top) order_line.top) check_line.top) explain_line.top) shown_line.top) migrate_line.top) parse_line.top
+command_line = with_subcommand (with_subcommand (with_subcommand (with_subcommand (with_subcommand (with_subcommand (with_subcommand (with_subcommand (with_subcommand program_line run_line.top) test_line.top) order_line.top) check_line.top) explain_line.top) shown_line.top) lint_line.top) migrate_line.top) parse_line.top
 
 -- ---- what words ask for
 
@@ -179,6 +187,16 @@ pub record IsShownLine (rows : List Row) (it : Shown) : Type 0 where
   pub audit : first_of (codes "AUDIT") rows ≡ Some it.audit.now
   pub wanted : IsWanted rows it.wanted
 
+-- the number of a transaction, where it is given
+abbrev pub IsAfter : List Row → Option ℕ → Type 0
+IsAfter rows (Some txn) = IsNumber (codes "after") rows txn
+IsAfter rows None = first_of (codes "after") rows ≡ None
+
+-- an audit, and perhaps a transaction
+pub record IsLint (rows : List Row) (it : Lint) : Type 0 where
+  pub audit : first_of (codes "AUDIT") rows ≡ Some it.audit.now
+  pub after : IsAfter rows it.after
+
 -- the command of that name, with these words, asks for it
 abbrev pub AsksFor : Text → List Row → Request → Type 0
 AsksFor name rows (q.Run it) = (name ≡ codes "run") × IsRun rows it × IsFlag (codes "stop") rows false
@@ -188,6 +206,7 @@ AsksFor name rows (q.Order audit) = (name ≡ codes "order") × (first_of (codes
 AsksFor name rows (q.Check it) = (name ≡ codes "check") × IsChecks rows it
 AsksFor name rows (q.Explain it) = (name ≡ codes "explain") × IsExplain rows it
 AsksFor name rows (q.Shown it) = (name ≡ codes "shown") × IsShownLine rows it
+AsksFor name rows (q.Lint it) = (name ≡ codes "lint") × IsLint rows it
 AsksFor name rows (q.Parse file) = (name ≡ codes "parse") × (first_of (codes "FILE") rows ≡ Some file.now)
 AsksFor name rows (q.Migrate audit out) = (name ≡ codes "migrate") × (first_of (codes "AUDIT") rows ≡ Some audit.now) × (first_of (codes "OUT") rows ≡ Some out.now)
 

@@ -2,6 +2,7 @@ pub mod Words
 pub mod CommandLine
 pub mod AuditLines
 pub mod Tests
+pub mod Linting
 pub mod Answers
 pub mod Flaws
 pub mod Missing

@@ -6,6 +6,7 @@ ghost use Rattle.clap.specs.declared.builder.command.Command.TheViews.{out-Comma
 ghost use Rattle.rlsdb.specs.declared.command_line.Mistake.TheVariants.{Words};
 ghost use Rattle.rlsdb.specs.CommandLine.{Asks, AsksFor, IsFlag, IsMistaken, IsNumber, IsOfMemory, IsOwn, IsRow, audit_option, audits_argument, check_line, command_line, explain_line, migrate_line, needed, hints_flag, order_line, parse_line, program_line, quiet_flag, run_line, stop_flag, terse_flag, test_line, threads_flag, transcripts_argument, write_flag};
 
+use crate::lint_line::{lint_command, lint_of};
 use crate::shown_line::{shown_command, shown_of};
 use crate::words::{Checks, Explain, Request, ScriptFile, Tests, number_of, row_of};
 use clap::{Arg, ArgAction, ArgMatches, Command};
@@ -22,13 +23,14 @@ Examples:
     rlsdb check AUDIT
     rlsdb explain AUDIT 16 1 10.2
     rlsdb shown AUDIT --role ann
+    rlsdb lint AUDIT
 
 Exit status:
     0  done, even if statements were refused
     1  a file cannot be read or written, or memory ran out
     2  usage
     3  `check` says no, a test fails, an ERROR ends `run --stop`, a line of an audit is bad, there is no such decision, `shown`
-       finds a fault, or `parse` finds a line that is no statement";
+       finds a fault, `lint` finds a mistake or a fault, or `parse` finds a line that is no statement";
 
 const AFTER_RUN: &str = "\
 Each line of FILE is a command: `LABEL: \\connect ROLE` or `LABEL: STATEMENT`. The superuser `postgres` exists from the start:
@@ -152,6 +154,7 @@ fn request_in<'a>(
         "check" => check_of(alloc, words),
         "explain" => explain_of(words),
         "shown" => shown_of(alloc, words),
+        "lint" => lint_of(words),
         "migrate" => migrate_of(words),
         "parse" => Ok(Request::Parse(value(words, "FILE")?)),
         _ => Err(Mistake::Nothing),
@@ -240,7 +243,7 @@ pub fn flag(words: &ArgMatches<'_>, name: &str) -> bool
 }
 
 /// The argument's value, if it has one.
-fn given<'a>(words: &ArgMatches<'a>, name: &str) -> Option<&'a str>
+pub fn given<'a>(words: &ArgMatches<'a>, name: &str) -> Option<&'a str>
     ensures { option_map (λ text. text.now) result ≡ first_of name.now (rows_of (found_of words.now)) }
 {
     words.get_str(name)
@@ -290,6 +293,7 @@ fn command<'a>(alloc: Global) -> Result<Command<'a>, AllocError>
     let program = program.subcommand(check_command(alloc)?)?;
     let program = program.subcommand(explain_command(alloc)?)?;
     let program = program.subcommand(shown_command(alloc)?)?;
+    let program = program.subcommand(lint_command(alloc)?)?;
     let program = program.subcommand(migrate_command(alloc)?)?;
     let program = program.subcommand(parse_command(alloc)?)?;
     Ok(program)

@@ -12,7 +12,7 @@ use crate::command_line::Mistake;
 use crate::device::{DeviceOut, Nowhere};
 use crate::fault::Fault;
 use crate::words::{Checks, Request, ScriptFile, is_output, is_output_wanted};
-use crate::{audits, command_line, hinting, running, shown, stopping, testing};
+use crate::{audits, command_line, hinting, linting, running, shown, stopping, testing};
 use clap::error::ErrorKind;
 use rls_session::rls_script::RunFault;
 use std::convert::AsStr;
@@ -30,7 +30,7 @@ const FAULT: u8 = 1;
 const USAGE: u8 = 2;
 
 // A check or a test says no, a refusal stopped a run, a line of an audit is bad or what it shows is false, there is no such decision,
-// or a line of a script isn't taken.
+// a state has a mistake, or a line of a script isn't taken.
 const NO: u8 = 3;
 
 // What stands for the name of the answers' file.
@@ -123,7 +123,7 @@ fn serve<'a, W: Threads + Wait + Clock + Sync, D: Write + Drop>(
 }
 
 /// Does what is asked for.
-#[tactic(auto, using(crate::proofs::CommandLemmas::ran, crate::proofs::CommandLemmas::ordered, crate::proofs::CommandLemmas::checked, crate::proofs::CommandLemmas::explained, crate::proofs::ShownLemmas::answered_shown, crate::proofs::CommandLemmas::migrated, crate::proofs::CommandLemmas::parsed, crate::proofs::TestLemmas::tests_answered, crate::proofs::TestLemmas::stop_answered))]
+#[tactic(auto, using(crate::proofs::CommandLemmas::ran, crate::proofs::CommandLemmas::ordered, crate::proofs::CommandLemmas::checked, crate::proofs::CommandLemmas::explained, crate::proofs::ShownLemmas::answered_shown, crate::proofs::LintLemmas::answered_lint, crate::proofs::CommandLemmas::migrated, crate::proofs::CommandLemmas::parsed, crate::proofs::TestLemmas::tests_answered, crate::proofs::TestLemmas::stop_answered))]
 fn answer<'a, W: Threads + Wait + Clock + Sync, D: Write + Drop>(
     rt: &HostRuntime,
     waits: &W,
@@ -143,6 +143,7 @@ fn answer<'a, W: Threads + Wait + Clock + Sync, D: Write + Drop>(
         Request::Check(checks) => Ok(check(rt, &checks, output)?),
         Request::Explain(asked) => Ok(audits::explain(rt, asked, output)?),
         Request::Shown(asked) => Ok(shown::shown(rt, &asked, output)?),
+        Request::Lint(asked) => Ok(linting::lint(rt, asked, output)?),
         Request::Migrate(from, to) => Ok(migrate(rt, from, to, output)?),
         Request::Parse(file) => Ok(hinting::parse(rt, file, output)?),
     }

@@ -11,6 +11,8 @@ mod fault;
 mod flaw;
 mod held;
 mod hinting;
+mod lint_line;
+mod linting;
 mod missing;
 mod out_file;
 mod passed;

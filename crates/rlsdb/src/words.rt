@@ -42,6 +42,15 @@ pub struct Shown<'a> {
     pub wanted: ShownFilter,
 }
 
+/// An audit that is looked at for mistakes.
+#[derive(Clone, Copy)]
+pub struct Lint<'a> {
+    /// Its file, or `-` for standard input.
+    pub audit: &'a str,
+    /// The transaction behind which the state stands; none for the end.
+    pub after: Option<u64>,
+}
+
 /// Transcripts to be tested.
 #[derive(Drop)]
 pub struct Tests<'a> {
@@ -71,6 +80,7 @@ pub enum Request<'a> {
     Check(Checks<'a>),
     Explain(Explain<'a>),
     Shown(Shown<'a>),
+    Lint(Lint<'a>),
     /// From the first file into the second, or, where that is `-`, to standard output.
     Migrate(&'a str, &'a str),
     /// What of this script isn't taken.

@@ -1,0 +1,11 @@
+pub mod Alike
+pub mod Closing
+pub mod Following
+pub mod LawLemmas
+pub mod LintedLemmas
+pub mod NeverLemmas
+pub mod NullLemmas
+pub mod ReadLemmas
+pub mod TermSizes
+pub mod TextLemmas
+pub mod ToldLemmas

@@ -1,0 +1,9 @@
+use Rattle.std.proofs.Common.{◌≡◌, ◌++◌}
+use Rattle.rls_lint.specs.Findings.{told_of}
+use Rattle.rls_lint.specs.PolicyMistakes.{no_check_mistakes}
+use Rattle.rls_expr.specs.Scopes.{in_scope}
+use Rattle.rls_lint.proofs.policy_mistakes.tell_no_checks.Given as goal
+
+-- the findings so far, and those of the policies that are left, are all
+abbrev pub invariant-loop-policy : goal.invariant-loop-policy
+invariant-loop-policy l = l.findings ++ told_of (in_scope l.from) (no_check_mistakes l.policy-iterator) ≡ l.fn.findings ++ told_of (in_scope l.from) (no_check_mistakes l.policies)

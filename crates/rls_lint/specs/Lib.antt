@@ -1,0 +1,11 @@
+pub mod Users
+pub mod Commands
+pub mod Lookups
+pub mod Loops
+pub mod PolicyMistakes
+pub mod Nulls
+pub mod TableMistakes
+pub mod Findings
+pub mod Naming
+pub mod Escaped
+pub mod Texts
